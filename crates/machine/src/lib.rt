@@ -3,12 +3,18 @@
 //! effect of another setting.
 //!
 //! It computes the bytes of a report from the bytes of arrivals, or the message and the exit status of an error, and it parses
-//! the options of a program. This is a facade: it adds nothing to its internal crates. `machine_model` has the options and the
-//! machine, `machine_report` the arrivals, the report and the errors; `machine_laws` has what is proved about whole runs.
-//! `specs/Lib.antt` re-exports what contracts cite. The program `napi_machine` makes these calls.
+//! the options of a program. This is a facade over its internal crates: `machine_model` has the options and the machine,
+//! `machine_report` the arrivals, the report and the errors. The program `napi_machine` makes these calls.
+//!
+//! `laws.rt` has what is proved about whole runs. `specs/` has the statements of these laws: `Lives` defines the life of a
+//! processor, `Fates` the fate of packets, `Times` times and work, `Applications` an application on its own processor,
+//! `Deferrals` deferred interrupts, and `Reports` says that they hold for what a report shows. `specs/Lib.antt` also re-exports
+//! what other contracts cite.
 #![tactic(auto)]
 
-pub use machine_laws::{
+mod laws;
+
+pub use laws::{
     application_ends, application_is_fed, application_serves, arrives_as_one, clocks_never_fall,
     deferral_is_bounded, delivers_in_order, each_lives, empty_polls_are_few, every_run_ends,
     no_wait_is_less, nothing_is_left, receiving_is_apart, reports_live, runs_as_one,

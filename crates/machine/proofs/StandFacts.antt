@@ -1,0 +1,492 @@
+-- Law: a queue is scheduled if and only if its number is on the poll list, in the run, among the tasks, or being polled; and it
+-- is in only one of these places.
+use Rattle.std.proofs.Common.{◌≡◌, ◌∙◌, ℕ, ◌+◌, ◌≤◌, Bool, true, false, Option, Some, None, List, [], ◌∷◌, ◌++◌, drop, length, refl}
+use Rattle.std.proofs.Common.{sym, ap, arith}
+use Rattle.std.proofs.lemmas.Grind.{common_steps}
+use Rattle.std.specs.{Option.{option_map_or}, Prelude.{◌==◌, ◌&&◌, if◌then◌else◌, not, slice_get}}
+use Rattle.{machine_model.specs.declared.settings.MachineSettings.MachineSettings, device_places.specs.Places.{at, changed}}
+use Rattle.machine.specs.Lives.{MachineEvent, behind, next, packet}
+use Rattle.poll_runs.specs.{Turn.asked_for, declared.bench.{Next.TheVariants.{Gone, Repoll}}}
+use Rattle.machine_model.specs.declared.{device.Phase.{Phase, TheVariants.Raised}, processor.ProcessorCounts.ProcessorCounts}
+use Rattle.machine_model.specs.declared.processor.{Work.{Work, TheVariants.{Nothing, Interrupt, Poll, Packet}}}
+use Rattle.machine_model.specs.declared.tasks.RunnableTask.{RunnableTask, TheVariants.{Application, Thread}}
+use Rattle.machine_model.specs.Device.{QueueView, after_packet, expired, expired_phase, interrupted, is_masked, notified, queue_completed}
+use Rattle.machine_model.specs.Device.{queue_delivered, queue_polled, raised_again, without_next}
+use Rattle.machine_model.specs.Devices.{QueueViews, asks_at, next_packet_at}
+use Rattle.machine_model.specs.Kept.{is_scheduled, polled_by, scheduled_at}
+use Rattle.machine_model.specs.Softirq.{RunView, SoftirqView, asked_in, begun, filled, pushed, run_ended, run_next, softirq_polled}
+use Rattle.machine_model.specs.{Tasks.{runnable, with_application}, Application.{has_place}}
+use Rattle.machine_model.specs.Processor.{ProcessorView, delivers, delivers_oldest, ends_by, ends_current, ends_interrupt, ends_poll}
+use Rattle.machine_model.specs.Processor.{is_busy, is_polling, poll_looks, polls, step, upcoming}
+use Rattle.machine_model.proofs.{PendingFacts.phase-next, PlacesFacts.same-packet}
+use Rattle.machine.proofs.TableFacts.{at-either, at-keeps, at-kept, at-same, map_at}
+use Rattle.machine.proofs.{FateFacts.{at-arrives, made-part}, WalkFacts.{Walk, either, looks-by, nexted, polled-by}}
+use Rattle.machine.proofs.WorkFacts.{Asks, Goes, Life, Polls, Rests, devices_arrived, expired_at, goes-on, life-arrives, life-happens}
+use Rattle.machine.proofs.WorkFacts.{polls-delivers, polls-devices, polls-of, same-polling, same-threaded, work-walk}
+
+abbrev pub one : ℕ → ℕ → ℕ
+one m n = if m == n then 1 else 0
+
+unfoldable pub count : ℕ → List ℕ → ℕ
+count n [] = 0
+count n (x ∷ xs) = one x n + count n xs
+
+count-append : (n : ℕ) (xs ys : List ℕ) → count n (xs ++ ys) ≡ count n xs + count n ys
+unfolding count
+count-append n [] ys = omega arith
+count-append n (x ∷ xs) ys = omega (arith, count-append n xs ys)
+
+unfoldable pub count_in : ℕ → Option RunView → ℕ
+count_in n None = 0
+count_in n (Some r) = count n (asked_for r.asked) + (count n r.own + count n r.repoll)
+
+unfoldable pub listed_at : ℕ → SoftirqView → ℕ
+listed_at n q = count n q.list + count_in n q.run
+
+-- ---- the poll list and the run
+
+count-moves : (n : ℕ) (own repoll list : List ℕ)
+    → count n ((filled own repoll list).1)
+    + (count n (asked_for (slice_get (filled own repoll list).0 0)) + (count n (drop 1 (filled own repoll list).0) + count n repoll))
+    ≡ count n list + (count n own + count n repoll)
+unfolding count
+count-moves n own repoll list = grind (arith, common_steps)
+
+asked-none : (n : ℕ) (o : Option ℕ) → o ≡ None → count n (asked_for o) ≡ 0
+unfolding count
+asked-none n o none = grind (arith, common_steps)
+
+count-next : (n : ℕ) (list : List ℕ) (run : Option RunView) (began : ℕ) → asked_in run ≡ None
+    → let q : SoftirqView = record { list = list; run = run; began = began } in listed_at n (run_next q) ≡ listed_at n q
+unfolding listed_at count_in run_next
+count-next n list run began none = grind (arith, common_steps, asked-none, count-moves)
+
+listed-next : (n : ℕ) (q : SoftirqView) → asked_in q.run ≡ None → listed_at n (run_next q) ≡ listed_at n q
+unfolding run_next
+listed-next n q none = count-next n q.list q.run q.began none
+
+listed-begun : (n : ℕ) (list : List ℕ) (run : Option RunView) (began clock budget weight window : ℕ) → run ≡ None
+    → let q : SoftirqView = record { list = list; run = run; began = began } in
+    listed_at n (begun clock budget weight window q) ≡ listed_at n q
+unfolding listed_at count_in count
+listed-begun n list run began clock budget weight window none = grind (arith, common_steps)
+
+listed-ended : (n : ℕ) (list : List ℕ) (run : Option RunView) (began : ℕ) → asked_in run ≡ None
+    → let q : SoftirqView = record { list = list; run = run; began = began } in listed_at n (run_ended q) ≡ listed_at n q
+unfolding listed_at count_in run_ended
+listed-ended n list run began none = grind (arith, common_steps, asked-none, count-append)
+
+listed-pushed : (n m : ℕ) (q : SoftirqView) → listed_at n (pushed m q) ≡ listed_at n q + one m n
+unfolding listed_at count
+listed-pushed n m q = omega (arith, count-append n q.list (m ∷ []))
+
+listed-told : (n m : ℕ) (full : Bool) (work : ℕ) (list : List ℕ) (run : Option RunView) (began : ℕ) → asked_in run ≡ Some m
+    → let q : SoftirqView = record { list = list; run = run; began = began } in
+    listed_at n (softirq_polled (record { work = work; next = if full then Repoll else Gone }) q) + (if full then 0 else one m n)
+    ≡ listed_at n q
+unfolding listed_at count_in softirq_polled count
+listed-told n m full work list run began asked = grind (arith, common_steps, count-append)
+
+-- ---- runnable tasks
+
+unfoldable pub threads : ℕ → List RunnableTask → ℕ
+threads n [] = 0
+threads n (Application ∷ more) = threads n more
+threads n (Thread m ∷ more) = one m n + threads n more
+
+threads-append : (n : ℕ) (xs ys : List RunnableTask) → threads n (xs ++ ys) ≡ threads n xs + threads n ys
+unfolding threads
+threads-append n [] ys = omega arith
+threads-append n (Application ∷ xs) ys = threads-append n xs ys
+threads-append n (Thread m ∷ xs) ys = omega (arith, threads-append n xs ys)
+
+threads-runnable : (n : ℕ) (idle : Bool) (tasks : List RunnableTask) → threads n (runnable idle tasks) ≡ threads n tasks
+unfolding threads
+threads-runnable n idle tasks = grind (arith, common_steps)
+
+threads-woken : (n : ℕ) (b : Bool) (tasks : List RunnableTask) → threads n (if b then with_application tasks else tasks) ≡ threads n tasks
+unfolding threads with_application
+threads-woken n b tasks = grind (arith, common_steps, threads-append)
+
+-- ---- one queue
+
+abbrev pub masked_at : Option QueueView → Bool
+masked_at o = option_map_or (λ d. is_masked d.phase) o false
+
+bit-interrupted : (polling : Bool) (o : Option QueueView) → asks_at o ≡ true → (polling ≡ false → masked_at o ≡ false)
+    → scheduled_at (map_at (interrupted polling) o) ≡ scheduled_at o + (if polling then 1 else 0)
+unfolding map_at interrupted
+bit-interrupted polling o h1 h2 = grind (arith, common_steps)
+
+masked-interrupted : (o : Option QueueView) → masked_at o ≡ false → masked_at (map_at (interrupted false) o) ≡ false
+unfolding map_at interrupted
+masked-interrupted o never = grind (arith, common_steps)
+
+-- the phase may change, but whether it counts as scheduled stays the same
+pub record PhaseKept (a b : Phase) : Type 0 where
+  pub scheduled : is_scheduled b ≡ is_scheduled a
+  pub masked : is_masked b ≡ is_masked a
+
+kept-same : (a : Phase) → PhaseKept a a
+kept-same a = record { scheduled = refl; masked = refl }
+
+kept-expired : (phase : Phase) → PhaseKept phase (expired_phase phase)
+kept-expired phase = record { scheduled = grind (arith, common_steps); masked = grind (arith, common_steps) }
+
+kept-raised : (phase : Phase) (b : Bool) → is_masked phase ≡ false → PhaseKept phase (if b then phase else Raised)
+kept-raised phase b never = record { scheduled = grind (arith, common_steps); masked = grind (arith, common_steps) }
+
+masked-packet : (moment : ℕ) (s : MachineSettings) (d : QueueView) → is_masked (after_packet moment s d).phase ≡ is_masked d.phase
+unfolding after_packet notified
+masked-packet moment s d = grind (arith, common_steps)
+
+kept-next : (backlog : Bool) (d : QueueView) → PhaseKept d.phase (without_next backlog d).phase
+kept-next backlog d = record { scheduled = ap is_scheduled (phase-next backlog d); masked = ap is_masked (phase-next backlog d) }
+
+pub record KeptAt (o q : Option QueueView) : Type 0 where
+  pub scheduled : scheduled_at q ≡ scheduled_at o
+  pub masked : masked_at q ≡ masked_at o
+
+kept-changed : (f : QueueView → QueueView) (m n : ℕ) (ds : QueueViews) → ((d : QueueView) → PhaseKept d.phase (f d).phase)
+    → KeptAt (at n ds) (at n (changed f m ds))
+kept-changed f m n ds keeps = record {
+  scheduled = at-kept scheduled_at f m n ds (λ d. ap (λ (b : Bool). if b then 1 else 0) (keeps d).scheduled);
+  masked = at-kept masked_at f m n ds (λ d. (keeps d).masked);
+}
+
+-- after a poll that used its whole weight the queue stays scheduled; after any other one it isn't scheduled any more
+bit-polled : (now given : ℕ) (s : MachineSettings) (o : Option QueueView) (m n : ℕ) → (m == n) ≡ true → scheduled_at o ≡ 1
+    → scheduled_at (map_at (queue_polled now given s) o) + (if given == s.weight then 0 else one m n) ≡ scheduled_at o
+unfolding map_at queue_polled queue_completed
+bit-polled now given s o m n h1 h2 = grind (arith, common_steps)
+
+bits-polled : (now given : ℕ) (s : MachineSettings) (m n : ℕ) (ds : QueueViews) → ((m == n) ≡ true → scheduled_at (at n ds) ≡ 1)
+    → scheduled_at (at n (changed (queue_polled now given s) m ds)) + (if given == s.weight then 0 else one m n) ≡ scheduled_at (at n ds)
+bits-polled now given s m n ds is =
+    at-either (λ b o. scheduled_at o + (if given == s.weight then 0 else (if b then 1 else 0)) ≡ scheduled_at (at n ds))
+    (queue_polled now given s) m n ds
+    (λ here. rw here at (bit-polled now given s (at n ds) m n here (is here)))
+    (λ other. by (given == s.weight))
+  where
+    by : (b : Bool) → scheduled_at (at n ds) + (if b then 0 else 0) ≡ scheduled_at (at n ds)
+    by true = omega arith
+    by false = omega arith
+
+-- ---- the processor
+
+abbrev pub polled_at : ℕ → Work → ℕ
+polled_at n (Poll m) = one m n
+polled_at n (Packet hand) = one hand.device n
+polled_at n _ = 0
+
+-- how often a number is on the poll list, in the run and among the tasks, not counting the thread that polls it
+abbrev pub places : ℕ → ProcessorView → ℕ
+places n p = listed_at n p.softirq + threads n p.tasks
+
+abbrev pub by_thread : MachineSettings → ℕ → ℕ
+by_thread s k = if s.threaded then k else 0
+
+-- without polling, no card's interrupt is ever masked
+abbrev pub NeverMasked : MachineSettings → ℕ → QueueViews → Type 0
+NeverMasked s n ds = is_polling s ≡ false → masked_at (at n ds) ≡ false
+
+-- a queue is scheduled exactly if its number occurs once, counting `more` occurrences elsewhere
+pub record Even (s : MachineSettings) (n more : ℕ) (p : ProcessorView) : Type 0 where
+  pub same : places n p + more ≡ scheduled_at (at n p.devices)
+  pub never : NeverMasked s n p.devices
+
+-- no work is in progress
+pub record Lies (s : MachineSettings) (n : ℕ) (p : ProcessorView) : Type 0 where
+  pub rests : Rests s p
+  pub even : Even s n 0 p
+
+pub record Stands (s : MachineSettings) (n : ℕ) (p : ProcessorView) : Type 0 where
+  pub even : Even s n (by_thread s (polled_at n p.work)) p
+
+even-of : (s : MachineSettings) (n k l : ℕ) (p q : ProcessorView) → Even s n k p → q.softirq ≡ p.softirq → q.tasks ≡ p.tasks → q.devices
+    ≡ p.devices → l ≡ k
+    → Even s n l q
+even-of s n k l p q h1 h2 h3 h4 h5 = grind (arith, common_steps)
+
+pub no-thread : (s : MachineSettings) → by_thread s 0 ≡ 0
+no-thread s = grind (arith, common_steps)
+
+places-put : (n m : ℕ) (b t : Bool) (q : SoftirqView) (tasks : List RunnableTask)
+    → listed_at n (if b && not t then pushed m q else q) + threads n (if b && t then tasks ++ Thread m ∷ [] else tasks)
+    ≡ listed_at n q + threads n tasks + (if b then one m n else 0)
+unfolding threads
+places-put n m b t q tasks = grind (arith, common_steps, threads-append, listed-pushed)
+
+bits-interrupted : (polling : Bool) (m n : ℕ) (ds : QueueViews) → asks_at (at m ds) ≡ true → (polling ≡ false → masked_at (at n ds) ≡ false)
+    → scheduled_at (at n (changed (interrupted polling) m ds)) ≡ scheduled_at (at n ds) + (if polling then one m n else 0)
+bits-interrupted polling m n ds asks never =
+    at-either (λ b o. scheduled_at o ≡ scheduled_at (at n ds) + (if polling then (if b then 1 else 0) else 0)) (interrupted polling) m n ds
+    (λ here. bit-interrupted polling (at n ds) (at-same (λ o. asks_at o ≡ true) m n ds here asks) never)
+    (λ other. by polling)
+  where
+    by : (b : Bool) → scheduled_at (at n ds) ≡ scheduled_at (at n ds) + (if b then 0 else 0)
+    by true = omega arith
+    by false = omega arith
+
+never-interrupted : (s : MachineSettings) (polling : Bool) (m n : ℕ) (ds : QueueViews) → polling ≡ is_polling s → NeverMasked s n ds
+    → NeverMasked s n (changed (interrupted polling) m ds)
+never-interrupted s true m n ds same never lone = cc (same, lone)
+never-interrupted s false m n ds same never lone =
+    at-keeps (λ o. masked_at o ≡ false) (interrupted false) m n ds (λ here. masked-interrupted (at n ds)) (never lone)
+
+-- the processor is free
+idle-stands : (s : MachineSettings) (n : ℕ) (p : ProcessorView) → p.work ≡ Nothing → Even s n 0 p → Stands s n p
+idle-stands s n p h1 h2 = grind (arith, common_steps)
+
+stand-walk : (s : MachineSettings) (n : ℕ) → Walk (Lies s n) (Stands s n)
+unfolding threads
+stand-walk s n =
+    let w = work-walk s in
+    record {
+      interrupt = λ m time counts p free h asks.
+          let polling = is_polling p.settings in
+          let same = same-polling s p h.rests.settings in
+          let bits = bits-interrupted polling m n p.devices asks (λ lone. h.even.never (sym same ∙ lone)) in
+          record {
+            even = record {
+              same = omega (
+                arith,
+                places-put n m polling p.settings.threaded p.softirq p.tasks,
+                bits,
+                h.even.same,
+                no-thread s,
+              );
+              never = never-interrupted s polling m n p.devices same h.even.never;
+            };
+          };
+      next = λ p free h. record {
+        rests = w.next p free h.rests;
+        even = record { same = omega (arith, listed-next n p.softirq free.unasked, h.even.same); never = h.even.never };
+      };
+      asks = λ m p h asked.
+          let g = w.asks m p h.rests asked in
+          record {
+            even = even-of s n 0 (by_thread s (one m n)) (nexted p) (polls m (nexted p)) h.even refl refl refl (by m (nexted p) g asked);
+          };
+      over = λ counts p free h. record {
+        rests = w.over counts p free h.rests;
+        even = record {
+          same = omega (arith, listed-ended n p.softirq.list p.softirq.run p.softirq.began free.unasked, h.even.same);
+          never = h.even.never;
+        };
+      };
+      start = λ p h none polling some.
+          let x = p.settings in
+          record {
+            rests = w.start p h.rests none polling some;
+            even = record {
+              same = omega (
+                arith,
+                listed-begun n p.softirq.list p.softirq.run p.softirq.began p.clock x.budget x.weight x.window none,
+                h.even.same,
+              );
+              never = h.even.never;
+            };
+          };
+      resume = λ rest p free h is quiet. record { even = even-of s n 0 (by_thread s 0) p _ h.even refl refl refl (no-thread s) };
+      settle = λ tasks p h is. record {
+        rests = w.settle tasks p h.rests is;
+        even = record {
+          same =
+              omega (
+                arith,
+                h.even.same,
+                ap (threads n) is,
+                threads-runnable n (length p.application.socket.items == 0) p.tasks,
+              );
+          never = h.even.never;
+        };
+      };
+      thread = λ m more p free h threaded is.
+          let all : s.threaded ≡ true = sym (same-threaded s p h.rests.settings) ∙ threaded in
+          let polled : by_thread s (one m n) ≡ one m n = rw all refl in
+          let tasks : threads n p.tasks ≡ one m n + threads n more = ap (threads n) is in
+          record { even = record { same = omega (arith, h.even.same, polled, tasks); never = h.even.never } };
+      uses = λ came more p free h none is quiet first. record {
+        even = even-of s n 0 (by_thread s 0) p _ h.even refl refl refl (no-thread s);
+      };
+      stays = λ p free h still settled. idle-stands s n p free.nothing h.even;
+    }
+  where
+    -- a run asks for a poll only if there are no threads
+    by : (m : ℕ) (p : ProcessorView) → Goes s (polls m p) → asked_in p.softirq.run ≡ Some m → by_thread s (one m n) ≡ 0
+    by m p g asked = each s.threaded refl
+      where
+        each : (b : Bool) → s.threaded ≡ b → ◌≡◌ {A = ℕ} (if b then one m n else 0) 0
+        each false is = refl
+        each true is = cc (asked, g.asks.none is)
+
+-- ---- when work ends
+
+count-asked : (n m : ℕ) (list : List ℕ) (run : Option RunView) (began : ℕ) → asked_in run ≡ Some m
+    → one m n ≤ listed_at n (record { list = list; run = run; began = began })
+unfolding listed_at count_in count
+count-asked n m list run began asked = grind (arith, common_steps)
+
+bit-most : (o : Option QueueView) → scheduled_at o ≤ 1
+bit-most o = grind (arith, common_steps)
+
+one-here : (m n : ℕ) → (m == n) ≡ true → one m n ≡ 1
+one-here m n here = ap (λ (b : Bool). if b then 1 else 0) here
+
+-- a queue that is polled is scheduled
+polled-scheduled : (s : MachineSettings) (n m : ℕ) (p : ProcessorView) → Even s n (by_thread s (one m n)) p
+    → Asks s (Some m) p.softirq → (m == n) ≡ true → scheduled_at (at n p.devices) ≡ 1
+polled-scheduled s n m p e asks here = by s.threaded refl
+  where
+    q : SoftirqView
+    q = p.softirq
+
+    by : (b : Bool) → s.threaded ≡ b → scheduled_at (at n p.devices) ≡ 1
+    by true is =
+        let more : by_thread s (one m n) ≡ one m n = rw is refl in
+        omega (arith, e.same, more, one-here m n here, bit-most (at n p.devices))
+    by false is = omega (arith, e.same, count-asked n m q.list q.run q.began (asks.list is), one-here m n here, bit-most (at n p.devices))
+
+never-polled : (s : MachineSettings) (n : ℕ) (ds : QueueViews) → is_polling s ≡ true → NeverMasked s n ds
+never-polled s n ds polling lone = cc (polling, lone)
+
+stand-polled : (s : MachineSettings) (n m given : ℕ) (p : ProcessorView) → Polls s m p → Even s n (by_thread s (one m n)) p
+    → Stands s n (ends_poll m given p)
+unfolding threads
+stand-polled s n m given p g e =
+    let ds = changed (queue_polled p.clock given p.settings) m p.devices in
+    let full = given == p.settings.weight in
+    let bits : scheduled_at (at n ds) + (if full then 0 else one m n) ≡ scheduled_at (at n p.devices) =
+    bits-polled p.clock given p.settings m n p.devices (λ here. polled-scheduled s n m p e g.asks here) in
+    polled-by (Stands s n) m given p
+    (λ counts t.
+    let all : by_thread s (one m n) ≡ one m n = rw (sym (same-threaded s p g.rests.settings) ∙ t) refl in
+    idle-stands s n _ g.nothing (record { same = omega (arith, by full, bits, e.same, all); never = never-polled s n ds g.polling }))
+    (λ counts t.
+    let single : s.threaded ≡ false = sym (same-threaded s p g.rests.settings) ∙ t in
+    let none : by_thread s (one m n) ≡ 0 = rw single refl in
+    let told = listed-told n m full given p.softirq.list p.softirq.run p.softirq.began (g.asks.list single) in
+    idle-stands s n _ g.nothing (record { same = omega (arith, told, bits, e.same, none); never = never-polled s n ds g.polling }))
+  where
+    by : (full : Bool) → threads n (if full then Thread m ∷ p.tasks else p.tasks) + (if full then 0 else one m n)
+        ≡ one m n + threads n p.tasks
+    by true = omega arith
+    by false = omega arith
+
+stand-looks : (s : MachineSettings) (n m given : ℕ) (p : ProcessorView) → Polls s m p → Even s n (by_thread s (one m n)) p
+    → Stands s n (poll_looks m given p)
+stand-looks s n m given p g e =
+    let q : ProcessorView = record p { devices = changed (without_next p.settings.backlog) m p.devices } in
+    let k = kept-changed (without_next p.settings.backlog) m n p.devices (kept-next p.settings.backlog) in
+    let first : Even s n (by_thread s (one m n)) q = record {
+      same = e.same ∙ sym k.scheduled;
+      never = never-polled s n q.devices g.polling;
+    } in
+    looks-by (Stands s n) m given p (λ came is less. record { even = record { same = first.same; never = first.never } })
+    (λ none. stand-polled s n m given q (polls-devices s m q.devices p g) first) (λ full. stand-polled s n m given p g e)
+
+even-kept : (s : MachineSettings) (n k : ℕ) (p q : ProcessorView) → Even s n k p → places n q ≡ places n p
+    → KeptAt (at n p.devices) (at n q.devices) → Even s n k q
+even-kept s n k p q h1 h2 h3 = grind (arith, common_steps)
+
+delivers-even : (s : MachineSettings) (n k m came : ℕ) (p : ProcessorView) → Even s n k p → Even s n k (delivers m came p)
+unfolding delivers
+delivers-even s n k m came p e =
+    even-kept s n k p (delivers m came p) e
+    (omega (arith, threads-woken n (p.settings.threaded && not p.settings.apart && has_place p.application) p.tasks))
+    (kept-changed (queue_delivered p.clock came) m n p.devices (λ d. kept-same d.phase))
+
+even-next : (s : MachineSettings) (n k m : ℕ) (p : ProcessorView) → Even s n k p
+    → Even s n k (record p { devices = changed (without_next false) m p.devices })
+even-next s n k m p e = even-kept s n k p _ e refl (kept-changed (without_next false) m n p.devices (kept-next false))
+
+-- after an interrupt on a machine without polling, a queue is scheduled exactly if its number occurs once
+even-again : (s : MachineSettings) (n m : ℕ) (p : ProcessorView) → is_polling s ≡ false → Even s n 0 p
+    → Even s n 0 (record p { devices = changed raised_again m p.devices })
+unfolding map_at
+even-again s n m p lone e =
+    even-kept s n 0 p _ e refl
+    (at-keeps (λ o. KeptAt (at n p.devices) o) raised_again m n p.devices (λ here k. by (at n p.devices) (e.never lone))
+    (record { scheduled = refl; masked = refl }))
+  where
+    by : (o : Option QueueView) → masked_at o ≡ false → KeptAt o (map_at raised_again o)
+    by None never = record { scheduled = refl; masked = refl }
+    by (Some d) never =
+        let k = kept-raised d.phase (length d.ring == 0) never in
+        record { scheduled = ap (λ (b : Bool). if b then 1 else 0) k.scheduled; masked = k.masked }
+
+stand-lone : (s : MachineSettings) (n m : ℕ) (o : Option ℕ) (p : ProcessorView) → p.work ≡ Nothing → is_polling s ≡ false → Even s n 0 p
+    → let q = delivers_oldest m o p in Stands s n (record q { devices = changed raised_again m q.devices })
+unfolding delivers
+stand-lone s n m None p nothing lone e = idle-stands s n _ nothing (even-again s n m p lone e)
+stand-lone s n m (Some came) p nothing lone e =
+    let q : ProcessorView = record p { devices = changed (without_next false) m p.devices } in
+    let r = delivers m came q in
+    idle-stands s n _ nothing (even-again s n m r lone (delivers-even s n 0 m came q (even-next s n 0 m p e)))
+
+stand-work : (s : MachineSettings) (n : ℕ) (w : Work) (p : ProcessorView) → Rests s p → p.work ≡ Nothing → Asks s (polled_by w) p.softirq
+    → (is_polling s ≡ false → polled_by w ≡ None) → Even s n (by_thread s (polled_at n w)) p → Stands s n (ends_by w p)
+unfolding ends_interrupt
+stand-work s n (Interrupt m) p h nothing asks polled e =
+    let e0 = even-of s n (by_thread s 0) 0 p p e refl refl refl (sym (no-thread s)) in
+    either (Stands s n) (is_polling p.settings) p (ends_interrupt m p) (λ polling. idle-stands s n p nothing e0)
+    (λ lone. stand-lone s n m (next_packet_at false (at m p.devices)) p nothing (sym (same-polling s p h.settings) ∙ lone) e0)
+stand-work s n (Poll m) p h nothing asks polled e = stand-looks s n m 0 p (polls-of s m (Poll m) p h nothing asks polled refl) e
+stand-work s n (Packet hand) p h nothing asks polled e =
+    let g = polls-of s hand.device (Packet hand) p h nothing asks polled refl in
+    stand-looks s n hand.device (hand.given + 1) (delivers hand.device hand.came p) (polls-delivers s hand.device hand.came p g)
+    (delivers-even s n (by_thread s (one hand.device n)) hand.device hand.came p e)
+stand-work s n w p h nothing asks polled e =
+    idle-stands s n _ nothing (even-of s n (by_thread s 0) 0 p _ e refl refl refl (sym (no-thread s)))
+
+stand-ended : (s : MachineSettings) (n : ℕ) (p : ProcessorView) → Goes s p → Stands s n p → Stands s n (ends_current p)
+unfolding ends_current
+stand-ended s n p h1 h2 = grind (arith, common_steps, stand-work)
+
+-- ---- over a processor's life
+
+kept-expires : (e : Option ℕ) (n : ℕ) (ds : QueueViews) → KeptAt (at n ds) (at n (expired_at e ds))
+kept-expires None n ds = record { scheduled = refl; masked = refl }
+kept-expires (Some m) n ds = kept-changed expired m n ds (λ d. kept-expired d.phase)
+
+kept-arrived : (moment m n : ℕ) (p : ProcessorView) → KeptAt (at n p.devices) (at n (devices_arrived moment m p))
+kept-arrived moment m n p = record {
+  scheduled = at-arrives (λ o. scheduled_at o ≡ scheduled_at (at n p.devices)) moment m n p
+      (λ d is. ap (λ (b : Bool). if b then 1 else 0) (same-packet moment p.settings d)
+      ∙ (ap (λ (e : QueueView). scheduled_at (Some e)) is ∙ made-part scheduled_at p.settings.ring (at n p.devices) refl)) refl;
+  masked = at-arrives (λ o. masked_at o ≡ masked_at (at n p.devices)) moment m n p
+      (λ d is. masked-packet moment p.settings d
+      ∙ (ap (λ (e : QueueView). is_masked e.phase) is ∙ made-part masked_at p.settings.ring (at n p.devices) refl)) refl;
+}
+
+stand-kept : (s : MachineSettings) (n clock : ℕ) (counts : ProcessorCounts) (devices : QueueViews) (p : ProcessorView)
+    → KeptAt (at n p.devices) (at n devices) → Stands s n p → Stands s n (record p { clock = clock; counts = counts; devices = devices })
+stand-kept s n clock counts devices p k h = record { even = even-kept s n (by_thread s (polled_at n p.work)) p _ h.even refl k }
+
+stand-life : (s : MachineSettings) (n : ℕ) → Life s (Lies s n) (Stands s n) (Stands s n)
+stand-life s n = record {
+  walk = stand-walk s n;
+  idle = λ p goes nothing h.
+      record { rests = goes.rests; even = even-of s n _ 0 p p h.even refl refl refl (rw nothing (sym (no-thread s))) };
+  busy = λ p busy h. h;
+  aside = λ moment came counts p is h. record { even = even-of s n _ (by_thread s 0) p _ h.even refl refl refl (rw is refl) };
+  moved = λ e clock counts p h. stand-kept s n clock counts (expired_at e p.devices) p (kept-expires e n p.devices) h;
+}
+
+pub stands-on : (s : MachineSettings) (n : ℕ) (events : List MachineEvent) → Stands s n (behind s events)
+unfolding behind step listed_at count_in count threads
+stands-on s n [] = record { even = record { same = omega (arith, no-thread s); never = λ lone. refl } }
+stands-on s n (packet moment m ∷ earlier) =
+    let p = behind s earlier in
+    let now = stand-kept s n (if is_busy p.work then p.clock else moment) p.counts (devices_arrived moment m p) p
+    (kept-arrived moment m n p) (stands-on s n earlier) in
+    life-arrives (stand-life s n) moment m p (goes-on s earlier) now (λ full. now)
+stands-on s n (next ∷ earlier) =
+    let p = behind s earlier in
+    let h = stands-on s n earlier in
+    life-happens (stand-life s n) (upcoming p) p (goes-on s earlier) h h (λ is. stand-ended s n p (goes-on s earlier) h)
+
+pub scheduled-of : (s : MachineSettings) (n m : ℕ) (p : ProcessorView) → Goes s p → Stands s n p → polled_by p.work ≡ Some m
+    → polled_at n p.work ≡ one m n → (m == n) ≡ true → scheduled_at (at n p.devices) ≡ 1
+scheduled-of s n m p h1 h2 h3 h4 h5 = grind (arith, common_steps, polled-scheduled)

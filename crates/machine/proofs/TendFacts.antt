@@ -1,0 +1,210 @@
+-- Law: a queue has no packets unless its interrupt is raised, deferred or in progress.
+use Rattle.std.proofs.Common.{◌≡◌, ◌∙◌, ℕ, ◌+◌, ◌<◌, ◌≤◌, Bool, true, false, Option, Some, None, List, [], ◌∷◌, refl, sym, ap}
+use Rattle.std.proofs.Common.{arith}
+use Rattle.std.proofs.lemmas.{Bool.{and_left, and_right, eq-eqb, ltb-false}, Grind.common_steps}
+use Rattle.std.specs.Prelude.{◌==◌, ◌&&◌, if◌then◌else◌, nat_lt, not}
+use Rattle.{machine_model.specs.declared.settings.MachineSettings.MachineSettings, device_places.specs.Places.{at, changed}}
+use Rattle.machine.specs.{Lives.{MachineEvent, behind, next, packet}, Fates.{taken_in}}
+use Rattle.machine_model.specs.declared.device.Phase.{Phase, TheVariants.{Quiet, Scheduled}}
+use Rattle.machine_model.specs.declared.processor.{Work.{Work, TheVariants.{Interrupt, Packet}}, InHand.InHand}
+use Rattle.machine_model.specs.Device.{QueueView, after_packet, expired, expired_phase, has_room, interrupted, notified, queue_polled}
+use Rattle.machine_model.specs.Device.{raised_again, without_next}
+use Rattle.machine_model.specs.Devices.{QueueViews, next_packet_at}
+use Rattle.machine_model.specs.Kept.{is_scheduled, polled_by, scheduled_at}
+use Rattle.machine_model.specs.Processor.{ProcessorView, is_polling, step, upcoming}
+use Rattle.machine_model.proofs.PendingFacts.{phase-next}
+use Rattle.machine.proofs.TableFacts.{IfThere, at-apart, at-either, at-keeps, at-kept, at-same, map_at}
+use Rattle.machine.proofs.{EndFacts.{Ends, Looks, ends}, EmptyFacts.calm-full}
+use Rattle.machine.proofs.WorkFacts.{Goes, Life, devices_arrived, expired_at, goes-on, life-arrives, life-happens, same-polling}
+use Rattle.machine.proofs.FateFacts.{IsPlain, at-arrives, look-none, made_at, next-none-at, packet-queued, plain-of, queued}
+use Rattle.machine.proofs.FateFacts.{queued-delivered, queued-expired, queued-polled}
+use Rattle.machine.proofs.StandFacts.{Stands, polled_at, scheduled-of, stands-on}
+use Rattle.machine_model.specs.Device as device
+
+abbrev pub Tend : Option QueueView → Type 0
+Tend o = IfThere (λ d. d.phase ≡ Quiet → queued (Some d) ≡ []) o
+
+-- its interrupt is in progress, on a machine without polling
+abbrev pub lone : MachineSettings → ℕ → Work → Bool
+lone s n (Interrupt m) = not (is_polling s) && m == n
+lone s n _ = false
+
+abbrev pub Tended : MachineSettings → ℕ → ProcessorView → Type 0
+Tended s n p = lone s n p.work ≡ false → Tend (at n p.devices)
+
+-- a change of a queue that keeps its packets, and by which it isn't quiet if it wasn't before
+tend-kept : (f : QueueView → QueueView) (m n : ℕ) (ds : QueueViews) → ((d : QueueView) → (f d).phase ≡ Quiet → d.phase ≡ Quiet)
+    → ((d : QueueView) → queued (Some (f d)) ≡ queued (Some d)) → Tend (at n ds) → Tend (at n (changed f m ds))
+tend-kept f m n ds h1 h2 h3 = grind (arith, common_steps)
+
+-- ---- when work begins, and when timers expire
+
+masked-now : (d : QueueView) → (interrupted true d).phase ≡ Scheduled
+unfolding interrupted
+masked-now d = grind (arith, common_steps)
+
+quiet-expired : (phase : Phase) → expired_phase phase ≡ Quiet → phase ≡ Quiet
+quiet-expired phase is = grind (arith, common_steps)
+
+tend-life : (s : MachineSettings) (n : ℕ) → Life s (λ p. (p.settings ≡ s) × Tend (at n p.devices)) (Tended s n) (Tended s n)
+unfolding map_at
+tend-life s n = record {
+  walk = record {
+    interrupt = λ m time counts p free h asks none.
+        at-either (λ b o. (not (is_polling p.settings) && b) ≡ false → Tend o) (interrupted (is_polling p.settings)) m n p.devices
+        (λ here. by (is_polling p.settings) (at n p.devices)) (λ other no. h.1) (rw h.0 none);
+    next = λ p free h. h;
+    asks = λ m p h asked none. h.1;
+    over = λ counts p free h. h;
+    start = λ p h none polling some. h;
+    resume = λ rest p free h is quiet none. h.1;
+    settle = λ tasks p h is. h;
+    thread = λ m more p free h threaded is none. h.1;
+    uses = λ came more p free h none is quiet first no. h.1;
+    stays = λ p free h still settled none. h.1;
+  };
+  idle = λ p goes nothing h. (goes.rests.settings, h (rw nothing refl));
+  busy = λ p busy h. h;
+  aside = λ moment came counts p is h none. h (rw is refl);
+  moved = λ e clock counts p h none. also e p.devices (h none);
+}
+  where
+    by : (polling : Bool) (o : Option QueueView) → (not polling && true) ≡ false → Tend (map_at (interrupted polling) o)
+    by polling None none = tt
+    by true (Some d) none = λ quiet. cc (masked-now d, quiet)
+    by false (Some d) none = cc none
+
+    also : (e : Option ℕ) (ds : QueueViews) → Tend (at n ds) → Tend (at n (expired_at e ds))
+    also None ds t = t
+    also (Some m) ds t = tend-kept expired m n ds (λ d. quiet-expired d.phase) queued-expired t
+
+-- ---- when work ends
+
+lone-polling : (s : MachineSettings) (n : ℕ) (w : Work) → ((m : ℕ) → w ≡ Interrupt m → is_polling s ≡ true) → lone s n w ≡ false
+lone-polling s n w h1 = grind (arith, common_steps)
+
+-- without polling: an interrupt that is raised again has packets
+tend-again : (m n : ℕ) (ds : QueueViews) → taken_in (at n ds) ≡ [] → ((m == n) ≡ false → Tend (at n ds))
+    → Tend (at n (changed raised_again m ds))
+unfolding map_at queued
+tend-again m n ds h1 h2 = grind (arith, common_steps)
+
+sched-quiet : (phase : Phase) → ◌≡◌ {A = ℕ} (if is_scheduled phase then 1 else 0) 1 → phase ≡ Quiet → ⊥
+sched-quiet phase is quiet = grind (arith, common_steps)
+
+full-is : (given weight : ℕ) → given ≤ weight → nat_lt given weight ≡ false → (given == weight) ≡ true
+full-is given weight most not-less = eq-eqb given weight (omega (arith, most, ltb-false given weight not-less))
+
+looks-tend : (s : MachineSettings) (n m given now : ℕ) (ds : QueueViews) → given ≤ s.weight
+    → ((k : ℕ) → s.backlog ≡ false → taken_in (at k ds) ≡ [])
+    → ((m == n) ≡ true → scheduled_at (at n ds) ≡ 1) → Tend (at n ds) → Looks (λ es w. Tend (at n es)) s now m given ds
+unfolding map_at
+looks-tend s n m given now ds most plain scheduled t = record {
+  some = λ came is. next;
+  none = λ none.
+      at-keeps Tend (queue_polled now given s) m n es
+      (λ here held. also (at n es) (look-none s.backlog m n ds (plain n) none
+      ∙ (next-none-at s.backlog (at n ds) (plain n) (at-same (λ o. next_packet_at s.backlog o ≡ None) m n ds here none)).0)) next;
+  full = λ not-less.
+      tend-kept (queue_polled now given s) m n ds (λ d quiet. sym ((calm-full s now given (full-is given s.weight most not-less)).phase d)
+      ∙ quiet)
+      (queued-polled now given s) t;
+}
+  where
+    es : QueueViews
+    es = changed (without_next s.backlog) m ds
+
+    by : (o : Option QueueView) → scheduled_at o ≡ 1 → Tend (map_at (without_next s.backlog) o)
+    by None is = tt
+    by (Some d) is = λ quiet. absurd (sched-quiet d.phase is (sym (phase-next s.backlog d) ∙ quiet))
+
+    next : Tend (at n es)
+    next = at-keeps Tend (without_next s.backlog) m n ds (λ here held. by (at n ds) (scheduled here)) t
+
+    also : (o : Option QueueView) → queued o ≡ [] → Tend (map_at (queue_polled now given s) o)
+    also None none = tt
+    also (Some d) none = λ quiet. queued-polled now given s d ∙ none
+
+ends-tend : (s : MachineSettings) (n : ℕ) (p : ProcessorView) → Goes s p → Stands s n p → ((k : ℕ) → IsPlain p.settings k p.devices)
+    → Tended s n p
+    → Ends (λ o ds w. Tend (at n ds)) p
+ends-tend s n p goes stands plain h = record {
+  rest = λ none polls. h (lone-polling s n p.work (λ m is. sym same ∙ polls m is));
+  silent = λ m is single none. tend-again m n p.devices (untaken single) (other m is);
+  lone = λ m came is single found.
+      let deliver = device.queue_delivered p.ends came in
+      let first = changed (without_next false) m p.devices in
+      tend-again m n (changed deliver m first)
+      (at-kept taken_in deliver m n first (λ d. refl)
+      ∙ (at-kept taken_in (without_next false) m n p.devices (λ d. refl) ∙ untaken single))
+      (λ apart. rw (at-apart deliver m n first apart, at-apart (without_next false) m n p.devices apart) (other m is apart));
+  poll = λ m is.
+      looks-tend p.settings n m 0 p.ends p.devices (omega arith) backed
+      (scheduled-of s n m p goes stands (ap polled_by is) (ap (polled_at n) is))
+      (h (ap (lone s n) is));
+  packet = λ hand is.
+      let deliver = device.queue_delivered p.ends hand.came in
+      looks-tend p.settings n hand.device (hand.given + 1) p.ends (changed deliver hand.device p.devices) (given hand is)
+      (λ k single. at-kept taken_in deliver hand.device k p.devices (λ d. refl) ∙ backed k single)
+      (λ here. at-kept scheduled_at deliver hand.device n p.devices (λ d. refl)
+      ∙ scheduled-of s n hand.device p goes stands (ap polled_by is) (ap (polled_at n) is) here)
+      (tend-kept deliver hand.device n p.devices (λ d quiet. quiet) (queued-delivered p.ends hand.came) (h (ap (lone s n) is)));
+}
+  where
+    same : is_polling p.settings ≡ is_polling s
+    same = same-polling s p goes.rests.settings
+
+    other : (m : ℕ) → p.work ≡ Interrupt m → (m == n) ≡ false → Tend (at n p.devices)
+    other m is apart = h (rw is (and_right (not (is_polling s)) (m == n) apart))
+
+    untaken : is_polling p.settings ≡ false → taken_in (at n p.devices) ≡ []
+    untaken single = plain n (and_right p.settings.backlog (is_polling p.settings) single)
+
+    backed : (k : ℕ) → p.settings.backlog ≡ false → taken_in (at k p.devices) ≡ []
+    backed k single = plain k (and_left p.settings.backlog (is_polling p.settings) single)
+
+    given : (hand : InHand) → p.work ≡ Packet hand → hand.given + 1 ≤ p.settings.weight
+    given hand is =
+        let below : hand.given < s.weight = rw is at goes.given in
+        omega (arith, below, ap (λ (x : MachineSettings). x.weight) goes.rests.settings)
+
+-- ---- a packet arrives
+
+packet-busy : (moment : ℕ) (s : MachineSettings) (d : QueueView) → has_room d ≡ true → (after_packet moment s d).phase ≡ Quiet → ⊥
+unfolding after_packet notified
+packet-busy moment s d room quiet = grind (arith, common_steps)
+
+-- a packet that finds no room doesn't change the phase of its queue
+pub full-phase : (moment : ℕ) (s : MachineSettings) (d : QueueView) → has_room d ≡ false → (after_packet moment s d).phase ≡ d.phase
+unfolding after_packet
+full-phase moment s d full = rw full refl
+
+tend-packet : (moment : ℕ) (s : MachineSettings) (d : QueueView) → (d.phase ≡ Quiet → queued (Some d) ≡ [])
+    → (after_packet moment s d).phase ≡ Quiet
+    → queued (Some (after_packet moment s d)) ≡ []
+tend-packet moment s d h1 h2 = grind (arith, common_steps, packet-busy, packet-queued, full-phase)
+
+tend-arrives : (moment m n : ℕ) (p : ProcessorView) → Tend (at n p.devices) → Tend (at n (devices_arrived moment m p))
+unfolding made_at queued
+tend-arrives moment m n p t =
+    at-arrives Tend moment m n p (λ d is. tend-packet moment p.settings d (rw is (by (at n p.devices) t))) t
+  where
+    by : (o : Option QueueView) → Tend o → (made_at p.settings.ring o).phase ≡ Quiet → queued (Some (made_at p.settings.ring o)) ≡ []
+    by None t quiet = refl
+    by (Some d) t quiet = t quiet
+
+-- ---- over a processor's life
+
+pub tended-on : (s : MachineSettings) (n : ℕ) (events : List MachineEvent) → Tended s n (behind s events)
+unfolding behind step
+tended-on s n [] = λ none. tt
+tended-on s n (packet moment m ∷ earlier) =
+    let p = behind s earlier in
+    life-arrives (tend-life s n) moment m p (goes-on s earlier) (λ none. tend-arrives moment m n p (tended-on s n earlier none))
+    (λ full none. tend-arrives moment m n p (tended-on s n earlier none))
+tended-on s n (next ∷ earlier) =
+    let p = behind s earlier in
+    let h = tended-on s n earlier in
+    life-happens (tend-life s n) (upcoming p) p (goes-on s earlier) h h
+    (λ is none. ends (λ o ds w. Tend (at n ds)) p
+    (ends-tend s n p (goes-on s earlier) (stands-on s n earlier) (λ k. plain-of s k earlier) h))

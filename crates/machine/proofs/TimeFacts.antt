@@ -1,0 +1,639 @@
+-- Laws: time never decreases, and deferred timers are near; arrivals, waiting packets and the work in progress are in the order of
+-- their times.
+use Rattle.std.proofs.lemmas.Grind.{common_steps}
+use Rattle.std.proofs.Common.{◌≡◌, ◌∙◌, ℕ, ◌+◌, ◌-◌, ◌<◌, ◌≤◌, ◌^◌, Bool, true, false, Option, Some, None, List, [], ◌∷◌, ◌++◌, refl}
+use Rattle.std.proofs.Common.{ap}
+use Rattle.std.proofs.{Common.{arith}, lemmas.{Bool.{and_left, and_parts, leb-true}}}
+use Rattle.std.specs.{List.AllByRecursion, Prelude.{◌==◌, ◌&&◌, if◌then◌else◌, is_some, not, position}}
+use Rattle.machine_model.specs.declared.settings.MachineSettings.{MachineSettings}
+use Rattle.device_places.specs.Places.{at, changed}
+use Rattle.circular_buffer.specs.Buffer.{buffer}
+use Rattle.machine.specs.{Deferrals.TimersAreNear, Lives.{MachineEvent, InTurn, behind, next, packet}, Times.{ClocksNeverFall}}
+use Rattle.machine.specs.Fates.{delivery_of, finds_room, taken_in}
+use Rattle.machine_model.specs.declared.processor.Work.{Work}
+use Rattle.machine_model.specs.declared.processor.Work.TheVariants.{Interrupt, Poll, Packet, Use}
+use Rattle.machine_model.specs.declared.processor.{InHand.{InHand}, ProcessorCounts.ProcessorCounts, Rest.{Rest}}
+use Rattle.machine_model.specs.declared.{device.Phase.TheVariants.Deferred, processor.{Upcoming.{Upcoming, TheVariants.{Never, Expires}}}}
+use Rattle.machine_model.specs.{Softirq.{SoftirqView, run_ended, run_next}, Waits.{saturated}}
+use Rattle.machine_model.specs.declared.tasks.RunnableTask.{RunnableTask}
+use Rattle.machine_model.specs.Device.{QueueView, expired, interrupted, queue_polled, raised_again, without_next}
+use Rattle.machine_model.specs.Devices.{QueueViews, asks_at, has_room_at, with_device}
+use Rattle.machine_model.specs.Application.{ApplicationView, fed}
+use Rattle.machine_model.specs.Processor.{ProcessorView, arrives, begins, disturbed, ends_current, happens, is_busy, is_by, is_due}
+use Rattle.machine_model.specs.Processor.{is_polling, step, takes_up, upcoming}
+use Rattle.machine.proofs.TableFacts.{at-kept, map-kept, map-there, map_at}
+use Rattle.machine.proofs.WalkFacts.{Walk, either, enqueued, nexted, started, stirred, stirred-by, walk-any}
+use Rattle.machine.proofs.EndFacts.{Keeps, Looks, ends, ends-at, feeds}
+use Rattle.machine.proofs.WorkFacts.{Goes, devices_arrived, goes-on, goes-unasked, same-polling}
+use Rattle.machine.proofs.WorkFacts.{work-ended, work-moved, work-stirred}
+use Rattle.machine.proofs.FateFacts.{IsPlain, Steady, arrived-queued, at-arrived, ends-plain, made_at, next-keeps}
+use Rattle.machine.proofs.FateFacts.{next-some-at, plain-on, queued, queued-delivered, queued-expired, queued-interrupted}
+use Rattle.machine.proofs.FateFacts.{queued-polled, queued-raised, steady-life}
+use Rattle.machine.proofs.TimerFacts.{NextBy, NotBefore, Set, SetAt, next-is, not-due, set-expired, set-first, set-interrupted}
+use Rattle.machine.proofs.TimerFacts.{set-later}
+use Rattle.machine.proofs.TimerFacts.{set-next, set-packet, set-polled, set-raised}
+use Rattle.machine.proofs.SocketFacts.{fed-here}
+use Rattle.machine_model.specs.declared.processor.Upcoming.TheVariants as upcomings
+use Rattle.machine_model.specs.Device as device
+use Rattle.std.proofs.Common.{◌≡◌, ◌∙◌, ℕ, ◌+◌, ◌-◌, ◌<◌, ◌≤◌, ◌^◌, Bool, true, false, Option, Some, None, [], ◌∷◌, map, refl}
+use Rattle.std.proofs.{Common.{arith}, lemmas.Bool.{and_from, not_from_false}}
+use Rattle.std.{specs.{List.AllByRecursion, Prelude.{◌==◌, if◌then◌else◌, not}}}
+use Rattle.machine.specs.{Lives.{InTurn, behind, next, packet}, Times.NoWaitIsLess}
+use Rattle.machine.specs.Fates.{next_delivery, delivery_by, delivery_of, packet_for, use_by, use_waits, used_by, packet_waits}
+use Rattle.machine_model.specs.declared.processor.{Work.{Work, TheVariants.{Packet, Use}}, InHand.InHand}
+use Rattle.machine_model.specs.declared.processor.Upcoming.{Upcoming, TheVariants.{Never, Expires}}
+use Rattle.machine_model.specs.{Waits.saturated, Processor.{ProcessorView, happens, is_polling, step, upcoming}}
+use Rattle.machine.proofs.WorkFacts.{Goes, goes-on, same-polling}
+
+-- ---- lists
+
+pub both : (P : ℕ → Type 0) (xs ys : List ℕ) → AllByRecursion P xs → AllByRecursion P ys → AllByRecursion P (xs ++ ys)
+both P xs ys h1 h2 = grind (arith, common_steps)
+
+weaker : (P Q : ℕ → Type 0) (xs : List ℕ) → ((x : ℕ) → P x → Q x) → AllByRecursion P xs → AllByRecursion Q xs
+weaker P Q [] so all = tt
+weaker P Q (x ∷ xs) so all = (so x all.0, weaker P Q xs so all.1)
+
+-- ---- the invariant at a time
+
+abbrev pub use_cost : MachineSettings → ℕ
+use_cost s = s.packet + s.use_time
+
+-- the application is on this processor, and there is polling
+abbrev pub IsFair : MachineSettings → Type 0
+IsFair s = (is_polling s && not s.apart) ≡ true
+
+-- the timer of a queue, and the times of the packets that arrived
+pub record Cell (s : MachineSettings) (t : ℕ) (o : Option QueueView) : Type 0 where
+  pub timer : SetAt t s.gro_flush_timeout o
+  pub came : AllByRecursion (λ came. came ≤ t) (queued o)
+
+abbrev pub Served : MachineSettings → ℕ → List ℕ → Type 0
+Served s t items = IsFair s → AllByRecursion (λ came. saturated (came + s.packet) ≤ t) items
+
+abbrev pub Left : MachineSettings → ℕ → Option Rest → Type 0
+Left s t o = IsFair s → (rest : Rest) → o ≡ Some rest → saturated (rest.came + use_cost s) ≤ saturated (t + rest.left)
+
+-- what waits, whatever the work in progress
+pub record Waiting (s : MachineSettings) (t : ℕ) (p : ProcessorView) : Type 0 where
+  pub settings : p.settings ≡ s
+  pub cells : (n : ℕ) → Cell s t (at n p.devices)
+  pub socket : Served s t p.application.socket.items
+  pub rest : Left s t p.rest
+
+-- no work is in progress
+pub record Base (s : MachineSettings) (t : ℕ) (p : ProcessorView) : Type 0 where
+  pub waits : Waiting s t p
+  pub fits : p.clock < 2 ^ 64
+  pub clock : p.clock ≤ t + s.wake
+  pub up : t ≤ p.clock
+  -- if no queue asks for an interrupt, no time was spent on waking up
+  pub low : position asks_at p.devices ≡ None → p.clock ≡ t
+
+pub record Timed (s : MachineSettings) (t : ℕ) (p : ProcessorView) : Type 0 where
+  pub waits : Waiting s t p
+  pub clock : p.clock ≤ t + s.wake
+  pub idle : is_busy p.work ≡ false → p.clock ≤ t
+  pub ends : is_busy p.work ≡ true → (p.clock ≤ p.ends) × (t ≤ p.ends) × (p.ends < 2 ^ 64)
+  pub low : (came : ℕ) → p.work ≡ Use came → p.clock ≤ t
+  pub using : IsFair s → (came : ℕ) → p.work ≡ Use came → saturated (came + use_cost s) ≤ p.ends
+  pub hand : (hand : InHand) → p.work ≡ Packet hand → saturated (hand.came + s.packet) ≤ p.ends
+
+-- ---- when work begins
+
+base-of : (s : MachineSettings) (t : ℕ) (softirq : SoftirqView) (tasks : List RunnableTask) (counts : ProcessorCounts) (p : ProcessorView)
+    → Base s t p → Base s t (record p { softirq = softirq; tasks = tasks; counts = counts })
+base-of s t softirq tasks counts p h1 = grind (arith, common_steps)
+
+-- work other than a packet of a poll begins; if it is a use, its begin and its duration are given
+timed-begins : (s : MachineSettings) (t : ℕ) (w : Work) (time : ℕ) (p : ProcessorView) → Waiting s t p → p.clock < 2 ^ 64
+    → p.clock ≤ t + s.wake
+    → t ≤ p.clock → is_busy w ≡ true → ((hand : InHand) → w ≡ Packet hand → ⊥)
+    → ((came : ℕ) → w ≡ Use came → (p.clock ≡ t) × (IsFair s → saturated (came + use_cost s) ≤ saturated (p.clock + time)))
+    → Timed s t (begins w time p)
+timed-begins s t w time p h fits clock up busy unpacked used-up = record {
+  waits = record { settings = h.settings; cells = h.cells; socket = h.socket; rest = h.rest };
+  clock = clock;
+  idle = λ idle. absurd (cc (busy, idle));
+  ends = λ yes. (omega (arith, fits), omega (arith, fits, up), omega arith);
+  low = λ came is. omega (arith, (used-up came is).0);
+  using = λ fair came is. (used-up came is).1 fair;
+  hand = λ hand is. absurd (unpacked hand is);
+}
+
+cell-map : (s : MachineSettings) (t : ℕ) (f : QueueView → QueueView) (o : Option QueueView)
+    → ((d : QueueView) → SetAt t s.gro_flush_timeout (Some d) → SetAt t s.gro_flush_timeout (Some (f d)))
+    → ((d : QueueView) → queued (Some (f d)) ≡ queued (Some d)) → Cell s t o → Cell s t (map_at f o)
+cell-map s t f o timer same c = record {
+  timer = map-there (λ d. SetAt t s.gro_flush_timeout (Some d)) (λ d. SetAt t s.gro_flush_timeout (Some d)) f o timer c.timer;
+  came = rw (map-kept queued f o same) c.came;
+}
+
+cell-steady : (s : MachineSettings) (t : ℕ) → Steady (Cell s t)
+cell-steady s t = record {
+  interrupted = λ polling o asks c.
+      cell-map s t (interrupted polling) o (λ d. set-interrupted t s.gro_flush_timeout polling d) (queued-interrupted polling) c;
+  expired = λ o c. cell-map s t expired o (λ d. set-expired t s.gro_flush_timeout d) queued-expired c;
+}
+
+timed-uses : (s : MachineSettings) (t came : ℕ) (more : List ℕ) (p : ProcessorView) → Base s t p → p.application.socket.items ≡ came ∷ more
+    → position asks_at p.devices ≡ None
+    → Timed s t (begins (Use came) p.settings.use_time
+    (record p { application = record p.application { socket = buffer more p.application.socket.capacity } }))
+timed-uses s t came more p b is quiet =
+    let h = b.waits in
+    let items : IsFair s → AllByRecursion (λ x. saturated (x + s.packet) ≤ t) (came ∷ more) = rw is at h.socket in
+    timed-begins s t (Use came) p.settings.use_time
+    (record p { application = record p.application { socket = buffer more p.application.socket.capacity } })
+    (record { settings = h.settings; cells = h.cells; socket = λ fair. (items fair).1; rest = h.rest }) b.fits b.clock b.up refl
+    (λ hand same. cc same)
+    (λ other same. (
+      b.low quiet,
+      λ fair. by other (cc same) (items fair).0 (b.low quiet)
+          (ap (λ (x : MachineSettings). x.use_time) h.settings) b.fits,
+    ))
+  where
+    by : (other : ℕ) → other ≡ came → saturated (came + s.packet) ≤ t → p.clock ≡ t → p.settings.use_time ≡ s.use_time → p.clock < 2 ^ 64
+        → saturated (other + use_cost s) ≤ saturated (p.clock + p.settings.use_time)
+    by other same first clock time fits = omega (arith, same, first, clock, time, fits)
+
+timed-resume : (s : MachineSettings) (t : ℕ) (rest : Rest) (p : ProcessorView) → Base s t p → p.rest ≡ Some rest
+    → position asks_at p.devices ≡ None → Timed s t (begins (Use rest.came) rest.left (record p { rest = None }))
+timed-resume s t rest p h1 h2 h3 = grind (arith, common_steps)
+
+timed-poll : (s : MachineSettings) (t n : ℕ) (p : ProcessorView) → Base s t p → Timed s t (begins (Poll n) p.settings.poll p)
+timed-poll s t n p h1 = grind (arith, common_steps)
+
+timed-walk : (s : MachineSettings) (t : ℕ) → Walk (Base s t) (Timed s t)
+timed-walk s t = record {
+  interrupt = λ n time counts p free b asks.
+      let h = b.waits in
+      timed-begins s t (Interrupt n) time
+      (enqueued n (record p { devices = changed (interrupted (is_polling p.settings)) n p.devices; counts = counts }))
+      (record {
+        settings = h.settings;
+        cells = λ m. (steady-life s (Cell s t) (cell-steady s t) m).walk.interrupt n time counts p free (h.cells m) asks;
+        socket = h.socket;
+        rest = h.rest;
+      }) b.fits b.clock b.up refl (λ hand is. cc is) (λ came is. cc is);
+  next = λ p free b. base-of s t (run_next p.softirq) p.tasks p.counts p b;
+  asks = λ n p b asked. timed-poll s t n (nexted p) b;
+  over = λ counts p free b. base-of s t (run_ended p.softirq) p.tasks counts p b;
+  start = λ p b none polling some. base-of s t (started p).softirq p.tasks p.counts p b;
+  resume = λ rest p free b is quiet. timed-resume s t rest p b is quiet;
+  settle = λ tasks p b is. base-of s t p.softirq tasks p.counts p b;
+  thread = λ n more p free b threaded is. timed-poll s t n (record p { tasks = more }) (base-of s t p.softirq more p.counts p b);
+  uses = λ came more p free b none is quiet first. timed-uses s t came more p b is quiet;
+  stays = λ p free b still settled. record {
+    waits = b.waits;
+    clock = b.clock;
+    idle = λ idle. omega (arith, b.low still.out.quiet);
+    ends = λ busy. absurd (cc (rw free.nothing at busy));
+    low = λ came is. absurd (cc (free.nothing, is));
+    using = λ fair came is. absurd (cc (free.nothing, is));
+    hand = λ hand is. absurd (cc (free.nothing, is));
+  };
+}
+
+pub record Ready (s : MachineSettings) (t : ℕ) (p : ProcessorView) : Type 0 where
+  pub busy : is_busy p.work ≡ true → Timed s t p
+  pub idle : is_busy p.work ≡ false → Base s t p
+
+timed-takes : (s : MachineSettings) (t : ℕ) (p : ProcessorView) → Goes s p → Ready s t p → Timed s t (takes_up p)
+timed-takes s t p goes r = walk-any (timed-walk s t) p (goes-unasked s p goes) r.busy r.idle
+
+-- ---- when work ends
+
+-- the packet that a poll takes next has arrived
+looks-hand : (s : MachineSettings) (t now m given : ℕ) (ds : QueueViews) → (s.backlog ≡ false → taken_in (at m ds) ≡ [])
+    → AllByRecursion (λ came. came ≤ t) (queued (at m ds))
+    → Looks (λ es w. (hand : InHand) → w ≡ Packet hand → hand.came ≤ t) s now m given ds
+looks-hand s t now m given ds h1 h2 = grind (arith, common_steps, next-some-at)
+
+ends-hand : (t : ℕ) (p : ProcessorView) → ((n : ℕ) → IsPlain p.settings n p.devices)
+    → ((n : ℕ) → AllByRecursion (λ came. came ≤ t) (queued (at n p.devices)))
+    → (hand : InHand) → (ends_current p).work ≡ Packet hand → hand.came ≤ t
+ends-hand t p plain came = ends (λ o ds w. (hand : InHand) → w ≡ Packet hand → hand.came ≤ t) p (record {
+  rest = λ none polls hand same. cc same;
+  silent = λ m is lone none hand same. cc same;
+  lone = λ m oldest is lone found hand same. cc same;
+  poll = λ m is. looks-hand p.settings t p.ends m 0 p.devices (untaken m) (came m);
+  packet = λ hand is.
+      let deliver = device.queue_delivered p.ends hand.came in
+      looks-hand p.settings t p.ends hand.device (hand.given + 1) (changed deliver hand.device p.devices)
+      (λ single. at-kept taken_in deliver hand.device hand.device p.devices (λ d. refl) ∙ untaken hand.device single)
+      (rw (at-kept queued deliver hand.device hand.device p.devices (queued-delivered p.ends hand.came)) (came hand.device));
+})
+  where
+    untaken : (n : ℕ) → p.settings.backlog ≡ false → taken_in (at n p.devices) ≡ []
+    untaken n single = plain n (and_left p.settings.backlog (is_polling p.settings) single)
+
+-- a queue without a backlog, or without polling, has no packets that were moved
+cells-end : (s : MachineSettings) (p : ProcessorView) → Goes s p → p.ends < 2 ^ 64 → ((n : ℕ) → Cell s p.ends (at n p.devices))
+    → ((n : ℕ) → IsPlain s n p.devices) → (n : ℕ) → Cell s p.ends (at n (ends_current p).devices)
+cells-end s p goes fits cells plain n =
+    (ends-at (λ o. Cell s t o × ((s.backlog && is_polling s) ≡ false → taken_in o ≡ [])) n p (record {
+      raised = λ o c. (
+        cell-map s t raised_again o (λ d. set-raised t s.gro_flush_timeout d) queued-raised c.0,
+        λ is. (k is).raised o (c.1 is),
+      );
+      next = λ backlog o lone polls c. (
+        record {
+          timer = map-there (λ d. SetAt t s.gro_flush_timeout (Some d)) (λ d. SetAt t s.gro_flush_timeout (Some d)) (without_next backlog) o
+              (λ d. set-next t s.gro_flush_timeout backlog d) c.0.timer;
+          came = next-keeps (λ came. came ≤ t) backlog o (λ no. c.1 (rw goes.rests.settings at (lone no))) c.0.came;
+        },
+        λ is. (k is).next backlog o lone polls (c.1 is),
+      );
+      delivered = λ came o c. (
+        cell-map s t (device.queue_delivered t came) o (λ d set. set) (queued-delivered t came) c.0,
+        λ is. (k is).delivered came o (c.1 is),
+      );
+      polled = λ given o c. (
+        rw goes.rests.settings (cell-map s t (queue_polled t given s) o (λ d. set-polled t given s d fits) (queued-polled t given s) c.0),
+        λ is. (k is).polled given o (c.1 is),
+      );
+    }) (cells n, plain n)).0
+  where
+    t : ℕ
+    t = p.ends
+
+    k : (s.backlog && is_polling s) ≡ false → Keeps (λ o. taken_in o ≡ []) p
+    k is = ends-plain s p goes is
+
+-- a packet that is delivered at this time may be put into the socket
+served-fed : (s : MachineSettings) (t came : ℕ) (a : ApplicationView) → (IsFair s → saturated (came + s.packet) ≤ t)
+    → Served s t a.socket.items
+    → Served s t (fed t came s a).socket.items
+served-fed s t came a h1 h2 = grind (arith, common_steps, fed-here)
+
+-- with polling, only the packet that a poll processes is delivered
+pub hand-delivery : (s : MachineSettings) (t : ℕ) (w : Work) (p : ProcessorView) (m came : ℕ) → is_polling p.settings ≡ true
+    → ((hand : InHand) → w ≡ Packet hand → saturated (hand.came + s.packet) ≤ t) → delivery_of w p ≡ Some (m, came)
+    → saturated (came + s.packet) ≤ t
+hand-delivery s t w p m came h1 h2 h3 = grind (arith, common_steps)
+
+-- the same waits at a later time, if nothing happens before that
+waits-later : (s : MachineSettings) (t u : ℕ) (p : ProcessorView) → t ≤ u → NotBefore u p → Waiting s t p → Waiting s u p
+waits-later s t u p less before h = record {
+  settings = h.settings;
+  cells = λ n.
+      let c = h.cells n in
+      record {
+        timer = set-later t u s.gro_flush_timeout (at n p.devices) less (before.timers n) c.timer;
+        came = weaker (λ x. x ≤ t) (λ x. x ≤ u) (queued (at n p.devices)) (λ x below. omega (arith, below, less)) c.came;
+      };
+  socket = λ fair. weaker (λ x. saturated (x + s.packet) ≤ t) (λ x. saturated (x + s.packet) ≤ u) p.application.socket.items
+      (λ x below. omega (arith, below, less)) (h.socket fair);
+  rest = λ fair rest is.
+      let first : saturated (rest.came + use_cost s) ≤ saturated (t + rest.left) = h.rest fair rest is in omega (arith, first, less);
+}
+
+ready-ended : (s : MachineSettings) (t : ℕ) (p : ProcessorView) → Goes s p → Timed s t p → is_busy p.work ≡ true → NotBefore p.ends p
+    → ((n : ℕ) → IsPlain s n p.devices) → Ready s p.ends (ends_current p)
+ready-ended s t p goes h busy before plain =
+    let u = p.ends in
+    let e = h.ends busy in
+    let w = waits-later s t u p e.1 before h.waits in
+    let is = w.settings in
+    let f =
+    feeds (λ gives used a. Served s u a.socket.items) p (record {
+      none = w.socket;
+      gives = λ m came gives.
+          rw is (served-fed s u came p.application
+          (λ fair. hand-delivery s u p.work p m came (same-polling s p is ∙ (and_parts (is_polling s) (not s.apart) fair).0) h.hand gives)
+          w.socket);
+      uses = λ came used. w.socket;
+    }) in
+    let hand = ends-hand u p (λ n. rw is (plain n)) (λ n. (w.cells n).came) in
+    let waits : Waiting s u (ends_current p) = record {
+      settings = f.settings ∙ is;
+      cells = cells-end s p goes e.2 w.cells plain;
+      socket = f.application;
+      rest = rw f.rest w.rest;
+    } in
+    record {
+      busy = λ yes.
+          let kind = f.kind yes in
+          let ends : (ends_current p).ends ≡ saturated (u + s.packet) =
+          f.ends kind.0 kind.1 ∙ ap (λ (x : MachineSettings). saturated (u + x.packet)) is in
+          record {
+            waits = waits;
+            clock = omega (arith, f.clock);
+            idle = λ idle. absurd (cc (yes, idle));
+            ends = λ y. (omega (arith, f.clock, ends, e.2), omega (arith, ends, e.2), omega (arith, ends));
+            low = λ came is. omega (arith, f.clock);
+            using = λ fair came is. absurd (cc (kind.1, is));
+            hand = λ other is. let below : other.came ≤ u = hand other is in omega (arith, below, ends);
+          };
+      idle = λ idle. record {
+        waits = waits;
+        fits = omega (arith, f.clock, e.2);
+        clock = omega (arith, f.clock);
+        up = omega (arith, f.clock);
+        low = λ quiet. f.clock;
+      };
+    }
+
+-- ---- when a use or an idle time is interrupted
+
+timed-later : (s : MachineSettings) (t u : ℕ) (p : ProcessorView) → Timed s t p → t ≤ u → NotBefore u p → Timed s u p
+timed-later s t u p h less before = record {
+  waits = waits-later s t u p less before h.waits;
+  clock = omega (arith, h.clock, less);
+  idle = λ idle. omega (arith, h.idle idle, less);
+  ends = λ busy. let e = h.ends busy in (e.0, before.ends busy, e.2);
+  low = λ came is. omega (arith, h.low came is, less);
+  using = h.using;
+  hand = h.hand;
+}
+
+ready-base : (s : MachineSettings) (t : ℕ) (p : ProcessorView) → is_busy p.work ≡ false → Base s t p → Ready s t p
+ready-base s t p idle b = record { busy = λ busy. absurd (cc (idle, busy)); idle = λ same. b }
+
+ready-stirred : (s : MachineSettings) (t : ℕ) (p : ProcessorView) → t < 2 ^ 64 → Timed s t p → Ready s t (stirred t p)
+ready-stirred s t p fits h =
+    let w = h.waits in
+    let wake : p.settings.wake ≡ s.wake = ap (λ (x : MachineSettings). x.wake) w.settings in
+    stirred-by (Ready s t) t p (λ busy. record { busy = λ yes. h; idle = λ idle. absurd (cc (busy, idle)) })
+    (λ came counts is. ready-base s t _ refl (record {
+      waits = record {
+        settings = w.settings;
+        cells = w.cells;
+        socket = w.socket;
+        rest = λ fair rest same. by rest came (cc same) (h.using fair came is) (h.ends (rw is refl)).1;
+      };
+      fits = fits;
+      clock = omega arith;
+      up = omega arith;
+      low = λ quiet. refl;
+    }))
+    (λ counts idle asks. ready-base s t _ idle (record {
+      waits = record { settings = w.settings; cells = w.cells; socket = w.socket; rest = w.rest };
+      fits = omega arith;
+      clock = omega (arith, wake);
+      up = omega (arith, fits);
+      low = λ quiet. absurd (cc (ap (λ (o : Option ℕ). is_some o) quiet, asks));
+    }))
+    (λ idle. ready-base s t _ idle (record {
+      waits = record { settings = w.settings; cells = w.cells; socket = w.socket; rest = w.rest };
+      fits = fits;
+      clock = omega arith;
+      up = omega arith;
+      low = λ quiet. refl;
+    }))
+  where
+    by : (rest : Rest) (came : ℕ) → ◌≡◌ {A = Rest} (record { came = came; left = p.ends - t }) rest → saturated (came + use_cost s) ≤ p.ends
+        → t ≤ p.ends
+        → saturated (rest.came + use_cost s) ≤ saturated (t + rest.left)
+    by rest came same using less =
+        let first : came ≡ rest.came = ap (λ (x : Rest). x.came) same in
+        let left : p.ends - t ≡ rest.left = ap (λ (x : Rest). x.left) same in
+        omega (arith, first, left, using, less)
+
+timed-disturbed : (s : MachineSettings) (t : ℕ) (p : ProcessorView) → t < 2 ^ 64 → Goes s p → Timed s t p → Timed s t (disturbed t p)
+unfolding disturbed
+timed-disturbed s t p fits goes h = timed-takes s t (stirred t p) (work-stirred s t p goes) (ready-stirred s t p fits h)
+
+-- ---- the clock
+
+clock-walk : (c : ℕ) → Walk (λ p. p.clock ≡ c) (λ p. p.clock ≡ c)
+clock-walk c = grind (arith, common_steps)
+
+pub clock-takes : (s : MachineSettings) (p : ProcessorView) → Goes s p → (takes_up p).clock ≡ p.clock
+clock-takes s p goes = walk-any (clock-walk p.clock) p (goes-unasked s p goes) (λ busy. refl) (λ idle. refl)
+
+-- if the next event is the end of work, the clock after it is the time of that end
+pub ends-clock : (s : MachineSettings) (p : ProcessorView) → Goes s p → (takes_up (ends_current p)).clock ≡ p.ends
+ends-clock s p goes =
+    clock-takes s (ends_current p) (work-ended s p goes)
+    ∙ (feeds (λ gives used a. Unit {0}) p (record { none = tt; gives = λ m came is. tt; uses = λ came is. tt })).clock
+
+clock-disturbed : (s : MachineSettings) (t : ℕ) (p : ProcessorView) → t < 2 ^ 64 → Goes s p → Timed s t p → p.clock ≤ (disturbed t p).clock
+unfolding disturbed
+clock-disturbed s t p fits goes h =
+    let stirs : p.clock ≤ (stirred t p).clock =
+    stirred-by (λ q. p.clock ≤ q.clock) t p (λ busy. omega arith) (λ came counts is. h.low came is)
+    (λ counts idle asks. let low : p.clock ≤ t = h.idle idle in omega (arith, low, fits)) h.idle in
+    omega (arith, clock-takes s (stirred t p) (work-stirred s t p goes), stirs)
+
+-- ---- over a processor's life
+
+abbrev pub time_by : Upcoming → ProcessorView → ℕ → ℕ
+time_by Never p t = t
+time_by upcomings.Ends p t = p.ends
+time_by (Expires timer) p t = timer.at
+
+-- the time of the last event
+unfoldable pub now : MachineSettings → List MachineEvent → ℕ
+now s [] = 0
+now s (packet moment number ∷ earlier) = moment
+now s (next ∷ earlier) = time_by (upcoming (behind s earlier)) (behind s earlier) (now s earlier)
+
+pub record Rises (s : MachineSettings) (t u : ℕ) (p q : ProcessorView) : Type 0 where
+  pub time : t ≤ u
+  pub timed : Timed s u q
+  pub clock : p.clock ≤ q.clock
+
+rises-happens : (s : MachineSettings) (t until : ℕ) (u : Upcoming) (p : ProcessorView) → until < 2 ^ 64 → Goes s p
+    → ((n : ℕ) → IsPlain s n p.devices) → Timed s t p → upcoming p ≡ u → NextBy u p → is_by until u p ≡ true
+    → Rises s t (time_by u p t) p (happens u p) × (time_by u p t ≤ until)
+rises-happens s t until Never p fits goes plain h same by due = cc due
+rises-happens s t until upcomings.Ends p fits goes plain h same by due =
+    let e = h.ends by.0 in (
+      record {
+        time = e.1;
+        timed = timed-takes s p.ends (ends_current p) (work-ended s p goes) (ready-ended s t p goes h by.0 by.1 plain);
+        clock = omega (arith, e.0, ends-clock s p goes);
+      },
+      leb-true p.ends until due,
+    )
+rises-happens s t until (Expires timer) p fits goes plain h same by due =
+    let u = timer.at in
+    let below : u ≤ until = leb-true u until due in
+    let small : u < 2 ^ 64 = omega (arith, below, fits) in
+    let q : ProcessorView = record p { devices = changed expired timer.device p.devices } in
+    let g = work-moved s p.clock q.devices p goes in
+    let less : t ≤ u = (set-first t s.gro_flush_timeout timer p (λ n. (h.waits.cells n).timer) same).0 in
+    let k = timed-later s t u p h less by in
+    let w = k.waits in
+    let r : Timed s u q = record {
+      waits = record {
+        settings = w.settings;
+        cells = λ n. (steady-life s (Cell s u) (cell-steady s u) n).moved (Some timer.device) p.clock p.counts p (w.cells n);
+        socket = w.socket;
+        rest = w.rest;
+      };
+      clock = k.clock;
+      idle = k.idle;
+      ends = k.ends;
+      low = k.low;
+      using = k.using;
+      hand = k.hand;
+    } in (
+      record { time = less; timed = timed-disturbed s u q small g r; clock = clock-disturbed s u q small g r },
+      below,
+    )
+
+cell-arrived : (s : MachineSettings) (moment n m : ℕ) (p : ProcessorView) → moment < 2 ^ 64 → Cell s moment (at m p.devices)
+    → Cell s moment (at m (devices_arrived moment n p))
+unfolding made_at
+cell-arrived s moment n m p fits c = record {
+  timer = at-arrived (λ same o. SetAt moment s.gro_flush_timeout o) moment n m p
+      (λ here. set-packet moment s.gro_flush_timeout p.settings made fits (new (at m p.devices) c.timer)) (λ other. c.timer);
+  came = rw (arrived-queued moment n m p)
+      (both (λ x. x ≤ moment) (queued (at m p.devices)) (if n == m && finds_room m p then moment ∷ [] else []) c.came
+      (one (n == m && finds_room m p)));
+}
+  where
+    made : QueueView
+    made = made_at p.settings.ring (at m p.devices)
+
+    new : (o : Option QueueView) → SetAt moment s.gro_flush_timeout o → SetAt moment s.gro_flush_timeout (Some (made_at p.settings.ring o))
+    new None set = tt
+    new (Some d) set = set
+
+    one : (b : Bool) → AllByRecursion (λ x. x ≤ moment) (if b then moment ∷ [] else [])
+    one true = (omega arith, tt)
+    one false = tt
+
+rises-arrives : (s : MachineSettings) (t moment n : ℕ) (p : ProcessorView) → moment < 2 ^ 64 → Goes s p → Timed s t p → t ≤ moment
+    → is_due moment p ≡ false → Rises s t moment p (arrives moment n p)
+unfolding arrives
+rises-arrives s t moment n p fits goes h less none =
+    let k = timed-later s t moment p h less (not-due moment p none) in
+    let w = k.waits in
+    let clock : ℕ = if is_busy p.work then p.clock else moment in
+    let q : ProcessorView = record p { clock = clock; devices = devices_arrived moment n p } in
+    let g = work-moved s clock q.devices p goes in
+    let at-busy : is_busy p.work ≡ true → clock ≡ p.clock = λ busy. rw busy refl in
+    let at-idle : is_busy p.work ≡ false → clock ≡ moment = λ idle. rw idle refl in
+    let bounds = by (is_busy p.work) k.clock k.idle in
+    let r : Timed s moment q = record {
+      waits = record {
+        settings = w.settings;
+        cells = λ m. cell-arrived s moment n m p fits (w.cells m);
+        socket = w.socket;
+        rest = w.rest;
+      };
+      clock = bounds.0;
+      idle = λ idle. omega (arith, at-idle idle);
+      ends = λ busy. let e = k.ends busy in (omega (arith, at-busy busy, e.0), e.1, e.2);
+      low = λ came is. omega (arith, at-busy (ap is_busy is), k.low came is);
+      using = k.using;
+      hand = k.hand;
+    } in
+    either (λ x. Rises s t moment p x) (has_room_at (at n (with_device p.settings.ring n p.devices))) (disturbed moment q) q
+    (λ room. record {
+      time = less;
+      timed = timed-disturbed s moment q fits g r;
+      clock = omega (arith, bounds.1, clock-disturbed s moment q fits g r);
+    })
+    (λ full. record { time = less; timed = r; clock = bounds.1 })
+  where
+    by : (b : Bool) → p.clock ≤ moment + s.wake → (b ≡ false → p.clock ≤ moment)
+        → ((if b then p.clock else moment) ≤ moment + s.wake) × (p.clock ≤ (if b then p.clock else moment))
+    by true clock low = (clock, omega arith)
+    by false clock low = (omega arith, low refl)
+
+-- the invariant at the time of the last event
+pub record Since (s : MachineSettings) (until : ℕ) (events : List MachineEvent) : Type 0 where
+  pub timed : Timed s (now s events) (behind s events)
+  pub within : now s events ≤ until
+
+opened-timed : (s : MachineSettings) → Timed s 0 (behind s [])
+unfolding behind queued
+opened-timed s = grind (arith, common_steps)
+
+-- what an event does to a processor at the time of the event before it
+rises-by : (s : MachineSettings) (until : ℕ) (event : MachineEvent) (earlier : List MachineEvent) → until < 2 ^ 64
+    → InTurn s until (event ∷ earlier) → ((u : ℕ) → u < 2 ^ 64 → InTurn s u earlier → Since s u earlier)
+    → Rises s (now s earlier) (now s (event ∷ earlier)) (behind s earlier) (behind s (event ∷ earlier)) × (now s (event ∷ earlier) ≤ until)
+unfolding behind InTurn step now
+rises-by s until (packet moment n) earlier fits turns since =
+    let small : moment < 2 ^ 64 = omega (arith, turns.0, fits) in
+    let before = since moment small turns.2 in
+    (rises-arrives s (now s earlier) moment n (behind s earlier) small (goes-on s earlier) before.timed before.within turns.1, turns.0)
+rises-by s until next earlier fits turns since =
+    let p = behind s earlier in
+    rises-happens s (now s earlier) until (upcoming p) p fits (goes-on s earlier) (λ n. plain-on s n earlier)
+    (since until fits turns.1).timed refl (next-is p) turns.0
+
+pub since : (s : MachineSettings) (until : ℕ) (events : List MachineEvent) → until < 2 ^ 64 → InTurn s until events → Since s until events
+unfolding now
+since s until [] fits turns = record { timed = opened-timed s; within = omega arith }
+since s until (event ∷ earlier) fits turns =
+    let r = rises-by s until event earlier fits turns (λ u small before. since s u earlier small before) in
+    record { timed = r.0.timed; within = r.1 }
+
+pub rises : (s : MachineSettings) (until : ℕ) (event : MachineEvent) (earlier : List MachineEvent) → until < 2 ^ 64
+    → InTurn s until (event ∷ earlier)
+    → Rises s (now s earlier) (now s (event ∷ earlier)) (behind s earlier) (behind s (event ∷ earlier))
+rises s until event earlier fits turns = (rises-by s until event earlier fits turns (λ u small before. since s u earlier small before)).0
+
+pub clocks-never-fall : ClocksNeverFall
+clocks-never-fall s until event earlier fits turns =
+    let l = since s until (event ∷ earlier) fits turns in
+    ((rises s until event earlier fits turns).clock, omega (arith, l.timed.clock, l.within))
+
+pub timers-are-near : TimersAreNear
+timers-are-near s moment events n d until fits turns there deferred =
+    let l = since s moment events fits turns in
+    let set : SetAt (now s events) s.gro_flush_timeout (Some d) = rw there at (l.timed.waits.cells n).timer in
+    let near : Set (now s events) s.gro_flush_timeout (Deferred until) = rw deferred at set in
+    omega (arith, near.2, l.within)
+
+-- ---- no wait is shorter than the time of its work
+
+-- the waits of the packets delivered when the work ends
+given-waits : (s : MachineSettings) (n : ℕ) (p : ProcessorView) (o : Option (ℕ × ℕ)) → delivery_of p.work p ≡ o
+    → is_polling p.settings ≡ true
+    → ((hand : InHand) → p.work ≡ Packet hand → saturated (hand.came + s.packet) ≤ p.ends) → p.ends < 2 ^ 64 - 1
+    → AllByRecursion (λ wait. s.packet ≤ wait) (map (λ came. p.ends - came) (packet_for n o))
+given-waits s n p None is polling hands low = tt
+given-waits s n p (Some (m, came)) is polling hands low =
+    by (m == n) (hand-delivery s p.ends p.work p m came polling hands is)
+  where
+    by : (b : Bool) → saturated (came + s.packet) ≤ p.ends
+        → AllByRecursion (λ wait. s.packet ≤ wait) (map (λ came. p.ends - came) (if b then came ∷ [] else []))
+    by true below = (omega (arith, below, low), tt)
+    by false below = tt
+
+used-waits : (s : MachineSettings) (p : ProcessorView) (w : Work) → p.work ≡ w
+    → ((came : ℕ) → p.work ≡ Use came → saturated (came + use_cost s) ≤ p.ends) → p.ends < 2 ^ 64 - 1
+    → AllByRecursion (λ wait. s.packet + s.use_time ≤ wait) (map (λ came. p.ends - came) (used_by w))
+used-waits s p (Use came) is using low = let below = using came is in (omega (arith, below, low), tt)
+used-waits s p w is using low = tt
+
+happens-waits : (s : MachineSettings) (t n : ℕ) (u : Upcoming) (p : ProcessorView) → Goes s p → Timed s t p → is_polling s ≡ true
+    → (happens u p).clock < 2 ^ 64 - 1
+    → AllByRecursion (λ wait. s.packet ≤ wait) (map (λ came. p.ends - came) (packet_for n (delivery_by u p)))
+happens-waits s t n upcomings.Ends p goes h polling low =
+    given-waits s n p (delivery_of p.work p) refl (same-polling s p h.waits.settings ∙ polling) h.hand
+    (omega (arith, ends-clock s p goes, low))
+happens-waits s t n u p goes h polling low = tt
+
+happens-uses : (s : MachineSettings) (t : ℕ) (u : Upcoming) (p : ProcessorView) → Goes s p → Timed s t p → IsFair s
+    → (happens u p).clock < 2 ^ 64 - 1
+    → AllByRecursion (λ wait. s.packet + s.use_time ≤ wait) (map (λ came. p.ends - came) (use_by u p.work))
+happens-uses s t upcomings.Ends p goes h fair low = used-waits s p p.work refl (h.using fair) (omega (arith, ends-clock s p goes, low))
+happens-uses s t u p goes h fair low = tt
+
+pub no-wait-is-less : NoWaitIsLess
+unfolding behind InTurn step packet_waits use_waits next_delivery
+no-wait-is-less s until [] fits turns polling low = (λ n. tt, λ here. tt)
+no-wait-is-less s until (packet moment m ∷ earlier) fits turns polling low =
+    let less = (rises s until (packet moment m) earlier fits turns).clock in
+    no-wait-is-less s moment earlier (omega (arith, turns.0, fits)) turns.2 polling (omega (arith, low, less))
+no-wait-is-less s until (next ∷ earlier) fits turns polling low =
+    let p = behind s earlier in
+    let timed = (since s until earlier fits turns.1).timed in
+    let less = (rises s until next earlier fits turns).clock in
+    let before = no-wait-is-less s until earlier fits turns.1 polling (omega (arith, low, less)) in (
+      λ n. both (λ wait. s.packet ≤ wait) (packet_waits n s earlier)
+          (map (λ came. p.ends - came) (packet_for n (delivery_by (upcoming p) p))) (before.0 n)
+          (happens-waits s (now s earlier) n (upcoming p) p (goes-on s earlier) timed polling low),
+      λ here. both (λ wait. s.packet + s.use_time ≤ wait) (use_waits s earlier) (map (λ came. p.ends - came) (use_by (upcoming p) p.work))
+          (before.1 here) (happens-uses s (now s earlier) (upcoming p) p (goes-on s earlier) timed
+          (and_from (is_polling s) (not s.apart) polling (not_from_false s.apart here)) low),
+    )

@@ -1,0 +1,441 @@
+-- A run's work is always less than budget plus weight; which queues a run or a thread polls; and how a property that each case
+-- preserves goes through the events of a processor.
+use Rattle.std.proofs.lemmas.{Bool.{and_left, and_right, ltb-true}, Grind.{common_steps}}
+use Rattle.std.specs.List.{AllByRecursion}
+use Rattle.std.specs.Prelude.{◌==◌, ◌&&◌, if◌then◌else◌, is_some, not, option_map}
+use Rattle.std.proofs.Common.{◌≡◌, ◌∙◌, ℕ, ◌+◌, ◌-◌, ◌<◌, ◌≤◌, Bool, true, false, Option, Some, None, List, [], ◌∷◌, length, refl}
+use Rattle.std.proofs.Common.{sym, ap, arith}
+use Rattle.poll_runs.specs.declared.bench.Next.TheVariants.{Gone, Repoll}
+use Rattle.poll_runs.specs.declared.bench.Once.{Once}
+use Rattle.machine_model.specs.declared.settings.MachineSettings.{MachineSettings}
+use Rattle.device_places.specs.Places.{at, changed}
+use Rattle.machine.specs.Lives.{MachineEvent, behind, next, packet}
+use Rattle.machine.specs.Times.{WorksWithin}
+use Rattle.machine_model.specs.declared.processor.{ProcessorCounts.ProcessorCounts, Work.{Work}}
+use Rattle.machine_model.specs.declared.processor.Work.TheVariants.{Nothing, Interrupt, Poll, Packet, Use}
+use Rattle.machine_model.specs.declared.tasks.RunnableTask.{RunnableTask}
+use Rattle.machine_model.specs.declared.tasks.RunnableTask.TheVariants.{Thread}
+use Rattle.machine_model.specs.declared.processor.{Upcoming.{Upcoming, TheVariants.{Never, Ends, Expires}}}
+use Rattle.machine_model.specs.Kept.{work_given, polled_by}
+use Rattle.machine_model.specs.Softirq.{RunView, SoftirqView, asked_in, polled_run, pushed, run_ended, run_next, softirq_polled}
+use Rattle.machine_model.specs.{Device.{after_packet, expired, raised_again, without_next}}
+use Rattle.{circular_buffer.specs.Buffer.buffer}
+use Rattle.machine_model.specs.{Devices.{QueueViews, has_room_at, next_packet_at, with_device}, Waits.saturated}
+use Rattle.machine_model.specs.Tasks.{is_application, runnable, with_application}
+use Rattle.machine_model.specs.Processor.{ProcessorView, arrives, begins, delivers, delivers_oldest, disturbed, ends_by, ends_current}
+use Rattle.machine_model.specs.Processor.{ends_interrupt, ends_poll, happens, is_busy, is_polling, poll_looks, spent, step, takes_up}
+use Rattle.machine_model.specs.Processor.{upcoming}
+use Rattle.machine.proofs.WalkFacts.{Walk, either, idle-is, looks-by, nexted, polled-by, stirred, stirred-by, walk-any}
+use Rattle.std.proofs.Common.{◌≡◌, ◌∙◌, ℕ, zero, suc, ◌<◌, Bool, true, false, None, refl, sym, ap, arith}
+use Rattle.std.specs.Prelude.{if◌then◌else◌}
+use Rattle.{machine_model.specs.declared.settings.MachineSettings.MachineSettings}
+use Rattle.{machine.specs.{Deferrals.EveryRunEnds, Lives.behind}}
+use Rattle.machine_model.specs.Processor.{Advances, ProcessorView, processor_after, is_due, step, upcoming}
+use Rattle.machine_model.proofs.LeftFacts.{left, load, step-asked}
+use Rattle.machine_model.specs.{Kept.polled_by, Softirq.asked_in}
+
+-- the invariant of a run with these settings
+pub record Runs (s : MachineSettings) (r : RunView) : Type 0 where
+  pub budget : r.budget ≡ s.budget
+  pub work : r.work < s.budget + s.weight
+  pub asked : is_some r.asked ≡ true → r.work < s.budget
+
+abbrev pub RunsIn : MachineSettings → Option RunView → Type 0
+RunsIn s None = Unit {0}
+RunsIn s (Some r) = Runs s r
+
+abbrev pub all_applications : List RunnableTask → Type 0
+all_applications tasks = AllByRecursion (λ task. is_application task ≡ true) tasks
+
+-- the settings never change; the poll list has entries only with polling and without threads, and threads are runnable only
+-- with threads
+pub record Rests (s : MachineSettings) (p : ProcessorView) : Type 0 where
+  pub settings : p.settings ≡ s
+  pub run : RunsIn s p.softirq.run
+  pub soft : (is_polling s && not s.threaded) ≡ false → (p.softirq.list ≡ []) × (p.softirq.run ≡ None)
+  pub threads : (is_polling s && s.threaded) ≡ false → all_applications p.tasks
+
+-- without threads, the run asks for the queue that is polled; with threads it asks for none
+pub record Asks (s : MachineSettings) (polled : Option ℕ) (q : SoftirqView) : Type 0 where
+  pub list : s.threaded ≡ false → asked_in q.run ≡ polled
+  pub none : s.threaded ≡ true → asked_in q.run ≡ None
+
+pub record Goes (s : MachineSettings) (p : ProcessorView) : Type 0 where
+  pub rests : Rests s p
+  pub asks : Asks s (polled_by p.work) p.softirq
+  pub polled : is_polling s ≡ false → polled_by p.work ≡ None
+  pub given : work_given p.work < s.weight
+
+-- ---- the parts of the proof
+
+next-runs : (s : MachineSettings) (list : List ℕ) (run : Option RunView) (began : ℕ) → asked_in run ≡ None → RunsIn s run
+    → RunsIn s (run_next (record { list = list; run = run; began = began })).run
+unfolding run_next
+next-runs s list run began none held = grind (arith, common_steps)
+
+-- if the list is empty and no run is in progress, the same holds after the next step
+next-none : (list : List ℕ) (run : Option RunView) (began : ℕ) → (list ≡ []) × (run ≡ None)
+    → let q = run_next (record { list = list; run = run; began = began }) in (q.list ≡ []) × (q.run ≡ None)
+unfolding run_next
+next-none list run began h1 = grind (arith, common_steps)
+
+ended-none : (list : List ℕ) (run : Option RunView) (began : ℕ) → (list ≡ []) × (run ≡ None)
+    → (run_ended (record { list = list; run = run; began = began })).list ≡ []
+unfolding run_ended
+ended-none list run began h1 = grind (arith, common_steps)
+
+ended-run : (q : SoftirqView) → (run_ended q).run ≡ None
+unfolding run_ended
+ended-run q = refl
+
+runs-told : (s : MachineSettings) (run : Option RunView) (once : Once) (n : ℕ) → asked_in run ≡ Some n → once.work ≤ s.weight → RunsIn s run
+    → RunsIn s (option_map (polled_run once) run)
+runs-told s run once n asked few held = grind (arith, common_steps)
+
+told-asks : (run : Option RunView) (once : Once) → asked_in (option_map (polled_run once) run) ≡ None
+told-asks run once = grind (arith, common_steps)
+
+pushed-run : (b : Bool) (n : ℕ) (q : SoftirqView) → (if b then pushed n q else q).run ≡ q.run
+pushed-run b n q = grind (arith, common_steps)
+
+all-runnable : (idle : Bool) (tasks : List RunnableTask) → all_applications tasks → all_applications (runnable idle tasks)
+all-runnable idle tasks h1 = grind (arith, common_steps)
+
+all-with : (tasks : List RunnableTask) → all_applications tasks → all_applications (with_application tasks)
+unfolding with_application
+all-with tasks all = grind (arith, common_steps)
+
+all-if : (b : Bool) (tasks : List RunnableTask) → all_applications tasks → all_applications (if b then with_application tasks else tasks)
+all-if b tasks h1 = grind (arith, common_steps, all-with)
+
+asks-none : (s : MachineSettings) (q : SoftirqView) → Asks s None q → asked_in q.run ≡ None
+asks-none s q h1 = grind (arith, common_steps)
+
+fits : (s : MachineSettings) → 0 < s.weight
+fits s = omega (arith, s.weight_in.0)
+
+pub same-polling : (s : MachineSettings) (p : ProcessorView) → p.settings ≡ s → is_polling p.settings ≡ is_polling s
+same-polling s p is = ap (λ (x : MachineSettings). is_polling x) is
+
+pub same-threaded : (s : MachineSettings) (p : ProcessorView) → p.settings ≡ s → p.settings.threaded ≡ s.threaded
+same-threaded s p is = ap (λ (x : MachineSettings). x.threaded) is
+
+pub same-apart : (s : MachineSettings) (p : ProcessorView) → p.settings ≡ s → p.settings.apart ≡ s.apart
+same-apart s p is = ap (λ (x : MachineSettings). x.apart) is
+
+-- ---- when work begins
+
+goes-begins : (s : MachineSettings) (work : Work) (time : ℕ) (p : ProcessorView) → Rests s p → Asks s (polled_by work) p.softirq
+    → (is_polling s ≡ false → polled_by work ≡ None) → work_given work < s.weight → Goes s (begins work time p)
+goes-begins s work time p h1 h2 h3 h4 = grind (arith, common_steps)
+
+-- no work is in progress
+goes-free : (s : MachineSettings) (p : ProcessorView) → p.work ≡ Nothing → Rests s p → asked_in p.softirq.run ≡ None → Goes s p
+goes-free s p h1 h2 h3 = grind (arith, common_steps)
+
+pub work-walk : (s : MachineSettings) → Walk (Rests s) (Goes s)
+work-walk s = record {
+  interrupt = λ n time counts p free h asks.
+      let b = is_polling p.settings && not p.settings.threaded in
+      let none : asked_in (if b then pushed n p.softirq else p.softirq).run ≡ None =
+      ap asked_in (pushed-run b n p.softirq) ∙ free.unasked in
+      record {
+        rests = record {
+          settings = h.settings;
+          run = rw (pushed-run b n p.softirq) h.run;
+          soft = λ no. rw (h.settings, no) (h.soft no);
+          threads = λ no. rw (h.settings, no) (h.threads no);
+        };
+        asks = record { list = λ t. none; none = λ t. none };
+        polled = λ no. refl;
+        given = fits s;
+      };
+  next = λ p free h. record {
+    settings = h.settings;
+    run = next-runs s p.softirq.list p.softirq.run p.softirq.began free.unasked h.run;
+    soft = λ no. next-none p.softirq.list p.softirq.run p.softirq.began (h.soft no);
+    threads = h.threads;
+  };
+  asks = λ n p h asked.
+      let unasked : (is_polling s && not s.threaded) ≡ false → ⊥ = λ no. cc (ap asked_in (h.soft no).1, asked) in
+      goes-begins s (Poll n) p.settings.poll (nexted p) h
+      (record { list = λ t. asked; none = λ t. absurd (unasked (and_right (is_polling s) (not s.threaded) (rw t refl))) })
+      (λ no. absurd (unasked (and_left (is_polling s) (not s.threaded) no))) (fits s);
+  over = λ counts p free h. record {
+    settings = h.settings;
+    run = rw (ended-run p.softirq) tt;
+    soft = λ no. (ended-none p.softirq.list p.softirq.run p.softirq.began (h.soft no), ended-run p.softirq);
+    threads = h.threads;
+  };
+  start = λ p h none polling some. record {
+    settings = h.settings;
+    run = record {
+      budget = ap (λ (x : MachineSettings). x.budget) h.settings;
+      work = omega (arith, s.weight_in.0);
+      asked = λ asked. cc asked;
+    };
+    soft = λ no. cc (rw (h.soft no).0 at some);
+    threads = h.threads;
+  };
+  resume = λ rest p free h is quiet.
+      goes-begins s (Use rest.came) rest.left (record p { rest = None })
+      (record { settings = h.settings; run = h.run; soft = h.soft; threads = h.threads })
+      (record { list = λ t. free.unasked; none = λ t. free.unasked }) (λ no. refl) (fits s);
+  settle = λ tasks p h is. record {
+    settings = h.settings;
+    run = h.run;
+    soft = h.soft;
+    threads = λ no. rw is (all-runnable (length p.application.socket.items == 0) p.tasks (h.threads no));
+  };
+  thread = λ n more p free h threaded is.
+      let t : s.threaded ≡ true = sym (same-threaded s p h.settings) ∙ threaded in
+      let both : (is_polling s && s.threaded) ≡ false → all_applications (Thread n ∷ more) = λ no. rw is at (h.threads no) in
+      goes-begins s (Poll n) p.settings.poll (record p { tasks = more })
+      (record { settings = h.settings; run = h.run; soft = h.soft; threads = λ no. (both no).1 })
+      (record { list = λ single. cc (single, t); none = λ t. free.unasked })
+      (λ no. cc ((both (and_left (is_polling s) s.threaded no)).0)) (fits s);
+  uses = λ came more p free h none is quiet first.
+      goes-begins s (Use came) p.settings.use_time
+      (record p { application = record p.application { socket = buffer more p.application.socket.capacity } })
+      (record { settings = h.settings; run = h.run; soft = h.soft; threads = h.threads })
+      (record { list = λ t. free.unasked; none = λ t. free.unasked }) (λ no. refl) (fits s);
+  stays = λ p free h still settled. goes-free s p free.nothing h free.unasked;
+}
+
+-- ---- when work ends
+
+work-delivers : (s : MachineSettings) (n came : ℕ) (p : ProcessorView) → Rests s p → Rests s (delivers n came p)
+unfolding delivers
+work-delivers s n came p h1 = grind (arith, common_steps, all-if)
+
+-- the queue that is polled, after a change of queues and of the application
+pub record Polls (s : MachineSettings) (n : ℕ) (p : ProcessorView) : Type 0 where
+  pub rests : Rests s p
+  pub nothing : p.work ≡ Nothing
+  pub asks : Asks s (Some n) p.softirq
+  pub polling : is_polling s ≡ true
+
+pub polls-devices : (s : MachineSettings) (n : ℕ) (devices : QueueViews) (p : ProcessorView) → Polls s n p
+    → Polls s n (record p { devices = devices })
+polls-devices s n devices p h1 = grind (arith, common_steps)
+
+work-polled : (s : MachineSettings) (n given : ℕ) (p : ProcessorView) → Polls s n p → given ≤ s.weight → Goes s (ends_poll n given p)
+unfolding softirq_polled
+work-polled s n given p g few =
+    let h = g.rests in
+    let once : Once = record { work = given; next = if given == p.settings.weight then Repoll else Gone } in
+    polled-by (Goes s) n given p
+    (λ counts t. goes-free s _ g.nothing (record {
+      settings = h.settings;
+      run = h.run;
+      soft = h.soft;
+      threads = λ no. cc (rw (g.polling, sym (same-threaded s p h.settings) ∙ t) at no);
+    }) (g.asks.none (sym (same-threaded s p h.settings) ∙ t)))
+    (λ counts t.
+    let single : s.threaded ≡ false = sym (same-threaded s p h.settings) ∙ t in
+    goes-free s _ g.nothing (record {
+      settings = h.settings;
+      run = runs-told s p.softirq.run once n (g.asks.list single) few h.run;
+      soft = λ no. cc (rw (g.polling, single) at no);
+      threads = h.threads;
+    }) (told-asks p.softirq.run once))
+
+work-looks : (s : MachineSettings) (n given : ℕ) (p : ProcessorView) → Polls s n p → given ≤ s.weight → Goes s (poll_looks n given p)
+work-looks s n given p g few =
+    let e : ProcessorView = record p { devices = changed (without_next p.settings.backlog) n p.devices } in
+    let q = polls-devices s n e.devices p g in
+    let weight : p.settings.weight ≡ s.weight = ap (λ (x : MachineSettings). x.weight) g.rests.settings in
+    looks-by (Goes s) n given p
+    (λ came is less. goes-begins s (Packet (record { device = n; came = came; given = given })) p.settings.packet e q.rests q.asks
+    (λ no. cc (no, g.polling)) (omega (arith, ltb-true given p.settings.weight less, weight)))
+    (λ none. work-polled s n given e q few) (λ full. work-polled s n given p g few)
+
+pub polls-of : (s : MachineSettings) (n : ℕ) (work : Work) (p : ProcessorView) → Rests s p → p.work ≡ Nothing
+    → Asks s (polled_by work) p.softirq
+    → (is_polling s ≡ false → polled_by work ≡ None) → polled_by work ≡ Some n → Polls s n p
+polls-of s n work p h1 h2 h3 h4 h5 = grind (arith, common_steps)
+
+pub polls-delivers : (s : MachineSettings) (n came : ℕ) (p : ProcessorView) → Polls s n p → Polls s n (delivers n came p)
+unfolding delivers
+polls-delivers s n came p h1 = grind (arith, common_steps)
+
+-- without polling, an interrupt ends
+work-lone : (s : MachineSettings) (n : ℕ) (o : Option ℕ) (p : ProcessorView) → Rests s p → p.work ≡ Nothing → asked_in p.softirq.run ≡ None
+    → let q = delivers_oldest n o p in Goes s (record q { devices = changed raised_again n q.devices })
+unfolding delivers
+work-lone s n None p h nothing none =
+    goes-free s _ nothing (record { settings = h.settings; run = h.run; soft = h.soft; threads = h.threads }) none
+work-lone s n (Some came) p h nothing none =
+    let q : ProcessorView = record p { devices = changed (without_next false) n p.devices } in
+    let d = work-delivers s n came q (record { settings = h.settings; run = h.run; soft = h.soft; threads = h.threads }) in
+    goes-free s _ nothing (record { settings = d.settings; run = d.run; soft = d.soft; threads = d.threads }) none
+
+work-ends : (s : MachineSettings) (work : Work) (p : ProcessorView) → Rests s p → p.work ≡ Nothing → Asks s (polled_by work) p.softirq
+    → (is_polling s ≡ false → polled_by work ≡ None) → work_given work < s.weight → Goes s (ends_by work p)
+unfolding ends_interrupt
+work-ends s Nothing p h nothing asks polled given = goes-free s p nothing h (asks-none s p.softirq asks)
+work-ends s (Interrupt n) p h nothing asks polled given =
+    let none = asks-none s p.softirq asks in
+    either (Goes s) (is_polling p.settings) p (ends_interrupt n p) (λ polling. goes-free s p nothing h none)
+    (λ lone. work-lone s n (next_packet_at false (at n p.devices)) p h nothing none)
+work-ends s (Poll n) p h nothing asks polled given =
+    work-looks s n 0 p (polls-of s n (Poll n) p h nothing asks polled refl) (omega arith)
+work-ends s (Packet hand) p h nothing asks polled given =
+    work-looks s hand.device (hand.given + 1) (delivers hand.device hand.came p)
+    (polls-delivers s hand.device hand.came p (polls-of s hand.device (Packet hand) p h nothing asks polled refl)) (omega (arith, given))
+work-ends s (Use came) p h nothing asks polled given =
+    goes-free s _ nothing (record { settings = h.settings; run = h.run; soft = h.soft; threads = h.threads })
+    (asks-none s p.softirq asks)
+
+pub work-ended : (s : MachineSettings) (p : ProcessorView) → Goes s p → Goes s (ends_current p)
+unfolding ends_current
+work-ended s p g =
+    let h = g.rests in
+    let q : ProcessorView = record p { clock = p.ends; work = Nothing; counts = spent p.work (p.ends - p.clock) p.counts } in
+    work-ends s p.work q (record { settings = h.settings; run = h.run; soft = h.soft; threads = h.threads }) refl g.asks g.polled g.given
+
+pub goes-unasked : (s : MachineSettings) (p : ProcessorView) → Goes s p → is_busy p.work ≡ false → asked_in p.softirq.run ≡ None
+goes-unasked s p g idle = asks-none s p.softirq (rw (idle-is p.work idle) at g.asks)
+
+-- ---- a property of a processor goes through its events
+
+-- the queues after a timer expired, if one did
+abbrev pub expired_at : Option ℕ → QueueViews → QueueViews
+expired_at None ds = ds
+expired_at (Some n) ds = changed expired n ds
+
+-- the queues after a packet arrived
+abbrev pub devices_arrived : ℕ → ℕ → ProcessorView → QueueViews
+devices_arrived moment n p = changed (after_packet moment p.settings) n (with_device p.settings.ring n p.devices)
+
+-- What has to be shown: P holds before work begins and R after that, if Q holds.
+pub record Life (s : MachineSettings) (P Q R : ProcessorView → Type 0) : Type 0 where
+  pub walk : Walk P R
+  pub idle : (p : ProcessorView) → Goes s p → p.work ≡ Nothing → Q p → P p
+  pub busy : (p : ProcessorView) → is_busy p.work ≡ true → Q p → R p
+  pub aside : (moment came : ℕ) (counts : ProcessorCounts) (p : ProcessorView) → p.work ≡ Use came → Q p
+      → Q (record p { work = Nothing; clock = moment; rest = Some (record { came = came; left = p.ends - moment }); counts = counts })
+  pub moved : (e : Option ℕ) (clock : ℕ) (counts : ProcessorCounts) (p : ProcessorView) → Q p
+      → Q (record p { clock = clock; counts = counts; devices = expired_at e p.devices })
+
+pub life-takes : {s : MachineSettings} {P Q R : ProcessorView → Type 0} → Life s P Q R → (p : ProcessorView) → Goes s p → Q p
+    → R (takes_up p)
+life-takes h1 p h2 h3 = grind (arith, common_steps, walk-any, idle-is)
+
+pub life-stirred : {s : MachineSettings} {P Q R : ProcessorView → Type 0} → Life s P Q R → (moment : ℕ) (p : ProcessorView) → Q p
+    → Q (stirred moment p)
+life-stirred {Q = Q} l moment p h =
+    stirred-by Q moment p (λ busy. h) (λ came counts is. l.aside moment came counts p is h)
+    (λ counts idle asks. l.moved None (saturated (moment + p.settings.wake)) counts p h)
+    (λ idle. l.moved None moment p.counts p h)
+
+-- time passes, or queues change
+goes-moved : (s : MachineSettings) (clock : ℕ) (counts : ProcessorCounts) (devices : QueueViews) (p : ProcessorView) → Goes s p
+    → Goes s (record p { clock = clock; counts = counts; devices = devices })
+goes-moved s clock counts devices p h1 = grind (arith, common_steps)
+
+pub work-moved : (s : MachineSettings) (clock : ℕ) (devices : QueueViews) (p : ProcessorView) → Goes s p
+    → Goes s (record p { clock = clock; devices = devices })
+work-moved s clock devices p g = goes-moved s clock p.counts devices p g
+
+work-life : (s : MachineSettings) → Life s (Rests s) (Goes s) (Goes s)
+work-life s = grind (arith, common_steps, work-walk)
+
+pub work-stirred : (s : MachineSettings) (moment : ℕ) (p : ProcessorView) → Goes s p → Goes s (stirred moment p)
+work-stirred s moment p g = life-stirred (work-life s) moment p g
+
+pub life-disturbed : {s : MachineSettings} {P Q R : ProcessorView → Type 0} → Life s P Q R → (moment : ℕ) (p : ProcessorView) → Goes s p
+    → Q p
+    → R (disturbed moment p)
+unfolding disturbed
+life-disturbed {s = s} l moment p goes h =
+    life-takes l (stirred moment p) (work-stirred s moment p goes) (life-stirred l moment p h)
+
+-- the event happens, if R holds where nothing happens, and Q after the end of work
+pub life-happens : {s : MachineSettings} {P Q R : ProcessorView → Type 0} → Life s P Q R → (u : Upcoming) (p : ProcessorView) → Goes s p
+    → R p → Q p → (u ≡ Ends → Q (ends_current p)) → R (happens u p)
+life-happens l Never p goes same h ended = same
+life-happens {s = s} l Ends p goes same h ended = life-takes l (ends_current p) (work-ended s p goes) (ended refl)
+life-happens {s = s} l (Expires timer) p goes same h ended =
+    let q : ProcessorView = record p { devices = changed expired timer.device p.devices } in
+    life-disturbed l timer.at q (work-moved s p.clock q.devices p goes) (l.moved (Some timer.device) p.clock p.counts p h)
+
+-- a packet arrives, with room for it or without
+pub life-arrives : {s : MachineSettings} {P Q R : ProcessorView → Type 0} → Life s P Q R → (moment n : ℕ) (p : ProcessorView) → Goes s p
+    → (let q : ProcessorView = record p { clock = if is_busy p.work then p.clock else moment; devices = devices_arrived moment n p } in
+    Q q → (has_room_at (at n (with_device p.settings.ring n p.devices)) ≡ false → R q) → R (arrives moment n p))
+unfolding arrives
+life-arrives {s = s} {R = R} l moment n p goes h full =
+    let clock = if is_busy p.work then p.clock else moment in
+    let q : ProcessorView = record p { clock = clock; devices = devices_arrived moment n p } in
+    either R (has_room_at (at n (with_device p.settings.ring n p.devices))) (disturbed moment q) q
+    (λ room. life-disturbed l moment q (work-moved s clock q.devices p goes) h) full
+
+-- ---- over a processor's life
+
+pub work-happens : (s : MachineSettings) (u : Upcoming) (p : ProcessorView) → Goes s p → Goes s (happens u p)
+work-happens s u p g = life-happens (work-life s) u p g g g (λ is. work-ended s p g)
+
+pub goes-on : (s : MachineSettings) (events : List MachineEvent) → Goes s (behind s events)
+unfolding behind step
+goes-on s [] = goes-free s _ refl (record { settings = refl; run = tt; soft = λ no. (refl, refl); threads = λ no. tt }) refl
+goes-on s (packet moment n ∷ earlier) =
+    let p = behind s earlier in
+    let g = goes-on s earlier in
+    let now = work-moved s (if is_busy p.work then p.clock else moment) (devices_arrived moment n p) p g in
+    life-arrives (work-life s) moment n p g now (λ full. now)
+goes-on s (next ∷ earlier) = work-happens s (upcoming (behind s earlier)) (behind s earlier) (goes-on s earlier)
+
+pub works-within : WorksWithin
+works-within = grind (arith, common_steps, goes-on)
+
+-- ---- the events on a processor end
+
+-- n + 1 steps are a step followed by n steps, or n steps followed by one
+after-step : (count : ℕ) (p : ProcessorView) → processor_after count (step p) ≡ processor_after (suc count) p
+unfolding processor_after
+after-step zero p = refl
+after-step (suc count) p = ap step (after-step count p)
+
+step-goes : (s : MachineSettings) (p : ProcessorView) → Goes s p → Goes s (step p)
+unfolding step
+step-goes s p goes = work-happens s (upcoming p) p goes
+
+step-left : (s : MachineSettings) (until : ℕ) (p : ProcessorView) → Goes s p → is_due until p ≡ true → left load (step p) < left load p
+step-left s until p goes due = step-asked until p (rw goes.rests.settings (by s.threaded refl)) due
+  where
+    by : (b : Bool) → s.threaded ≡ b → asked_in p.softirq.run ≡ (if b then None else polled_by p.work)
+    by true is = goes.asks.none is
+    by false is = goes.asks.list is
+
+one-more : (until : ℕ) (p q : ProcessorView) → is_due until p ≡ true → Advances until (step p) q → Advances until p q
+unfolding processor_after
+one-more until p q due a = record {
+  count = suc a.count;
+  each = λ n below. by n below;
+  last = a.last ∙ after-step a.count p;
+  none = a.none;
+}
+  where
+    by : (n : ℕ) → n < suc a.count → is_due until (processor_after n p) ≡ true
+    by zero below = due
+    by (suc n) below = ap (is_due until) (sym (after-step n p)) ∙ a.each n (omega (arith, below))
+
+run-ends : (s : MachineSettings) (until fuel : ℕ) (p : ProcessorView) → Goes s p → left load p < fuel
+    → (q : ProcessorView) × Advances until p q
+unfolding processor_after
+run-ends s until zero p goes few = absurd (omega (arith, few))
+run-ends s until (suc fuel) p goes few =
+    by (is_due until p) refl (λ less. run-ends s until fuel (step p) (step-goes s p goes) less)
+  where
+    by : (b : Bool) → is_due until p ≡ b → (left load (step p) < fuel → (q : ProcessorView) × Advances until (step p) q)
+        → (q : ProcessorView) × Advances until p q
+    by false none later = (p, record { count = zero; each = λ n below. absurd (omega (arith, below)); last = refl; none = none })
+    by true due later =
+        let less : left load (step p) < left load p = step-left s until p goes due in
+        let r = later (omega (arith, few, less)) in
+        (r.0, one-more until p r.0 due r.1)
+
+pub every-run-ends : EveryRunEnds
+every-run-ends s until events =
+    let p = behind s events in run-ends s until (suc (left load p)) p (goes-on s events) (omega arith)

@@ -1,0 +1,54 @@
+-- Laws about deferred interrupts (`napi_defer_hard_irqs`).
+use Rattle.std.specs.Prelude.{◌≡◌, ◌≤◌, ◌<◌, ℕ, ◌+◌, ◌^◌, ◌==◌, ◌&&◌, max, not, is_some, true, false, Some, List, [], ◌∷◌, if◌then◌else◌}
+use Rattle.{machine_model.specs.declared.settings.MachineSettings.MachineSettings, device_places.specs.Places.at}
+use Rattle.machine.specs.{Fates.finds_room, Lives.{MachineEvent, InTurn, behind, next, packet}}
+use Rattle.machine_model.specs.{Device.{QueueView, next_packet}, declared.device.Phase.TheVariants.Deferred}
+use Rattle.machine_model.specs.{Devices.next_packet_at, Processor.{Advances, ProcessorView, is_polling, step, upcoming}}
+use Rattle.machine_model.specs.declared.processor.{Upcoming.{Upcoming, TheVariants.{Ends, Expires}}, Work.Work}
+use Rattle.machine_model.specs.declared.processor.Work.TheVariants.{Nothing, Packet, Poll}
+
+-- the count of empty polls when work ends: an empty poll of the queue adds one; the delivery of one of its packets sets it to 0
+abbrev pub emptied_by : ℕ → Work → ProcessorView → ℕ → ℕ
+emptied_by n (Poll number) p count =
+    if number == n && not (is_some (next_packet_at p.settings.backlog (at number p.devices))) then count + 1 else count
+emptied_by n (Packet hand) p count = if hand.device == n then 0 else count
+emptied_by n _ p count = count
+
+abbrev pub emptied : ℕ → Upcoming → ProcessorView → ℕ → ℕ
+emptied n Ends p count = emptied_by n p.work p count
+emptied n _ p count = count
+
+-- how many polls of a queue were empty since its last packet arrived or was delivered
+unfoldable pub empty_polls : ℕ → MachineSettings → List MachineEvent → ℕ
+empty_polls n s [] = 0
+empty_polls n s (packet moment number ∷ earlier) =
+    if number == n && finds_room n (behind s earlier) then 0 else empty_polls n s earlier
+empty_polls n s (next ∷ earlier) = let p = behind s earlier in emptied n (upcoming p) p (empty_polls n s earlier)
+
+-- Law: after the last packet of a queue, at most `defer-hard-irqs` of its polls are empty, or one if that is 0.
+abbrev pub EmptyPollsAreFew : Type 0
+EmptyPollsAreFew = (s : MachineSettings) (n : ℕ) (events : List MachineEvent) → empty_polls n s events ≤ max 1 s.defer_hard_irqs
+
+-- Law: with no further packets, the events on a processor end.
+abbrev pub EveryRunEnds : Type 0
+EveryRunEnds = (s : MachineSettings) (until : ℕ) (events : List MachineEvent) → (q : ProcessorView) × Advances until (behind s events) q
+
+-- Law: when a packet arrives for a queue whose interrupt is deferred, the queue's NAPI timer expires at most
+-- `gro-flush-timeout` later.
+abbrev pub TimersAreNear : Type 0
+TimersAreNear = (s : MachineSettings) (moment : ℕ) (events : List MachineEvent) (n : ℕ) (d : QueueView) (until : ℕ) → moment < 2 ^ 64
+    → InTurn s moment events
+    → at n (behind s events).devices ≡ Some d → d.phase ≡ Deferred until → until ≤ moment + s.gro_flush_timeout
+
+-- Law: on an idle processor with polling and without threads, let the next event be that a queue's NAPI timer expires. If
+-- nothing else interferes, the queue's interrupt, its poll and its oldest packet follow at once, and the packet is delivered at
+-- most `wake` + `interrupt` + `poll` + `packet` later. By the previous law, its whole wait is at most this sum plus
+-- `gro-flush-timeout`.
+abbrev pub DeferralIsBounded : Type 0
+DeferralIsBounded = (s : MachineSettings) (events : List MachineEvent) (n until came : ℕ) (d : QueueView) → let p = behind s events in
+    is_polling s ≡ true → s.threaded ≡ false → p.work ≡ Nothing → at n p.devices ≡ Some d → d.phase ≡ Deferred until
+    → upcoming p ≡ Expires (record { at = until; device = n }) → next_packet s.backlog d ≡ Some came
+    → upcoming (step p) ≡ Ends
+    → upcoming (step (step p)) ≡ Ends
+    → ((step (step (step p))).work ≡ Packet (record { device = n; came = came; given = 0 }))
+    × ((step (step (step p))).ends ≤ until + (s.wake + (s.interrupt + (s.poll + s.packet))))
