@@ -450,8 +450,8 @@ struct fq_card {
 
 /* Handles an interrupt: schedules, and repeats the attempt while it returns FQ_CHANGED; if granted, masks the card and queues the
  * instance, in the kernel's order: if the card were masked after that, it would stay masked whenever the poller is faster. `kind`
- * follows FQ_BIT_THREADED, which fq_seat_request reads itself. Returns FQ_GRANTED, and the instance is queued; FQ_MISSED; FQ_DISABLED;
- * FQ_BAD_KIND; FQ_BAD_HANDLE; FQ_NOT_ALLOWED. */
+ * follows FQ_BIT_THREADED, which fq_seat_request reads itself. Returns FQ_BAD_KIND; FQ_GRANTED, and the instance is queued; FQ_MISSED;
+ * FQ_DISABLED; FQ_BAD_HANDLE; FQ_NOT_ALLOWED. */
 FQ_CHECKED static inline enum fq_status fq_seat_interrupt_masked(struct fq_handle *seat, uint32_t kind, const struct fq_card *card) {
     enum fq_status said;
     if (kind > FQ_THREAD) return FQ_BAD_KIND;
