@@ -136,5 +136,12 @@ active proctype User() {
     user_ended = true
 }
 
-ltl polled { <> [] (taken == PACKETS && stage == armed && !masked) }
-ltl ends { <> user_ended }
+/* When no process can go on. */
+active proctype End() {
+    timeout;
+    assert(user_ended);
+    assert(taken == PACKETS);
+    assert(stage == armed && !masked)
+}
+
+ltl ends { <> (user_ended && taken == PACKETS) }
