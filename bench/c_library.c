@@ -1,7 +1,7 @@
 /* Times calls of the C library: c_library WHAT TIMES. Counts go to standard output, the time to standard error. limits: the
  * calls of limits.cc, which prints the same; reads are the header's inline functions. turns: schedule, hand, take and
  * complete on a shared instance, by one thread. driver: packets that come one by one, polled by what a driver says; driver64: 64 at
- * a time. packets: puts, and polls of weight 64; bursts: the same packets, put 64 at
+ * a time; step, step64: the same with fq_driver_step, which reports and asks at once. packets: puts, and polls of weight 64; bursts: the same packets, put 64 at
  * once. 1, 8, 32 or 64: packets, put and polled this many at once. beside: looks by two threads at once, each by its own seat,
  * whose handles are adjacent; apart: 128 bytes apart. */
 #include <fintaqush.h>
@@ -133,31 +133,60 @@ static bool ring(uint64_t count, size_t burst) {
     return true;
 }
 
-/* The packets come this many at a time to a card whose ring is a pair of counts, and are polled by what the driver says. */
+struct card { /* its ring is a pair of counts */
+    uint64_t put, taken;
+    bool masked;
+};
+
+/* Does what the driver asks for, and writes the packets of a look or of a fetch into `todo`. */
+static inline void act(struct card *card, struct fq_todo *todo) {
+    switch (todo->what) {
+    case FQ_TODO_MASK: card->masked = true; break;
+    case FQ_TODO_UNMASK: card->masked = false; break;
+    case FQ_TODO_LOOK: todo->packets = card->put != card->taken; break;
+    case FQ_TODO_FETCH:
+        todo->packets = card->put - card->taken < todo->most ? (uint32_t)(card->put - card->taken) : todo->most;
+        card->taken += todo->packets;
+        break;
+    }
+}
+
+static bool opens(struct fq_handle *driver) {
+    return fq_driver_new(driver, 1, 300, 64, 1024) == FQ_OK && fq_driver_open(driver, 0) == FQ_OK;
+}
+
+/* The packets come this many at a time, and are polled by what the driver says. */
 static bool driver(uint64_t count, uint32_t burst) {
     struct fq_handle driver = FQ_NONE;
     struct fq_todo todo = FQ_TODO_INIT;
-    uint64_t put = 0, taken = 0;
-    bool masked = true;
-    if (fq_driver_new(&driver, 1, 300, 64, 1024) != FQ_OK || fq_driver_open(&driver, 0) != FQ_OK) return false;
-    while (taken < count) {
+    struct card card = {0, 0, true};
+    if (!opens(&driver)) return false;
+    while (card.taken < count) {
         while (fq_driver_next(&driver, &todo), todo.what != FQ_TODO_SLEEP) {
-            switch (todo.what) {
-            case FQ_TODO_MASK: masked = true; break;
-            case FQ_TODO_UNMASK: masked = false; break;
-            case FQ_TODO_LOOK: todo.packets = put != taken; break;
-            case FQ_TODO_FETCH:
-                todo.packets = put - taken < todo.most ? (uint32_t)(put - taken) : todo.most;
-                taken += todo.packets;
-                break;
-            }
+            act(&card, &todo);
             fq_driver_done(&driver, &todo);
         }
-        if (masked || taken != put) return false;
-        put += burst;
+        if (card.masked || card.taken != card.put) return false;
+        card.put += burst;
         if (fq_driver_interrupt(&driver, 0) != FQ_GRANTED) return false;
     }
-    printf("packets %" PRIu64 "\n", taken);
+    printf("packets %" PRIu64 "\n", card.taken);
+    return true;
+}
+
+/* The same, with one call that reports and asks. */
+static bool step(uint64_t count, uint32_t burst) {
+    struct fq_handle driver = FQ_NONE;
+    struct fq_todo todo = FQ_TODO_INIT;
+    struct card card = {0, 0, true};
+    if (!opens(&driver)) return false;
+    while (card.taken < count) {
+        while (fq_driver_step(&driver, &todo), todo.what != FQ_TODO_SLEEP) act(&card, &todo);
+        if (card.masked || card.taken != card.put) return false;
+        card.put += burst;
+        if (fq_driver_interrupt(&driver, 0) != FQ_GRANTED) return false;
+    }
+    printf("packets %" PRIu64 "\n", card.taken);
     return true;
 }
 
@@ -169,6 +198,8 @@ int main(int words, char **word) {
     const bool good = strcmp(word[1], "limits") == 0 ? limits(times)
                       : strcmp(word[1], "driver") == 0 ? driver(times, 1)
                       : strcmp(word[1], "driver64") == 0 ? driver(times, 64)
+                      : strcmp(word[1], "step") == 0   ? step(times, 1)
+                      : strcmp(word[1], "step64") == 0 ? step(times, 64)
                       : strcmp(word[1], "turns") == 0 ? turns(times)
                       : burst != 0 && burst <= 64     ? ring(times, burst)
                       : is_beside || is_apart         ? looks(times, is_beside ? 1 : 128 / sizeof(struct fq_handle))

@@ -1,7 +1,7 @@
 #!/bin/sh
 # Times calls of the C library from C: pairs on a queue limit, compared with the plain C++ fold of bench/limits.cc, which is
 # inlined and has to count the same; cycles of a shared instance by one thread (schedule, hand, take, complete), compared with
-# the same cycles by the typed calls (crates/bench_word); packets that a driver (fq_driver_new) polls, one or 64 at each interrupt; and packets, put one by one and in bursts of 64, and polled 64 at a
+# the same cycles by the typed calls (crates/bench_word); packets that a driver (fq_driver_new) polls, one or 64 at each interrupt, reported and asked for in two calls or in one; and packets, put one by one and in bursts of 64, and polled 64 at a
 # time, and put and polled in bursts of 1, 8, 32 and 64. Three rounds of all in turn; the best time of each is printed, with C's ratio to the other. Then nine rounds of looks by
 # two threads at once, with handles that are adjacent or 128 bytes apart: the best and the median time of each.
 #
@@ -28,7 +28,7 @@ g++ -O2 -o "$work/fold" "$bench/limits.cc"
 for round in 1 2 3; do
     "$work/fold" "$times" > "$work/fold.line" 2> "$work/spent"
     cut -d ' ' -f 1 "$work/spent" >> "$work/fold.times"
-    for what in limits turns driver driver64 packets bursts 1 8 32 64; do
+    for what in limits turns driver driver64 step step64 packets bursts 1 8 32 64; do
         count=$times
         [ "$what" != turns ] || count=$turns
         "$work/c_library" "$what" "$count" > "$work/$what.line" 2> "$work/spent"
@@ -67,6 +67,8 @@ show 'a turn by the typed calls' typed "$turns"
 show 'the same turn from C' turns "$turns" typed 'the typed calls'
 show 'a packet of a driver' driver "$times"
 show 'a packet of a driver, 64 at once' driver64 "$times"
+show 'the same, one by one, in steps' step "$times"
+show 'the same, 64 at once, in steps' step64 "$times"
 show 'a packet from C, weight 64' packets "$times"
 show 'a packet from C, in bursts' bursts "$times"
 for burst in 1 8 32 64; do

@@ -1,12 +1,13 @@
 -- A driver for C: what it asks for, as numbers, and the status and the effect of each call.
 use Rattle.std.specs.Prelude.{◌≡◌, ◌≢◌, ◌⊎◌, ◌↔◌, ℕ, ◌<◌, ◌≤◌, ◌==◌, ◌||◌, false, nat_le, if◌then◌else◌}
-use Rattle.std.specs.Prelude.{length, IsSome}
+use Rattle.std.specs.Prelude.{length, IsSome, ⊤, Result, Ok, Err}
 use Rattle.napi_model.specs.declared.event.Prep.{Prep, TheVariants.{Granted, Missed, Disabled}}
 use Rattle.napi_model.specs.Step.{schedule_reply}
 use Rattle.driver_core.specs.{Device.{after_interrupt, is_stopping, after_open, after_stop, MayStop}, Steps.{stage_is_scheduled, napi_of}}
 use Rattle.driver_core.specs.Driver.{poll_counts_of, device_of, driver_devices, driver_limits, said_number_of, polled_device, stage_of}
 use Rattle.driver_core.specs.Driver.{AreClosed, IsDue, AwaitsNothing, IsIdle, IsNumberedWhat, IsReport, PutsDevice, Reports}
 use Rattle.driver_core.specs.declared.{driver.Driver.Driver, device.Stage.{Stage, TheVariants.Closed}}
+use Rattle.driver_core.specs.declared.todo.Refused.{Refused, TheVariants.{NotDue, TooMany}}
 use Rattle.driver_core.specs.declared.todo.What.{What, TheVariants.{Mask, Unmask, Look, Fetch, Ended, Sleep}}
 use Rattle.c_handles.specs.Status.{OK, GRANTED, MISSED, DISABLED, NOT_DUE, BAD_DEVICE, BAD_SIZE, BAD_WORK, BAD_COUNT}
 use Rattle.c_handles.specs.{Status.{BAD_BUDGET, BAD_WEIGHT}, declared.lister.FqRunReport.FqRunReport}
@@ -92,11 +93,34 @@ pub record IsTodoReport (number packets : ℕ) (d : Driver) (n : ℕ) (e : Drive
   pub status : (n ≡ OK) ⊎ (n ≡ NOT_DUE) ⊎ (n ≡ BAD_WORK)
   pub kept : n ≢ OK → e ≡ d
 
+-- the status of a report of the action with this number; 0 reports nothing
+abbrev pub report_status : ℕ → Result ⊤ Refused → ℕ
+report_status number (Ok done) = OK
+report_status number (Err TooMany) = BAD_WORK
+report_status number (Err NotDue) = if number == 0 then OK else NOT_DUE
+
 -- the action in the struct is reported as done
 pub record IsDriverDone (todo : FqTodo) (d : Driver) (n : ℕ) (e : Driver) : Type 0 where
   pub size : (n ≡ BAD_SIZE) ↔ (todo.size < 48)
   pub reported : n ≢ BAD_SIZE → IsTodoReport todo.number todo.packets d n e
   pub kept : n ≡ BAD_SIZE → e ≡ d
+
+-- A report under this number, unless it is 0, and then the next action is asked for: the struct was `before`, and is `after`. After a
+-- report of too many packets nothing is asked for.
+pub record MakesStep (number : ℕ) (before after : FqTodo) (d : Driver) (n : ℕ) (e : Driver) : Type 0 where
+  pub between : Driver
+  pub reports : IsTodoReport number before.packets d n between
+  pub says : n ≢ BAD_WORK → Says before.size between after e
+  pub kept : n ≡ BAD_WORK → (after ≡ before) × (e ≡ d)
+
+-- The action in the struct is reported as done, unless its number is 0, and then the next one is asked for; the driver in between
+-- is what the report leaves. After a report of too many packets nothing is asked for.
+pub record IsDriverStep (before after : FqTodo) (d : Driver) (n : ℕ) (e : Driver) : Type 0 where
+  pub between : Driver
+  pub reports : IsDriverDone before d n between
+  pub asks : n ≢ BAD_SIZE → n ≢ BAD_WORK → IsDriverNext before after between OK e
+  pub status : (n ≡ OK) ⊎ (n ≡ NOT_DUE) ⊎ (n ≡ BAD_WORK) ⊎ (n ≡ BAD_SIZE)
+  pub kept : (n ≡ BAD_SIZE) ⊎ (n ≡ BAD_WORK) → (after ≡ before) × (e ≡ d)
 
 -- ---- what happened at a device
 

@@ -2,11 +2,11 @@
 
 ghost use Rattle.std.specs.Prelude.{◌≡◌, length, nat_lt};
 ghost use Rattle.driver_core.specs.Driver.{driver_devices};
-ghost use Rattle.c_handles.specs.Drivers.{device_in, most_in, reply_status, todo_run_in, shown_of, device_state_in, todo_in, what_in, IsDriverDone, IsDriverInterrupt, IsDriverNext, IsDriverOpen, IsTodoReport, IsDriverShow, IsDriverStop, Says};
+ghost use Rattle.c_handles.specs.Drivers.{device_in, most_in, reply_status, todo_run_in, shown_of, device_state_in, todo_in, what_in, IsDriverDone, IsDriverInterrupt, IsDriverNext, IsDriverOpen, IsDriverStep, IsTodoReport, IsDriverShow, IsDriverStop, MakesStep, report_status};
 
 use crate::lister::FqRunReport;
 use crate::status;
-use driver_core::{Driver, DriverDevice, Refused, Stage, Todo, What};
+use driver_core::{Driver, DriverDevice, Refused, Stage, Todo, TodoPlace, What};
 use napi_model::Prep;
 use std::mem::size_of;
 
@@ -55,6 +55,7 @@ const NO_RUN: FqRunReport = FqRunReport {
 };
 
 // Returns the number of an action (`enum fq_what`).
+#[inline(always)]
 fn what_in(what: What) -> u32
     ensures { result ≡ what_in what }
 {
@@ -69,6 +70,7 @@ fn what_in(what: What) -> u32
 }
 
 // Returns the device of an action, and the packets that a fetch may take.
+#[inline(always)]
 fn where_in(what: What) -> (u32, u32)
     ensures device { result.0 ≡ device_in what }
     ensures most { result.1 ≡ most_in what }
@@ -81,6 +83,7 @@ fn where_in(what: What) -> (u32, u32)
 }
 
 // Returns the report of the run that ended.
+#[inline(always)]
 fn todo_run_in(what: What) -> FqRunReport
     ensures { result ≡ todo_run_in what }
 {
@@ -94,49 +97,56 @@ fn todo_run_in(what: What) -> FqRunReport
     }
 }
 
-// Sets `todo` to what the driver asks for, as the struct for C.
-fn say(driver: &mut Driver, todo: &mut FqTodo)
-    ensures { Says todo.old.size driver.old todo.new driver.new }
-{
-    let Todo { number, what } = driver.next();
-    let (device, most) = where_in(what);
-    let run = todo_run_in(what);
-    todo.number = number;
-    todo.what = what_in(what);
-    todo.device = device;
-    todo.most = most;
-    todo.packets = 0;
-    todo.run.polls = run.polls;
-    todo.run.work = run.work;
-    todo.run.squeezed = run.squeezed;
+impl TodoPlace for FqTodo {
+    ghost use Rattle.c_handles.specs.Drivers.{todo_in};
+
+    ghost takes = { λ before todo after. after ≡ todo_in before.size todo.number todo.what };
+
+    #[inline(always)]
+    fn put(&mut self, todo: Todo) {
+        let Todo { number, what } = todo;
+        let (device, most) = where_in(what);
+        let run = todo_run_in(what);
+        self.number = number;
+        self.what = what_in(what);
+        self.device = device;
+        self.most = most;
+        self.packets = 0;
+        self.run.polls = run.polls;
+        self.run.work = run.work;
+        self.run.squeezed = run.squeezed;
+    }
 }
 
-/// Sets `todo` to the next action (`Driver::next`).
-pub fn next(driver: &mut Driver, todo: &mut FqTodo) -> u32
-    ensures { IsDriverNext todo.old todo.new driver.old result driver.new }
+// Returns the status of the report of an action with this number.
+#[inline(always)]
+fn report_status(number: u64, reported: Result<(), Refused>) -> u32
+    ensures { result ≡ report_status number reported }
 {
-    if todo.size < size_of::<FqTodo>() {
-        return status::BAD_SIZE;
+    match reported {
+        Ok(()) => status::OK,
+        Err(Refused::TooMany) => status::BAD_WORK,
+        Err(Refused::NotDue) => {
+            if number == 0 {
+                status::OK
+            } else {
+                status::NOT_DUE
+            }
+        }
     }
-    say(driver, todo);
-    status::OK
 }
 
 // Reports that the action with this number was done; 0 reports nothing.
+#[inline(always)]
 fn report(driver: &mut Driver, number: u64, packets: u32) -> u32
     ensures { IsTodoReport number packets driver.old result driver.new }
 {
-    if number == 0 {
-        return status::OK;
-    }
-    match driver.done(number, packets) {
-        Ok(()) => status::OK,
-        Err(Refused::NotDue) => status::NOT_DUE,
-        Err(Refused::TooMany) => status::BAD_WORK,
-    }
+    let reported = driver.done(number, packets);
+    report_status(number, reported)
 }
 
 /// Reports that the action in `todo` was done (`Driver::done`).
+#[inline(always)]
 pub fn done(driver: &mut Driver, todo: &FqTodo) -> u32
     ensures { IsDriverDone todo.now driver.old result driver.new }
 {
@@ -146,6 +156,39 @@ pub fn done(driver: &mut Driver, todo: &FqTodo) -> u32
     report(driver, todo.number, todo.packets)
 }
 
+// Reports the action with this number, unless it is 0, and sets `todo` to the next one.
+#[inline(always)]
+fn make_step(driver: &mut Driver, number: u64, todo: &mut FqTodo) -> u32
+    ensures { MakesStep number todo.old todo.new driver.old result driver.new }
+{
+    let packets = todo.packets;
+    let (reported, _) = driver.step_into(number, packets, todo);
+    report_status(number, reported)
+}
+
+/// Sets `todo` to the next action (`Driver::next`).
+#[inline(always)]
+pub fn next(driver: &mut Driver, todo: &mut FqTodo) -> u32
+    ensures { IsDriverNext todo.old todo.new driver.old result driver.new }
+{
+    if todo.size < size_of::<FqTodo>() {
+        return status::BAD_SIZE;
+    }
+    make_step(driver, 0, todo)
+}
+
+/// Reports that the action in `todo` was done, unless its number is 0, and sets `todo` to the next one (`Driver::step`).
+#[inline(always)]
+pub fn step(driver: &mut Driver, todo: &mut FqTodo) -> u32
+    ensures { IsDriverStep todo.old todo.new driver.old result driver.new }
+{
+    if todo.size < size_of::<FqTodo>() {
+        return status::BAD_SIZE;
+    }
+    make_step(driver, todo.number, todo)
+}
+
+#[inline(always)]
 fn has_device(driver: &Driver, device: u32) -> bool
     ensures { result ≡ nat_lt device (length (driver_devices driver.now)) }
 {
@@ -153,6 +196,7 @@ fn has_device(driver: &Driver, device: u32) -> bool
 }
 
 /// Reports an interrupt of a card (`Driver::interrupt`).
+#[inline(always)]
 pub fn interrupt(driver: &mut Driver, device: u32) -> u32
     ensures { IsDriverInterrupt device driver.old result driver.new }
 {

@@ -1,6 +1,7 @@
 -- The state of a driver, and what it asks the caller to do.
 use Rattle.std.specs.Prelude.{◌≡◌, ◌≢◌, ◌⊎◌, ◌≤◌, ◌<◌, ◌+◌, ℕ, Bool, true, false, List, [], ◌∷◌, ◌++◌, length, replicate}
 use Rattle.std.specs.Prelude.{slice_set, Option, Some, None, ◌==◌, nat_lt, if◌then◌else◌, slice_index_or}
+use Rattle.std.specs.Prelude.{◌↔◌, ⊤, Result, IsOk, OnOk, OnErr, IfErr, IsSome}
 use Rattle.std.specs.List.{All}
 use Rattle.poll_runs.specs.{Laws.IsPlainRun, declared.run.RunReport.RunReport}
 use Rattle.driver_core.specs.declared.limits.Limits.{Limits}
@@ -10,7 +11,7 @@ use Rattle.driver_core.specs.declared.device.{Chore.Chore, DriverDevice.DriverDe
 use Rattle.driver_core.specs.declared.device.Chore.TheVariants as chore
 use Rattle.driver_core.specs.{Counts.{count_one_poll, no_counts}, declared.counts.PollCounts.PollCounts}
 use Rattle.driver_core.specs.{Device.{in_stage, chore_at, did, stage_is_listed, after_driver_poll, IsAtRest}, Queue.{device_at, following}}
-use Rattle.driver_core.specs.declared.{driver.Driver.Driver, todo.Todo.Todo}
+use Rattle.driver_core.specs.declared.{driver.Driver.Driver, todo.Todo.Todo, todo.Refused.{Refused, TheVariants.TooMany}}
 use Rattle.driver_core.specs.declared.todo.What.{What, TheVariants.{Mask, Unmask, Look, Fetch, Ended, Sleep}}
 
 abbrev pub driver_devices : Driver → List DriverDevice
@@ -158,3 +159,37 @@ IsDue driver (Fetch id most) = (id < length (driver_devices driver)) × (polled_
 IsDue driver (Ended report) = HoldsNothing driver.run × (report.polls ≤ (driver_limits driver).window)
     × (report.work < (driver_limits driver).budget + (driver_limits driver).weight)
 IsDue driver Sleep = All (λ device. IsAtRest device.stage) (driver_devices driver) × IsIdle driver
+
+-- ---- a report and a question in one call
+
+-- a report under this number, and its outcome, as of `Driver::done`
+pub record IsDone (number packets : ℕ) (before : Driver) (reported : Result ⊤ Refused) (after : Driver) : Type 0 where
+  pub when : IsOk reported ↔ IsReport number packets before
+  pub ok : OnOk reported (Reports packets before after)
+  pub free : OnOk reported (AwaitsNothing after)
+  pub len : length (driver_devices after) ≡ length (driver_devices before)
+  pub going : (start : List ℕ) (polls : List Poll) (id : ℕ) → polled_device before ≡ Some id → IsRunning start polls before
+      → OnOk reported (IsRunning start (polls ++ poll_of id packets before ∷ []) after)
+  pub err : OnErr reported (after ≡ before)
+  pub many : IfErr reported (λ why. (why ≡ TooMany) ↔ ((number ≡ said_number_of before) × IsSome (polled_device before)))
+
+-- what the driver asks for next, as of `Driver::next`
+pub record AsksNext (before : Driver) (todo : Todo) (after : Driver) : Type 0 where
+  pub due : IsDue after todo.what
+  pub number : AwaitsNothing before → IsNumberedTodo (said_number_of before) (said_number_of after) todo
+  pub again : ¬ AwaitsNothing before → (after ≡ before) × (todo.number ≡ said_number_of before)
+  pub devices : driver_devices after ≡ driver_devices before
+  pub counts : after.counts ≡ before.counts
+  pub limits : driver_limits after ≡ driver_limits before
+  pub begins : is_running before ≡ false → is_running after ≡ true → IsRunning (list_of before) [] after
+  pub going : (start : List ℕ) (polls : List Poll) → IsRunning start polls before → is_running after ≡ true → IsRunning start polls after
+  pub ended : (start : List ℕ) (polls : List Poll) (report : RunReport) → todo.what ≡ Ended report → IsRunning start polls before
+      → IsDriverReport (driver_limits before) start polls after report
+  pub whole : (report : RunReport) → todo.what ≡ Ended report → is_running before ≡ false
+      → IsDriverReport (driver_limits before) (list_of before) [] after report
+
+-- the report, and then the question: each does to the driver what it does as a call of its own
+pub record IsStep (number packets : ℕ) (before : Driver) (reported : Result ⊤ Refused) (todo : Todo) (after : Driver) : Type 0 where
+  pub between : Driver
+  pub reports : IsDone number packets before reported between
+  pub asks : AsksNext between todo after

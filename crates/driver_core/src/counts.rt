@@ -20,6 +20,7 @@ impl PollCounts {
     };
 
     // Returns the counts after one more poll, with this many packets.
+    #[inline(always)]
     pub(crate) fn and(self, packets: u32) -> PollCounts
         ensures { result ≡ count_one_poll packets self }
     {

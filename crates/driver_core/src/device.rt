@@ -58,6 +58,7 @@ impl DriverDevice {
     };
 
     // Returns the same device, at another stage.
+    #[inline(always)]
     fn to(self, stage: Stage) -> DriverDevice
         ensures { result ≡ in_stage stage self.missed }
     {
@@ -65,6 +66,7 @@ impl DriverDevice {
     }
 
     /// Returns the action that has to be done at its card, or `None` if there is none.
+    #[inline(always)]
     pub fn chore(self) -> Option<Chore>
         ensures { result ≡ chore_at self.stage }
     {
@@ -77,6 +79,7 @@ impl DriverDevice {
     }
 
     // Returns whether it is on the poll list, or being polled.
+    #[inline(always)]
     pub(crate) fn is_listed(self) -> bool
         ensures { result ≡ stage_is_listed self.stage }
     {
@@ -115,6 +118,7 @@ impl DriverDevice {
     }
 
     // Returns the device after an interrupt of its card.
+    #[inline(always)]
     pub(crate) fn interrupted(self) -> (DriverDevice, Prep)
         ensures device { result.0 ≡ after_interrupt self }
         ensures reply { result.1 ≡ schedule_reply (napi_of self) }
@@ -135,6 +139,7 @@ impl DriverDevice {
     }
 
     // Returns the device after its card was masked.
+    #[inline(always)]
     fn masked(self) -> DriverDevice
         ensures { result ≡ masked self }
     {
@@ -146,6 +151,7 @@ impl DriverDevice {
     }
 
     // Returns the device after its card was unmasked.
+    #[inline(always)]
     fn unmasked(self) -> DriverDevice
         ensures { result ≡ unmasked self }
     {
@@ -156,6 +162,7 @@ impl DriverDevice {
     }
 
     // Returns the device after its card was looked at; `has_more` says whether the card had packets.
+    #[inline(always)]
     fn looked(self, has_more: bool) -> DriverDevice
         ensures { result ≡ after_look has_more self }
     {
@@ -170,6 +177,7 @@ impl DriverDevice {
     }
 
     // Returns the device after the action at its card was done; for a look, `has_more` says whether the card had packets.
+    #[inline(always)]
     pub(crate) fn did(self, chore: Chore, has_more: bool) -> DriverDevice
         ensures { result ≡ did chore has_more self }
     {
@@ -181,6 +189,7 @@ impl DriverDevice {
     }
 
     // Returns the device after its instance was completed, and how that ends the poll.
+    #[inline(always)]
     fn completed(self, stopping: bool) -> (DriverDevice, Next)
         ensures { result ≡ completed_at stopping self.missed }
     {
@@ -200,6 +209,7 @@ impl DriverDevice {
     }
 
     // Returns the device after a poll, and how the poll ends; `full` says whether it used its whole weight.
+    #[inline(always)]
     pub(crate) fn polled(self, full: bool) -> (DriverDevice, Next)
         requires { stage_is_listed self.stage ≡ true }
         ensures { result ≡ after_driver_poll full self }

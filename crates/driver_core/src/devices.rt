@@ -20,6 +20,7 @@ pub struct Devices {
     ghost marks: { MarksChores all.items chores },
 }
 
+#[inline(always)]
 fn set_bit(bits: u64, device: u32) -> u64
     requires { device < 64 }
     ensures same { bit_at result device ≡ 1 }
@@ -28,6 +29,7 @@ fn set_bit(bits: u64, device: u32) -> u64
     bits | 1u64 << device
 }
 
+#[inline(always)]
 fn clear_bit(bits: u64, device: u32) -> u64
     requires { device < 64 }
     ensures same { bit_at result device ≡ 0 }
@@ -37,6 +39,7 @@ fn clear_bit(bits: u64, device: u32) -> u64
 }
 
 // Returns these bits, with the bit of one device set or cleared.
+#[inline(always)]
 fn with_bit(bits: u64, device: u32, on: bool) -> u64
     requires { device < 64 }
     ensures same { bit_at result device ≡ (if on then 1 else 0) }
@@ -64,6 +67,7 @@ impl Devices {
     }
 
     // Returns the device with this number.
+    #[inline(always)]
     pub(crate) fn get(&self, device: u32) -> DriverDevice
         requires { device < length self.now.all.items }
         ensures { result ≡ device_at self.now.all.items device }
@@ -73,6 +77,7 @@ impl Devices {
 
     // Replaces the device with this number.
     #[tactic(auto, using(crate::proofs::ChoreFacts::put_marks))]
+    #[inline(always)]
     pub(crate) fn put(&mut self, device: u32, to: DriverDevice)
         requires { device < length self.old.all.items }
         ensures { self.new.all.items ≡ slice_set self.old.all.items device to }
@@ -83,6 +88,7 @@ impl Devices {
 
     // Returns the first device whose card needs an action, and the action.
     #[tactic(auto, using(crate::proofs::ChoreFacts::first_in, crate::proofs::ChoreFacts::none_in))]
+    #[inline(always)]
     pub(crate) fn first_chore(&self) -> Option<(u32, Chore)>
         ensures none { IfNone result
             (All (λ device. chore_at device.stage ≡ None) self.now.all.items) }

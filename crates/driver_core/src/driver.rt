@@ -9,10 +9,12 @@ use crate::counts::PollCounts;
 use crate::device::{Chore, DriverDevice, Stage};
 use crate::devices::Devices;
 use crate::limits::Limits;
+use crate::list::DriverList;
+use crate::place::{Nowhere, TodoPlace};
 use crate::said::{following, still_due};
 use crate::todo::{NotDue, Refused, Todo, What, what_of};
 use napi_model::Prep;
-use poll_runs::{Once, PlainList, PollList, PollingRun};
+use poll_runs::{Once, PollList, PollingRun};
 use std::alloc::{AllocError, Global};
 
 /// The driver of up to 64 devices, for one thread: the instances, the poll list and the runs over it. It does no input or
@@ -22,7 +24,7 @@ use std::alloc::{AllocError, Global};
 pub struct Driver {
     devices: Devices,
     counts: Vec<PollCounts>,
-    list: PlainList,
+    list: DriverList,
     run: PollingRun,
     runs: bool,
     limits: Limits,
@@ -46,7 +48,7 @@ fn new_counts(alloc: Global, devices: usize) -> Result<Vec<PollCounts>, AllocErr
 }
 
 impl Driver {
-    ghost use Rattle.std.specs.Prelude.{◌↔◌, ◌≢◌, ◌∷◌, ◌++◌, None, Some, List, [], IsOk, IsSome, IfErr, IfNone, IfSome, OnOk, OnErr};
+    ghost use Rattle.std.specs.Prelude.{◌↔◌, ◌≢◌, ◌∷◌, ◌++◌, None, Some, Err, List, [], IsOk, IsSome, IfErr, IfNone, IfSome, OnOk, OnErr};
     ghost use Rattle.poll_runs.specs.Polls.{Poll};
     ghost use Rattle.napi_model.specs.Step.{schedule_reply};
     ghost use Rattle.driver_core.specs.declared.todo.{Refused.TheVariants.{TooMany}, What.TheVariants.{Ended}};
@@ -54,7 +56,7 @@ impl Driver {
     ghost use Rattle.driver_core.specs.Counts.{count_one_poll};
     ghost use Rattle.driver_core.specs.Device.{chore_at, after_interrupt, stage_is_listed, after_open, after_stop, MayStop};
     ghost use Rattle.driver_core.specs.Steps.{napi_of};
-    ghost use Rattle.driver_core.specs.Driver.{poll_counts_of, device_of, driver_devices, said_number_of, polled_device, poll_of, said_of, stage_of, is_running, driver_limits, list_of, AreClosed, Ends, DoesChore, IsDue, IsDriverReport, AwaitsNothing, IsIdle, IsNumberedTodo, IsReport, IsRunning, PutsDevice, Reports};
+    ghost use Rattle.driver_core.specs.Driver.{poll_counts_of, device_of, driver_devices, said_number_of, polled_device, poll_of, said_of, stage_of, is_running, driver_limits, list_of, AreClosed, Ends, DoesChore, IsDue, IsDriverReport, AwaitsNothing, IsIdle, IsNumberedTodo, IsReport, IsRunning, IsStep, PutsDevice, Reports};
 
     /// Creates a driver of this many devices, at most 64, all closed.
     pub fn new(alloc: Global, devices: u32, limits: Limits) -> Result<Driver, AllocError>
@@ -68,7 +70,7 @@ impl Driver {
         Ok(Driver {
             devices: closed,
             counts,
-            list: PlainList::new(),
+            list: DriverList::new(),
             run: PollingRun::idle(),
             runs: false,
             limits,
@@ -102,6 +104,7 @@ impl Driver {
     }
 
     // Replaces the device with this number. If the action that was returned last isn't due any more, it is forgotten.
+    #[inline(always)]
     fn put(&mut self, device: u32, to: DriverDevice)
         requires range { device < length (driver_devices self.old) }
         requires listed { stage_is_listed to.stage ≡ stage_is_listed (stage_of self.old device) }
@@ -113,6 +116,7 @@ impl Driver {
 
     /// Reports an interrupt of a card (`napi_schedule_prep`), at any time. If the request for a poll is granted,
     /// [`next`](Driver::next) returns what to do, first to mask the card.
+    #[inline(always)]
     pub fn interrupt(&mut self, device: u32) -> Prep
         requires { device < length (driver_devices self.old) }
         ensures reply { result ≡ schedule_reply (napi_of (device_of self.old device)) }
@@ -160,6 +164,7 @@ impl Driver {
     // Handles the report that the action at the card of a device was done. After a mask, a device goes on the poll list if its
     // poll was granted (`____napi_schedule`), and is closed if it was stopped.
     #[tactic(auto, using(crate::proofs::QueueFacts::put_same, crate::proofs::QueueFacts::put_new, crate::proofs::QueueFacts::room))]
+    #[inline(always)]
     fn did(&mut self, device: u32, chore: Chore, has_more: bool)
         requires range { device < length (driver_devices self.old) }
         requires chore { chore_at (stage_of self.old device) ≡ Some chore }
@@ -176,6 +181,7 @@ impl Driver {
     // Handles the report that this many packets were taken from the card of the device that is being polled, which ends the
     // poll (`__napi_poll`, `napi_complete_done`).
     #[tactic(auto, using(crate::proofs::QueueFacts::asked_alone))]
+    #[inline(always)]
     fn fetched(&mut self, device: u32, packets: u32)
         requires range { device < length (driver_devices self.old) }
         requires listed { stage_is_listed (stage_of self.old device) ≡ true }
@@ -202,6 +208,7 @@ impl Driver {
     /// `napi_complete_done`). Fails if the driver doesn't wait for this report any more, or if a fetch took more packets than
     /// it was allowed to.
     #[tactic(auto, using(crate::proofs::QueueFacts::asked_is_listed, crate::proofs::QueueFacts::asked_in_range))]
+    #[inline(always)]
     pub fn done(&mut self, number: u64, packets: u32) -> Result<(), Refused>
         ensures when { IsOk result ↔ IsReport number packets self.old }
         ensures ok { OnOk result (Reports packets self.old self.new) }
@@ -235,6 +242,7 @@ impl Driver {
 
     // Begins a run, if none is in progress.
     #[tactic(auto, using(crate::proofs::QueueFacts::begin_keeps))]
+    #[inline(always)]
     fn begin(&mut self)
         requires free { AwaitsNothing self.old }
         ensures devices { self.new.devices ≡ self.old.devices }
@@ -259,9 +267,10 @@ impl Driver {
         self.runs = true;
     }
 
-    // Returns the next poll of the run, or its end.
+    // Writes the next poll of the run, or its end, to the place, and returns it.
     #[tactic(auto, using(crate::proofs::QueueFacts::next_keeps, crate::proofs::QueueFacts::finish_keeps, crate::proofs::QueueFacts::asked_is_listed, crate::proofs::QueueFacts::asked_in_range))]
-    fn advance(&mut self) -> Todo
+    #[inline(always)]
+    fn advance_into<P: TodoPlace>(&mut self, place: &mut P) -> Todo
         requires free { AwaitsNothing self.old }
         requires runs { is_running self.old ≡ true }
         ensures due { IsDue self.new result.what }
@@ -274,23 +283,29 @@ impl Driver {
         ensures ended { (start : List _) (polls : List Poll) (report : _)
             → result.what ≡ Ended report → IsRunning start polls self.old
             → IsDriverReport (driver_limits self.old) start polls self.new report }
+        ensures takes { P.takes place.old result place.new }
     {
         match self.run.next(&mut self.list) {
             Some(device) => {
                 self.number = following(self.number);
-                self.todo(What::Fetch(device, self.limits.weight))
+                let fetch = self.todo(What::Fetch(device, self.limits.weight));
+                place.put(fetch);
+                fetch
             }
             None => {
                 self.runs = false;
-                Todo {
+                let ended = Todo {
                     number: 0,
                     what: What::Ended(self.run.finish(&mut self.list)),
-                }
+                };
+                place.put(ended);
+                ended
             }
         }
     }
 
     // Returns this action, under the number of the action returned last.
+    #[inline(always)]
     fn todo(&self, what: What) -> Todo
         ensures number { result.number ≡ said_number_of self.now }
         ensures what { result.what ≡ what }
@@ -303,6 +318,7 @@ impl Driver {
 
     // Returns the action that was returned last, if it isn't reported yet.
     #[tactic(auto, using(crate::proofs::QueueFacts::asked_is_listed, crate::proofs::QueueFacts::asked_in_range))]
+    #[inline(always)]
     fn last(&self) -> Option<Todo>
         ensures none { IfNone result (AwaitsNothing self.now) }
         ensures due { IfSome result (λ todo. IsDue self.now todo.what) }
@@ -317,9 +333,77 @@ impl Driver {
         Some(self.todo(what_of(device, chore)))
     }
 
+    // Writes what the caller has to do next to the place, and returns it, if no report is awaited.
+    #[tactic(auto, using(crate::proofs::QueueFacts::all_rest))]
+    #[inline(always)]
+    fn ask_into<P: TodoPlace>(&mut self, place: &mut P) -> Todo
+        requires free { AwaitsNothing self.old }
+        ensures due { IsDue self.new result.what }
+        ensures number { IsNumberedTodo (said_number_of self.old) (said_number_of self.new) result }
+        ensures devices { driver_devices self.new ≡ driver_devices self.old }
+        ensures counts { self.new.counts ≡ self.old.counts }
+        ensures limits { driver_limits self.new ≡ driver_limits self.old }
+        ensures begins { is_running self.old ≡ false → is_running self.new ≡ true
+            → IsRunning (list_of self.old) [] self.new }
+        ensures going { (start : List _) (polls : List Poll) → IsRunning start polls self.old
+            → is_running self.new ≡ true → IsRunning start polls self.new }
+        ensures ended { (start : List _) (polls : List Poll) (report : _)
+            → result.what ≡ Ended report → IsRunning start polls self.old
+            → IsDriverReport (driver_limits self.old) start polls self.new report }
+        ensures whole { (report : _) → result.what ≡ Ended report → is_running self.old ≡ false
+            → IsDriverReport (driver_limits self.old) (list_of self.old) [] self.new report }
+        ensures takes { P.takes place.old result place.new }
+    {
+        if let Some((device, chore)) = self.devices.first_chore() {
+            self.said = Some((device, chore));
+            self.number = following(self.number);
+            let act = self.todo(what_of(device, chore));
+            place.put(act);
+            return act;
+        }
+        if !self.runs && self.list.is_empty() {
+            let sleep = Todo {
+                number: 0,
+                what: What::Sleep,
+            };
+            place.put(sleep);
+            return sleep;
+        }
+        self.begin();
+        self.advance_into(place)
+    }
+
+    /// Like [`next`](Driver::next); what it returns is also written to the place.
+    #[inline(always)]
+    pub fn next_into<P: TodoPlace>(&mut self, place: &mut P) -> Todo
+        ensures due { IsDue self.new result.what }
+        ensures number { AwaitsNothing self.old
+            → IsNumberedTodo (said_number_of self.old) (said_number_of self.new) result }
+        ensures again { ¬ AwaitsNothing self.old
+            → (self.new ≡ self.old) × (result.number ≡ said_number_of self.old) }
+        ensures devices { driver_devices self.new ≡ driver_devices self.old }
+        ensures counts { self.new.counts ≡ self.old.counts }
+        ensures limits { driver_limits self.new ≡ driver_limits self.old }
+        ensures begins { is_running self.old ≡ false → is_running self.new ≡ true
+            → IsRunning (list_of self.old) [] self.new }
+        ensures going { (start : List _) (polls : List Poll) → IsRunning start polls self.old
+            → is_running self.new ≡ true → IsRunning start polls self.new }
+        ensures ended { (start : List _) (polls : List Poll) (report : _)
+            → result.what ≡ Ended report → IsRunning start polls self.old
+            → IsDriverReport (driver_limits self.old) start polls self.new report }
+        ensures whole { (report : _) → result.what ≡ Ended report → is_running self.old ≡ false
+            → IsDriverReport (driver_limits self.old) (list_of self.old) [] self.new report }
+        ensures takes { P.takes place.old result place.new }
+    {
+        let Some(todo) = self.last() else {
+            return self.ask_into(place);
+        };
+        place.put(todo);
+        todo
+    }
+
     /// Returns what the caller has to do next. It returns the same action, with the same number, until that action is reported
     /// or isn't due any more.
-    #[tactic(auto, using(crate::proofs::QueueFacts::all_rest))]
     pub fn next(&mut self) -> Todo
         ensures due { IsDue self.new result.what }
         ensures number { AwaitsNothing self.old
@@ -341,21 +425,34 @@ impl Driver {
         ensures whole { (report : _) → result.what ≡ Ended report → is_running self.old ≡ false
             → IsDriverReport (driver_limits self.old) (list_of self.old) [] self.new report }
     {
-        if let Some(todo) = self.last() {
-            return todo;
+        self.next_into(&mut Nowhere)
+    }
+
+    /// Like [`step`](Driver::step); what it returns is also written to the place, unless a fetch took too many packets.
+    #[inline(always)]
+    pub fn step_into<P: TodoPlace>(
+        &mut self,
+        number: u64,
+        packets: u32,
+        place: &mut P,
+    ) -> (Result<(), Refused>, Todo)
+        ensures steps { IsStep number packets self.old result.0 result.1 self.new }
+        ensures takes { result.0 ≢ Err TooMany → P.takes place.old result.1 place.new }
+        ensures kept { result.0 ≡ Err TooMany → place.new ≡ place.old }
+    {
+        match self.done(number, packets) {
+            Ok(()) => (Ok(()), self.ask_into(place)),
+            Err(Refused::NotDue) => (Err(Refused::NotDue), self.next_into(place)),
+            Err(Refused::TooMany) => (Err(Refused::TooMany), self.next()),
         }
-        if let Some((device, chore)) = self.devices.first_chore() {
-            self.said = Some((device, chore));
-            self.number = following(self.number);
-            return self.todo(what_of(device, chore));
-        }
-        if !self.runs && self.list.ids().is_empty() {
-            return Todo {
-                number: 0,
-                what: What::Sleep,
-            };
-        }
-        self.begin();
-        self.advance()
+    }
+
+    /// Reports that the action with this number was done, and returns what the caller has to do next: [`done`](Driver::done) and
+    /// then [`next`](Driver::next) in one call. Number 0 reports nothing, so that report fails with `NotDue`. If the report
+    /// fails, nothing has changed, and the caller gets what `next` returns then.
+    pub fn step(&mut self, number: u64, packets: u32) -> (Result<(), Refused>, Todo)
+        ensures { IsStep number packets self.old result.0 result.1 self.new }
+    {
+        self.step_into(number, packets, &mut Nowhere)
     }
 }

@@ -11,6 +11,8 @@ mod devices;
 mod driver;
 mod laws;
 mod limits;
+mod list;
+mod place;
 mod said;
 mod todo;
 
@@ -19,5 +21,6 @@ pub use device::{Chore, DriverDevice, Stage};
 pub use driver::Driver;
 pub use laws::{calls_are_legal, listed_is_masked, no_packet_waits_unseen};
 pub use limits::Limits;
+pub use place::TodoPlace;
 pub use poll_runs::RunReport;
 pub use todo::{NotDue, Refused, Todo, What};

@@ -8,6 +8,7 @@ ghost use Rattle.driver_core.specs.declared.device.Chore.{Chore};
 use crate::device::{Chore, DriverDevice};
 
 // The number after this one. It is never 0.
+#[inline(always)]
 pub(crate) fn following(number: u64) -> u64
     ensures next { result ≡ following number }
     ensures some { 1 ≤ result }
@@ -19,6 +20,7 @@ pub(crate) fn following(number: u64) -> u64
 }
 
 // Returns the action that was asked for, unless it was at the card of this device and isn't due there any more.
+#[inline(always)]
 pub(crate) fn still_due(
     said: Option<(u32, Chore)>,
     device: u32,

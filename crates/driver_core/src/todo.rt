@@ -49,6 +49,7 @@ pub enum Refused {
 }
 
 // Returns the action at the card of a device, as the driver asks for it.
+#[inline(always)]
 pub(crate) fn what_of(device: u32, chore: Chore) -> What
     ensures what { result ≡ what_of device chore }
     ensures more { (report : _) → result ≢ Ended report }

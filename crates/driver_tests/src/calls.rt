@@ -64,3 +64,27 @@ fn a_stop(rt: HostRuntime) -> Result<(), Fail> {
     assert_eq!(rt; driver.done(mask.number, 0), Ok(()));
     Ok(())
 }
+
+// reports and questions in one call, and in two
+#[test]
+fn steps(rt: HostRuntime) -> Result<(), Fail> {
+    let mut driver = Driver::new(rt.alloc(), 1, LIMITS)?;
+    assert_eq!(rt; driver.open(0), Ok(()));
+    let (reported, unmask) = driver.step(0, 0);
+    assert_eq!(rt; reported, Err(Refused::NotDue));
+    assert_eq!(rt; unmask.what, What::Unmask(0));
+    let (reported, look) = driver.step(unmask.number, 0);
+    assert_eq!(rt; reported, Ok(()));
+    assert_eq!(rt; look.what, What::Look(0));
+    let (_, mask) = driver.step(look.number, 1);
+    assert_eq!(rt; mask.what, What::Mask(0));
+    let (_, fetch) = driver.step(mask.number, 0);
+    assert_eq!(rt; fetch.what, What::Fetch(0, 64));
+    let (reported, again) = driver.step(fetch.number, 65);
+    assert_eq!(rt; reported, Err(Refused::TooMany));
+    assert_eq!(rt; again, fetch);
+    let (reported, unmask) = driver.step(fetch.number, 3);
+    assert_eq!(rt; reported, Ok(()));
+    assert_eq!(rt; unmask, driver.next());
+    Ok(())
+}

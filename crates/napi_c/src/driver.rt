@@ -1,6 +1,6 @@
 //! Drivers for C.
 ghost use Rattle.std.specs.Prelude.{◌≡◌, ◌≢◌, ◌≤◌, ◌↔◌, IsSome, IfOk};
-ghost use Rattle.c_handles.specs.Drivers.{IsDriverDone, IsDriverInterrupt, IsNewDriver, IsDriverNext, IsDriverOpen, IsDriverShow, IsDriverStop, new_status};
+ghost use Rattle.c_handles.specs.Drivers.{IsDriverDone, IsDriverInterrupt, IsNewDriver, IsDriverNext, IsDriverOpen, IsDriverShow, IsDriverStep, IsDriverStop, new_status};
 ghost use Rattle.c_handles.specs.Handles.{DriverMakes, DriverMakesIn, IsDriverWith, LeadsToDriver};
 ghost use Rattle.c_handles.specs.Status.{OK, IN_USE, OUT_OF_MEMORY, BAD_HANDLE};
 
@@ -173,6 +173,28 @@ pub extern "C" fn fq_driver_done(handle: &mut FqHandle, todo: &FqTodo) -> u32
         return status::BAD_HANDLE;
     }
     done_in(handle.held.as_mut(), todo)
+}
+
+fn step_in(at: &mut Object, todo: &mut FqTodo) -> u32
+    ensures makes { DriverMakesIn (IsDriverStep todo.old todo.new) at.old result at.new }
+    ensures none { result ≡ BAD_HANDLE → todo.new ≡ record todo.old { number = 0; what = 0 } }
+{
+    match at {
+        Object::Driver(driver) => drive::step(driver, todo),
+        _ => sleeps(todo),
+    }
+}
+
+/// Reports that an action was done, unless its number is 0, and sets `todo` to the next action, like `Driver::step`.
+#[unsafe(no_mangle)]
+pub extern "C" fn fq_driver_step(handle: &mut FqHandle, todo: &mut FqTodo) -> u32
+    ensures makes { DriverMakes (IsDriverStep todo.old todo.new) handle.old result handle.new }
+    ensures none { result ≡ BAD_HANDLE → todo.new ≡ record todo.old { number = 0; what = 0 } }
+{
+    if !handle.is_set() {
+        return sleeps(todo);
+    }
+    step_in(handle.held.as_mut(), todo)
 }
 
 fn show_in(at: &Object, device: u32, shown: &mut FqDeviceShown) -> u32

@@ -1,0 +1,204 @@
+-- The status of a report, and what it means.
+use Rattle.std.specs.Prelude.{⊤, IsSome, if◌then◌else◌}
+use Rattle.std.proofs.Common.{◌≡◌, ◌≢◌, ◌⊎◌, ◌∙◌, ◌<◌, ◌≤◌, inl, inr, ℕ, Bool, true, false, is_some, Option, Result, Ok, Err, refl}
+use Rattle.std.proofs.Common.{sym, ap, subst, arith}
+use Rattle.std.proofs.lemmas.Bool.Decides.{eqb_tells}
+use Rattle.driver_core.specs.Driver.{AsksNext, AwaitsNothing, IsDone, IsReport, IsStep, Reports, polled_device, said_number_of}
+use Rattle.driver_core.specs.declared.{driver.Driver.Driver, todo.Todo.Todo}
+use Rattle.driver_core.specs.declared.todo.Refused.{Refused, TheVariants.{NotDue, TooMany}}
+use Rattle.c_handles.specs.Drivers.{IsDriverNext, IsDriverStep, IsTodoReport, MakesStep, Says, report_status, todo_in}
+use Rattle.c_handles.specs.declared.drive.FqTodo.{FqTodo}
+use Rattle.c_handles.specs.Status.{OK, NOT_DUE, BAD_SIZE, BAD_WORK}
+
+-- no report is due under number 0
+not_zero : (number : ℕ) (d : Driver) → number ≡ 0 → number ≡ d.number → ⊥
+not_zero number d zero is = omega (arith, zero, is, d.numbers)
+
+report_none : (number packets : ℕ) (d e : Driver) → number ≡ 0 → e ≡ d → IsTodoReport number packets d OK e
+report_none number packets d e zero same = record {
+  none = λ _. (refl, same);
+  due = λ other. absurd (other zero);
+  reports = λ other. absurd (other zero);
+  many = λ other. absurd (other zero);
+  status = inl refl;
+  kept = λ _. same;
+}
+
+report_ok : (number packets : ℕ) (d e : Driver) → IsReport number packets d → Reports packets d e → AwaitsNothing e
+    → IsTodoReport number packets d OK e
+report_ok number packets d e report reports free = record {
+  none = λ zero. absurd (not_zero number d zero report.0);
+  due = λ _. (λ _. report, λ _. refl);
+  reports = λ _ _. (reports, free);
+  many = λ _ bad. absurd (bad refl);
+  status = inl refl;
+  kept = λ bad. absurd (bad refl);
+}
+
+report_late : (number packets : ℕ) (d e : Driver) → number ≢ 0 → ¬ IsReport number packets d
+    → ¬ ((number ≡ said_number_of d) × IsSome (polled_device d)) → e ≡ d → IsTodoReport number packets d NOT_DUE e
+report_late number packets d e some late few same = record {
+  none = λ zero. absurd (some zero);
+  due = λ _. (λ bad. absurd (omega (arith, bad)), λ report. absurd (late report));
+  reports = λ _ bad. absurd (omega (arith, bad));
+  many = λ _ _. (λ bad. absurd (omega (arith, bad)), λ many. absurd (few many));
+  status = inr (inl refl);
+  kept = λ _. same;
+}
+
+report_many : (number packets : ℕ) (d e : Driver) → ¬ IsReport number packets d
+    → (number ≡ said_number_of d) × IsSome (polled_device d) → e ≡ d → IsTodoReport number packets d BAD_WORK e
+report_many number packets d e late many same = record {
+  none = λ zero. absurd (not_zero number d zero many.0);
+  due = λ _. (λ bad. absurd (omega (arith, bad)), λ report. absurd (late report));
+  reports = λ _ bad. absurd (omega (arith, bad));
+  many = λ _ _. (λ _. many, λ _. refl);
+  status = inr (inr refl);
+  kept = λ _. same;
+}
+
+late_report : (number packets : ℕ) (d e : Driver) → ¬ IsReport number packets d
+    → ¬ ((number ≡ said_number_of d) × IsSome (polled_device d)) → e ≡ d
+    → IsTodoReport number packets d (report_status number (Err NotDue)) e
+late_report number packets d e late few same =
+    let P : Bool → Type 0 = λ b. IsTodoReport number packets d (if b then OK else NOT_DUE) e in
+    elim (eqb_tells number 0) [
+      | inl is ↦ subst P (sym is.0) (report_none number packets d e is.1 same)
+      | inr is ↦ subst P (sym is.0) (report_late number packets d e is.1 late few same)
+    ]
+
+no_report : (number packets : ℕ) (d e : Driver) (why : Refused) → IsDone number packets d (Err why) e → ¬ IsReport number packets d
+no_report number packets d e why h report = let bad : false ≡ true = h.when.1 report in cc bad
+
+not_due : NotDue ≡ TooMany → ⊥
+not_due bad = cc bad
+
+pub todo_report : (number packets : ℕ) (d e : Driver) (reported : Result ⊤ Refused) → IsDone number packets d reported e
+    → IsTodoReport number packets d (report_status number reported) e
+todo_report number packets d e (Ok done) h = report_ok number packets d e (h.when.0 refl) h.ok h.free
+todo_report number packets d e (Err TooMany) h =
+    report_many number packets d e (no_report number packets d e TooMany h) (h.many.0 refl) h.err
+todo_report number packets d e (Err NotDue) h =
+    late_report number packets d e (no_report number packets d e NotDue h) (λ many. not_due (h.many.1 many)) h.err
+
+-- ---- a step
+
+-- a report of too many packets changes nothing, and the poll is asked for again
+refused_keeps : (number packets : ℕ) (d e : Driver) (todo : Todo) → IsStep number packets d (Err TooMany) todo e → e ≡ d
+refused_keeps number packets d e todo h =
+    let back : h.between ≡ d = h.reports.err in
+    let polled : is_some (polled_device d) ≡ true = (h.reports.many.0 refl).1 in
+    let busy : ¬ AwaitsNothing h.between =
+    λ free.
+    let none : is_some (polled_device d) ≡ false =
+    ap (λ (o : Option ℕ). is_some o) (sym (ap (λ (x : Driver). polled_device x) back) ∙ free.1) in
+    let both : true ≡ false = sym polled ∙ none in
+    cc both in
+    (h.asks.again busy).0 ∙ back
+
+not_many : (number : ℕ) → report_status number (Err NotDue) ≡ BAD_WORK → ⊥
+not_many number bad = elim (eqb_tells number 0) [
+  | inl is ↦ let no : OK ≡ BAD_WORK = rw is.0 at bad in absurd (omega (arith, no))
+  | inr is ↦ let no : NOT_DUE ≡ BAD_WORK = rw is.0 at bad in absurd (omega (arith, no))
+]
+
+says : (size : ℕ) (after : FqTodo) (b e : Driver) (todo : Todo) → AsksNext b todo e → after ≡ todo_in size todo.number todo.what
+    → Says size b after e
+says size after b e todo next is = rw is (record {
+  what = todo.what;
+  said = refl;
+  due = next.due;
+  number = next.number;
+  again = next.again;
+  devices = next.devices;
+  counts = next.counts;
+})
+
+step_says : (number : ℕ) (before after : FqTodo) (d e : Driver) (reported : Result ⊤ Refused) (todo : Todo)
+    → IsStep number before.packets d reported todo e → report_status number reported ≢ BAD_WORK
+    → after ≡ todo_in before.size todo.number todo.what
+    → MakesStep number before after d (report_status number reported) e
+step_says number before after d e reported todo h good is = record {
+  between = h.between;
+  reports = todo_report number before.packets d h.between reported h.reports;
+  says = λ _. says before.size after h.between e todo h.asks is;
+  kept = λ bad. absurd (good bad);
+}
+
+step_many : (number : ℕ) (before after : FqTodo) (d e : Driver) (todo : Todo) → IsStep number before.packets d (Err TooMany) todo e
+    → after ≡ before → MakesStep number before after d BAD_WORK e
+step_many number before after d e todo h same = record {
+  between = h.between;
+  reports = todo_report number before.packets d h.between (Err TooMany) h.reports;
+  says = λ bad. absurd (bad refl);
+  kept = λ _. (same, refused_keeps number before.packets d e todo h);
+}
+
+done_good : OK ≡ BAD_WORK → ⊥
+done_good bad = omega (arith, bad)
+
+pub makes_step : (number : ℕ) (before after : FqTodo) (d e : Driver) (reported : Result ⊤ Refused) (todo : Todo)
+    → IsStep number before.packets d reported todo e
+    → (reported ≢ Err TooMany → after ≡ todo_in before.size todo.number todo.what)
+    → (reported ≡ Err TooMany → after ≡ before)
+    → MakesStep number before after d (report_status number reported) e
+makes_step number before after d e (Ok done) todo h takes kept =
+    step_says number before after d e (Ok done) todo h done_good (takes (λ bad. cc bad))
+makes_step number before after d e (Err NotDue) todo h takes kept =
+    step_says number before after d e (Err NotDue) todo h (not_many number) (takes (λ bad. cc bad))
+makes_step number before after d e (Err TooMany) todo h takes kept = step_many number before after d e todo h (kept refl)
+
+-- under number 0 nothing is reported
+pub next_made : (before after : FqTodo) (d : Driver) (n : ℕ) (e : Driver) → 48 ≤ before.size → MakesStep 0 before after d n e
+    → IsDriverNext before after d n e
+next_made before after d n e large h =
+    let none = h.reports.none refl in
+    let ok : n ≡ OK = none.0 in
+    let same : h.between ≡ d = none.1 in
+    record {
+      size = (λ bad. absurd (omega (arith, bad, ok)), λ small. absurd (omega (arith, small, large)));
+      status = inl ok;
+      says = λ _. subst (λ (b : Driver). Says before.size b after e) same (h.says (λ bad. absurd (omega (arith, bad, ok))));
+      kept = λ bad. absurd (omega (arith, bad, ok));
+    }
+
+not_bad_size : (n : ℕ) → (n ≡ OK) ⊎ (n ≡ NOT_DUE) ⊎ (n ≡ BAD_WORK) → n ≡ BAD_SIZE → ⊥
+not_bad_size n (inl is) bad = absurd (omega (arith, is, bad))
+not_bad_size n (inr (inl is)) bad = absurd (omega (arith, is, bad))
+not_bad_size n (inr (inr is)) bad = absurd (omega (arith, is, bad))
+
+step_status : (n : ℕ) → (n ≡ OK) ⊎ (n ≡ NOT_DUE) ⊎ (n ≡ BAD_WORK) → (n ≡ OK) ⊎ (n ≡ NOT_DUE) ⊎ (n ≡ BAD_WORK) ⊎ (n ≡ BAD_SIZE)
+step_status n (inl is) = inl is
+step_status n (inr (inl is)) = inr (inl is)
+step_status n (inr (inr is)) = inr (inr (inl is))
+
+pub step_made : (before after : FqTodo) (d : Driver) (n : ℕ) (e : Driver) → 48 ≤ before.size → MakesStep before.number before after d n e
+    → IsDriverStep before after d n e
+step_made before after d n e large h =
+    let good = not_bad_size n h.reports.status in
+    record {
+      between = h.between;
+      reports = record {
+        size = (λ bad. absurd (good bad), λ small. absurd (omega (arith, small, large)));
+        reported = λ _. h.reports;
+        kept = λ bad. absurd (good bad);
+      };
+      asks = λ _ other. record {
+        size = (λ bad. absurd (omega (arith, bad)), λ small. absurd (omega (arith, small, large)));
+        status = inl refl;
+        says = λ _. h.says other;
+        kept = λ bad. absurd (omega (arith, bad));
+      };
+      status = step_status n h.reports.status;
+      kept = λ bad. elim bad [ inl small ↦ absurd (good small) | inr many ↦ h.kept many ];
+    }
+
+-- the struct is too small
+pub step_short : (before : FqTodo) (d : Driver) → before.size < 48 → IsDriverStep before before d BAD_SIZE d
+step_short before d small = record {
+  between = d;
+  reports = record { size = (λ _. small, λ _. refl); reported = λ other. absurd (other refl); kept = λ _. refl };
+  asks = λ other. absurd (other refl);
+  status = inr (inr (inr refl));
+  kept = λ _. (refl, refl);
+}

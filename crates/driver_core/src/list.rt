@@ -1,0 +1,128 @@
+//! The poll list of a driver.
+
+ghost use Rattle.std.specs.Prelude.{◌≡◌, ◌==◌, ◌+◌, ◌<◌, ◌≤◌, ◌++◌, List, ℕ, [], length, refl, None};
+ghost use Rattle.std.proofs.Common.{rules};
+ghost use Rattle.poll_runs.specs.{Plain.{CanPush, HasListRoom, NothingBehind, OwnPushes, all_held}, Turn.{asked_for}};
+
+use poll_runs::{PollList, SoftList};
+use std::marker::Model;
+
+/// The poll list of a driver. It holds at most 64 numbers. The first one has a place of its own: most lists hold one device, which
+/// a run then takes without a copy of the others.
+#[derive(Drop)]
+pub struct DriverList {
+    first: Option<u32>,
+    more: SoftList,
+}
+
+impl Model for DriverList {
+    ghost Value = { List ℕ };
+
+    ghost view = { λ list. asked_for list.first ++ list.more };
+
+    ghost invariant = { λ list. (list.first ≡ None → list.more ≡ []) × (length list.more < 64) };
+}
+
+impl DriverList {
+    /// Returns an empty list.
+    pub fn new() -> DriverList
+        ensures { result ≡ [] }
+    {
+        DriverList {
+            first: None,
+            more: SoftList::new(),
+        }
+    }
+
+    /// Returns whether the list is empty.
+    #[inline(always)]
+    pub fn is_empty(&self) -> bool
+        ensures { result ≡ (length self.now == 0) }
+    {
+        self.first.is_none()
+    }
+
+    // Puts these numbers before those of the list; there is room for them.
+    #[inline(never)]
+    fn put_before(&mut self, rest: &SoftList)
+        requires { length rest.now + length self.old ≤ 64 }
+        ensures { self.new ≡ rest.now ++ self.old }
+    {
+        let mut all = SoftList::new();
+        self.splice(&mut all);
+        all.put_before(rest);
+        let Some(id) = all.pop_front() else {
+            return;
+        };
+        self.first = Some(id);
+        self.more = all;
+    }
+
+    // Puts these numbers after those of the list; there is room for them.
+    #[inline(never)]
+    fn put_after(&mut self, repoll: &SoftList)
+        requires { length self.old + length repoll.now ≤ 64 }
+        ensures { self.new ≡ self.old ++ repoll.now }
+    {
+        if self.first.is_some() {
+            self.more.append_all(repoll);
+            return;
+        }
+        self.more.append_all(repoll);
+        self.first = self.more.pop_front();
+    }
+}
+
+impl PollList for DriverList {
+    ghost entries = { all_held };
+
+    ghost moves = { OwnPushes };
+
+    ghost is_all = { NothingBehind };
+
+    ghost can_push = { CanPush };
+
+    ghost has_room = { HasListRoom };
+
+    #[inline(always)]
+    fn push(&mut self, id: u32) {
+        if self.first.is_some() {
+            self.more.append(id);
+            return;
+        }
+        self.first = Some(id);
+    }
+
+    #[inline(never)]
+    fn splice(&mut self, to: &mut SoftList) -> usize {
+        let Some(id) = self.first else {
+            return 0;
+        };
+        self.first = None;
+        to.append(id);
+        if self.more.is_empty() {
+            return 1;
+        }
+        to.append_all(&self.more);
+        self.more = SoftList::new();
+        to.ids().len()
+    }
+
+    #[inline(always)]
+    fn put_back(&mut self, rest: &SoftList, repoll: &SoftList) {
+        if !rest.is_empty() {
+            self.put_before(rest);
+        }
+        if !repoll.is_empty() {
+            self.put_after(repoll);
+        }
+    }
+
+    ghost stays = { λ _. refl };
+
+    ghost joins = { Prim.search rules };
+
+    ghost room_to_push = { Prim.search rules };
+
+    ghost room_for_less = { Prim.search rules };
+}
