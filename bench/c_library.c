@@ -1,9 +1,9 @@
 /* Times calls of the C library: c_library WHAT TIMES. Counts go to standard output, the time to standard error. limits: the
  * calls of limits.cc, which prints the same; reads are the header's inline functions. turns: schedule, hand, take and
- * complete on a shared instance, by one thread. driver: packets that come one by one, polled by what a driver says; driver64: 64 at
- * a time; step, step64: the same with fq_driver_step, which reports and asks at once. packets: puts, and polls of weight 64; bursts: the same packets, put 64 at
- * once. 1, 8, 32 or 64: packets, put and polled this many at once. beside: looks by two threads at once, each by its own seat,
- * whose handles are adjacent; apart: 128 bytes apart. */
+ * complete on a shared instance, by one thread. driver: packets that come one by one, polled by what a driver says; driver64:
+ * 64 at a time; step, step64: the same with fq_driver_step, which reports and asks at once. packets: puts, and polls of weight
+ * 64; bursts: the same packets, put 64 at once. 1, 8, 32 or 64: packets, put and polled this many at once. beside: looks by two
+ * threads at once, each by its own seat, whose handles are adjacent; apart: 128 bytes apart. */
 #include <fintaqush.h>
 #include <inttypes.h>
 #include <pthread.h>

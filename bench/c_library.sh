@@ -1,9 +1,11 @@
 #!/bin/sh
 # Times calls of the C library from C: pairs on a queue limit, compared with the plain C++ fold of bench/limits.cc, which is
 # inlined and has to count the same; cycles of a shared instance by one thread (schedule, hand, take, complete), compared with
-# the same cycles by the typed calls (crates/bench_word); packets that a driver (fq_driver_new) polls, one or 64 at each interrupt, reported and asked for in two calls or in one; and packets, put one by one and in bursts of 64, and polled 64 at a
-# time, and put and polled in bursts of 1, 8, 32 and 64. Three rounds of all in turn; the best time of each is printed, with C's ratio to the other. Then nine rounds of looks by
-# two threads at once, with handles that are adjacent or 128 bytes apart: the best and the median time of each.
+# the same cycles by the typed calls (crates/bench_word); packets that a driver (fq_driver_new) polls, one or 64 at each
+# interrupt, reported and asked for in two calls or in one; and packets, put one by one and in bursts of 64, and polled 64 at a
+# time, and put and polled in bursts of 1, 8, 32 and 64. Three rounds of all in turn; the best time of each is printed, with C's
+# ratio to the other. Then nine rounds of looks by two threads at once, with handles that are adjacent or 128 bytes apart: the
+# best and the median time of each.
 #
 # usage: bench/c_library.sh [TIMES]     (10000000 by default; of the cycles and looks a tenth)
 set -eu
