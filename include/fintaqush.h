@@ -450,8 +450,8 @@ struct fq_card {
 
 /* Handles an interrupt: schedules, and repeats the attempt while it returns FQ_CHANGED; if granted, masks the card and queues the
  * instance, in the kernel's order: if the card were masked after that, it would stay masked whenever the poller is faster. `kind`
- * follows FQ_BIT_THREADED, which fq_seat_request reads itself. Returns FQ_GRANTED, and the instance is queued; FQ_MISSED; FQ_DISABLED;
- * FQ_BAD_KIND; FQ_BAD_HANDLE; FQ_NOT_ALLOWED. */
+ * follows FQ_BIT_THREADED, which fq_seat_request reads itself. Returns FQ_BAD_KIND; FQ_GRANTED, and the instance is queued; FQ_MISSED;
+ * FQ_DISABLED; FQ_BAD_HANDLE; FQ_NOT_ALLOWED. */
 FQ_CHECKED static inline enum fq_status fq_seat_interrupt_masked(struct fq_handle *seat, uint32_t kind, const struct fq_card *card) {
     enum fq_status said;
     if (kind > FQ_THREAD) return FQ_BAD_KIND;
@@ -640,19 +640,21 @@ FQ_CHECKED enum fq_status fq_run_polled(struct fq_handle *list, uint32_t work, u
 FQ_CHECKED enum fq_status fq_run_end(struct fq_handle *FQ_RESTRICT list, struct fq_run_report *FQ_RESTRICT report);
 
 /* ---- A driver of up to 64 devices on one thread: their instances, the poll list and the runs over it. It does no input or output and
- * calls nothing back: fq_driver_next says what has to be done at a card, and fq_driver_done reports that it was done:
+ * calls nothing back: fq_driver_step reports that an action was done at a card, and says what has to be done next. A loop needs only
+ * this call:
  *
  *     struct fq_todo todo = FQ_TODO_INIT;
- *     while (fq_driver_next(&driver, &todo), todo.what != FQ_TODO_SLEEP) {
+ *     while (fq_driver_step(&driver, &todo), todo.what != FQ_TODO_SLEEP) {
  *         switch (todo.what) {
  *         case FQ_TODO_MASK: mask(todo.device); break;
  *         case FQ_TODO_UNMASK: unmask(todo.device); break;
  *         case FQ_TODO_LOOK: todo.packets = has_packets(todo.device); break;
  *         case FQ_TODO_FETCH: todo.packets = fetch(todo.device, todo.most); break;
  *         }
- *         fq_driver_done(&driver, &todo);
  *     }
  *     (now wait for the next interrupt, report it by fq_driver_interrupt, and begin again)
+ *
+ * A driver that isn't a loop, for example one of callbacks, asks by fq_driver_next and reports by fq_driver_done.
  *
  * Any order of calls is safe: what isn't due returns FQ_NOT_DUE and changes nothing. It says to sleep only if each device is closed, or
  * its card was unmasked, was looked at after that and had no packets, and nothing is on the poll list. So no packet waits unseen if the
@@ -698,23 +700,30 @@ FQ_CHECKED enum fq_status fq_driver_open(struct fq_handle *driver, uint32_t devi
  * being stopped; FQ_BAD_DEVICE; FQ_BAD_HANDLE. */
 FQ_CHECKED enum fq_status fq_driver_stop(struct fq_handle *driver, uint32_t device);
 
-/* Reports an interrupt of a card (napi_schedule), at any time, also between fq_driver_next and fq_driver_done. Returns FQ_GRANTED: a
- * poll was requested, and fq_driver_next says what to do, first to mask the card; FQ_MISSED: a poll is requested already, and one more
- * follows, or the device is closed; FQ_DISABLED: it is being stopped; FQ_BAD_DEVICE; FQ_BAD_HANDLE. It may be called too often: an
- * interrupt without packets costs one empty poll. */
+/* Reports an interrupt of a card (napi_schedule), at any time, also before an action that is due is reported. Returns FQ_GRANTED: a
+ * poll was requested, whose first action is to mask the card; FQ_MISSED: a poll is requested already, and one more follows, or the
+ * device is closed; FQ_DISABLED: it is being stopped; FQ_BAD_DEVICE; FQ_BAD_HANDLE. It may be called too often: an interrupt without
+ * packets costs one empty poll. */
 FQ_CHECKED enum fq_status fq_driver_interrupt(struct fq_handle *driver, uint32_t device);
 
 /* Sets *todo to what has to be done now. It is the same action, with the same number, until that is reported or isn't due any more.
- * Returns FQ_OK; FQ_BAD_SIZE if todo->size is too small, and *todo is unchanged; FQ_BAD_HANDLE, and *todo is set to sleep. The status may
+ * Returns FQ_OK; FQ_BAD_HANDLE, and *todo is set to sleep; FQ_BAD_SIZE if todo->size is too small, and *todo is unchanged. The status may
  * be ignored if `size` and the handle are right. */
 FQ_NONNULL enum fq_status fq_driver_next(struct fq_handle *FQ_RESTRICT driver, struct fq_todo *FQ_RESTRICT todo);
 
 /* Reports that the action in *todo was done, with todo->packets; only todo->number and todo->packets are read. Call it before the next
- * call of fq_driver_next, or not at all: an action that isn't reported is returned again. Returns FQ_OK; FQ_NOT_DUE: the driver doesn't
- * wait for this report any more, because of an interrupt, an open, a stop or an earlier report, and fq_driver_next says what is due
- * instead, so the status may be ignored; FQ_BAD_WORK if a fetch took more than `most`; FQ_BAD_SIZE if todo->size is too small;
- * FQ_BAD_HANDLE. Nothing changes unless it returns FQ_OK. */
+ * call of fq_driver_next, or not at all: an action that isn't reported is returned again. Returns FQ_OK; FQ_BAD_HANDLE; FQ_BAD_SIZE if
+ * todo->size is too small; FQ_NOT_DUE: the driver doesn't wait for this report any more, because of an interrupt, an open, a stop or an
+ * earlier report, and fq_driver_next says what is due instead, so the status may be ignored; FQ_BAD_WORK if a fetch took more than
+ * `most`. Nothing changes unless it returns FQ_OK. */
 FQ_NONNULL enum fq_status fq_driver_done(struct fq_handle *FQ_RESTRICT driver, const struct fq_todo *FQ_RESTRICT todo);
+
+/* Reports the action in *todo, unless its number is 0, and sets *todo to what has to be done now: fq_driver_done and then fq_driver_next
+ * in one call. Report interrupts that came meanwhile before it, so that they count before the next poll. Returns FQ_OK; FQ_BAD_HANDLE,
+ * and *todo is set to sleep; FQ_BAD_SIZE if todo->size is too small, and nothing changes; FQ_NOT_DUE: the driver didn't wait for this
+ * report any more, and *todo is what is due instead, so the status may be ignored; FQ_BAD_WORK if a fetch took more than `most`, and
+ * nothing changes: *todo is still that fetch. */
+FQ_NONNULL enum fq_status fq_driver_step(struct fq_handle *FQ_RESTRICT driver, struct fq_todo *FQ_RESTRICT todo);
 
 /* The states of a device. */
 enum fq_device_state FQ_NUMBER { FQ_DEVICE_CLOSED = 0, FQ_DEVICE_OPEN = 1, FQ_DEVICE_STOPPING = 2 };
@@ -728,8 +737,8 @@ struct fq_device_shown {
     uint64_t packets; /* the packets of these fetches; saturates */
 };
 
-/* Sets *shown to the state of a device and the counts of its polls. Returns FQ_OK; FQ_BAD_SIZE if shown->size is too small;
- * FQ_BAD_DEVICE; FQ_BAD_HANDLE. *shown is unchanged unless it returns FQ_OK. */
+/* Sets *shown to the state of a device and the counts of its polls. Returns FQ_OK; FQ_BAD_HANDLE; FQ_BAD_SIZE if shown->size is too
+ * small; FQ_BAD_DEVICE. *shown is unchanged unless it returns FQ_OK. */
 FQ_CHECKED enum fq_status fq_driver_show(struct fq_handle *FQ_RESTRICT driver, uint32_t device, struct fq_device_shown *FQ_RESTRICT shown);
 
 /* ---- A word of pending bits. Only its poller uses a list: another thread sets the bit of a device in such a word, and wakes the poller,

@@ -780,12 +780,15 @@ public:
     // Reports that an action was done; after a look and a fetch set todo.packets before. Returns FQ_OK; FQ_NOT_DUE if the
     // action isn't due any more; FQ_BAD_WORK if a fetch took more than todo.most.
     Status done(const Todo &todo) { return Status(fq_driver_done(at_.raw(), &todo)); }
+    // Reports an action, and sets it to what has to be done now: done and next in one call. The first action is FQ_TODO_INIT, which
+    // reports nothing. Returns what done returns; after FQ_BAD_WORK nothing has changed.
+    Status step(Todo &todo) { return Status(fq_driver_step(at_.raw(), &todo)); }
 
     // Does one action at a card: calls mask(device), unmask(device), look(device), which returns whether the card has packets,
     // or fetch(device, most), which takes and delivers packets and returns how many. Returns the action, or that there is
     // nothing to do, or that a run ended. If a call throws, nothing is reported, and the same action is due again.
     template <class Cards>
-    Todo step(Cards &cards) {
+    Todo act(Cards &cards) {
         Todo todo = next();
         switch (todo.what) {
         case FQ_TODO_MASK: cards.mask(todo.device); break;

@@ -28,6 +28,7 @@ CLEAR = "\r\033[K"  # the line of a terminal that one writes over
 LIBC = ctypes.CDLL(None)
 PARENT = os.getpid()
 NAME = os.environ.get("FINTAQUSH_NAME", "replay")  # as a subcommand of `fintaqush` was asked for it
+CPU = os.environ.get("FINTAQUSH_CPU")  # the processor that archives are compiled for, by the names of `rattle build --cpu`; else x86-64-v2
 INSTALLED = not os.path.exists(f"{TOP}/crates.txt")  # by scripts/install.sh, which puts built programs there and no crates
 
 
@@ -164,7 +165,8 @@ class Crate:
         self.folder, self.log = f"{TOP}/crates/{name}", f"{BUILT}/{name}.log"
         self.is_program, self.is_archive = os.path.exists(f"{self.folder}/src/main.rt"), "staticlib" in kind
         self.is_library = not self.is_program and not self.is_archive
-        self.made = f"{BUILT}/{name}.rlib" if self.is_library else f"{self.folder}/out/{name if self.is_program else f'lib{name}.a'}"
+        out = f"{self.folder}/out/{CPU}" if CPU and self.is_archive else f"{self.folder}/out"
+        self.made = f"{BUILT}/{name}.rlib" if self.is_library else f"{out}/{name if self.is_program else f'lib{name}.a'}"
 
     @functools.cached_property
     def all(self):
@@ -224,6 +226,7 @@ class Crate:
         """Starts to prove and build it, with this many processes, at a lower priority than that of crates before it."""
         command = [*self.words("build", jobs), "-o", f"{self.made}.new", *["--crate-type", "staticlib"] * self.is_archive]
         command += ["--statements"] if self.is_library else ["--toolchain", f"{kit()}/toolchain", "--backend", "llvm"]
+        command += ["--cpu", CPU] if CPU and self.is_archive else []
         self.begun = self.times()
         with open(self.log, "wb") as log:
             how = {"stdin": subprocess.DEVNULL, "stdout": log, "stderr": log, "cwd": self.folder}

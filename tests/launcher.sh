@@ -203,7 +203,10 @@ a crate at a time on each processor, the longest chain first % small_checkout a:
 echo longest > $small/crates/two/src/lib.rt; PROVES='sleep 1' taskset -c 0,1 $launcher trace.csv > made 2>&1; head -n 2 rt.log | grep one; \
 awk '/^begin/ { now++ } /^end/ { now-- } now > most { most = now } END { print most }' rt.log % 0 begin one|2
 one that is killed for memory is begun once more % change c; PROVES='$c_is_killed' built; grep -c 'begin c' rt.log % 0 3
-what is no clone is built where caches are % rm -rf $small/.git; change one; XDG_CACHE_HOME=$scratch/cache built; tail -n 2 made; \
+an archive for another processor has a folder of its own % small_checkout low: 'arch staticlib:low'; FINTAQUSH_CPU=x86-64 PROVES='echo "\$*"' \
+$small/scripts/build.sh arch 2> made; ls $small/crates/arch/out; grep -ohe '--cpu [^ ]*' $small/.git/built/{low,arch}.log; rm -r $small/crates/arch/out % \
+0 x86-64|--cpu x86-64
+what is no clone is built where caches are % small_checkout one: 'napi_serial: one'; built; rm -rf $small/.git; change one; XDG_CACHE_HOME=$scratch/cache built; tail -n 2 made; \
 ls cache/fintaqush/*/one.rlib % 0 $answer|format
 and not beside it % ls -d $small/.git % 2 *
 

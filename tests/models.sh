@@ -122,6 +122,14 @@ two-pollers wake.pml -DWORKERS=2,-DPOLLERS=2,-DTHREADS=0,-DACTS=2,-DOTHER_ACTS=1
 finite waiting.pml -DENDLESS=0,-DDISABLES=1,-DREPOLLS=1 safe ends taken
 finite-requests waiting.pml -DENDLESS=0,-DDISABLES=1,-DREPOLLS=1,-DTRACKED=1 safe requests
 endless waiting.pml -DENDLESS=1 safe taken
+driver driver.pml -DPACKETS=4,-DSTOPS=2 safe ends
+a-driver-without-a-look driver.pml -DFAULT=1 refused safe=taken
+a-look-before-its-unmask driver.pml -DFAULT=2 refused safe=taken
+a-bit-that-wakes-nobody driver.pml -DFAULT=3 refused safe=taken
+a-wake-that-is-forgotten driver.pml -DFAULT=4 refused safe=taken
+an-interrupt-that-isnt-reported driver.pml -DFAULT=5 refused safe=taken
+a-mask-after-its-report driver.pml -DFAULT=6 refused safe=masked
+bits-taken-by-load-and-store driver.pml -DFAULT=7 refused safe=taken
 a-thread-that-isnt-woken wake.pml -DACTS=2,-DFAULT=1 refused polled
 a-wake-before-its-push wake.pml -DACTS=2,-DFAULT=2 refused polled
 a-thread-that-is-never-told wake.pml -DACTS=2,-DFAULT=3 refused ends

@@ -35,12 +35,11 @@ static uint32_t fetch(uint32_t most) {
 static void work(struct fq_handle *driver) {
     struct fq_todo todo = FQ_TODO_INIT;
     if (fq_word_take(&interrupts)) must(fq_driver_interrupt(driver, 0) < FQ_NOT_ALLOWED);
-    while (fq_driver_next(driver, &todo), todo.what != FQ_TODO_SLEEP) {
+    while (fq_driver_step(driver, &todo), todo.what != FQ_TODO_SLEEP) {
         if (todo.what == FQ_TODO_MASK) masked = 1;
         else if (todo.what == FQ_TODO_UNMASK) masked = 0;
         else if (todo.what == FQ_TODO_LOOK) todo.packets = arrived != polled;
         else if (todo.what == FQ_TODO_FETCH) todo.packets = fetch(todo.most);
-        fq_driver_done(driver, &todo);
         if (stops < STOPS && polled >= (stops + 1) * BETWEEN && fq_driver_stop(driver, 0) == FQ_OK) stops++;
     }
 }

@@ -20,7 +20,7 @@ static uint32_t fetch(uint32_t most) {
 
 static void work(struct fq_handle *driver) {
     struct fq_todo todo = FQ_TODO_INIT;
-    while (fq_driver_next(driver, &todo), todo.what != FQ_TODO_SLEEP) {
+    while (fq_driver_step(driver, &todo), todo.what != FQ_TODO_SLEEP) {
         switch (todo.what) {
         case FQ_TODO_MASK: masked = true; puts("  mask"); break;
         case FQ_TODO_UNMASK: masked = false; puts("  unmask"); break;
@@ -28,7 +28,6 @@ static void work(struct fq_handle *driver) {
         case FQ_TODO_FETCH: todo.packets = fetch(todo.most); printf("  fetch: %u packets\n", todo.packets); break;
         default: printf("  a run ended: %u polls, %u packets\n", todo.run.polls, todo.run.work);
         }
-        fq_driver_done(driver, &todo);
     }
     puts("  sleep");
 }

@@ -138,7 +138,7 @@ static inline uint32_t fetch_from(struct device *device, uint32_t most) {
 /* Does what the driver asks for until a run ends; returns false if there is nothing to do. */
 static inline bool run(void) {
     struct fq_todo todo = FQ_TODO_INIT;
-    while (report_interrupts(), fq_driver_next(&driver, &todo), todo.what != FQ_TODO_SLEEP) {
+    while (report_interrupts(), fq_driver_step(&driver, &todo), todo.what != FQ_TODO_SLEEP) {
         struct device *device = devices[todo.device];
         switch (todo.what) {
         case FQ_TODO_MASK: device->mask(device); break;
@@ -147,7 +147,6 @@ static inline bool run(void) {
         case FQ_TODO_FETCH: todo.packets = fetch_from(device, todo.most); break;
         default: return runs++, squeezed += todo.run.squeezed, true;
         }
-        fq_driver_done(&driver, &todo);
     }
     return false;
 }

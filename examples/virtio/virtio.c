@@ -144,7 +144,7 @@ static uint32_t fetch(struct side *side) {
 /* Does what the driver asks for until a run ends; returns false if there is nothing to do. */
 static bool run(void) {
     struct fq_todo todo = FQ_TODO_INIT;
-    while (report_interrupts(), fq_driver_next(&driver, &todo), todo.what != FQ_TODO_SLEEP) {
+    while (report_interrupts(), fq_driver_step(&driver, &todo), todo.what != FQ_TODO_SLEEP) {
         struct side *side = &sides[todo.device];
         switch (todo.what) {
         case FQ_TODO_MASK: queue_mask(side->queue); break;
@@ -153,7 +153,6 @@ static bool run(void) {
         case FQ_TODO_FETCH: todo.packets = fetch(side); break;
         default: return runs++, squeezed += todo.run.squeezed, true;
         }
-        fq_driver_done(&driver, &todo);
     }
     return false;
 }

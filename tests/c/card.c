@@ -2,13 +2,14 @@
  * arrive at every point of interrupt and poll, after each call of the library and of the card, in all orders; the interrupt
  * comes at that point. At every point of an interrupt, and of another poll, a whole poll may run, as on another processor,
  * and a disable starts at every point. In the end nothing may wait on the card, which then isn't masked. The orders of
- * fintaqush.h never fail there; the two that hang real cards do: no check after the unmask, and a mask after the hand-over.
+ * fintaqush.h never fail there; the three that hang real cards do: no check after the unmask, a mask after the hand-over, and an
+ * enable without a request.
  * To be linked with --wrap for the calls of a seat. */
 #include <fintaqush.h>
 #include <stdio.h>
 #include <stdlib.h>
 
-enum order { WATCHED, UNMASKED, UNLOOKED, LATE };
+enum order { WATCHED, UNMASKED, UNLOOKED, LATE, UNASKED };
 enum { WEIGHT = 2, PACKETS = 3, POINTS = 120, TURNS = 90, NEVER = 1000 };
 
 static enum order order;
@@ -160,7 +161,7 @@ static bool hangs(void) {
     must(point_now <= POINTS && turn_now <= TURNS, "more points than are tried");
     if (stops) { /* and one request after the enable */
         must(fq_control_step(&control, false, false) == FQ_OK && fq_control_step(&control, true, threaded) == FQ_OK, "off and on");
-        request();
+        if (order != UNASKED) request();
         drain();
     }
     const bool is_hung = waiting != 0 || masked;
@@ -203,7 +204,8 @@ int main(void) {
     must(all(UNMASKED) == 0, "hangs");
     must(all(UNLOOKED) != 0, "doesn't hang without a look");
     must(all(LATE) != 0, "doesn't hang by a late mask");
+    must(all(UNASKED) != 0, "doesn't hang without a request after an enable");
     must(played > 100000, "few orders");
-    puts("the card hangs without a look and by a late mask, and never else");
+    puts("the card hangs without a look, by a late mask and by an enable without a request, and never else");
     return 0;
 }

@@ -1,7 +1,8 @@
 /* driver: a driver as C uses it. Random calls, also under wrong numbers and sizes, beside cards that lose each interrupt while they are
  * masked, and packets that arrive at any time: whenever the driver says to sleep, each open card is unmasked and has no packets, or an
- * interrupt that wasn't reported, each closed one is masked, and what returns FQ_NOT_DUE or an error has changed nothing. And a driver
- * program, which polls all packets in order. It exits with 9 if something is wrong. */
+ * interrupt that wasn't reported, each closed one is masked, and what returns FQ_NOT_DUE or an error has changed nothing. The same by
+ * fq_driver_step, beside a driver that gets fq_driver_done and fq_driver_next in place of each step. And driver programs, by steps and
+ * by reports, which poll all packets in order. It exits with 9 if something is wrong. */
 #include <fintaqush.h>
 #include <stdio.h>
 #include <stdlib.h>
@@ -82,6 +83,7 @@ static void tries_what_is_refused(struct fq_handle *driver, uint32_t devices, co
     refused(driver, device, fq_driver_done(driver, &old), FQ_NOT_DUE, due, before);
     refused(driver, device, fq_driver_done(driver, &small), FQ_BAD_SIZE, due, before);
     refused(driver, device, fq_driver_next(driver, &small), FQ_BAD_SIZE, due, before);
+    refused(driver, device, fq_driver_step(driver, &small), FQ_BAD_SIZE, due, before);
     refused(driver, device, fq_driver_open(driver, devices), FQ_BAD_DEVICE, due, before);
     refused(driver, device, fq_driver_stop(driver, UINT32_MAX), FQ_BAD_DEVICE, due, before);
     refused(driver, device, fq_driver_interrupt(driver, devices), FQ_BAD_DEVICE, due, before);
@@ -92,6 +94,8 @@ static void tries_what_is_refused(struct fq_handle *driver, uint32_t devices, co
         struct fq_todo many = *due;
         many.packets = due->most + 1;
         refused(driver, device, fq_driver_done(driver, &many), FQ_BAD_WORK, due, before);
+        refused(driver, device, fq_driver_step(driver, &many), FQ_BAD_WORK, due, before);
+        want(many.number == due->number && many.packets == due->most + 1, "a refused step changed what it was given");
     }
 }
 
@@ -160,11 +164,77 @@ static void random_calls(uint32_t devices, uint32_t budget, uint32_t weight, uin
     want(fq_free(&driver) == FQ_OK, "the end");
 }
 
-/* ---- a driver program */
+/* ---- the same by steps, beside a driver that reports and asks */
 
-static uint64_t fetched_next, polled_in_all;
+static bool same_todo(const struct fq_todo *a, const struct fq_todo *b) {
+    return a->size == b->size && a->number == b->number && a->what == b->what && a->device == b->device && a->most == b->most && a->packets == b->packets &&
+           a->run.polls == b->run.polls && a->run.work == b->run.work && a->run.squeezed == b->run.squeezed;
+}
 
-static void program(void) {
+/* A step returns what the report returns. If that is an error nothing changes, otherwise *todo is set to what is due then. */
+static uint32_t steps(struct fq_handle *driver, struct fq_handle *twin, struct fq_todo *todo) {
+    struct fq_todo other = *todo;
+    const uint32_t wanted = fq_driver_done(twin, &other);
+    if (wanted < FQ_NOT_ALLOWED) want(fq_driver_next(twin, &other) == FQ_OK, "what is due at the twin");
+    want(fq_driver_step(driver, todo) == wanted, "what a step returns");
+    want(same_todo(todo, &other), "what a step sets");
+    return wanted;
+}
+
+/* One step, sometimes with a report that is wrong, or that was forgotten. */
+static uint32_t one_step(struct fq_handle *driver, struct fq_handle *twin, struct fq_todo *todo) {
+    const struct fq_todo kept = *todo;
+    const uint32_t wrong = below(16);
+    if (wrong == 0) todo->size -= 1 + below(8);
+    if (wrong == 1) todo->number += 1 + below(3);
+    if (wrong == 2) *todo = (struct fq_todo)FQ_TODO_INIT;
+    if (wrong == 3 && todo->what == FQ_TODO_FETCH) todo->packets = todo->most + 1 + below(9);
+    const uint32_t said = steps(driver, twin, todo);
+    want((wrong == 0) == (said == FQ_BAD_SIZE), "a size that is too small");
+    want(wrong == 0 || said == FQ_OK || said == FQ_NOT_DUE || (wrong == 3 && said == FQ_BAD_WORK), "a step");
+    if (said >= FQ_NOT_ALLOWED) *todo = kept;
+    else act(todo);
+    return said;
+}
+
+static void other_calls(struct fq_handle *driver, struct fq_handle *twin, uint32_t devices) {
+    const uint32_t device = below(devices);
+    if (below(2) == 0) arrives(&cards[device]);
+    if (below(2) == 0 && cards[device].interrupting) {
+        want(fq_driver_interrupt(driver, device) == fq_driver_interrupt(twin, device), "an interrupt of two drivers");
+        cards[device].interrupting = false;
+    }
+    if (below(16) == 0) want(fq_driver_open(driver, device) == fq_driver_open(twin, device), "an open of two drivers");
+    if (below(64) == 0) want(fq_driver_stop(driver, device) == fq_driver_stop(twin, device), "a stop of two drivers");
+    want(same_shown(shown_of(driver, device), shown_of(twin, device)), "a device of two drivers");
+}
+
+static void random_steps(uint32_t devices, uint32_t budget, uint32_t weight, uint32_t window) {
+    struct fq_handle driver = FQ_NONE, twin = FQ_NONE;
+    struct fq_todo todo = FQ_TODO_INIT;
+    long made[FQ_BAD_SIZE + 1] = {0};
+    want(fq_driver_new(&driver, devices, budget, weight, window) == FQ_OK && fq_driver_new(&twin, devices, budget, weight, window) == FQ_OK, "two drivers");
+    for (uint32_t i = 0; i < DEVICES; i++) cards[i] = (struct card){true, false, 0, 0};
+    for (calls = 0; calls < 200000; calls++) {
+        if (below(3) == 0) other_calls(&driver, &twin, devices);
+        else made[one_step(&driver, &twin, &todo)]++;
+        if (below(32) == 0) rests(&driver, devices), rests(&twin, devices);
+    }
+    want(made[FQ_OK] > 0 && made[FQ_NOT_DUE] > 0 && made[FQ_BAD_WORK] > 0 && made[FQ_BAD_SIZE] > 0, "a step has returned each status");
+    want(fq_free(&driver) == FQ_OK && fq_free(&twin) == FQ_OK, "the end of two drivers");
+}
+
+/* ---- driver programs: by one call, and by a report and a question */
+
+static void reports_and_asks(struct fq_handle *driver, struct fq_todo *todo) {
+    fq_driver_done(driver, todo);
+    fq_driver_next(driver, todo);
+}
+
+static void goes_on(struct fq_handle *driver, struct fq_todo *todo) { fq_driver_step(driver, todo); }
+
+static void program(void (*go)(struct fq_handle *driver, struct fq_todo *todo)) {
+    uint64_t fetched_next = 0, polled_in_all = 0;
     struct fq_handle driver = FQ_NONE;
     struct fq_todo todo = FQ_TODO_INIT;
     uint32_t squeezed = 0, runs = 0;
@@ -172,20 +242,16 @@ static void program(void) {
     memset(cards, 0, sizeof cards);
     cards[0].masked = cards[1].masked = true;
     cards[1].packets = 1000;
-    while (fq_driver_next(&driver, &todo), todo.what != FQ_TODO_SLEEP) {
+    while (go(&driver, &todo), todo.what != FQ_TODO_SLEEP) {
         act(&todo);
         if (todo.what == FQ_TODO_FETCH) fetched_next += todo.packets;
         if (todo.what == FQ_TODO_ENDED) runs++, squeezed += todo.run.squeezed, polled_in_all += todo.run.work;
-        fq_driver_done(&driver, &todo);
     }
     const struct fq_device_shown shown = shown_of(&driver, 1);
     want(fetched_next == 1000 && polled_in_all == 1000 && shown.packets == 1000 && shown.polls == 16, "each packet once");
     want(runs == 16 && squeezed == 15 && shown.state == FQ_DEVICE_OPEN && !shown.scheduled && !cards[1].masked, "its runs");
     want(fq_driver_stop(&driver, 1) == FQ_OK, "a stop");
-    while (fq_driver_next(&driver, &todo), todo.what != FQ_TODO_SLEEP) {
-        act(&todo);
-        fq_driver_done(&driver, &todo);
-    }
+    while (go(&driver, &todo), todo.what != FQ_TODO_SLEEP) act(&todo);
     want(shown_of(&driver, 1).state == FQ_DEVICE_CLOSED && cards[1].masked, "it is closed");
     want(fq_abandon(&driver) == FQ_OK, "the end");
 }
@@ -200,6 +266,8 @@ static void without_a_driver(void) {
         todo.what = FQ_TODO_FETCH, todo.number = 7;
         want(fq_driver_done(handle, &todo) == FQ_BAD_HANDLE, "a report without a driver");
         want(fq_driver_next(handle, &todo) == FQ_BAD_HANDLE && todo.what == FQ_TODO_SLEEP && todo.number == 0, "it sleeps");
+        todo.what = FQ_TODO_FETCH, todo.number = 7;
+        want(fq_driver_step(handle, &todo) == FQ_BAD_HANDLE && todo.what == FQ_TODO_SLEEP && todo.number == 0, "a step sleeps");
         want(fq_driver_open(handle, 0) == FQ_BAD_HANDLE && fq_driver_stop(handle, 0) == FQ_BAD_HANDLE, "an open without a driver");
         want(fq_driver_interrupt(handle, 0) == FQ_BAD_HANDLE && fq_driver_show(handle, 0, &shown) == FQ_BAD_HANDLE, "an interrupt");
     }
@@ -210,15 +278,38 @@ static void without_a_driver(void) {
     want(fq_free(&list) == FQ_OK, "the end");
 }
 
+/* If several statuses apply, each call returns the one that the header names first. */
+static void first_named(void) {
+    struct fq_handle driver = FQ_NONE;
+    struct fq_todo todo = FQ_TODO_INIT, small;
+    struct fq_device_shown shown = {sizeof shown - 1, 0, false, false, 0, 0};
+    todo.size--;
+    want(fq_driver_done(&driver, &todo) == FQ_BAD_HANDLE && fq_driver_step(&driver, &todo) == FQ_BAD_HANDLE, "no driver, and a small size");
+    want(fq_driver_next(&driver, &todo) == FQ_BAD_HANDLE && fq_driver_show(&driver, 9, &shown) == FQ_BAD_HANDLE, "no driver, and a small size");
+    want(fq_driver_new(&driver, 1, 300, 8, 1024) == FQ_OK && fq_driver_open(&driver, 0) == FQ_OK, "a driver");
+    want(fq_driver_show(&driver, 9, &shown) == FQ_BAD_SIZE, "a small size, and no device");
+    todo.size++;
+    while (fq_driver_step(&driver, &todo), todo.what != FQ_TODO_FETCH) todo.packets = 1;
+    todo.packets = 9, todo.number++, small = todo, small.size--;
+    want(fq_driver_done(&driver, &small) == FQ_BAD_SIZE && fq_driver_step(&driver, &small) == FQ_BAD_SIZE, "a small size, and an old number");
+    want(fq_driver_done(&driver, &todo) == FQ_NOT_DUE && fq_driver_step(&driver, &todo) == FQ_NOT_DUE, "an old number, and too many packets");
+    want(todo.what == FQ_TODO_FETCH && todo.packets == 0 && fq_free(&driver) == FQ_OK, "the fetch is due");
+}
+
 int main(int argc, char **argv) {
     seed = argc > 1 ? strtoull(argv[1], NULL, 10) : 1;
     without_a_driver();
-    program();
+    first_named();
+    program(goes_on);
+    program(reports_and_asks);
     random_calls(1, 3, 2, 2);
     random_calls(1, 300, 64, 1024);
     random_calls(3, 300, 64, 10);
     random_calls(DEVICES, 300, 64, 10);
     random_calls(DEVICES, 1, 1, 1);
+    random_steps(1, 3, 2, 2);
+    random_steps(3, 300, 64, 10);
+    random_steps(DEVICES, 300, 64, 1024);
     puts("a driver never sleeps with work left");
     return 0;
 }

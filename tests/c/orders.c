@@ -1,6 +1,6 @@
 /* A driver over model cards whose interrupts are edges: a packet that arrives while its card is masked causes none. Packets, interrupts
- * (also late ones, and some without a packet), opens, stops, reports (also late ones, twice, and of what the driver never asked for)
- * come in random order. Whenever the driver says to sleep, and no interrupt is on its way, each open card is empty and unmasked, and each
+ * (also late ones, and some without a packet), opens, stops, steps, and reports (also late ones, twice, and of what the driver never
+ * asked for) come in random order. Whenever the driver says to sleep, and no interrupt is on its way, each open card is empty and unmasked, and each
  * closed one masked. With each of three mistakes of the caller some order hangs. usage: orders ORDERS SEED */
 #include <fintaqush.h>
 #include <stdio.h>
@@ -47,23 +47,35 @@ static uint32_t fetch(struct card *card, uint32_t most) {
     return count;
 }
 
-/* Does what is due, and returns what it was. */
-static struct fq_todo act(void) {
-    struct fq_todo todo = FQ_TODO_INIT;
-    must(fq_driver_next(&driver, &todo) == FQ_OK, "next");
-    struct card *card = &cards[todo.device];
-    switch (todo.what) {
+/* Does what *todo says, at the card. */
+static void act(struct fq_todo *todo) {
+    struct card *card = &cards[todo->device];
+    switch (todo->what) {
     case FQ_TODO_MASK: card->late = mistake == LATE_MASK, card->masked |= !card->late; break;
     case FQ_TODO_UNMASK: card->masked = false; break;
-    case FQ_TODO_LOOK: todo.packets = mistake == NO_LOOK ? 0 : card->waiting; break;
-    case FQ_TODO_FETCH: todo.packets = fetch(card, todo.most); break;
+    case FQ_TODO_LOOK: todo->packets = mistake == NO_LOOK ? 0 : card->waiting; break;
+    case FQ_TODO_FETCH: todo->packets = fetch(card, todo->most); break;
     }
+}
+
+/* Does what is due, and returns what it was. */
+static struct fq_todo ask(void) {
+    struct fq_todo todo = FQ_TODO_INIT;
+    must(fq_driver_next(&driver, &todo) == FQ_OK, "next");
+    act(&todo);
     return todo;
 }
 
 static void report(const struct fq_todo *todo) {
     const enum fq_status said = fq_driver_done(&driver, todo);
     must(said == FQ_OK || said == FQ_NOT_DUE, "a report");
+}
+
+/* Reports what was done, and does what is due then. */
+static void step(struct fq_todo *todo) {
+    const enum fq_status said = fq_driver_step(&driver, todo);
+    must(said == FQ_OK || said == FQ_NOT_DUE, "a step");
+    act(todo);
 }
 
 /* A report of what was due earlier, or never, and calls whose numbers are wrong. */
@@ -75,22 +87,23 @@ static void stray(void) {
     must(said == FQ_NOT_DUE || (number == 0 && said == FQ_OK), "a stray report");
     must(fq_driver_interrupt(&driver, DEVICES + any(9)) == FQ_BAD_DEVICE, "no device");
     todo.size = any(8);
-    must(fq_driver_next(&driver, &todo) == FQ_BAD_SIZE, "a bad size");
+    must(fq_driver_next(&driver, &todo) == FQ_BAD_SIZE && fq_driver_step(&driver, &todo) == FQ_BAD_SIZE, "a bad size");
 }
 
 /* One call or event. */
-static void step(void) {
+static void event(void) {
     const uint32_t device = any(DEVICES);
     struct card *card = &cards[device];
-    switch (any(9)) {
+    switch (any(10)) {
     case 0: case 1: packet(card); break;
     case 2: if (card->raised || any(4) == 0) interrupt(device); break;
     case 3: if (any(6) == 0) must(fq_driver_stop(&driver, device) < FQ_NOT_ALLOWED, "a stop"); break;
     case 4: must(fq_driver_open(&driver, device) < FQ_NOT_ALLOWED, "an open"); break;
-    case 5: kept = act(); break;
+    case 5: kept = ask(); break;
     case 6: report(&kept); break;
     case 7: if (any(4) == 0) stray(); break;
-    default: kept = act(), report(&kept);
+    case 8: step(&kept); break;
+    default: kept = ask(), report(&kept);
     }
     if (card->late && any(4) == 0) card->masked = true, card->late = false;
 }
@@ -100,10 +113,8 @@ static bool hangs(void) {
     bool hung = false, raised = true;
     for (unsigned turns = 0; raised; turns++) {
         must(turns < SETTLED, "it never sleeps");
-        for (struct fq_todo todo = act(); todo.what != FQ_TODO_SLEEP; todo = act()) {
-            must(turns++ < SETTLED, "it never sleeps");
-            report(&todo);
-        }
+        struct fq_todo todo = FQ_TODO_INIT;
+        while (step(&todo), todo.what != FQ_TODO_SLEEP) must(turns++ < SETTLED, "it never sleeps");
         raised = false;
         for (uint32_t i = 0; i < DEVICES; i++) {
             if (cards[i].late) cards[i].masked = true, cards[i].late = false;
@@ -127,7 +138,7 @@ static bool some_hangs(enum mistake which, unsigned long orders) {
         kept = (struct fq_todo)FQ_TODO_INIT;
         for (uint32_t i = 0; i < DEVICES; i++) cards[i] = (struct card){.masked = true};
         for (unsigned steps = 0; steps < STEPS && !hung; steps++) {
-            step();
+            event();
             if (any(40) == 0) hung = hangs();
         }
         hung = hung || hangs();

@@ -118,7 +118,8 @@ static void take_none(void) {
     for (int i = 0; good && i < 5000; i++) {
         good = fq_driver_next(&driver, &todo) == FQ_OK && fq_driver_show(&driver, todo.device, &shown) == FQ_OK;
         todo.packets = todo.what == FQ_TODO_LOOK;
-        good = good && (i % 3 > 0 || fq_driver_interrupt(&driver, todo.device) != FQ_BAD_DEVICE) && fq_driver_done(&driver, &todo) != FQ_BAD_WORK;
+        good = good && (i % 3 > 0 || fq_driver_interrupt(&driver, todo.device) != FQ_BAD_DEVICE);
+        good = good && (i % 2 ? fq_driver_done(&driver, &todo) : fq_driver_step(&driver, &todo)) < FQ_NOT_ALLOWED;
         if (i == 2000) good = good && fq_driver_stop(&driver, 63) == FQ_OK;
     }
     want(good, "a call that takes no memory", 0);

@@ -251,31 +251,55 @@ static void drivers() {
     want(!Driver::make(0) && !Driver::make(65) && !Driver::make(1, 0) && !Driver::make(1, 1, Weight(), 65536), "drivers out of range");
     auto made = Driver::make(2);
     EdgeCard card;
-    want(made && made->step(card).what == FQ_TODO_SLEEP, "a new driver sleeps");
+    want(made && made->act(card).what == FQ_TODO_SLEEP, "a new driver sleeps");
     Driver driver(std::move(*made));
     want(made->open(0) == FQ_BAD_HANDLE && made->next().what == FQ_TODO_SLEEP && !made->shown(0), "a driver that was moved from");
     want(driver.open(1) == FQ_OK && driver.open(1) == FQ_NOT_DUE && driver.open(2) == FQ_BAD_DEVICE, "an open");
     const Todo unmask = driver.next();
     want(unmask.what == FQ_TODO_UNMASK && driver.done(unmask) == FQ_OK && driver.done(unmask) == FQ_NOT_DUE, "a report");
-    want(driver.step(card).what == FQ_TODO_LOOK && driver.step(card).what == FQ_TODO_MASK, "a look");
+    want(driver.act(card).what == FQ_TODO_LOOK && driver.act(card).what == FQ_TODO_MASK, "a look");
     card.broken = true;
     bool is_thrown = false;
     try {
-        static_cast<void>(driver.step(card));
+        static_cast<void>(driver.act(card));
     } catch (int) {
         is_thrown = true;
     }
     card.broken = false;
     want(is_thrown && driver.next().what == FQ_TODO_FETCH, "a fetch that throws is due again");
-    Todo did = driver.step(card);
+    Todo did = driver.act(card);
     want(did.what == FQ_TODO_FETCH && did.packets == 64 && did.most == 64, "a fetch");
     std::uint32_t polls = 0;
-    while ((did = driver.step(card)).what != FQ_TODO_SLEEP) polls += did.what == FQ_TODO_ENDED ? did.run.polls : 0;
+    while ((did = driver.act(card)).what != FQ_TODO_SLEEP) polls += did.what == FQ_TODO_ENDED ? did.run.polls : 0;
     want(polls == 2 && card.taken == 100 && card.waiting == 0, "all packets");
     want(driver.interrupt(1) == FQ_GRANTED && driver.interrupt(1) == FQ_MISSED && driver.stop(1) == FQ_OK && driver.interrupt(1) == FQ_DISABLED, "interrupts");
     want(driver.shown(1)->state == FQ_DEVICE_STOPPING && driver.shown(1)->packets == 100 && !driver.shown(2), "what is shown");
-    while (driver.step(card).what != FQ_TODO_SLEEP) {}
+    while (driver.act(card).what != FQ_TODO_SLEEP) {}
     want(card.masked && driver.shown(1)->state == FQ_DEVICE_CLOSED, "a stop");
+}
+
+static void steps_of_drivers() {
+    auto driver = Driver::make(1, 300, Weight::of<8>());
+    EdgeCard card;
+    Todo todo FQ_TODO_INIT;
+    std::uint32_t polls = 0;
+    want(driver && driver->open(0) == FQ_OK, "a driver");
+    while (driver->step(todo) == FQ_OK && todo.what != FQ_TODO_SLEEP) {
+        switch (todo.what) {
+        case FQ_TODO_MASK: card.mask(0); break;
+        case FQ_TODO_UNMASK: card.unmask(0); break;
+        case FQ_TODO_LOOK: todo.packets = card.look(0); break;
+        case FQ_TODO_FETCH:
+            todo.packets = 9;
+            want(driver->step(todo) == FQ_BAD_WORK && todo.what == FQ_TODO_FETCH && todo.packets == 9, "more than the weight");
+            todo.packets = card.fetch(0, todo.most), polls++;
+            break;
+        default: break;
+        }
+    }
+    want(polls == 13 && card.taken == 100 && !card.masked && driver->shown(0)->packets == 100, "a loop of steps");
+    todo.number = 1;
+    want(driver->step(todo) == FQ_NOT_DUE && todo.what == FQ_TODO_SLEEP && todo.number == 0, "a report that isn't due");
 }
 
 static void machines() {
@@ -317,6 +341,7 @@ int main() {
     moved();
     words();
     drivers();
+    steps_of_drivers();
     machines();
     no_memory();
     want(blocks == 0, "nothing is left");

@@ -37,7 +37,7 @@ def simulate(budget):
             cards.arrives(device)
             if not cards.masked[device]:
                 driver.interrupt(device)
-        while driver.step(cards) not in (What.SLEEP, What.ENDED):
+        while driver.act(cards) not in (What.SLEEP, What.ENDED):
             pass
     return cards.lost
 

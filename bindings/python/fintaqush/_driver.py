@@ -11,7 +11,7 @@ from ._objects import RunReport, _Owned
 
 class Todo:
     """An action: mask or unmask the card of `device`, look whether it has packets, or fetch at most `most` of them; `run` is the report of
-    a run that ended."""
+    a run that ended. `packets` are those that a look found or a fetch took, set for the report by `Driver.step`. A new one is no action."""
 
     def __init__(self) -> None:
         self._raw = c.Todo(ctypes.sizeof(c.Todo))
@@ -27,6 +27,14 @@ class Todo:
     @property
     def most(self) -> int:
         return int(self._raw.most)
+
+    @property
+    def packets(self) -> int:
+        return int(self._raw.packets)
+
+    @packets.setter
+    def packets(self, packets: int) -> None:
+        self._raw.packets = c.number(packets, "packets")
 
     @property
     def run(self) -> RunReport:
@@ -81,10 +89,16 @@ class Driver(_Owned):
     def done(self, todo: Todo, packets: int = 0) -> bool:
         """Reports that an action was done, with the packets of a look or a fetch. Returns False if the driver doesn't wait for this report
         any more. BAD_WORK if a fetch took more than `most`."""
-        todo._raw.packets = c.number(packets, "packets")
+        todo.packets = packets
         return bool(c.driver_done(self._at, todo._raw) == Status.OK)
 
-    def step(self, cards: Cards) -> What:
+    def step(self, todo: Todo) -> What:
+        """Reports that the action in `todo` was done, with `todo.packets`, and sets `todo` to what has to be done now, which it returns:
+        `done` and `next` in one call. A new Todo() reports nothing. BAD_WORK if a fetch took more than `most`; then nothing changes."""
+        c.driver_step(self._at, todo._raw)
+        return todo.what
+
+    def act(self, cards: Cards) -> What:
         """Does one action at a card, reports it, and returns it; SLEEP if there is nothing to do, ENDED if a run ended. If a call raises,
         nothing is reported, and the same action is due again."""
         todo, packets = self.next(), 0

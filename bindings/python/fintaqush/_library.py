@@ -219,6 +219,7 @@ driver_stop = declare("driver_stop", driver=Handle, device=u32)
 driver_interrupt = declare("driver_interrupt", driver=Handle, device=u32)
 driver_next = declare("driver_next", driver=Handle, todo=Todo)
 driver_done = declare("driver_done", driver=Handle, todo=Todo)
+driver_step = declare("driver_step", driver=Handle, todo=Todo)
 driver_show = declare("driver_show", driver=Handle, device=u32, shown=DeviceShown)
 replay = declare("replay", u32, _long, settings=Settings, trace=ctypes.c_char_p, len=size, report=ctypes.c_char_p, room=size,
                  replayed=Replayed)

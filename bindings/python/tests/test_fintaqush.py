@@ -431,20 +431,46 @@ class Card:
 class TestDriver(Refusals):
     def test_a_card(self):
         driver, card, did = Driver(2), Card(), []
-        self.assertEqual((driver.step(card), driver.shown(1)), (What.SLEEP, (DeviceState.CLOSED, True, False, 0, 0)))
+        self.assertEqual((driver.act(card), driver.shown(1)), (What.SLEEP, (DeviceState.CLOSED, True, False, 0, 0)))
         card.waiting = 100
         self.assertEqual((driver.open(1), driver.open(1)), (True, False))
         while not did or did[-1] is not What.SLEEP:
-            did.append(driver.step(card))
+            did.append(driver.act(card))
         self.assertEqual([one for one in did if one is not What.ENDED],
                          [What.UNMASK, What.LOOK, What.MASK, What.FETCH, What.FETCH, What.UNMASK, What.LOOK, What.SLEEP])
         self.assertEqual((card.masked, card.taken, driver.shown(1)), (False, 100, (DeviceState.OPEN, False, False, 2, 100)))
         self.assertEqual([driver.interrupt(1), driver.interrupt(1)], [Status.GRANTED, Status.MISSED])
         self.assertEqual((driver.stop(1), driver.stop(1), driver.shown(1).state), (True, False, DeviceState.STOPPING))
         self.assertEqual(driver.interrupt(1), Status.DISABLED)
-        while driver.step(card) is not What.SLEEP:
+        while driver.act(card) is not What.SLEEP:
             pass
         self.assertEqual((card.masked, driver.shown(1).state), (True, DeviceState.CLOSED))
+
+    def test_steps(self):
+        driver, card, todo = Driver(1, weight=8), Card(), fintaqush.Todo()
+        self.assertEqual((driver.step(todo), todo.what, todo.packets), (What.SLEEP, What.SLEEP, 0))
+        card.waiting = 100
+        driver.open(0)
+        while (what := driver.step(todo)) is not What.SLEEP:
+            self.assertEqual((todo.what, todo.packets), (what, 0))
+            if what is What.MASK:
+                card.mask(0)
+            elif what is What.UNMASK:
+                card.unmask(0)
+            elif what is What.LOOK:
+                todo.packets = card.look(0)
+            elif what is What.FETCH:
+                todo.packets = 9
+                self.refused(Status.BAD_WORK, driver.step, todo)
+                self.assertEqual((todo.what, todo.packets), (What.FETCH, 9))
+                todo.packets = card.fetch(0, todo.most)
+        self.assertEqual((card.masked, card.taken, driver.shown(0).polls, driver.shown(0).packets), (False, 100, 13, 100))
+        driver.stop(0)
+        mask = driver.next()
+        self.assertTrue(driver.done(mask))
+        self.assertEqual((driver.step(mask), mask.what), (What.SLEEP, What.SLEEP))  # it was reported already
+        with self.assertRaises(ValueError):
+            todo.packets = -1
 
     def test_reports(self):
         driver, card = Driver(1, weight=8), Card()
@@ -462,10 +488,10 @@ class TestDriver(Refusals):
         self.assertTrue(driver.done(driver.next(), 8))
         card.fetch = lambda device, most: [][0]
         with self.assertRaises(IndexError):
-            while driver.step(card) is not What.SLEEP:
+            while driver.act(card) is not What.SLEEP:
                 pass
         card.fetch = lambda device, most: 0
-        while driver.step(card) is not What.SLEEP:
+        while driver.act(card) is not What.SLEEP:
             pass
         self.assertEqual((driver.shown(0).packets, driver.shown(0).state), (8, DeviceState.OPEN))
 

@@ -28,16 +28,22 @@ pub enum What {
     Ended(RunReport),
 }
 
-/// An action that has to be done, and then reported by [`Driver::done`].
+/// An action that has to be done, and then reported by [`Driver::step`] or [`Driver::done`].
 #[derive(Clone, Copy, Debug, PartialEq, Eq)]
 pub struct Todo {
     raw: sys::fq_todo,
 }
 
 impl Todo {
-    const NONE: Todo = Todo {
+    /// No action, for the first [`Driver::step`]: there is nothing to report.
+    pub const NONE: Todo = Todo {
         raw: sys::FQ_TODO_INIT,
     };
+
+    /// Sets the packets that a look found or a fetch took, for the report by [`Driver::step`].
+    pub fn set_packets(&mut self, packets: u32) {
+        self.raw.packets = packets;
+    }
 
     /// Returns the action.
     pub fn what(&self) -> What {
@@ -128,9 +134,37 @@ pub struct DeviceShown {
 /// let mut card = Card { masked: true, packets: 100 };
 /// let mut driver = Driver::new(1, 300, Weight::MAX, 1024)?;
 /// driver.open(0)?;
-/// while driver.step(&mut card) != What::Sleep {}
+/// while driver.act(&mut card) != What::Sleep {}
 /// assert_eq!((card.masked, card.packets), (false, 0));
 /// assert_eq!(driver.shown(0)?.polls, 2);
+/// # Ok(())
+/// # }
+/// ```
+///
+/// A loop that has its cards at hand does without [`Cards`]:
+///
+/// ```
+/// # use fintaqush::{Driver, Fault, Todo, Weight, What};
+/// # fn main() -> Result<(), Fault> {
+/// let (mut masked, mut packets) = (true, 100);
+/// let mut driver = Driver::new(1, 300, Weight::MAX, 1024)?;
+/// driver.open(0)?;
+/// let mut todo = Todo::NONE;
+/// loop {
+///     match driver.step(&mut todo)? {
+///         What::Sleep => break,
+///         What::Mask(_) => masked = true,
+///         What::Unmask(_) => masked = false,
+///         What::Look(_) => todo.set_packets(packets),
+///         What::Fetch { most, .. } => {
+///             let taken = most.min(packets);
+///             packets -= taken;
+///             todo.set_packets(taken);
+///         }
+///         What::Ended(_) => {}
+///     }
+/// }
+/// assert_eq!((masked, packets), (false, 0));
 /// # Ok(())
 /// # }
 /// ```
@@ -198,10 +232,23 @@ impl Driver {
         Fault::unless_made(unsafe { sys::fq_driver_done(self.at.raw(), &raw) })
     }
 
+    /// Reports that the action in `todo` was done, with its packets, and sets `todo` to what has to be done now, which it
+    /// returns: [`done`](Driver::done) and [`next`](Driver::next) in one call. [`Todo::NONE`] reports nothing, and a report that
+    /// the driver doesn't wait for any more changes nothing. Fails with [`BAD_WORK`](Fault::BAD_WORK) if a fetch took too many
+    /// packets; then nothing has changed, and `todo` is still that fetch.
+    pub fn step(&mut self, todo: &mut Todo) -> Result<What, Fault> {
+        // SAFETY: only this driver has the handle, and `todo` is elsewhere.
+        match unsafe { sys::fq_driver_step(self.at.raw(), &mut todo.raw) } {
+            sys::FQ_OK | sys::FQ_NOT_DUE => Ok(todo.what()),
+            sys::FQ_BAD_WORK => Err(Fault::BAD_WORK),
+            said => unexpected("driver_step", said),
+        }
+    }
+
     /// Does one action at a card, reports it, and returns it; returns [`What::Sleep`] if there is nothing to do,
     /// [`What::Ended`] if a run ended. If a call of the card panics, or a fetch returns too many packets, nothing is reported,
     /// and the same action is due again.
-    pub fn step<C: Cards>(&mut self, cards: &mut C) -> What {
+    pub fn act<C: Cards>(&mut self, cards: &mut C) -> What {
         let todo = self.next();
         let what = todo.what();
         let packets = match what {

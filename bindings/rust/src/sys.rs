@@ -593,6 +593,7 @@ extern "C" {
     pub fn fq_driver_interrupt(driver: *mut fq_handle, device: u32) -> u32;
     pub fn fq_driver_next(driver: *mut fq_handle, todo: *mut fq_todo) -> u32;
     pub fn fq_driver_done(driver: *mut fq_handle, todo: *const fq_todo) -> u32;
+    pub fn fq_driver_step(driver: *mut fq_handle, todo: *mut fq_todo) -> u32;
     pub fn fq_driver_show(
         driver: *mut fq_handle,
         device: u32,

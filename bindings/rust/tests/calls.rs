@@ -753,12 +753,12 @@ fn a_driver_polls_what_came_before_it_was_opened() {
         waiting: 100,
         ..EdgeCard::default()
     };
-    assert_eq!(driver.step(&mut card), What::Sleep);
+    assert_eq!(driver.act(&mut card), What::Sleep);
     driver.open(1).unwrap();
     assert_eq!(driver.open(1), Err(Fault::NOT_DUE));
     let mut did = Vec::new();
     while did.last() != Some(&What::Sleep) {
-        did.push(driver.step(&mut card));
+        did.push(driver.act(&mut card));
     }
     did.retain(|what| !matches!(what, What::Ended(_)));
     let fetch = What::Fetch {
@@ -784,9 +784,46 @@ fn a_driver_polls_what_came_before_it_was_opened() {
     driver.stop(1).unwrap();
     assert_eq!(driver.stop(1), Err(Fault::NOT_DUE));
     assert_eq!(driver.interrupt(1), Ok(Prep::Disabled));
-    while driver.step(&mut card) != What::Sleep {}
+    while driver.act(&mut card) != What::Sleep {}
     assert_eq!(driver.shown(1).unwrap().state, DeviceState::Closed);
     assert!(!card.open);
+}
+
+#[test]
+fn a_loop_needs_only_steps() {
+    let mut driver = Driver::new(1, 300, Weight::new(8).unwrap(), 1024).unwrap();
+    let mut card = EdgeCard {
+        waiting: 100,
+        ..EdgeCard::default()
+    };
+    let mut todo = Todo::NONE;
+    assert_eq!(driver.step(&mut todo), Ok(What::Sleep));
+    driver.open(0).unwrap();
+    loop {
+        match driver.step(&mut todo).unwrap() {
+            What::Sleep => break,
+            What::Mask(device) => card.mask(device),
+            What::Unmask(device) => card.unmask(device),
+            What::Look(device) => todo.set_packets(card.look(device).into()),
+            What::Fetch { device, most } => {
+                let fetch = todo;
+                todo.set_packets(9);
+                assert_eq!(driver.step(&mut todo), Err(Fault::BAD_WORK));
+                assert_eq!(todo.what(), fetch.what());
+                todo.set_packets(card.fetch(device, most));
+            }
+            What::Ended(_) => {}
+        }
+    }
+    let shown = driver.shown(0).unwrap();
+    assert_eq!((card.open, card.taken, shown.polls, shown.packets), (true, 100, 13, 100));
+    driver.stop(0).unwrap();
+    let mask = driver.next();
+    todo = mask;
+    assert_eq!(driver.step(&mut todo), Ok(What::Sleep));
+    todo = mask;
+    assert_eq!(driver.step(&mut todo), Ok(What::Sleep)); // it was reported already
+    assert_eq!(driver.done(mask, 0), Err(Fault::NOT_DUE));
 }
 
 #[test]
@@ -821,7 +858,7 @@ fn a_driver_refuses_what_is_not_due() {
                 panic!("a card")
             }
         }
-        driver.step(&mut Broken)
+        driver.act(&mut Broken)
     }));
     assert!(broken.is_err());
     assert_eq!(driver.next().what(), What::Fetch { device: 0, most: 8 });
