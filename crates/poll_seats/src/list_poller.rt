@@ -93,16 +93,8 @@ impl<'n, R: Wait + Drop> ListPoller<'n, R> {
     pub fn leave(self) -> Vec<DropBomb<R, PollHandle<'n>>>
         ensures { result ≡ self.entry.bench.seats }
     {
-        let ListPoller {
-            list: _,
-            bench,
-            limits: _,
-        } = self;
-        let HandleBench {
-            rt: _,
-            seats,
-            batch: _,
-        } = bench;
+        let ListPoller { bench, .. } = self;
+        let HandleBench { seats, .. } = bench;
         seats
     }
 

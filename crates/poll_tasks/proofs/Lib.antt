@@ -1,2 +1,1 @@
-pub mod Zips
 pub mod ListFacts

@@ -2,10 +2,10 @@
 use Rattle.poll_workers.specs.Outcomes.{AreSeatsAt, IsSeatWith, Outcome, TakesNext}
 use Rattle.napi_calls.specs.declared.kept.DropBomb.{DropBomb}
 use Rattle.std.proofs.Common.{◌≡◌, ◌≢◌, ℕ, suc, ◌-◌, ◌%◌, ◌<◌, Bool, true, false, cond, List, []}
-use Rattle.std.proofs.Common.{length, map, vec_items, sym, append-nil, append_assoc, arith, get_or}
-use Rattle.std.proofs.lemmas.{Bool.{eqb-true, ne_eqb}, List.{get_or_default, length-set, map-append}}
+use Rattle.std.proofs.Common.{length, map, vec_items, sym, refl, append-nil, append_assoc, arith, get_or}
+use Rattle.std.proofs.lemmas.{Bool.{eqb-true, ne_eqb}, List.{get_or_default, map-append, Elements.filter-append}, Slice.Zip.AllZip-long}
 use Rattle.std.specs.{List.{AllByRecursion, AllZip}, Prelude.filter}
-use Rattle.poll_tasks.{specs.Tasks.EachAt, proofs.{ListFacts.{each_set, filter_more, zip_nil}, Zips.zip_long}}
+use Rattle.poll_tasks.{specs.Tasks.EachAt, proofs.ListFacts.{each_set, zip_empty}}
 use Rattle.poll_interrupts.specs.{Deals.is_own, declared.worker.InterruptWorker.InterruptWorker}
 use Rattle.{poll_seats.specs.declared.handle.PollHandle.PollHandle, std.specs.Global.Vec}
 use Rattle.std.proofs.Common.{◌∷◌, ◌++◌, ap, ◌∙◌, subst}
@@ -48,7 +48,7 @@ all_given {R} {D} {G} pollers before after did long each k d low =
     let h = each k d (omega (arith, low, long)) in
     sym (append-nil _)
     ∙ ap (λ l. map (λ o. o.poller) (filter (λ o. is_own k pollers o.worker.handler.number) did) ++ l)
-    (sym (zip_nil {A = InterruptWorker R D G} (λ p kept. IsSeatWith p kept) (vec_items (get_or after k d)) h.rest))
+    (sym (zip_empty {A = InterruptWorker R D G} IsSeatWith [] (vec_items (get_or after k d)) h.rest refl))
     ∙ h.gone d
 
 module _ {R D G : Type 0} (pollers : ℕ) (before : List (Vec (DropBomb R PollHandle))) (did : List (Outcome R D G))
@@ -69,8 +69,8 @@ module _ {R D G : Type 0} (pollers : ℕ) (before : List (Vec (DropBomb R PollHa
       → is_own k pollers place.handler.number ≡ true → k < length polled → EachAt (HasGiven pollers before did (place ∷ left)) polled
       → get_or polled k was ≡ was → suc (length (own_left k)) ≡ length (vec_items was)
   some_left polled k was own within each there =
-      zip_long Goes (place ∷ own_left k) (vec_items was)
-      (own_first k was own (subst (λ t. HasGiven pollers before did (place ∷ left) k t) there (each k was within)))
+      sym (AllZip-long Goes (place ∷ own_left k) (vec_items was)
+      (own_first k was own (subst (λ t. HasGiven pollers before did (place ∷ left) k t) there (each k was within))))
 
   pub next_at : (polled : List (Vec (DropBomb R PollHandle))) (k : ℕ) (caller : DropBomb R PollHandle)
       (after : List (Vec (DropBomb R PollHandle)))
@@ -90,7 +90,7 @@ module _ {R D G : Type 0} (pollers : ℕ) (before : List (Vec (DropBomb R PollHa
     given_own k was now own h first = record {
       rest = (subst (λ l. AllZip Goes (place ∷ own_left k) l) first (own_first k was own h)).1;
       gone = λ d. ap (λ l. map (λ o. o.poller) l ++ vec_items now)
-          (filter_more (by k) did o ∙ ap (λ b. filter (by k) did ++ cond b (o ∷ []) []) (ap (λ n. is_own k pollers n) same ∙ own))
+          (filter-append (by k) did (o ∷ []) ∙ ap (λ b. filter (by k) did ++ cond b (o ∷ []) []) (ap (λ n. is_own k pollers n) same ∙ own))
           ∙ ap (λ l. l ++ vec_items now) (map-append (λ o. o.poller) (filter (by k) did) (o ∷ []))
           ∙ append_assoc (map (λ o. o.poller) (filter (by k) did)) (o.poller ∷ []) (vec_items now)
           ∙ ap (λ l. map (λ o. o.poller) (filter (by k) did) ++ l) (sym first) ∙ h.gone d;
@@ -101,7 +101,7 @@ module _ {R D G : Type 0} (pollers : ℕ) (before : List (Vec (DropBomb R PollHa
     given_other k x others h = record {
       rest = subst (λ b. AllZip Goes (cond b (place ∷ own_left k) (own_left k)) (vec_items x)) others h.rest;
       gone = λ d. ap (λ l. map (λ o. o.poller) l ++ vec_items x)
-          (filter_more (by k) did o ∙ ap (λ b. filter (by k) did ++ cond b (o ∷ []) []) (ap (λ n. is_own k pollers n) same ∙ others)
+          (filter-append (by k) did (o ∷ []) ∙ ap (λ b. filter (by k) did ++ cond b (o ∷ []) []) (ap (λ n. is_own k pollers n) same ∙ others)
           ∙ append-nil (filter (by k) did)) ∙ h.gone d;
     }
 
@@ -113,4 +113,4 @@ module _ {R D G : Type 0} (pollers : ℕ) (before : List (Vec (DropBomb R PollHa
         let h = subst (λ z. HasGiven pollers before did (place ∷ left) k z) t.there (each k t.was within) in
         subst (λ l. EachAt (HasGiven pollers before (did ++ o ∷ []) left) l) (sym t.rest)
         (each_set (HasGiven pollers before did (place ∷ left)) _ polled k t.now within each (given_own k t.was t.now own h t.first)
-        (λ n x ne g. given_other n x (not_other pollers place.handler.number k n own ne) g) (length-set polled k t.now))
+        (λ n x ne g. given_other n x (not_other pollers place.handler.number k n own ne) g))

@@ -1,16 +1,15 @@
 -- Pollers receive their handles. (Names with "seat" are about these handles.)
 use Rattle.std.proofs.Common.{◌≡◌, ◌≢◌, ◌∙◌, ℕ, ◌+◌, ◌<◌, ◌≤◌, Bool, true, List, [], ◌∷◌, ◌++◌}
 use Rattle.std.proofs.Common.{length, ap, sym, subst, get_or, arith, append-nil}
-use Rattle.std.{proofs.{Common.{cond, vec_items}, lemmas.List.length-set}, specs.{Global.Vec, Prelude.{filter, vec_capacity}}}
-use Rattle.poll_tasks.proofs.ListFacts.{each_set, filter_fewer, filter_more}
+use Rattle.std.{proofs.Common.{cond, vec_items, All, Some, set}, specs.{Global.Vec, Prelude.{filter, vec_capacity}}}
+use Rattle.std.proofs.lemmas.{Bool.eqb-true, List.{Elements.{All-pop, filter-append}, Sums.{count_by-le-length, length-filter}}}
+use Rattle.poll_tasks.proofs.ListFacts.{each_set}
 use Rattle.{poll_interrupts.specs.Deals.is_own, poll_workers.proofs.EndFacts.not_other}
 use Rattle.{napi_calls.specs.declared.kept.DropBomb.DropBomb, poll_seats.specs.declared.handle.PollHandle.PollHandle}
 use Rattle.poll_workers.specs.Spreads.{AreEndsOf, HaveOwn, IsEndOf, TakesSeat}
-use Rattle.std.proofs.Common.{All, set, zero, suc}
 use Rattle.poll_list.specs.declared.{list_in.ListIn.ListIn, shared.SharedList.SharedList}
 use Rattle.poll_tasks.specs.{Tasks.IsAt, declared.signals.Waker.Waker}
 use Rattle.poll_interrupts.specs.Deals.{poller_by}
-use Rattle.std.proofs.lemmas.Bool.{eqb-true}
 
 module _ {R : Type 0} (count pollers : ℕ) (sat : List (DropBomb R PollHandle)) (seats : List (Vec (DropBomb R PollHandle))) (k : ℕ)
     (have : HaveOwn count pollers sat seats) (within : k < length seats) where
@@ -26,8 +25,9 @@ module _ {R : Type 0} (count pollers : ℕ) (sat : List (DropBomb R PollHandle))
   has_room own there few =
       let p = subst (λ t. Own sat k t) there (have k own within) in
       let long = ap (λ l. length l) p.0 in
-      let fewer = filter_fewer (by k) sat in
-      omega (arith, long, fewer, few, p.1)
+      let kept = length-filter (by k) sat in
+      let fewer = count_by-le-length (by k) sat in
+      omega (arith, long, kept, fewer, few, p.1)
 
   -- one more handle was added to its poller
   pub one_more : (seat : DropBomb R PollHandle) (after : List (Vec (DropBomb R PollHandle))) → is_own k pollers seat.value.number ≡ true
@@ -35,7 +35,7 @@ module _ {R : Type 0} (count pollers : ℕ) (sat : List (DropBomb R PollHandle))
       → HaveOwn count pollers (sat ++ seat ∷ []) after
   one_more seat after own t =
       subst (λ l. HaveOwn count pollers (sat ++ seat ∷ []) l) (sym t.rest)
-      (each_set (Own sat) (Own (sat ++ seat ∷ [])) seats k t.now within have new other (length-set seats k t.now))
+      (each_set (Own sat) (Own (sat ++ seat ∷ [])) seats k t.now within have new other)
     where
       p : Own sat k t.was
       p = subst (λ z. Own sat k z) t.there (have k t.was within)
@@ -43,29 +43,19 @@ module _ {R : Type 0} (count pollers : ℕ) (sat : List (DropBomb R PollHandle))
       new : Own (sat ++ seat ∷ []) k t.now
       new = (
         t.more ∙ ap (λ l. l ++ seat ∷ []) p.0
-            ∙ sym (filter_more (by k) sat seat ∙ ap (λ b. filter (by k) sat ++ cond b (seat ∷ []) []) own),
+            ∙ sym (filter-append (by k) sat (seat ∷ []) ∙ ap (λ b. filter (by k) sat ++ cond b (seat ∷ []) []) own),
         (let c = t.capacity in omega (arith, c, p.1)),
       )
 
       other : (n : ℕ) (x : Vec (DropBomb R PollHandle)) → n ≢ k → Own sat n x → Own (sat ++ seat ∷ []) n x
       other n x ne q = (
-        q.0 ∙ sym (filter_more (by n) sat seat
+        q.0 ∙ sym (filter-append (by n) sat (seat ∷ [])
             ∙ ap (λ b. filter (by n) sat ++ cond b (seat ∷ []) []) (not_other pollers seat.value.number k n own ne)
             ∙ append-nil (filter (by n) sat)),
         q.1,
       )
 
 -- ---- the ends of lists that are taken
-
-all_cons : {A : Type 0} (P : A → Type 0) (x : A) (xs : List A) → P x → All P xs → All P (x ∷ xs)
-all_cons P x xs p h zero d low = p
-all_cons P x xs p h (suc k) d low = h k d (omega (arith, low))
-
-all_cut : {A : Type 0} (P : A → Type 0) (xs : List A) (y : A) → All P (xs ++ y ∷ []) → All P xs × P y
-all_cut P [] y h = (λ k d low. absurd (omega (arith, low)), h 0 y (omega arith))
-all_cut P (x ∷ xs) y h =
-    let rest = all_cut P xs y (λ k d low. h (suc k) d (omega (arith, low))) in
-    (all_cons P x xs (h 0 x (omega arith)) rest.0, rest.1)
 
 -- if two ends of a poller's list are taken from a vector of its ends, these and the remaining ones are ends of that list
 pub ends_cut : {R : Type 0} (lists : List (SharedList R)) (ends : List (Vec (ListIn R))) (k : ℕ) (was now : Vec (ListIn R))
@@ -76,9 +66,9 @@ pub ends_cut : {R : Type 0} (lists : List (SharedList R)) (ends : List (Vec (Lis
 ends_cut {R} lists ends k was now mid one other within there whole rest each =
     let P : ℕ → Vec (ListIn R) → Type 0 = λ n own. All (IsEndOf lists n) (vec_items own) in
     let all = subst (λ v. P k v) there (each k was within) in
-    let first = all_cut (IsEndOf lists k) mid one (subst (λ l. All (IsEndOf lists k) l) whole all) in
-    let second = all_cut (IsEndOf lists k) (vec_items now) other (subst (λ l. All (IsEndOf lists k) l) rest first.0) in
-    (first.1, second.1, each_set P P ends k now within each second.0 (λ n x ne h. h) (length-set ends k now))
+    let first = All-pop (IsEndOf lists k) (vec_items was) mid (Some one) whole all in
+    let second = All-pop (IsEndOf lists k) mid (vec_items now) (Some other) rest first.0 in
+    (first.1, second.1, each_set P P ends k now within each second.0 (λ n x ne h. h))
 
 -- ---- the list and the waker of a station's poller
 

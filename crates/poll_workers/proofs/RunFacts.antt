@@ -1,8 +1,9 @@
 -- What the parts of a run imply for its stations.
-use Rattle.std.proofs.lemmas.{Bool.ne_eqb, Grind.common_steps, List.{get_or_default, length-map, nil_from_length}}
+use Rattle.std.proofs.lemmas.{Bool.ne_eqb, Grind.common_steps, List.{get_or_default, length-map, nil_from_length, Elements.recursion_from_All}}
+use Rattle.std.proofs.lemmas.Option.{same_Some}
 use Rattle.std.proofs.Common.{◌≡◌, ◌≢◌, ℕ, zero, suc, ◌≤◌, ◌<◌, Bool, true, false, None, is_some, List, [], ◌∷◌, ◌++◌, sym}
-use Rattle.std.{proofs.Common.{ap, inl, inr, ◌∙◌, refl, subst, Some, All, arith, rules, get_or, length}, specs.Prelude.{filter, map}}
-use Rattle.std.specs.{Prelude.{◌⊎◌, IfSome, not, unwrap_or, vec_items, vec_len}, List.{AllByRecursion, AllZip}, Global.Vec}
+use Rattle.std.{proofs.Common.{ap, ◌∙◌, refl, subst, Some, All, arith, rules, get_or, length}, specs.Prelude.{filter, map}}
+use Rattle.std.specs.{Prelude.{not, vec_items, vec_len}, List.{AllByRecursion, AllZip}, Global.Vec}
 use Rattle.{poll_tasks.specs.Asks.WasLet, poll_interrupts.specs.Acts.{after_acts, arrivals}}
 use Rattle.poll_interrupts.specs.{Runs.HasRun, Deals.{is_dealt, is_own, poller_by}, Calls.listings, Ends.{IsFinishOf, IsKeptFinishOf}}
 use Rattle.poll_interrupts.specs.{Runs.{Ledger, Whose, WorksBy, IsEnded, blank, controller_number, worker_number}}
@@ -15,18 +16,16 @@ use Rattle.poll_interrupts.specs.{Works.{IsDoneBy, IsWorked, ledger_of, whose}}
 use Rattle.poll_interrupts.specs.Handles.{AreAtRest, is_on, pass_of}
 use Rattle.poll_interrupts.specs.Opens.{IsHome, IsInputOf, IsKeptLoose, IsKeptPartOf, IsKeptSideOf, IsLoose}
 use Rattle.poll_list.specs.declared.{list_in.ListIn.ListIn, shared.SharedList.SharedList}
-use Rattle.poll_tasks.proofs.ListFacts.{at_mapped, at_place, each_index, each_zip, zip_and}
-use Rattle.poll_tasks.proofs.ListFacts.{zip_both, zip_each, zip_empty, zip_filtered, zip_flip}
-use Rattle.poll_tasks.proofs.ListFacts.{zip_right, zip_same}
+use Rattle.poll_tasks.proofs.ListFacts.{at_mapped, at_place, each_zip, zip_and, zip_both, zip_empty, zip_filtered, zip_flip, zip_right, zip_same}
 use Rattle.poll_tasks.specs.{Tasks.{EachAt, IsAt}, Asks.IsAsked}
-use Rattle.poll_tasks.specs.{Stops.IsStop, declared.{signals.Waker.Waker, limits.{RunContext.RunContext, PollLimits.PollLimits}}}
+use Rattle.poll_tasks.specs.{declared.{signals.Waker.Waker, limits.{RunContext.RunContext, PollLimits.PollLimits}}}
 use Rattle.rx_ring.specs.{Ends.{SameIn, capacity_of, put_list}}
 use Rattle.rx_ring.specs.{ReceiveRing.{bytes_of, capped}, declared.{ends.RxIn.RxIn, packet.Packet.Packet}}
 use Rattle.poll_seats.specs.{SeatKeeping.{AreSameSeats, IsSameSeat}}
-use Rattle.poll_seats.specs.{Serving.IsServed, Turns.{TurnsAlone, TurnsByRun, has_no_seat, has_no_thread}}
+use Rattle.poll_seats.specs.{Turns.{TurnsAlone, TurnsByRun, has_no_seat, has_no_thread}}
 use Rattle.poll_seats.specs.declared.{handle.PollHandle.PollHandle, poller.Poller.Poller, list_poller.ListPoller.ListPoller}
 use Rattle.poll_seats.specs.declared.thread_poller.ThreadPoller.{ThreadPoller}
-use Rattle.poll_seats.{specs.Gives.{IsPolled}, proofs.SeatFacts.{seats_stay, seat_stays, served_alone, served_keeps}}
+use Rattle.poll_seats.{specs.Gives.{IsPolled}, proofs.SeatFacts.{served_alone, served_keeps}}
 use Rattle.napi_calls.specs.declared.{kept.DropBomb.DropBomb, types.{Caller.Caller, Napi.Napi}}
 use Rattle.napi_calls.specs.{Instance.IsSeatOf, Seats.{pass_number, own_list}}
 use Rattle.poll_workers.specs.Courses.{ArePolled, Course, HasPolled, HasTurned, HaveRun, IsCourse, IsCrew, IsFreshSeat, Pushes, TakesTurns}
@@ -229,10 +228,6 @@ zip_mapped f Q [] [] h = tt
 zip_mapped f Q (x ∷ xs) (y ∷ ys) h = (h.0, zip_mapped f Q xs ys h.1)
 zip_mapped f Q xs ys h = absurd h
 
-pub each_of : {A : Type 0} (P : A → Type 0) (xs : List A) → All P xs → AllByRecursion P xs
-each_of P [] h = tt
-each_of P (x ∷ xs) h = (h 0 x (omega arith), each_of P xs (λ k d b. h (suc k) d (omega arith)))
-
 fresh_of : {R D : Type 0} (station : Station D) (seat : DropBomb R PollHandle)
     → (loose : DropBomb R (Loose D)) × IsKeptLoose station loose × IsKeptSeatFor loose seat → IsFreshSeat station seat
 fresh_of station seat (loose, opened, for) =
@@ -270,8 +265,8 @@ module _ {R D G : Type 0} (acts : D → ℕ) (answer : D → ℕ → Act) (after
       (subst (λ l. AllZip (Turns acts answer after (answers context.gate.now) asked context.limits lists pollers) stations l)
       (sym by.threads_are)
       (zip_both _ _ _ _ _ opened ran.turned))
-      (subst (λ l. AllByRecursion (λ (w : InterruptWorker R D G). w.stop ≡ None) l) (sym by.workers_are) (each_of _ _ ran.whole))
-      (subst (λ l. AllByRecursion (λ (t : OwnThread R G). t.stop ≡ None) l) (sym by.threads_are) (each_of _ _ ran.whole_turns))
+      (subst (λ l. AllByRecursion (λ (w : InterruptWorker R D G). w.stop ≡ None) l) (sym by.workers_are) (recursion_from_All _ _ ran.whole))
+      (subst (λ l. AllByRecursion (λ (t : OwnThread R G). t.stop ≡ None) l) (sym by.threads_are) (recursion_from_All _ _ ran.whole_turns))
       by.each (subst (λ l. AllZip IsKeptFinishOf l ends) (sym by.loose_are) finish)
 
   pub all_finished : AllZip (IsFinished acts answer after (answers context.gate.now)) stations ends
@@ -372,9 +367,6 @@ some_seat served some =
     let seats = served.bench.seats in
     ne_eqb (vec_len seats) 0 (λ e. some (nil_from_length (vec_items seats) (grind (arith, common_steps, e))))
 
-some_is : {A : Type 0} {x y : A} → Some x ≡ Some y → x ≡ y
-some_is {x = x} e = ap (λ o. unwrap_or o x) e
-
 -- ---- what the threads returned of the parts that they got
 
 module _ {R D G : Type 0} where
@@ -472,26 +464,11 @@ module _ {R D G : Type 0} (acts : D → ℕ) (answer : D → ℕ → Act) (after
 
 -- ---- the pollers
 
-module _ {R G : Type 0} {may_shut : Type 0} {answers : G → ℕ → ℕ → Bool → Type 0} where
-  polled_keeps : (before after : OwnPoller R G) → IsPolled has_no_seat TurnsByRun may_shut answers before after
-      → AreSameSeats (vec_items before.served.bench.seats) (vec_items after.served.bench.seats)
-  polled_keeps before after p = keeps before.served after.served p.kept
-    where
-      keeps : (b a : ListPoller R) → (a ≡ b) ⊎ IsServed TurnsByRun b a
-          → AreSameSeats (vec_items b.bench.seats) (vec_items a.bench.seats)
-      keeps b a (inl same) = subst (λ (x : ListPoller R). AreSameSeats (vec_items b.bench.seats) (vec_items x.bench.seats))
-          (sym same) (seats_stay _)
-      keeps b a (inr served) = served_keeps b a served
-
 module _ {R D G : Type 0} (may_shut : Type 0) (answers : G → ℕ → ℕ → Bool → Type 0) where
   thread_with : (placed : DropBomb R Placed) (done : InterruptWorker R D G) (before after : OwnThread R G) → IsBackAt placed done
       → IsThreadAt placed before → IsPolled has_no_thread TurnsAlone may_shut answers before after → IsThreadWith done after
   thread_with placed done before after back at p = seat_with placed done before.served.seat after.served.seat back at.seat
-      (keeps before.served after.served p.kept)
-    where
-      keeps : (b a : ThreadPoller R) → (a ≡ b) ⊎ IsServed TurnsAlone b a → IsSameSeat b.seat.value a.seat.value
-      keeps b a (inl same) = subst (λ (x : ThreadPoller R). IsSameSeat b.seat.value x.seat.value) (sym same) (seat_stays b.seat.value)
-      keeps b a (inr served) = served_alone b a served
+      (served_alone before.served after.served p.kept)
 
   pub all_threads_with : (placed : List (DropBomb R Placed)) (workers : List (InterruptWorker R D G)) (sides threads : List (OwnThread R G))
       → AllZip IsBackAt placed workers → AllZip IsThreadAt placed sides
@@ -518,7 +495,7 @@ module _ {R D G : Type 0} (may_shut : Type 0) (answers : G → ℕ → ℕ → B
       let by : ℕ → Bool = λ m. is_own k n m in
       let own : List (DropBomb R PollHandle) = filter (λ (s : DropBomb R PollHandle). by s.value.number) sat in
       let ends = vec_items after.served.bench.seats in
-      let same : AreSameSeats own ends = subst (λ l. AreSameSeats l ends) p.seats_are (polled_keeps before after did) in
+      let same : AreSameSeats own ends = subst (λ l. AreSameSeats l ends) p.seats_are (served_keeps before.served after.served did.kept) in
       let Beside : InterruptWorker R D G → DropBomb R PollHandle → Type 0 = λ w s. (place : DropBomb R Placed) × IsBackAt place w
       × IsSeatAt place s in
       let both : AllZip Beside workers sat = zip_both _ _ _ _ _ (zip_flip _ _ _ back) at in
@@ -575,7 +552,7 @@ module _ {R D G : Type 0} (may_shut : Type 0) (answers : G → ℕ → ℕ → B
       → TurnsIfThread R (IsAsked answers context.gate.now) context.limits lists
       (length wakers) has loose.value.number loose.value.thread after
   turned_by loose side thread false has for wired p whole after is =
-      some_is (sym is ∙ ap (λ (s : ThreadPoller R). s.seat.value.caller) (p.none (ap (λ b. not b) has)) ∙ for.seat.caller_is)
+      same_Some _ _ (sym is ∙ ap (λ (s : ThreadPoller R). s.seat.value.caller) (p.none (ap (λ b. not b) has)) ∙ for.seat.caller_is)
   turned_by loose side thread true has for wired p whole after is =
       let busy = ap (λ b. not b) has in (
         side.served.list,

@@ -31,30 +31,14 @@ fn leave<'t, 'p, 'n, R: Wait + Drop, D: Drop, G: Gate>(
     ensures { IsLeftBy worker.entry poller.entry thread.entry result }
 {
     let InterruptWorker {
-        context: _,
         handler,
-        list: _,
         device,
         rx,
         handles,
-        stop: _,
+        ..
     } = worker;
-    let Poller {
-        context: _,
-        name: _,
-        waker: _,
-        wait,
-        served,
-        stop: _,
-    } = thread;
-    let ThreadPoller {
-        rt: _,
-        seat,
-        list: _,
-        poller: _,
-        limits: _,
-        batch: _,
-    } = served;
+    let Poller { wait, served, .. } = thread;
+    let ThreadPoller { seat, .. } = served;
     Loose {
         number: handler.number,
         device,
@@ -78,14 +62,7 @@ pub(crate) fn seats_left<'t, 'p, 'n, R: Wait + Drop, G: Gate>(
     let mut seats = room;
     let mut all = pollers.into_iter();
     while let Some(poller) = all.next() {
-        let Poller {
-            context: _,
-            name: _,
-            waker: _,
-            wait: _,
-            served,
-            stop: _,
-        } = poller;
+        let Poller { served, .. } = poller;
         seats.push_reserved(served.leave());
     }
     seats

@@ -1,6 +1,6 @@
 use Rattle.std.proofs.Common.{◌≡◌, ◌∷◌, ◌++◌, [], vec_items, arith}
-use Rattle.std.{specs.Vec.Iter.into_iter_items, proofs.lemmas.{Grind.common_steps, List.nil_from_length}}
-use Rattle.poll_tasks.proofs.{Zips.{zip_push, before_more}, ListFacts.none_left}
+use Rattle.std.{specs.Vec.Iter.into_iter_items, proofs.lemmas.{Grind.common_steps, List.nil_from_length, Slice.Zip.all_zipped_more}}
+use Rattle.poll_tasks.proofs.ListFacts.{before_more, none_left}
 use Rattle.poll_interrupts.proofs.opening.end_all.Goals as goal
 
 pub loop-other-init : goal.loop-other-init
@@ -32,7 +32,7 @@ loop-other-preserved g c =
       i.0 ++ c.in-Some.other ∷ [],
       record {
         whole = more.2;
-        ends = rw c.push_reserved.ensures.items (zip_push _ _ _ _ _ now.ends (rw (← c.open-in-Some.ensures) c.end.ensures));
+        ends = rw c.push_reserved.ensures.items (all_zipped_more _ _ _ _ _ now.ends (rw (← c.open-in-Some.ensures) c.end.ensures));
         beside = side.1;
         count = grind (arith, common_steps, now.count, c.in-Some.ensures.len, c.push_reserved.ensures.len);
         room = grind (arith, now.room, c.push_reserved.ensures.capacity);

@@ -1,5 +1,6 @@
-use Rattle.std.proofs.{Common.{◌≡◌, length, ◌<◌, get_or, vec_items, rules, arith}, lemmas.Grind.common_steps}
-use Rattle.{poll_tasks.proofs.{Zips.{zip_push, before_more, all_done}, ListFacts.zip_same}, poll_interrupts.specs.Opens.{IsLoose, IsSideOf}}
+use Rattle.std.{specs.Vec.Iter.into_iter_items}
+use Rattle.std.proofs.{Common.{◌≡◌, [], length, ◌<◌, get_or, vec_items, rules, arith}, lemmas.{Grind.common_steps, List.nil_from_length, Slice.Zip.all_zipped_more}}
+use Rattle.{poll_tasks.proofs.ListFacts.{before_more, none_left, zip_same}, poll_interrupts.specs.Opens.{IsLoose, IsSideOf}}
 use Rattle.poll_interrupts.proofs.opening.open_all.Goals as goal
 
 pub open-requires : goal.open-requires
@@ -22,16 +23,19 @@ loop-station-preserved g c =
       as_count = grind (arith, common_steps, now.as_count, c.push_reserved-in-Ok.ensures.len);
       room = search rules;
       as_room = search rules;
-      made = rw c.push_reserved-in-Ok.ensures.items (zip_push _ _ _ _ _ now.made (rw c.new-in-Ok.ensures ok.0));
+      made = rw c.push_reserved-in-Ok.ensures.items (all_zipped_more _ _ _ _ _ now.made (rw c.new-in-Ok.ensures ok.0));
       sides =
           rw (c.push_reserved-in-Ok.ensures.items, c.push_reserved.ensures.items)
-          (zip_push _ _ _ _ _ now.sides (rw (c.new-in-Ok.ensures, c.new.ensures) ok.1));
+          (all_zipped_more _ _ _ _ _ now.sides (rw (c.new-in-Ok.ensures, c.new.ensures) ok.1));
     }
 
 pub returns-clause-loose : goal.returns-clause-loose
 returns-clause-loose g c =
     let now = c.loop-station.invariant in
-    let whole = all_done _ _ _ now.all now.left c.in-None.ensures.steps.0 in rw (← whole) now.made
+    let empty : into_iter_items c.loop-station.station-iterator ≡ [] =
+    nil_from_length _ (grind (arith, common_steps, c.loop-station.station-iterator.rest.ok, c.in-None.ensures.steps.0)) in
+    let whole = none_left _ _ _ now.all empty in
+    rw (← whole) now.made
 
 pub shut_all-requires : goal.shut_all-requires
 shut_all-requires g c = zip_same _ _ _ _ (λ l p h. h.part) c.loop-station.invariant.sides

@@ -1,6 +1,6 @@
 use Rattle.std.proofs.Common.{◌≡◌, ℕ, ◌<◌, ◌∷◌, ◌++◌, ◌∙◌, [], true, ap, sym, subst, refl, length, vec_items, arith}
 use Rattle.std.proofs.lemmas.{Grind.common_steps, List.{length-set, map-append, nil_from_length}}
-use Rattle.{std.specs.Vec.Iter.into_iter_items, poll_tasks.proofs.{Zips.before_more, ListFacts.{none_left, zip_empty}}}
+use Rattle.{std.specs.Vec.Iter.into_iter_items, poll_tasks.proofs.ListFacts.{before_more, none_left, zip_empty}}
 use Rattle.poll_workers.proofs.EndFacts.{all_given, each_push, given_at, given_more, next_at, none_given, some_left}
 use Rattle.{poll_workers.specs.Outcomes.{IsThreadWith, Outcome}, poll_interrupts.specs.Deals.is_own}
 use Rattle.poll_workers.proofs.gathering.gather.Goals as goal

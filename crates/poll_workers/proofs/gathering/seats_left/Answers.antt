@@ -1,6 +1,6 @@
 use Rattle.std.proofs.Common.{◌≡◌, ◌∷◌, ◌++◌, ◌∙◌, [], ap, sym, map, vec_items, arith}
 use Rattle.std.{specs.Vec.Iter.into_iter_items, proofs.lemmas.{Grind.common_steps, List.{map-append, nil_from_length}}}
-use Rattle.poll_tasks.proofs.{Zips.before_more, ListFacts.none_left}
+use Rattle.poll_tasks.proofs.ListFacts.{before_more, none_left}
 use Rattle.poll_workers.proofs.gathering.seats_left.Goals as goal
 
 pub loop-poller-init : goal.loop-poller-init

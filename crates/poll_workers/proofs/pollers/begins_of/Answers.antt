@@ -1,5 +1,5 @@
 use Rattle.std.proofs.Common.{◌+◌, ◌≤◌, ◌∷◌, [], ◌∙◌, ap, subst, sym, length, length-append, vec_len, vec_items}
-use Rattle.poll_tasks.{proofs.Zips.zip_push, specs.Wakers.Wakes}
+use Rattle.{std.proofs.lemmas.Slice.Zip.all_zipped_more, poll_tasks.specs.Wakers.Wakes}
 use Rattle.{poll_tasks.proofs.ListFacts.each_more, poll_workers.proofs.EndFacts.each_push, poll_workers.proofs.PollerFacts.same_next}
 use Rattle.poll_workers.specs.Spreads.{IsBegin}
 use Rattle.poll_workers.proofs.pollers.begins_of.Goals as goal
@@ -22,10 +22,10 @@ loop-preserved g c =
       own = rw c.push_reserved-in-loop-2.ensures.items
           (each_more (λ k e. c.args.count + c.args.count ≤ vec_len e) (vec_items c.loop.ends) c.in_ok-begin.own_ends now.own
           c.in_ok-begin.ensures.ends);
-      wakes = rw (c.push_reserved.ensures.items, c.push_reserved-in-loop.ensures.items) (zip_push _ _ _ _ _ now.wakes
+      wakes = rw (c.push_reserved.ensures.items, c.push_reserved-in-loop.ensures.items) (all_zipped_more _ _ _ _ _ now.wakes
           (subst (λ p. Wakes c.in_ok-waker.waker p) (sym c.in_ok-begin.ensures.wait) c.in_ok-waker.ensures));
       joined = rw (c.push_reserved-in-loop.ensures.items, c.push_reserved-in-loop-2.ensures.items)
-          (zip_push _ _ _ _ _ now.joined c.in_ok-begin.ensures.own);
+          (all_zipped_more _ _ _ _ _ now.joined c.in_ok-begin.ensures.own);
     }
 
 pub returns-clause-begins : goal.returns-clause-begins

@@ -2,7 +2,7 @@ use Rattle.std.proofs.Common.{◌≡◌, ◌+◌, ◌∷◌, ◌++◌, ◌∙◌
 use Rattle.std.proofs.{Common.{append_assoc, map, rules}, lemmas.{Grind.common_steps, List.{map-append, nil_from_length}}}
 use Rattle.poll_tasks.specs.Tasks.{IsAt}
 use Rattle.std.specs.{Vec.Iter.{into_iter_items, into_iter_len}, Prelude.filter}
-use Rattle.poll_tasks.proofs.{Zips.before_more, ListFacts.{each_more, none_left}}
+use Rattle.poll_tasks.proofs.ListFacts.{before_more, each_more, none_left}
 use Rattle.{poll_interrupts.specs.Deals.is_own, poll_seats.specs.declared.handle.PollHandle.PollHandle}
 use Rattle.{napi_calls.specs.declared.kept.DropBomb.DropBomb, poll_workers.specs.Spreads.IsPoller}
 use Rattle.poll_workers.proofs.PollerFacts.{count_of}

@@ -1,7 +1,7 @@
 use Rattle.std.proofs.Common.{◌≡◌, ◌<◌, ◌+◌, ◌∷◌, ◌++◌, ◌∙◌, [], ap, length, length-append, sym, true, vec_items, subst, rules, arith, refl}
-use Rattle.std.proofs.lemmas.{Grind.common_steps, List.nil_from_length}
+use Rattle.std.proofs.lemmas.{Grind.common_steps, List.nil_from_length, Slice.Zip.all_zipped_more}
 use Rattle.std.{specs.Vec.Iter.{into_iter_items, into_iter_len}, proofs.lemmas.List.length-set}
-use Rattle.poll_tasks.proofs.{Zips.{zip_push, before_more}, ListFacts.{none_left, zip_empty}}
+use Rattle.poll_tasks.proofs.ListFacts.{before_more, none_left, zip_empty}
 use Rattle.poll_interrupts.specs.Deals.{is_own}
 use Rattle.{poll_tasks.specs.Tasks.IsAt, poll_workers.proofs.EndFacts.each_push}
 use Rattle.poll_workers.proofs.PollerFacts.{by_station, count_of, ends_of, has_room, one_more, same_count, wired_waker, wired_end}
@@ -81,8 +81,8 @@ loop-rest-preserved g c =
         whole = more.2;
         all_places = further.2;
         sides = side.1;
-        made = rw c.push_reserved.ensures.items (zip_push _ _ _ _ _ now.made made);
-        job_places = rw c.push_reserved.ensures.items (zip_push _ _ _ _ _ now.job_places c.split-job.ensures.job.1);
+        made = rw c.push_reserved.ensures.items (all_zipped_more _ _ _ _ _ now.made made);
+        job_places = rw c.push_reserved.ensures.items (all_zipped_more _ _ _ _ _ now.job_places c.split-job.ensures.job.1);
         wired_jobs = λ lists are. rw c.push_reserved.ensures.items
             (each_push _ _ _ (now.wired_jobs lists are) (record {
               list = wired_end _ _ _ _ _ (c.two_ends-both.ensures.own lists (now.are_ends lists are)).0 c.split-job.ensures.lists.0 by_job;
@@ -94,10 +94,10 @@ loop-rest-preserved g c =
               waker = wired_waker _ _ _ _ _ waker c.split-job.ensures.wakers.1 by_side;
             }));
         are_ends = λ lists are. (c.two_ends-both.ensures.own lists (now.are_ends lists are)).2;
-        seat_places = zip_push _ _ _ _ _ now.seat_places c.split-job.ensures.seat.0;
-        sitting = zip_push _ _ _ _ _ now.sitting seat;
-        thread_places = rw c.push_reserved-in-Some.ensures.items (zip_push _ _ _ _ _ now.thread_places c.split-job.ensures.thread.0);
-        threads = rw c.push_reserved-in-Some.ensures.items (zip_push _ _ _ _ _ now.threads thread);
+        seat_places = all_zipped_more _ _ _ _ _ now.seat_places c.split-job.ensures.seat.0;
+        sitting = all_zipped_more _ _ _ _ _ now.sitting seat;
+        thread_places = rw c.push_reserved-in-Some.ensures.items (all_zipped_more _ _ _ _ _ now.thread_places c.split-job.ensures.thread.0);
+        threads = rw c.push_reserved-in-Some.ensures.items (all_zipped_more _ _ _ _ _ now.threads thread);
         own =
             (let own = subst (λ n. is_own c.poller_of-poller.result (length c.args.wakers.now) n ≡ true)
             (sym c.split-job.ensures.seat.0.number) c.poller_of-poller.ensures.own in
