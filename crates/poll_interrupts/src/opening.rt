@@ -1,6 +1,6 @@
 //! How the instances of stations are opened and closed.
 
-ghost use Rattle.std.specs.Prelude.{◌≡◌, ◌≤◌, ◌+◌, ℕ, [], ◌∷◌, IfOk, length, slice_get, Some, vec_items, vec_len, vec_capacity};
+ghost use Rattle.std.specs.Prelude.{◌≡◌, ◌≤◌, ◌+◌, ℕ, [], ◌∷◌, IfOk, OnOk, length, slice_get, Some, vec_items, vec_len, vec_capacity};
 ghost use Rattle.std.specs.List.{All, AllZip};
 ghost use Rattle.napi_calls.specs.Instance.{IsNewSeat, IsSeatOf, callers_of};
 ghost use Rattle.napi_calls.specs.declared.types.Caller.{Caller};
@@ -189,24 +189,7 @@ fn end<D: Drop>(placed: Placed, loose: Loose<D>) -> Finished<D>
     }
 }
 
-/// Closes instances that no thread has used.
-pub fn shut_all<R: Wait + Drop, D: Drop>(
-    placed: Vec<DropBomb<R, Placed>>,
-    loose: Vec<DropBomb<R, Loose<D>>>,
-)
-    requires { AllZip IsKeptPartOf (vec_items loose) (vec_items placed) }
-{
-    let mut others = loose.into_iter();
-    let mut all = placed.into_iter();
-    while let Some(other) = others.next() {
-        let Some(one) = all.next() else {
-            unreachable!()
-        };
-        let _finished = end(one.open(), other.open());
-    }
-}
-
-/// Closes all instances, in order, after their threads have ended. Requires room for the results.
+/// Closes instances, in order, that no thread uses any more. Requires room for the results.
 pub fn end_all<R: Wait + Drop, D: Drop>(
     placed: Vec<DropBomb<R, Placed>>,
     loose: Vec<DropBomb<R, Loose<D>>>,
@@ -228,31 +211,26 @@ pub fn end_all<R: Wait + Drop, D: Drop>(
     finished
 }
 
-/// Opens the instances of all stations. If an allocation fails, those already opened are closed.
+/// Opens the instances of all stations, in order. Requires room for their parts. If an allocation fails, those that were opened
+/// before stay open.
 pub fn open_all<R: Wait + Drop + Copy, D: Drop>(
     rt: R,
     alloc: Global,
     stations: Vec<Station<D>>,
-) -> Result<(Vec<DropBomb<R, Placed>>, Vec<DropBomb<R, Loose<D>>>), AllocError>
+    placed: &mut Vec<DropBomb<R, Placed>>,
+    loose: &mut Vec<DropBomb<R, Loose<D>>>,
+) -> Result<(), AllocError>
     requires stations { All IsStation (vec_items stations) }
-    ensures loose { IfOk result (λ r. AllZip IsKeptLoose (vec_items stations) (vec_items r.1)) }
-    ensures sides { IfOk result (λ r. AllZip IsKeptSideOf (vec_items r.1) (vec_items r.0)) }
-    ensures len { IfOk result
-        (λ r. (vec_len r.0 ≡ vec_len stations) × (vec_len r.1 ≡ vec_len stations)) }
+    requires placed { HasRoom (vec_len stations) placed.old }
+    requires loose { HasRoom (vec_len stations) loose.old }
+    ensures loose { OnOk result (AllZip IsKeptLoose (vec_items stations) (vec_items loose.new)) }
+    ensures sides { AllZip IsKeptSideOf (vec_items loose.new) (vec_items placed.new) }
+    ensures few { vec_len loose.new ≤ vec_len stations }
 {
-    let mut placed = Vec::with_capacity(alloc, stations.len())?;
-    let mut loose = Vec::with_capacity(alloc, stations.len())?;
     for station in stations {
-        match open(alloc, station) {
-            Ok((one, other)) => {
-                placed.push_reserved(DropBomb::new(rt, one));
-                loose.push_reserved(DropBomb::new(rt, other));
-            }
-            Err(error) => {
-                shut_all(placed, loose);
-                return Err(error);
-            }
-        }
+        let (one, other) = open(alloc, station)?;
+        placed.push_reserved(DropBomb::new(rt, one));
+        loose.push_reserved(DropBomb::new(rt, other));
     }
-    Ok((placed, loose))
+    Ok(())
 }

@@ -13,7 +13,7 @@ use crate::acts::{Act, Device};
 use napi_calls::{Between, Caller, Control, DropBomb, Granted, Napi, Off, On, Sched};
 use napi_model::Kind;
 use poll_list::ListIn;
-use poll_tasks::{Gate, RunContext, Stop, Task, Waker};
+use poll_tasks::{Gate, RunContext, Task, Waker, WorkFault};
 use rx_ring::{Packet, RxIn};
 use std::sync::Wait;
 use std::thread;
@@ -187,11 +187,11 @@ impl<'p, 'n, R: Wait> InterruptHandler<'p, 'n, R> {
     }
 
     // Returns the reason if the worker must not make its next act. If the gate returns false, the run stops.
-    fn stop_before<G: Gate>(&self, context: &RunContext<R, G>, k: u32) -> Option<Stop>
+    fn stop_before<G: Gate>(&self, context: &RunContext<R, G>, k: u32) -> Option<WorkFault>
         ensures open { result ≡ None → G.answers context.now.gate.now self.now.number k true }
         ensures why { IfSome result (IsStop G.may_shut) }
     {
-        match context.flags.stop() {
+        match context.stop() {
             Some(stop) => Some(stop),
             None => context.ask(self.number, k),
         }
@@ -206,7 +206,7 @@ impl<'p, 'n, R: Wait> InterruptHandler<'p, 'n, R> {
         handles: WorkerHandles,
         rx: &mut RxIn,
         context: &RunContext<R, G>,
-    ) -> (WorkerHandles, Option<Stop>)
+    ) -> (WorkerHandles, Option<WorkFault>)
         requires { AreHandlesOf self.now.napi.now handles }
         ensures of { AreHandlesOf self.now.napi.now result.0 }
         ensures same { AreSameHandles handles result.0 }
@@ -256,7 +256,7 @@ pub struct InterruptWorker<'t, 'p, 'n, R: Wait + Drop, D, G: Gate> {
     /// Its handles on the instance, which is disabled before and after the run.
     pub handles: DropBomb<R, WorkerHandles>,
     /// The reason, if not all acts were made.
-    pub stop: Option<Stop>,
+    pub stop: Option<WorkFault>,
     ghost of: { AreAtRest handler.napi.now handles.value },
 }
 
@@ -309,7 +309,7 @@ impl<'t, 'p, 'n, R: Wait + Copy + Drop, D: Device + Drop, G: Gate> Task
         }
     }
 
-    fn stop(&self) -> Option<Stop> {
+    fn stop(&self) -> Option<WorkFault> {
         self.stop
     }
 }

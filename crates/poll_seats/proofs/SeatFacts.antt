@@ -77,7 +77,8 @@ run_keeps : {R : Type 0} (weight : ℕ) (polls : List Poll) (before after : Hand
     → AreSameSeats (vec_items before.seats) (vec_items after.seats)
 run_keeps {R} weight polls before after c =
     chain_keeps (λ (b : HandleBench R). vec_items b.seats) AreSameSeats seats_stay seats_join (At PollsSeat weight)
-    (λ x p y h. poll_keeps_at (position (λ (seat : DropBomb R PollHandle). seat.value.number == p.id) (vec_items x.seats)) weight p.once x y h)
+    (λ x p y h. poll_keeps_at
+    (position (λ (seat : DropBomb R PollHandle). seat.value.number == p.id) (vec_items x.seats)) weight p.once x y h)
     polls before after c
 
 pub served_keeps : {R : Type 0} (before after : ListPoller R) → (after ≡ before) ⊎ IsServed TurnsByRun before after

@@ -1,6 +1,6 @@
 -- What the thread of a poller, and the thread of an instance, return.
 use Rattle.{poll_list.specs.declared.shared.SharedList.SharedList, napi_calls.specs.declared.{kept.DropBomb.DropBomb, types.Caller.Caller}}
-use Rattle.poll_tasks.specs.{Asks.IsAsked, Stops.IsStop, declared.limits.PollLimits.PollLimits}
+use Rattle.poll_tasks.specs.{Asks.IsAsked, Stops.IsStop, declared.context.PollLimits.PollLimits}
 use Rattle.poll_list.specs.declared.list_in.ListIn.{ListIn}
 use Rattle.std.specs.Prelude.{◌≡◌, ◌⊎◌, ℕ, ◌+◌, Bool, true, false, List, Some, None, IfSome, IsSome, vec_items}
 use Rattle.poll_seats.specs.declared.{poller.Poller.Poller, handle.PollHandle.PollHandle, list_poller.ListPoller.ListPoller}

@@ -1,8 +1,8 @@
 -- The effect of a poll on a poller's handles. (Names with "seat" are about these handles.)
-use Rattle.std.specs.Prelude.{◌≡◌, ◌==◌, ◌<◌, ℕ, length, get_or, set, position, is_some, vec_items, MatchOption}
+use Rattle.std.specs.Prelude.{◌≡◌, ◌==◌, ◌<◌, ◌++◌, ◌∷◌, [], ℕ, length, get_or, set, position, is_some, vec_items, MatchOption}
 use Rattle.{poll_runs.specs.declared.bench.{Next.TheVariants.Absent, Once.Once}, poll_seats.specs.declared.handle.PollHandle.PollHandle}
-use Rattle.napi_calls.specs.declared.kept.DropBomb.{DropBomb}
-use Rattle.poll_seats.specs.{declared.list_poller.HandleBench.HandleBench, Polled.Polls, SeatKeeping.IsSameSeat}
+use Rattle.{std.specs.Prelude.vec_capacity, napi_calls.specs.declared.kept.DropBomb.DropBomb}
+use Rattle.poll_seats.specs.{declared.list_poller.{HandleBench.HandleBench, ListPoller.ListPoller}, Polled.Polls, SeatKeeping.IsSameSeat}
 
 module _ {R : Type 0} where
   -- only the handle at this index was polled, once, with this weight and this result
@@ -27,3 +27,10 @@ module _ {R : Type 0} where
       MatchOption (position (λ (seat : DropBomb R PollHandle). seat.value.number == id) (vec_items before.seats))
       (IsNowhere before once after)
       (IsPolledAt before weight once after)
+
+  -- the poller has one more handle
+  pub record HasOneMore (before : ListPoller R) (seat : DropBomb R PollHandle) (after : ListPoller R) : Type 0 where
+    pub list : after.list ≡ before.list
+    pub limits : after.limits ≡ before.limits
+    pub seats : vec_items after.bench.seats ≡ vec_items before.bench.seats ++ seat ∷ []
+    pub room : vec_capacity after.bench.seats ≡ vec_capacity before.bench.seats

@@ -1,6 +1,6 @@
 //! A poller with a list. Its handles form a [`Bench`], over which it makes polling runs while there is an instance on the list.
 
-ghost use Rattle.std.specs.Prelude.{◌≡◌, ◌==◌, position, vec_items};
+ghost use Rattle.std.specs.Prelude.{◌≡◌, ◌==◌, ◌<◌, ◌≤◌, ◌∷◌, position, vec_capacity, vec_items, vec_len};
 ghost use Rattle.poll_tasks.specs.Limits.{IsLawful};
 
 use crate::handle::PollHandle;
@@ -64,6 +64,7 @@ pub struct ListPoller<'n, R: Wait + Drop> {
 }
 
 impl<'n, R: Wait + Drop> ListPoller<'n, R> {
+    ghost use Rattle.poll_seats.specs.HandleBenches.{HasOneMore};
     ghost use Rattle.poll_seats.specs.Turns.{RunsOnce};
 
     /// Returns a poller with this list and these handles.
@@ -75,7 +76,7 @@ impl<'n, R: Wait + Drop> ListPoller<'n, R> {
     ) -> Self
         requires { IsLawful limits }
         ensures list { result.list ≡ list }
-        ensures seats { vec_items result.bench.seats ≡ vec_items seats.entry }
+        ensures seats { result.bench.seats ≡ seats.entry }
         ensures limits { result.limits ≡ limits }
     {
         ListPoller {
@@ -89,13 +90,20 @@ impl<'n, R: Wait + Drop> ListPoller<'n, R> {
         }
     }
 
-    /// Returns the handles.
-    pub fn leave(self) -> Vec<DropBomb<R, PollHandle<'n>>>
-        ensures { result ≡ self.entry.bench.seats }
+    /// Adds a handle. Requires room for it.
+    pub fn add(&mut self, seat: DropBomb<R, PollHandle<'n>>)
+        requires { vec_len self.old.bench.seats < vec_capacity self.old.bench.seats }
+        ensures { HasOneMore self.old seat.entry self.new }
     {
-        let ListPoller { bench, .. } = self;
-        let HandleBench { seats, .. } = bench;
-        seats
+        self.bench.seats.push_reserved(seat);
+    }
+
+    /// Takes the first of its handles.
+    pub fn take(&mut self) -> DropBomb<R, PollHandle<'n>>
+        requires { 1 ≤ vec_len self.old.bench.seats }
+        ensures { vec_items self.old.bench.seats ≡ result ∷ vec_items self.new.bench.seats }
+    {
+        self.bench.seats.remove(0)
     }
 
     // Runs over the instances on the list, with the budget, the weight and the window of the limits (`net_rx_action`).

@@ -2,7 +2,7 @@
 
 ghost use Rattle.poll_seats.specs.Serving.{IsServed};
 
-use poll_tasks::{Gate, IdleWait, RunContext, Stop, Task, Waker};
+use poll_tasks::{Gate, IdleWait, RunContext, Task, Waker, WorkFault};
 use std::sync::Wait;
 
 /// What a poller polls: the instances on a list, or the one instance whose thread it is.
@@ -55,7 +55,7 @@ pub struct Poller<'t, 'p, R: Wait + Drop, G: Gate, S: Drop> {
     /// What it polls.
     pub served: S,
     /// The reason, if its run ended early: a thread couldn't be started, and it took no turn; or its gate returned false.
-    pub stop: Option<Stop>,
+    pub stop: Option<WorkFault>,
 }
 
 impl<'t, 'p, R: Wait + Drop, G: Gate, S: Serves + Drop> Task for Poller<'t, 'p, R, G, S> {
@@ -79,8 +79,8 @@ impl<'t, 'p, R: Wait + Drop, G: Gate, S: Serves + Drop> Task for Poller<'t, 'p, 
             return poller;
         }
         let context = poller.context;
-        if context.flags.is_unpolled() {
-            poller.stop = Some(Stop::Refused);
+        if context.is_unpolled() {
+            poller.stop = Some(WorkFault::SpawnFailed);
             return poller;
         }
         poller.stop = context.ask(poller.name, 0);
@@ -89,7 +89,7 @@ impl<'t, 'p, R: Wait + Drop, G: Gate, S: Serves + Drop> Task for Poller<'t, 'p, 
         poller
     }
 
-    fn stop(&self) -> Option<Stop> {
+    fn stop(&self) -> Option<WorkFault> {
         self.stop
     }
 }

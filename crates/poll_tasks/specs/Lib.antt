@@ -1,6 +1,7 @@
 pub mod Tasks
 pub mod Limits
 pub mod Asks
+pub mod Faults
 pub mod Refusals
 pub mod Stops
 pub mod Wakers

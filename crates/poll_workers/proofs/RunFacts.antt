@@ -1,5 +1,5 @@
 -- What the parts of a run imply for its stations.
-use Rattle.std.proofs.lemmas.{Bool.ne_eqb, Grind.common_steps, List.{get_or_default, length-map, nil_from_length, Elements.recursion_from_All}}
+use Rattle.std.proofs.lemmas.{Bool.ne_eqb, Grind.common_steps, List.{get_or_default, nil_from_length, Elements.recursion_from_All}}
 use Rattle.std.proofs.lemmas.Option.{same_Some}
 use Rattle.std.proofs.Common.{◌≡◌, ◌≢◌, ℕ, zero, suc, ◌≤◌, ◌<◌, Bool, true, false, None, is_some, List, [], ◌∷◌, ◌++◌, sym}
 use Rattle.std.{proofs.Common.{ap, ◌∙◌, refl, subst, Some, All, arith, rules, get_or, length}, specs.Prelude.{filter, map}}
@@ -16,13 +16,14 @@ use Rattle.poll_interrupts.specs.{Works.{IsDoneBy, IsWorked, ledger_of, whose}}
 use Rattle.poll_interrupts.specs.Handles.{AreAtRest, is_on, pass_of}
 use Rattle.poll_interrupts.specs.Opens.{IsHome, IsInputOf, IsKeptLoose, IsKeptPartOf, IsKeptSideOf, IsLoose}
 use Rattle.poll_list.specs.declared.{list_in.ListIn.ListIn, shared.SharedList.SharedList}
-use Rattle.poll_tasks.proofs.ListFacts.{at_mapped, at_place, each_zip, zip_and, zip_both, zip_empty, zip_filtered, zip_flip, zip_right, zip_same}
+use Rattle.poll_tasks.proofs.ListFacts.{at_mapped, at_place, each_zip, zip_and, zip_both, zip_empty, zip_filtered}
+use Rattle.poll_tasks.proofs.ListFacts.{zip_flip, zip_right, zip_same}
 use Rattle.poll_tasks.specs.{Tasks.{EachAt, IsAt}, Asks.IsAsked}
-use Rattle.poll_tasks.specs.{declared.{signals.Waker.Waker, limits.{RunContext.RunContext, PollLimits.PollLimits}}}
+use Rattle.poll_tasks.specs.declared.{signals.Waker.Waker, context.{RunContext.RunContext, PollLimits.PollLimits}}
 use Rattle.rx_ring.specs.{Ends.{SameIn, capacity_of, put_list}}
 use Rattle.rx_ring.specs.{ReceiveRing.{bytes_of, capped}, declared.{ends.RxIn.RxIn, packet.Packet.Packet}}
-use Rattle.poll_seats.specs.{SeatKeeping.{AreSameSeats, IsSameSeat}}
-use Rattle.poll_seats.specs.{Turns.{TurnsAlone, TurnsByRun, has_no_seat, has_no_thread}}
+use Rattle.poll_seats.specs.SeatKeeping.{AreSameSeats, IsSameSeat}
+use Rattle.poll_seats.specs.Turns.{TurnsAlone, TurnsByRun, has_no_seat, has_no_thread}
 use Rattle.poll_seats.specs.declared.{handle.PollHandle.PollHandle, poller.Poller.Poller, list_poller.ListPoller.ListPoller}
 use Rattle.poll_seats.specs.declared.thread_poller.ThreadPoller.{ThreadPoller}
 use Rattle.poll_seats.{specs.Gives.{IsPolled}, proofs.SeatFacts.{served_alone, served_keeps}}
@@ -31,7 +32,7 @@ use Rattle.napi_calls.specs.{Instance.IsSeatOf, Seats.{pass_number, own_list}}
 use Rattle.poll_workers.specs.Courses.{ArePolled, Course, HasPolled, HasTurned, HaveRun, IsCourse, IsCrew, IsFreshSeat, Pushes, TakesTurns}
 use Rattle.poll_workers.specs.{Courses.TurnsIfThread, Finishes.{IsFinished, IsWorkedOf}, Spreads.{AreEndsOf, ArePollers, IsEndOf}}
 use Rattle.poll_workers.specs.Spreads.{IsJobAt, IsKeptJobOf, IsKeptSeatFor, IsKeptThreadFor, IsNewEnd, IsPoller, IsSeatAt, IsThreadAt}
-use Rattle.poll_workers.specs.{Spreads.{IsWiredJob, IsWiredSide}, declared.pollers.Begin.Begin}
+use Rattle.poll_workers.specs.Spreads.{IsWiredJob, IsWiredSide, own_seats}
 use Rattle.poll_workers.specs.Outcomes.{AreLeftBy, AreSeatsAt, IsLeftBy, IsSeatWith, IsThreadWith, Outcome}
 
 -- the types of the pollers with a list, and of the threads of instances
@@ -248,21 +249,20 @@ crew_is R asked limits lists pollers number (c ∷ cs) turns = turns (λ e. absu
 
 -- what the threads of a run returned, if none failed
 module _ {R D G : Type 0} (acts : D → ℕ) (answer : D → ℕ → Act) (after : D → ℕ → D) (answers : G → ℕ → ℕ → Bool → Type 0)
-    (context : RunContext R G) (lists : List (SharedList R)) (pollers : ℕ) (stations : List (Station D)) (loose left : List (DropBomb R
-    (Loose D)))
-    (opened : AllZip IsKeptLoose stations loose) (ran : HaveRun acts answer after answers context lists pollers loose left)
+    (context : RunContext R G) (pollers : ℕ) (stations : List (Station D)) (loose left : List (DropBomb R (Loose D)))
+    (opened : AllZip IsKeptLoose stations loose) (ran : HaveRun acts answer after answers context pollers loose left)
     (ends : List (Finished D)) (finish : AllZip IsKeptFinishOf left ends) where
   abbrev asked : ℕ → Type 0
   asked = IsAsked answers context.gate.now
 
-  run_courses : Courses acts answer after (answers context.gate.now) asked context.limits lists pollers stations ran.left_by.all ends
+  run_courses : Courses acts answer after (answers context.gate.now) asked context.limits ran.lists pollers stations ran.left_by.all ends
   run_courses =
       let by = ran.left_by in
-      courses_of acts answer after (answers context.gate.now) asked context.limits lists pollers stations by.all ends
-      (subst (λ l. AllZip (Works acts answer after (answers context.gate.now) asked context.limits lists pollers) stations l)
+      courses_of acts answer after (answers context.gate.now) asked context.limits ran.lists pollers stations by.all ends
+      (subst (λ l. AllZip (Works acts answer after (answers context.gate.now) asked context.limits ran.lists pollers) stations l)
       (sym by.workers_are)
       (zip_both _ _ _ _ _ opened ran.made))
-      (subst (λ l. AllZip (Turns acts answer after (answers context.gate.now) asked context.limits lists pollers) stations l)
+      (subst (λ l. AllZip (Turns acts answer after (answers context.gate.now) asked context.limits ran.lists pollers) stations l)
       (sym by.threads_are)
       (zip_both _ _ _ _ _ opened ran.turned))
       (subst (λ l. AllByRecursion (λ (w : InterruptWorker R D G). w.stop ≡ None) l) (sym by.workers_are) (recursion_from_All _ _ ran.whole))
@@ -273,11 +273,11 @@ module _ {R D G : Type 0} (acts : D → ℕ) (answer : D → ℕ → Act) (after
   all_finished = run_courses.finished
 
   -- the stations that a poller polled are its own ones
-  crew_of : (number : ℕ) (p : OwnPoller R G) → HasPolled asked context.limits lists pollers loose number p
+  crew_of : (number : ℕ) (p : OwnPoller R G) → HasPolled asked context.limits ran.lists pollers loose number p
       → map (λ o. o.poller) (filter (λ o. is_own number pollers o.worker.handler.number) ran.left_by.all)
       ≡ vec_items p.served.bench.seats → p.stop ≡ None
-      → IsCrew R asked context.limits lists pollers number (filter (λ c. is_dealt number pollers c.station) run_courses.all)
-  crew_of number p has back did = crew_is R asked context.limits lists pollers number own (λ some. record {
+      → IsCrew R asked context.limits ran.lists pollers number (filter (λ c. is_dealt number pollers c.station) run_courses.all)
+  crew_of number p has back did = crew_is R asked context.limits ran.lists pollers number own (λ some. record {
     list = has.list;
     there = has.there;
     ends = has.ends;
@@ -311,7 +311,7 @@ module _ {R D G : Type 0} (acts : D → ℕ) (answer : D → ℕ → Act) (after
 
   pub all_polled : ArePolled R asked context.limits acts answer after pollers stations ends
   all_polled = record {
-    lists = lists;
+    lists = ran.lists;
     courses = run_courses.all;
     stations_are = run_courses.stations_are;
     ends_are = run_courses.ends_are;
@@ -319,7 +319,7 @@ module _ {R D G : Type 0} (acts : D → ℕ) (answer : D → ℕ → Act) (after
     crews = λ number below.
         let by = ran.left_by in
         let polled = ran.polled in
-        let Polled : ℕ → OwnPoller R G → Type 0 = λ k p. IsAt polled k p × HasPolled asked context.limits lists pollers loose k p
+        let Polled : ℕ → OwnPoller R G → Type 0 = λ k p. IsAt polled k p × HasPolled asked context.limits ran.lists pollers loose k p
         × (p.stop ≡ None) in
         let low : number < length polled = (let same = ran.same in omega (arith, same, below)) in
         let t = at_place Polled polled (λ k d low. (
@@ -327,14 +327,11 @@ module _ {R D G : Type 0} (acts : D → ℕ) (answer : D → ℕ → Act) (after
           ran.ran k d low,
           ran.whole_polls k d low,
         )) number low in
-        let seats = map (λ p. p.served.bench.seats) polled in
-        let own = t.0.served.bench.seats in
-        let here = at_mapped (λ p. p.served.bench.seats) polled number t.0 t.1.0 in
-        let by_poller : map (λ o. o.poller) (filter (λ o. is_own number (length seats) o.worker.handler.number) by.all)
-        ≡ vec_items (get_or seats number own) = by.callers number own here.0 in
+        let by_poller : map (λ o. o.poller) (filter (λ o. is_own number (length polled) o.worker.handler.number) by.all)
+        ≡ vec_items (get_or polled number t.0).served.bench.seats = by.callers number t.0 low in
         crew_of number t.0 t.1.1
-        (subst (λ n. map (λ o. o.poller) (filter (λ o. is_own number n o.worker.handler.number) by.all) ≡ vec_items own)
-        (length-map polled (λ p. p.served.bench.seats) ∙ ran.same) (by_poller ∙ ap (λ v. vec_items v) here.1)) t.1.2;
+        (subst (λ n. map (λ o. o.poller) (filter (λ o. is_own number n o.worker.handler.number) by.all) ≡ vec_items t.0.served.bench.seats)
+        ran.same (by_poller ∙ ap (λ (p : OwnPoller R G). vec_items p.served.bench.seats) t.1.0.1)) t.1.2;
   }
 
 -- each station has a poller
@@ -345,21 +342,14 @@ none_polled R asked limits acts answer after pollers =
     record { lists = []; courses = []; stations_are = refl; ends_are = refl; each = tt; crews = λ number below. tt }
 
 -- the ends that were made together with the pollers' lists are ends of these lists
-pub ends_of_lists : {R : Type 0} (begins : List (Begin R)) (ends : List (Vec (ListIn R)))
-    → AllZip (λ begin e. All (IsNewEnd begin.list) (vec_items e)) begins ends → AreEndsOf (map (λ b. b.list) begins) ends
+pub ends_of_lists : {R G : Type 0} (pollers : List (OwnPoller R G)) (ends : List (Vec (ListIn R)))
+    → AllZip (λ p e. All (IsNewEnd p.served.list) (vec_items e)) pollers ends → AreEndsOf (map (λ p. p.served.list) pollers) ends
 ends_of_lists [] [] own k d low = absurd (omega (arith, low))
-ends_of_lists (b ∷ bs) (e ∷ es) own zero d low =
-    λ n x within. (b.list, (omega arith, refl), own.0 n x within)
-ends_of_lists {R} (b ∷ bs) (e ∷ es) own (suc k) d low = λ n x within.
-    let h = ends_of_lists bs es own.1 k d (omega (arith, low)) n x within in
+ends_of_lists (p ∷ ps) (e ∷ es) own zero d low = λ n x within. (p.served.list, (omega arith, refl), own.0 n x within)
+ends_of_lists (p ∷ ps) (e ∷ es) own (suc k) d low = λ n x within.
+    let h = ends_of_lists ps es own.1 k d (omega (arith, low)) n x within in
     (h.0, (let m = h.1.0 in omega (arith, m), h.1.1), h.2)
-ends_of_lists bs es own k d low = absurd own
-
-pub each_mapped : {A B : Type 0} (f : A → B) (P : ℕ → B → Type 0) (xs : List A) → EachAt (λ k x. P k (f x)) xs → EachAt P (map f xs)
-each_mapped f P [] h k d low = absurd (omega (arith, low))
-each_mapped f P (x ∷ xs) h zero d low = h 0 x (omega arith)
-each_mapped f P (x ∷ xs) h (suc k) d low =
-    each_mapped f (λ n y. P (suc n) y) xs (λ n a b. h (suc n) a (omega (arith, b))) k d (omega (arith, low))
+ends_of_lists ps es own k d low = absurd own
 
 -- a poller with a handle isn't idle
 some_seat : {R : Type 0} (served : ListPoller R) → vec_items served.bench.seats ≢ [] → has_no_seat served ≡ false
@@ -399,10 +389,10 @@ module _ {R D G : Type 0} where
   parts_of (p ∷ ps) [] back taken = absurd back
   parts_of (p ∷ ps) (o ∷ os) back taken = (part_of p o back.0 taken.0, parts_of ps os back.1 taken.1)
 
-  pub all_parts : (placed : List (DropBomb R Placed)) (workers : List (InterruptWorker R D G)) (seats : List (Vec (DropBomb R PollHandle)))
+  pub all_parts : (placed : List (DropBomb R Placed)) (workers : List (InterruptWorker R D G)) (pollers : List (OwnPoller R G))
       (threads : List (OwnThread R G)) (left : List (DropBomb R (Loose D))) → AllZip IsBackAt placed workers
-      → AreLeftBy workers seats threads left → AllZip IsKeptPartOf left placed
-  all_parts placed workers seats threads left back by =
+      → AreLeftBy workers pollers threads left → AllZip IsKeptPartOf left placed
+  all_parts placed workers pollers threads left back by =
       subst (λ l. AllZip IsKeptPartOf l placed) by.loose_are
       (parts_of placed by.all (subst (λ l. AllZip IsBackAt placed l) (sym by.workers_are) back) by.each)
 
@@ -477,23 +467,23 @@ module _ {R D G : Type 0} (may_shut : Type 0) (answers : G → ℕ → ℕ → B
       zip_same _ _ _ _ (λ w t h. thread_with h.1.0 w h.0 t h.1.1 h.1.2 h.2)
       (zip_both _ _ _ _ _ (zip_both _ _ _ _ _ (zip_flip _ _ _ back) at) did)
 
-module _ {R D G : Type 0} (may_shut : Type 0) (answers : G → ℕ → ℕ → Bool → Type 0) {context : RunContext R G}
-    {lists : List (SharedList R)} {wakers : List Waker} (n : ℕ) (placed : List (DropBomb R Placed)) (loose : List (DropBomb R (Loose D)))
+module _ {R D G : Type 0} (may_shut : Type 0) (answers : G → ℕ → ℕ → Bool → Type 0) {context : RunContext R G} {count : ℕ}
+    {lists : List (SharedList R)} {wakers : List Waker} (placed : List (DropBomb R Placed)) (loose : List (DropBomb R (Loose D)))
     (workers : List (InterruptWorker R D G)) (sat : List (DropBomb R PollHandle)) (pollers polled : List (OwnPoller R G))
     (back : AllZip IsBackAt placed workers) (at : AllZip IsSeatAt placed sat) (for : AllZip IsKeptSeatFor loose sat)
-    (have : ArePollers context wakers n sat pollers)
+    (have : ArePollers context wakers count sat pollers)
     (did : AllZip (IsPolled has_no_seat TurnsByRun may_shut answers) pollers polled)
     (are : map (λ p. p.served.list) pollers ≡ lists) where
   record CameBack (k : ℕ) (poller : OwnPoller R G) : Type 0 where
-    pub seats : AreSeatsAt n workers k poller.served.bench.seats
-    pub has : HasPolled (IsAsked answers context.gate.now) context.limits lists n loose k poller
+    pub seats : AreSeatsAt (length wakers) workers k poller
+    pub has : HasPolled (IsAsked answers context.gate.now) context.limits lists (length wakers) loose k poller
 
   came_back : (k : ℕ) (after before : OwnPoller R G) → IsAt pollers k before
-      → IsPoller context wakers (filter (λ (s : DropBomb R PollHandle). is_own k n s.value.number) sat) k before
+      → IsPoller context wakers count (own_seats (length wakers) k sat) k before
       → IsPolled has_no_seat TurnsByRun may_shut answers before after → CameBack k after
   came_back k after before at_k p did =
-      let by : ℕ → Bool = λ m. is_own k n m in
-      let own : List (DropBomb R PollHandle) = filter (λ (s : DropBomb R PollHandle). by s.value.number) sat in
+      let by : ℕ → Bool = λ m. is_own k (length wakers) m in
+      let own : List (DropBomb R PollHandle) = own_seats (length wakers) k sat in
       let ends = vec_items after.served.bench.seats in
       let same : AreSameSeats own ends = subst (λ l. AreSameSeats l ends) p.seats_are (served_keeps before.served after.served did.kept) in
       let Beside : InterruptWorker R D G → DropBomb R PollHandle → Type 0 = λ w s. (place : DropBomb R Placed) × IsBackAt place w
@@ -528,17 +518,17 @@ module _ {R D G : Type 0} (may_shut : Type 0) (answers : G → ℕ → ℕ → B
   all_came : (k : ℕ) (d : OwnPoller R G) → k < length polled → CameBack k (get_or polled k d)
   all_came k d low =
       let Mine : ℕ → OwnPoller R G → Type 0 =
-      λ k p. IsAt pollers k p × IsPoller context wakers (filter (λ (s : DropBomb R PollHandle). is_own k n s.value.number) sat) k p in
+      λ k p. IsAt pollers k p × IsPoller context wakers count (own_seats (length wakers) k sat) k p in
       let h = each_zip Mine (IsPolled has_no_seat TurnsByRun may_shut answers) pollers polled did
-      (λ k d low. ((low, sym (get_or_default pollers k d (get_or pollers k d) low)), have k d low)) k d low in
+      (λ k d low. ((low, sym (get_or_default pollers k d (get_or pollers k d) low)), have.each k d low)) k d low in
       came_back k (get_or polled k d) h.0 h.1.0 h.1.1 h.2
 
   -- each poller was returned with its handles on its own instances
-  pub all_seats_at : EachAt (λ k p. AreSeatsAt n workers k p.served.bench.seats) polled
+  pub all_seats_at : EachAt (AreSeatsAt (length wakers) workers) polled
   all_seats_at k d low = (all_came k d low).seats
 
   -- each poller polled by these handles
-  pub all_have_polled : EachAt (HasPolled (IsAsked answers context.gate.now) context.limits lists n loose) polled
+  pub all_have_polled : EachAt (HasPolled (IsAsked answers context.gate.now) context.limits lists (length wakers) loose) polled
   all_have_polled k d low = (all_came k d low).has
 
 -- ---- the threads of the instances took their turns

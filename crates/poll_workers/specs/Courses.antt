@@ -1,5 +1,5 @@
 -- Which poller polled which station in a run, and with which limits.
-use Rattle.poll_tasks.specs.{Asks.IsAsked, Tasks.{EachAt, IsAt}, declared.limits.{PollLimits.PollLimits, RunContext.RunContext}}
+use Rattle.poll_tasks.specs.{Asks.IsAsked, Tasks.{EachAt, IsAt}, declared.context.{PollLimits.PollLimits, RunContext.RunContext}}
 use Rattle.poll_workers.specs.{Finishes.IsWorkedOf, Outcomes.AreLeftBy, Spreads.{IsEndOf, IsKeptSeatFor}}
 use Rattle.poll_seats.specs.{declared.handle.PollHandle.PollHandle, Gives.{IsPolledAlone, IsPolledBy}}
 use Rattle.poll_seats.specs.declared.{poller.Poller.Poller, list_poller.ListPoller.ListPoller, thread_poller.ThreadPoller.ThreadPoller}
@@ -114,7 +114,8 @@ module _ {R D G : Type 0} (asked : ℕ → Type 0) (limits : PollLimits) (lists 
 
 -- All threads of a run ended, none of them early, and returned these parts of the instances.
 pub record HaveRun {R D G : Type 0} (acts : D → ℕ) (answer : D → ℕ → Act) (after : D → ℕ → D) (answers : G → ℕ → ℕ → Bool → Type 0)
-    (context : RunContext R G) (lists : List (SharedList R)) (pollers : ℕ) (loose left : List (DropBomb R (Loose D))) : Type 0 where
+    (context : RunContext R G) (pollers : ℕ) (loose left : List (DropBomb R (Loose D))) : Type 0 where
+  pub lists : List (SharedList R)
   pub workers : List (InterruptWorker R D G)
   pub polled : List (Poller R G (ListPoller R))
   pub threads : List (Poller R G (ThreadPoller R))
@@ -122,7 +123,7 @@ pub record HaveRun {R D G : Type 0} (acts : D → ℕ) (answer : D → ℕ → A
   pub made : AllZip (IsWorkedOf acts answer after (answers context.gate.now) lists pollers) loose workers
   pub ran : EachAt (HasPolled (IsAsked answers context.gate.now) context.limits lists pollers loose) polled
   pub turned : AllZip (HasTurned (IsAsked answers context.gate.now) context.limits lists pollers) loose threads
-  pub left_by : AreLeftBy workers (map (λ p. p.served.bench.seats) polled) threads left
+  pub left_by : AreLeftBy workers polled threads left
   pub whole : All (λ w. w.stop ≡ None) workers
   pub whole_polls : All (λ p. p.stop ≡ None) polled
   pub whole_turns : All (λ p. p.stop ≡ None) threads

@@ -10,7 +10,7 @@ use Rattle.device_rows.{specs.{Row.value_fits, Trace.AcceptedAfter, declared.{ro
 use Rattle.{poll_tasks.specs.Refusals.IsRefused, rx_ring.specs.ReceiveRing.capped}
 use Rattle.device_script.proofs.{Rows.{filter-long, find-among, find-here, find-more, range-more}, ScriptFacts.{acts-made, arrivals-are}}
 use Rattle.device_script.specs.Script.{has_thread, is_act_of, is_open, is_rx, opening_of, openings_of, rx_of, script_of}
-use Rattle.{device_script.specs.ScriptShown.{Script, acts, script_after, answer}, poll_workers.specs.declared.fault.WorkFault.WorkFault}
+use Rattle.{device_script.specs.ScriptShown.{Script, acts, script_after, answer}, poll_tasks.specs.declared.fault.WorkFault.WorkFault}
 use Rattle.poll_workers.specs.{Finishes.IsFinished, Courses.{ArePolled, limits_of}}
 use Rattle.replay_args.specs.declared.settings.ReplaySettings.{ReplaySettings}
 use Rattle.replay_text.specs.declared.fault.ReplayFault.{ReplayFault, TheVariants.{OutputFailed, RingTooSmall}}
@@ -18,7 +18,7 @@ use Rattle.replay_threads.specs.{ThreadsReport.{arrived, bytes, threads_device_l
 use Rattle.replay_threads.specs.{Stations.{AreRunBy, IsStationEnd, IsStationOf}}
 use Rattle.replay_threads.specs.{Stations.{end_lines, is_small, small_fault}}
 use Rattle.replay_threads.specs.{Answer.{IsThreadsOutside, IsReportedAs, overflows}}
-use Rattle.poll_workers.specs.declared.fault.WorkFault.TheVariants as work
+use Rattle.poll_tasks.specs.declared.fault.WorkFault.TheVariants as work
 
 -- ---- the ranges of a row's numbers, if it is accepted
 

@@ -7,7 +7,7 @@ use Rattle.poll_workers.proofs.gathering.gather.Goals as goal
 
 pub loop-worker-init : goal.loop-worker-init
 loop-worker-init g c =
-    let none : vec_items c.args.room ≡ [] = nil_from_length _ (grind (arith, common_steps)) in (
+    let none : vec_items c.args.loose.now ≡ [] = nil_from_length _ (grind (arith, common_steps)) in (
       [],
       record {
         whole = c.into_iter-all.ensures.rest;
@@ -21,8 +21,6 @@ loop-worker-init g c =
         some = grind (arith, common_steps, c.requires.some);
         count = grind (arith, common_steps);
         room = c.requires.room.1;
-        long = grind (arith, common_steps);
-        sides_long = grind (arith, common_steps);
       },
     )
 
@@ -30,23 +28,24 @@ loop-worker-init g c =
 own_of : (pollers n k number : ℕ) → pollers ≡ n → is_own k pollers number ≡ true → is_own k n number ≡ true
 own_of pollers n k number e own = subst (λ m. is_own k m number ≡ true) e own
 
-pub next_of-seat-requires-clause-some : goal.next_of-seat-requires-clause-some
-next_of-seat-requires-clause-some g c turned there =
+pub take-seat-requires : goal.take-seat-requires
+take-seat-requires g c =
     let now = c.loop-worker.invariant.1 in
-    let own = own_of _ _ _ _ now.as_many c.poller_of.ensures.own in
-    let each = given_at _ _ _ _ _ _ c.in-Some.ensures.items now.seats in
-    let long = some_left _ _ _ _ _ _ _ turned own
-    (grind (arith, common_steps, c.poller_of.ensures.within, now.as_many, now.pollers)) each there in
+    let own = own_of _ _ _ _ now.as_many c.poller_of-poller.ensures.own in
+    let each = given_at _ _ _ _ _ (vec_items c.loop-worker.pollers) c.in-Some.ensures.items now.seats in
+    let within : c.poller_of-poller.result < length (vec_items c.loop-worker.pollers) =
+    grind (arith, common_steps, c.poller_of-poller.ensures.within, now.as_many, now.pollers) in
+    let long = some_left _ _ _ _ _ _ _ c.index_mut.result.now own within each (sym c.index_mut.ensures.value) in
     grind (arith, common_steps, long)
 
 pub leave-requires-clause-poller : goal.leave-requires-clause-poller
 leave-requires-clause-poller g c =
     let now = c.loop-worker.invariant.1 in
-    let own = own_of _ _ _ _ now.as_many c.poller_of.ensures.own in
-    let each = given_at _ _ _ _ _ (vec_items c.loop-worker.seats) c.in-Some.ensures.items now.seats in
-    let within : c.poller_of.result < length (vec_items c.loop-worker.seats) =
-    grind (arith, common_steps, c.poller_of.ensures.within, now.as_many, now.pollers) in
-    next_at _ _ _ _ _ _ _ _ _ own within each c.next_of-seat.ensures
+    let own = own_of _ _ _ _ now.as_many c.poller_of-poller.ensures.own in
+    let each = given_at _ _ _ _ _ (vec_items c.loop-worker.pollers) c.in-Some.ensures.items now.seats in
+    let within : c.poller_of-poller.result < length (vec_items c.loop-worker.pollers) =
+    grind (arith, common_steps, c.poller_of-poller.ensures.within, now.as_many, now.pollers) in
+    next_at _ _ _ _ _ _ _ c.index_mut.result.now own within each (sym c.index_mut.ensures.value) _ _ c.take-seat.ensures
 
 pub leave-requires-clause-thread : goal.leave-requires-clause-thread
 leave-requires-clause-thread g c =
@@ -58,13 +57,13 @@ loop-worker-preserved g c =
     let did = c.loop-worker.invariant.0 in
     let now = c.loop-worker.invariant.1 in
     let side = rw (c.in-Some.ensures.items, c.in-Some-next.ensures.items) at now.threads in
-    let own = own_of _ _ _ _ now.as_many c.poller_of.ensures.own in
-    let each = given_at _ _ _ _ _ _ c.in-Some.ensures.items now.seats in
-    let within : c.poller_of.result < length (vec_items c.loop-worker.seats) =
-    grind (arith, common_steps, c.poller_of.ensures.within, now.as_many, now.pollers) in
+    let own = own_of _ _ _ _ now.as_many c.poller_of-poller.ensures.own in
+    let each = given_at _ _ _ _ _ (vec_items c.loop-worker.pollers) c.in-Some.ensures.items now.seats in
+    let within : c.poller_of-poller.result < length (vec_items c.loop-worker.pollers) =
+    grind (arith, common_steps, c.poller_of-poller.ensures.within, now.as_many, now.pollers) in
     let o : Outcome g.row.R.Denot g.row.D.Denot g.row.G.Denot = record {
       worker = c.in-Some.worker;
-      poller = c.next_of-seat.result;
+      poller = c.take-seat.result;
       thread = c.in-Some-next.side;
       loose = c.new.result;
     } in
@@ -77,17 +76,13 @@ loop-worker-preserved g c =
         left = map-append (λ o. o.loose) did (o ∷ []) ∙ ap (λ l. l ++ c.new.result ∷ []) now.left ∙ sym c.push_reserved.ensures.items;
         each = each_push _ did o now.each (rw c.new.ensures c.leave.ensures);
         threads = side.1;
-        seats = given_more _ _ did _ _ o refl _ _ _ own within each c.next_of-seat.ensures;
-        pollers = ap (λ l. length l) c.next_of-seat.ensures.rest
-            ∙ length-set (vec_items c.loop-worker.seats) c.poller_of.result c.next_of-seat.ensures.now ∙ now.pollers;
+        seats = given_more _ _ did _ _ _ _ c.index_mut.result.now own within each (sym c.index_mut.ensures.value) o c.take-seat.new.self
+            refl c.take-seat.ensures;
+        pollers = length-set (vec_items c.loop-worker.pollers) c.poller_of-poller.result _ ∙ now.pollers;
         as_many = now.as_many;
         some = now.some;
         count = grind (arith, common_steps, now.count, c.in-Some.ensures.len, c.push_reserved.ensures.len);
         room = grind (arith, now.room, c.push_reserved.ensures.capacity);
-        long = (let a = now.long in let b = c.in-Some.ensures.items in let d = c.in-Some.ensures.len in
-            grind (arith, common_steps, a, b, d));
-        sides_long = (let a = now.sides_long in let b = c.in-Some-next.ensures.items in let d = c.in-Some-next.ensures.len in
-            grind (arith, common_steps, a, b, d));
       },
     )
 
@@ -96,7 +91,7 @@ returns g c =
     let did = c.loop-worker.invariant.0 in
     let now = c.loop-worker.invariant.1 in
     let empty : into_iter_items c.loop-worker.all ≡ [] =
-    nil_from_length _ (grind (arith, common_steps, now.long, c.in_default.ensures.len)) in
+    nil_from_length _ (grind (arith, common_steps, c.loop-worker.all.rest.ok, c.in_default.ensures.len)) in
     let no_sides : into_iter_items c.loop-worker.sides ≡ [] = zip_empty IsThreadWith _ _ now.threads empty in
     record {
       all = did;
@@ -104,5 +99,5 @@ returns g c =
       threads_are = none_left _ _ _ now.sides_whole no_sides;
       loose_are = now.left;
       each = now.each;
-      callers = all_given _ _ _ did now.pollers (given_at _ _ _ _ _ _ empty now.seats);
+      callers = all_given _ _ did _ now.pollers (given_at _ _ _ _ _ _ empty now.seats);
     }

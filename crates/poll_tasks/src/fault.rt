@@ -1,11 +1,12 @@
 //! Why a run failed.
 
 ghost use Rattle.std.specs.Prelude.{◌≡◌};
-ghost use Rattle.poll_workers.specs.Faults.{number_of};
+ghost use Rattle.poll_tasks.specs.Faults.{number_of};
 
+use std::alloc::AllocError;
 use thiserror::Error;
 
-/// Why a run failed. All threads that were started have ended.
+/// Why a run failed, or why one of its threads made no further acts. All threads that were started have ended when a run fails.
 #[derive(Clone, Copy, Debug, PartialEq, Eq, Error)]
 pub enum WorkFault {
     /// Out of memory.
@@ -17,6 +18,18 @@ pub enum WorkFault {
     /// A thread could not be started.
     #[error("work fault 3 SpawnFailed")]
     SpawnFailed,
+}
+
+impl From<AllocError> for WorkFault {
+    ghost use Rattle.std.specs.Prelude.{◌≡◌};
+    ghost use Rattle.poll_tasks.specs.Faults.{IsWantOfMemory};
+    ghost use Rattle.poll_tasks.specs.declared.fault.WorkFault.TheVariants.{OutOfMemory};
+
+    ghost from_gives = { λ _ fault. (fault ≡ OutOfMemory) × IsWantOfMemory };
+
+    fn from(_: AllocError) -> WorkFault {
+        WorkFault::OutOfMemory
+    }
 }
 
 impl WorkFault {
