@@ -3,6 +3,7 @@ use Rattle.std.specs.Prelude.{◌≡◌, ◌==◌, ◌<◌, ◌++◌, ◌∷◌,
 use Rattle.{poll_runs.specs.declared.bench.{Next.TheVariants.Absent, Once.Once}, poll_seats.specs.declared.handle.PollHandle.PollHandle}
 use Rattle.{std.specs.Prelude.vec_capacity, napi_calls.specs.declared.kept.DropBomb.DropBomb}
 use Rattle.poll_seats.specs.{declared.list_poller.{HandleBench.HandleBench, ListPoller.ListPoller}, Polled.Polls, SeatKeeping.IsSameSeat}
+use Rattle.poll_seats.specs.declared.poller.Poller.{Poller}
 
 module _ {R : Type 0} where
   -- only the handle at this index was polled, once, with this weight and this result
@@ -28,9 +29,11 @@ module _ {R : Type 0} where
       (IsNowhere before once after)
       (IsPolledAt before weight once after)
 
-  -- the poller has one more handle
-  pub record HasOneMore (before : ListPoller R) (seat : DropBomb R PollHandle) (after : ListPoller R) : Type 0 where
-    pub list : after.list ≡ before.list
-    pub limits : after.limits ≡ before.limits
-    pub seats : vec_items after.bench.seats ≡ vec_items before.bench.seats ++ seat ∷ []
-    pub room : vec_capacity after.bench.seats ≡ vec_capacity before.bench.seats
+-- the poller has one more handle, and nothing else has changed
+pub record HasOneMore {R G : Type 0} (before : Poller R G (ListPoller R)) (seat : DropBomb R PollHandle) (after : Poller R G
+    (ListPoller R)) : Type 0 where
+  pub rest : after ≡ record before { served = after.served }
+  pub list : after.served.list ≡ before.served.list
+  pub limits : after.served.limits ≡ before.served.limits
+  pub seats : vec_items after.served.bench.seats ≡ vec_items before.served.bench.seats ++ seat ∷ []
+  pub room : vec_capacity after.served.bench.seats ≡ vec_capacity before.served.bench.seats

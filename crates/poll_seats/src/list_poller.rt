@@ -4,11 +4,11 @@ ghost use Rattle.std.specs.Prelude.{◌≡◌, ◌==◌, ◌<◌, ◌≤◌, ◌
 ghost use Rattle.poll_tasks.specs.Limits.{IsLawful};
 
 use crate::handle::PollHandle;
-use crate::poller::Serves;
+use crate::poller::{Poller, Serves};
 use napi_calls::DropBomb;
 use poll_list::SharedList;
 use poll_runs::{Bench, BusyReport, Next, Once, RunReport, ThreadReport, run_softirq};
-use poll_tasks::PollLimits;
+use poll_tasks::{Gate, PollLimits};
 use rx_ring::Batch;
 use std::sync::Wait;
 
@@ -64,7 +64,6 @@ pub struct ListPoller<'n, R: Wait + Drop> {
 }
 
 impl<'n, R: Wait + Drop> ListPoller<'n, R> {
-    ghost use Rattle.poll_seats.specs.HandleBenches.{HasOneMore};
     ghost use Rattle.poll_seats.specs.Turns.{RunsOnce};
 
     /// Returns a poller with this list and these handles.
@@ -90,22 +89,6 @@ impl<'n, R: Wait + Drop> ListPoller<'n, R> {
         }
     }
 
-    /// Adds a handle. Requires room for it.
-    pub fn add(&mut self, seat: DropBomb<R, PollHandle<'n>>)
-        requires { vec_len self.old.bench.seats < vec_capacity self.old.bench.seats }
-        ensures { HasOneMore self.old seat.entry self.new }
-    {
-        self.bench.seats.push_reserved(seat);
-    }
-
-    /// Takes the first of its handles.
-    pub fn take(&mut self) -> DropBomb<R, PollHandle<'n>>
-        requires { 1 ≤ vec_len self.old.bench.seats }
-        ensures { vec_items self.old.bench.seats ≡ result ∷ vec_items self.new.bench.seats }
-    {
-        self.bench.seats.remove(0)
-    }
-
     // Runs over the instances on the list, with the budget, the weight and the window of the limits (`net_rx_action`).
     fn run(&mut self) -> RunReport
         ensures { RunsOnce self.old result self.new }
@@ -116,6 +99,29 @@ impl<'n, R: Wait + Drop> ListPoller<'n, R> {
             window,
         } = self.limits;
         run_softirq(&mut self.list, &mut self.bench, budget, weight, window)
+    }
+}
+
+impl<'t, 'p, 'n, R: Wait + Drop, G: Gate> Poller<'t, 'p, R, G, ListPoller<'n, R>> {
+    ghost use Rattle.poll_seats.specs.HandleBenches.{HasOneMore};
+
+    /// Adds a handle. Requires room for it.
+    pub fn add(&mut self, seat: DropBomb<R, PollHandle<'n>>)
+        requires { vec_len self.old.served.bench.seats < vec_capacity self.old.served.bench.seats }
+        ensures { HasOneMore self.old seat.entry self.new }
+    {
+        let served = &mut self.served;
+        served.bench.seats.push_reserved(seat);
+    }
+
+    /// Takes the first of its handles.
+    pub fn take(&mut self) -> DropBomb<R, PollHandle<'n>>
+        requires { 1 ≤ vec_len self.old.served.bench.seats }
+        ensures { vec_items self.old.served.bench.seats
+            ≡ result ∷ vec_items self.new.served.bench.seats }
+    {
+        let served = &mut self.served;
+        served.bench.seats.remove(0)
     }
 }
 

@@ -75,13 +75,13 @@ module _ {R D G : Type 0} (pollers : ℕ) (before : List (OwnPoller R G)) where
     next_at seat rest first = (subst (λ l. AllZip IsSeatWith (place ∷ own_left k) l) first own_first).0
 
     -- the next handle belongs to the current station
-    pub given_more : (o : Outcome R D G) (now : ListPoller R) → o.worker ≡ place → seats was ≡ o.poller ∷ vec_items now.bench.seats
-        → EachAt (HasGiven (did ++ o ∷ []) left) (set polled k (record was { served = now }))
+    pub given_more : (o : Outcome R D G) (now : OwnPoller R G) → o.worker ≡ place → seats was ≡ o.poller ∷ seats now
+        → EachAt (HasGiven (did ++ o ∷ []) left) (set polled k now)
     given_more o now same first =
-        each_set (HasGiven did (place ∷ left)) (HasGiven (did ++ o ∷ []) left) polled k _ within each (record {
+        each_set (HasGiven did (place ∷ left)) (HasGiven (did ++ o ∷ []) left) polled k now within each (record {
           rest = (subst (λ l. AllZip IsSeatWith (place ∷ own_left k) l) first own_first).1;
-          gone = λ d. ap (λ l. l ++ vec_items now.bench.seats) (more k true (at_place k ∙ own))
-              ∙ append_assoc (used pollers k did) (o.poller ∷ []) (vec_items now.bench.seats)
+          gone = λ d. ap (λ l. l ++ seats now) (more k true (at_place k ∙ own))
+              ∙ append_assoc (used pollers k did) (o.poller ∷ []) (seats now)
               ∙ ap (λ l. used pollers k did ++ l) (sym first) ∙ here.gone d;
         }) (λ n x ne g.
         let others = not_other pollers place.handler.number k n own ne in
@@ -93,7 +93,7 @@ module _ {R D G : Type 0} (pollers : ℕ) (before : List (OwnPoller R G)) where
         at_place : (n : ℕ) → is_own n pollers o.worker.handler.number ≡ is_own n pollers place.handler.number
         at_place n = ap (λ (w : InterruptWorker R D G). is_own n pollers w.handler.number) same
 
-        abbrev by : ℕ → Outcome R D G → Bool
+        by : ℕ → Outcome R D G → Bool
         by n o = is_own n pollers o.worker.handler.number
 
         more : (n : ℕ) (b : Bool) → is_own n pollers o.worker.handler.number ≡ b

@@ -32,12 +32,12 @@ module _ {R G : Type 0} (context : RunContext R G) (wakers : List Waker) (count 
       omega (arith, long, kept, fewer, few, room)
 
   -- one more handle was added to it
-  pub one_more : (seat : DropBomb R PollHandle) (now : ListPoller R) → is_own k (length wakers) seat.value.number ≡ true
-      → HasOneMore was.served seat now
-      → ArePollers context wakers count (sat ++ seat ∷ []) (set pollers k (record was { served = now }))
+  pub one_more : (seat : DropBomb R PollHandle) (now : Poller R G (ListPoller R)) → is_own k (length wakers) seat.value.number ≡ true
+      → HasOneMore was seat now → ArePollers context wakers count (sat ++ seat ∷ []) (set pollers k now)
   one_more seat now own one = record {
     each = each_set (λ n p. IsPoller context wakers count (own_seats (length wakers) n sat) n p)
-        (λ n p. IsPoller context wakers count (own_seats (length wakers) n (sat ++ seat ∷ [])) n p) pollers k _ within have.each (record {
+        (λ n p. IsPoller context wakers count (own_seats (length wakers) n (sat ++ seat ∷ [])) n p) pollers k now within have.each
+        (subst (λ p. IsPoller context wakers count (own_seats (length wakers) k (sat ++ seat ∷ [])) k p) (sym one.rest) (record {
           has = here.has;
           paced = one.limits ∙ here.paced;
           named = here.named;
@@ -46,9 +46,9 @@ module _ {R G : Type 0} (context : RunContext R G) (wakers : List Waker) (count 
           new = subst (λ (l : SharedList R). (ends : ℕ) × IsNewList ends l) (sym one.list) here.new;
           seats_are = one.seats ∙ ap (λ l. l ++ seat ∷ []) here.seats_are ∙ sym (more k true own);
           room = (let same = one.room in let room = here.room in omega (arith, same, room));
-        }) (λ n p ne h. subst (λ l. IsPoller context wakers count l n p)
+        })) (λ n p ne h. subst (λ l. IsPoller context wakers count l n p)
         (sym (more n false (not_other (length wakers) seat.value.number k n own ne) ∙ append-nil _)) h);
-    as_many = length-set pollers k _ ∙ have.as_many;
+    as_many = length-set pollers k now ∙ have.as_many;
   }
     where
       more : (n : ℕ) (b : Bool) → is_own n (length wakers) seat.value.number ≡ b
@@ -56,15 +56,13 @@ module _ {R G : Type 0} (context : RunContext R G) (wakers : List Waker) (count 
       more n b e = filter-append (by n) sat (seat ∷ []) ∙ ap (λ c. filter (by n) sat ++ cond c (seat ∷ []) []) e
 
   -- and it still has the same list
-  pub same_lists : (now : ListPoller R) → now.list ≡ was.served.list
-      → map (λ (p : Poller R G (ListPoller R)). p.served.list) (set pollers k (record was { served = now }))
+  pub same_lists : (seat : DropBomb R PollHandle) (now : Poller R G (ListPoller R)) → HasOneMore was seat now
+      → map (λ (p : Poller R G (ListPoller R)). p.served.list) (set pollers k now)
       ≡ map (λ (p : Poller R G (ListPoller R)). p.served.list) pollers
-  same_lists now same =
-      map-set (λ (p : Poller R G (ListPoller R)). p.served.list) pollers k (record was { served = now })
-      ∙ ap (λ l. set (map (λ (p : Poller R G (ListPoller R)). p.served.list) pollers) k l) same
-      ∙ sym (map-set (λ (p : Poller R G (ListPoller R)). p.served.list) pollers k was)
-      ∙ ap (λ l. map (λ (p : Poller R G (ListPoller R)). p.served.list) l)
-      (ap (λ p. set pollers k p) (sym there) ∙ set-get_or pollers k was)
+  same_lists seat now one =
+      let list : Poller R G (ListPoller R) → SharedList R = λ p. p.served.list in
+      map-set list pollers k now ∙ ap (λ l. set (map list pollers) k l) one.list
+      ∙ sym (map-set list pollers k was) ∙ ap (λ l. map list l) (ap (λ p. set pollers k p) (sym there) ∙ set-get_or pollers k was)
 
 -- ---- the ends of lists that are taken
 

@@ -72,7 +72,7 @@ pub(crate) fn gather<'t, 'p, 'n, R: Wait + Drop + Copy, D: Device + Drop, G: Gat
             unreachable!()
         };
         let poller = poller_of(worker.handler.number, count);
-        let seat = pollers[poller].served.take();
+        let seat = pollers[poller].take();
         loose.push_reserved(DropBomb::new(rt, leave(worker, seat, side)));
     }
 }

@@ -189,7 +189,7 @@ pub(crate) fn spread<'t, 'p, 'n, R: Wait + Drop + Copy, D: Device + Drop, G: Gat
         let poller = poller_of(place.value.number, wakers.len());
         let both = two_ends(&mut lists, poller);
         let (job, seat, side) = split(context, &wakers[poller], place, rest.open(), both);
-        tasks.pollers[poller].served.add(seat);
+        tasks.pollers[poller].add(seat);
         tasks.workers.push_reserved(job);
         tasks.threads.push_reserved(side);
     }

@@ -1,6 +1,6 @@
 use Rattle.std.proofs.Common.{◌≡◌, ◌+◌, ◌≤◌, ◌∷◌, ◌++◌, ◌∙◌, [], ap, subst, sym, refl, length, length-append, rules, arith}
 use Rattle.std.{specs.{Prelude.{vec_capacity, vec_items, vec_len}, Vec.Iter.into_iter_len}, proofs.lemmas.Grind.common_steps}
-use Rattle.std.proofs.lemmas.{List.{length_push, Elements.All-push}, Slice.Zip.all_zipped_more}
+use Rattle.std.proofs.lemmas.{List.{length_push, Elements.All-push}, Slice.Zip.{all_zipped_more, AllZip-long}}
 use Rattle.{poll_tasks.{specs.Tasks.IsAt, proofs.ListFacts.{before_more, each_more}}, poll_workers.specs.Spreads.IsPoller}
 use Rattle.poll_workers.proofs.pollers.pollers_of.Goals as goal
 
@@ -12,7 +12,7 @@ loop-wait-init g c =
       record {
         wakers = refl;
         waker_count = sym none;
-        rest_count = grind (arith, common_steps);
+        rest_count = sym (c.into_iter-waits.ensures.len ∙ c.args.waits.ok.0 ∙ AllZip-long _ _ _ c.requires.wakes);
         wakes = rw c.into_iter-waits.ensures.rest c.requires.wakes;
         lawful = c.requires.limits;
         few = c.requires.few;
@@ -52,9 +52,9 @@ loop-wait-preserved g c =
               room = (let same = ap (λ v. vec_capacity v) c.new.ensures.seats in
                   grind (arith, common_steps, same, c.in_ok-seats.ensures.exact));
             }));
-        own = rw (c.in_ok-push.ensures.items, c.in_ok-push-in-Some.ensures.items)
+        own = rw (c.in_ok-push.ensures.items, c.in_ok-push-2.ensures.items)
             (all_zipped_more _ _ _ _ _ now.own (rw c.new.ensures.list c.in_ok-list.ensures.own));
-        enough = rw c.in_ok-push-in-Some.ensures.items
+        enough = rw c.in_ok-push-2.ensures.items
             (All-push (λ e. c.args.count + c.args.count ≤ vec_len e) (vec_items c.loop-wait.ends) c.in_ok-list.own_ends now.enough
             c.in_ok-list.ensures.ends);
       },

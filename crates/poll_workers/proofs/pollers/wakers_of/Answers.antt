@@ -5,6 +5,6 @@ pub loop-preserved : goal.loop-preserved
 loop-preserved c =
     let now = c.loop.invariant in record {
       len = grind (arith, common_steps, now.len, c.in_ok-push.ensures.items);
-      wakes = rw (c.in_ok-push.ensures.items, c.in_ok-push-in-loop.ensures.items)
+      wakes = rw (c.in_ok-push.ensures.items, c.in_ok-push-2.ensures.items)
           (all_zipped_more _ _ _ _ _ now.wakes c.in_ok-waker.ensures);
     }

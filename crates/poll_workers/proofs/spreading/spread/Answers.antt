@@ -101,8 +101,8 @@ loop-rest-preserved g c =
             (sym c.split-job.ensures.seat.0.number) c.poller_of-poller.ensures.own in
             one_more _ _ _ _ _ _ c.index_mut.result.now now.pollers within (sym c.index_mut.ensures.value) _ c.add.new.self own
             c.add.ensures);
-        poller_lists = same_lists _ _ _ _ _ _ c.index_mut.result.now now.pollers within (sym c.index_mut.ensures.value) c.add.new.self
-            c.add.ensures.list ∙ now.poller_lists;
+        poller_lists = same_lists _ _ _ _ _ _ c.index_mut.result.now now.pollers within (sym c.index_mut.ensures.value) _ c.add.new.self
+            c.add.ensures ∙ now.poller_lists;
         list_count = c.two_ends-both.ensures.len ∙ now.list_count;
         ends = c.two_ends-both.ensures.left _ (λ k d low. ends_of _ _ _ fewer (now.ends k d low));
         count = count_of _ _ _ _ _ now.count fewer c.push_reserved.ensures.len;

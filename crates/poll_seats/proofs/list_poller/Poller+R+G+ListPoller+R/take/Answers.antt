@@ -1,8 +1,8 @@
 use Rattle.std.proofs.{Common.{◌≤◌, length, vec_items, arith}, lemmas.Grind.common_steps}
 use Rattle.poll_tasks.proofs.ListFacts.{first_of}
-use Rattle.poll_seats.proofs.list_poller.ListPoller.take.Goals as goal
+use Rattle.poll_seats.proofs.list_poller.Poller+R+G+ListPoller+R.take.Goals as goal
 
 pub returns : goal.returns
 returns g c =
-    let some : 1 ≤ length (vec_items c.args.self.now.bench.seats) = grind (arith, common_steps, c.requires) in
+    let some : 1 ≤ length (vec_items c.args.self.now.served.bench.seats) = grind (arith, common_steps, c.requires) in
     first_of _ (vec_items c.remove.new.self) c.remove.result some c.remove.ensures.value c.remove.ensures.items
