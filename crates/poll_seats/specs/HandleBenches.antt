@@ -1,7 +1,8 @@
 -- The effect of a poll on a poller's handles. (Names with "seat" are about these handles.)
 use Rattle.std.specs.Prelude.{◌≡◌, ◌==◌, ◌<◌, ◌++◌, ◌∷◌, [], ℕ, length, get_or, set, position, is_some, vec_items, MatchOption}
 use Rattle.{poll_runs.specs.declared.bench.{Next.TheVariants.Absent, Once.Once}, poll_seats.specs.declared.handle.PollHandle.PollHandle}
-use Rattle.{std.specs.Prelude.vec_capacity, napi_calls.specs.declared.kept.DropBomb.DropBomb}
+use Rattle.std.specs.Prelude.{◌≤◌, List, IsSome, Some, vec_capacity, vec_len}
+use Rattle.napi_calls.specs.{declared.{kept.DropBomb.DropBomb, types.Caller.Caller}, Instance.IsSeatOf}
 use Rattle.poll_seats.specs.{declared.list_poller.{HandleBench.HandleBench, ListPoller.ListPoller}, Polled.Polls, SeatKeeping.IsSameSeat}
 use Rattle.poll_seats.specs.declared.poller.Poller.{Poller}
 
@@ -29,11 +30,24 @@ module _ {R : Type 0} where
       (IsNowhere before once after)
       (IsPolledAt before weight once after)
 
--- the poller has one more handle, and nothing else has changed
-pub record HasOneMore {R G : Type 0} (before : Poller R G (ListPoller R)) (seat : DropBomb R PollHandle) (after : Poller R G
-    (ListPoller R)) : Type 0 where
-  pub rest : after ≡ record before { served = after.served }
-  pub list : after.served.list ≡ before.served.list
-  pub limits : after.served.limits ≡ before.served.limits
-  pub seats : vec_items after.served.bench.seats ≡ vec_items before.served.bench.seats ++ seat ∷ []
-  pub room : vec_capacity after.served.bench.seats ≡ vec_capacity before.served.bench.seats
+module _ {R G : Type 0} where
+  -- the poller has one more handle, and nothing else has changed
+  pub record HasOneMore (before : Poller R G (ListPoller R)) (seat : DropBomb R PollHandle) (after : Poller R G (ListPoller R)) : Type 0 where
+    pub rest : after ≡ record before { served = after.served }
+    pub list : after.served.list ≡ before.served.list
+    pub limits : after.served.limits ≡ before.served.limits
+    pub seats : vec_items after.served.bench.seats ≡ vec_items before.served.bench.seats ++ seat ∷ []
+    pub room : vec_capacity after.served.bench.seats ≡ vec_capacity before.served.bench.seats
+
+  -- the poller has a handle, and the first one has its caller
+  pub record HasFirst (poller : Poller R G (ListPoller R)) : Type 0 where
+    pub some : 1 ≤ vec_len poller.served.bench.seats
+    pub caller : (seat : DropBomb R PollHandle) (rest : List (DropBomb R PollHandle)) → vec_items poller.served.bench.seats ≡ seat ∷ rest
+        → IsSome seat.value.caller
+
+  -- the first of the poller's handles was taken, which had this caller
+  pub record TakesFirst (before : Poller R G (ListPoller R)) (caller : Caller) (after : Poller R G (ListPoller R)) : Type 0 where
+    pub seat : DropBomb R PollHandle
+    pub first : vec_items before.served.bench.seats ≡ seat ∷ vec_items after.served.bench.seats
+    pub caller_is : seat.value.caller ≡ Some caller
+    pub of : IsSeatOf seat.value.napi.now caller.pass

@@ -1,11 +1,11 @@
 //! A poller with a list. Its handles form a [`Bench`], over which it makes polling runs while there is an instance on the list.
 
-ghost use Rattle.std.specs.Prelude.{◌≡◌, ◌==◌, ◌<◌, ◌≤◌, ◌∷◌, position, vec_capacity, vec_items, vec_len};
+ghost use Rattle.std.specs.Prelude.{◌≡◌, ◌==◌, ◌<◌, position, vec_capacity, vec_len};
 ghost use Rattle.poll_tasks.specs.Limits.{IsLawful};
 
 use crate::handle::PollHandle;
 use crate::poller::{Poller, Serves};
-use napi_calls::DropBomb;
+use napi_calls::{Caller, DropBomb};
 use poll_list::SharedList;
 use poll_runs::{Bench, BusyReport, Next, Once, RunReport, ThreadReport, run_softirq};
 use poll_tasks::{Gate, PollLimits};
@@ -103,7 +103,7 @@ impl<'n, R: Wait + Drop> ListPoller<'n, R> {
 }
 
 impl<'t, 'p, 'n, R: Wait + Drop, G: Gate> Poller<'t, 'p, R, G, ListPoller<'n, R>> {
-    ghost use Rattle.poll_seats.specs.HandleBenches.{HasOneMore};
+    ghost use Rattle.poll_seats.specs.HandleBenches.{HasFirst, HasOneMore, TakesFirst};
 
     /// Adds a handle. Requires room for it.
     pub fn add(&mut self, seat: DropBomb<R, PollHandle<'n>>)
@@ -114,14 +114,13 @@ impl<'t, 'p, 'n, R: Wait + Drop, G: Gate> Poller<'t, 'p, R, G, ListPoller<'n, R>
         served.bench.seats.push_reserved(seat);
     }
 
-    /// Takes the first of its handles.
-    pub fn take(&mut self) -> DropBomb<R, PollHandle<'n>>
-        requires { 1 ≤ vec_len self.old.served.bench.seats }
-        ensures { vec_items self.old.served.bench.seats
-            ≡ result ∷ vec_items self.new.served.bench.seats }
+    /// Takes the first of its handles, and returns its caller.
+    pub fn take(&mut self) -> Caller
+        requires { HasFirst self.old }
+        ensures { TakesFirst self.old result self.new }
     {
         let served = &mut self.served;
-        served.bench.seats.remove(0)
+        served.bench.seats.remove(0).open().leave()
     }
 }
 

@@ -1,26 +1,30 @@
 //! Takes the parts of each instance out of the threads of a run.
 
-ghost use Rattle.std.specs.Prelude.{◌≤◌, length, vec_items, vec_len};
+ghost use Rattle.std.specs.Prelude.{◌≡◌, ◌≤◌, Some, length, vec_items, vec_len};
 ghost use Rattle.std.specs.List.{AllZip};
+ghost use Rattle.napi_calls.specs.Instance.{IsSeatOf};
+ghost use Rattle.napi_calls.specs.declared.kept.DropBomb.{DropBomb};
+ghost use Rattle.poll_seats.specs.declared.handle.PollHandle.{PollHandle};
 ghost use Rattle.poll_tasks.specs.Tasks.{EachAt, HasRoom};
-ghost use Rattle.poll_workers.specs.Outcomes.{AreLeftBy, AreSeatsAt, IsLeftBy, IsSeatWith, IsThreadWith};
+ghost use Rattle.poll_workers.specs.Outcomes.{AreLeftBy, AreSeatsAt, IsLeftBy, IsThreadWith};
 
 use crate::pollers::{OwnThread, RunTasks};
-use napi_calls::DropBomb;
+use napi_calls::{Caller, DropBomb};
 use poll_interrupts::{Device, InterruptWorker, Loose, poller_of};
-use poll_seats::{PollHandle, Poller, ThreadPoller};
+use poll_seats::{Poller, ThreadPoller};
 use poll_tasks::{Gate, Tasks};
 use std::sync::Wait;
 
 // What the threads of one instance hold of it.
 fn leave<'t, 'p, 'n, R: Wait + Drop, D: Drop, G: Gate>(
     worker: InterruptWorker<'t, 'p, 'n, R, D, G>,
-    poller: DropBomb<R, PollHandle<'n>>,
+    poller: Caller,
     thread: OwnThread<'t, 'p, 'n, R, G>,
 ) -> Loose<D>
-    requires poller { IsSeatWith worker poller }
+    requires poller { IsSeatOf worker.handler.napi.now poller.pass }
     requires thread { IsThreadWith worker thread }
-    ensures { IsLeftBy worker.entry poller.entry thread.entry result }
+    ensures { (seat : DropBomb _ PollHandle) → seat.value.caller ≡ Some poller
+        → IsLeftBy worker.entry seat thread.entry result }
 {
     let InterruptWorker {
         handler,
@@ -36,7 +40,7 @@ fn leave<'t, 'p, 'n, R: Wait + Drop, D: Drop, G: Gate>(
         device,
         rx,
         handles: handles.open(),
-        poller: poller.open().leave(),
+        poller,
         thread: seat.open().leave(),
         has_thread: handler.thread.is_some(),
         wait,
@@ -72,7 +76,7 @@ pub(crate) fn gather<'t, 'p, 'n, R: Wait + Drop + Copy, D: Device + Drop, G: Gat
             unreachable!()
         };
         let poller = poller_of(worker.handler.number, count);
-        let seat = pollers[poller].take();
-        loose.push_reserved(DropBomb::new(rt, leave(worker, seat, side)));
+        let caller = pollers[poller].take();
+        loose.push_reserved(DropBomb::new(rt, leave(worker, caller, side)));
     }
 }

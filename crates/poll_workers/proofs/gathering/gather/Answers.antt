@@ -2,7 +2,7 @@ use Rattle.std.proofs.Common.{◌≡◌, ℕ, ◌<◌, ◌∷◌, ◌++◌, ◌�
 use Rattle.std.proofs.lemmas.{Grind.common_steps, List.{length-set, map-append, nil_from_length}}
 use Rattle.{std.specs.Vec.Iter.into_iter_items, poll_tasks.proofs.ListFacts.{before_more, none_left, zip_empty}}
 use Rattle.poll_workers.proofs.EndFacts.{all_given, each_push, given_at, given_more, next_at, none_given, some_left}
-use Rattle.{poll_workers.specs.Outcomes.{IsThreadWith, Outcome}, poll_interrupts.specs.Deals.is_own}
+use Rattle.{poll_workers.specs.Outcomes.{IsThreadWith, Outcome}, poll_interrupts.specs.Deals.is_own, napi_calls.specs.Instance.IsSeatOf}
 use Rattle.poll_workers.proofs.gathering.gather.Goals as goal
 
 pub loop-worker-init : goal.loop-worker-init
@@ -28,15 +28,18 @@ loop-worker-init g c =
 own_of : (pollers n k number : ℕ) → pollers ≡ n → is_own k pollers number ≡ true → is_own k n number ≡ true
 own_of pollers n k number e own = subst (λ m. is_own k m number ≡ true) e own
 
-pub take-seat-requires : goal.take-seat-requires
-take-seat-requires g c =
+pub take-caller-requires : goal.take-caller-requires
+take-caller-requires g c =
     let now = c.loop-worker.invariant.1 in
     let own = own_of _ _ _ _ now.as_many c.poller_of-poller.ensures.own in
     let each = given_at _ _ _ _ _ (vec_items c.loop-worker.pollers) c.in-Some.ensures.items now.seats in
     let within : c.poller_of-poller.result < length (vec_items c.loop-worker.pollers) =
     grind (arith, common_steps, c.poller_of-poller.ensures.within, now.as_many, now.pollers) in
-    let long = some_left _ _ _ _ _ _ _ c.index_mut.result.now own within each (sym c.index_mut.ensures.value) in
-    grind (arith, common_steps, long)
+    let long = some_left _ _ _ _ _ _ _ c.index_mut.result.now own within each (sym c.index_mut.ensures.value) in record {
+      some = grind (arith, common_steps, long);
+      caller = λ seat rest first.
+          (next_at _ _ _ _ _ _ _ c.index_mut.result.now own within each (sym c.index_mut.ensures.value) seat rest first).caller;
+    }
 
 pub leave-requires-clause-poller : goal.leave-requires-clause-poller
 leave-requires-clause-poller g c =
@@ -45,7 +48,9 @@ leave-requires-clause-poller g c =
     let each = given_at _ _ _ _ _ (vec_items c.loop-worker.pollers) c.in-Some.ensures.items now.seats in
     let within : c.poller_of-poller.result < length (vec_items c.loop-worker.pollers) =
     grind (arith, common_steps, c.poller_of-poller.ensures.within, now.as_many, now.pollers) in
-    next_at _ _ _ _ _ _ _ c.index_mut.result.now own within each (sym c.index_mut.ensures.value) _ _ c.take-seat.ensures
+    let taken = c.take-caller.ensures in
+    let at = next_at _ _ _ _ _ _ _ c.index_mut.result.now own within each (sym c.index_mut.ensures.value) _ _ taken.first in
+    subst (λ n. IsSeatOf n c.take-caller.result.pass) at.napi taken.of
 
 pub leave-requires-clause-thread : goal.leave-requires-clause-thread
 leave-requires-clause-thread g c =
@@ -61,9 +66,10 @@ loop-worker-preserved g c =
     let each = given_at _ _ _ _ _ (vec_items c.loop-worker.pollers) c.in-Some.ensures.items now.seats in
     let within : c.poller_of-poller.result < length (vec_items c.loop-worker.pollers) =
     grind (arith, common_steps, c.poller_of-poller.ensures.within, now.as_many, now.pollers) in
+    let taken = c.take-caller.ensures in
     let o : Outcome g.row.R.Denot g.row.D.Denot g.row.G.Denot = record {
       worker = c.in-Some.worker;
-      poller = c.take-seat.result;
+      poller = taken.seat;
       thread = c.in-Some-next.side;
       loose = c.new.result;
     } in
@@ -74,10 +80,10 @@ loop-worker-preserved g c =
         whole = ap (λ l. l ++ into_iter_items c.next.new.self) (map-append (λ o. o.worker) did (o ∷ [])) ∙ more.2;
         sides_whole = ap (λ l. l ++ into_iter_items c.next-in-Some.new.self) (map-append (λ o. o.thread) did (o ∷ [])) ∙ turns_more.2;
         left = map-append (λ o. o.loose) did (o ∷ []) ∙ ap (λ l. l ++ c.new.result ∷ []) now.left ∙ sym c.push_reserved.ensures.items;
-        each = each_push _ did o now.each (rw c.new.ensures c.leave.ensures);
+        each = each_push _ did o now.each (rw c.new.ensures (c.leave.ensures taken.seat taken.caller_is));
         threads = side.1;
-        seats = given_more _ _ did _ _ _ _ c.index_mut.result.now own within each (sym c.index_mut.ensures.value) o c.take-seat.new.self
-            refl c.take-seat.ensures;
+        seats = given_more _ _ did _ _ _ _ c.index_mut.result.now own within each (sym c.index_mut.ensures.value) o c.take-caller.new.self
+            refl taken.first;
         pollers = length-set (vec_items c.loop-worker.pollers) c.poller_of-poller.result _ ∙ now.pollers;
         as_many = now.as_many;
         some = now.some;

@@ -68,7 +68,7 @@ loop-rest-preserved g c =
     let thread = rw c.open.ensures at c.split-job.ensures.thread.1 in
     let by_job = by_station _ _ _ _ c.poller_of-poller.ensures.own (made.same_number ∙ sym side.0.part.number) in
     let by_side = by_station _ _ _ _ c.poller_of-poller.ensures.own (thread.seat.number ∙ sym side.0.part.number) in
-    let waker : IsAt c.args.wakers.now c.poller_of-poller.result c.index.result.now = (c.poller_of-poller.ensures.within, search rules) in
+    let waker : IsAt c.args.wakers.now c.poller_of-poller.result c.index-wakers-poller.result = (c.poller_of-poller.ensures.within, search rules) in
     let within : c.poller_of-poller.result < length (vec_items c.loop-rest.tasks.pollers) =
     grind (arith, common_steps, now.pollers.as_many, c.poller_of-poller.ensures.within) in (
       i.0 ++ c.in-Some.rest ∷ [],
