@@ -147,6 +147,25 @@ fn a_poll_finds_what_was_put_after_a_million_packets(rt: HostRuntime) -> Result<
     Ok(())
 }
 
+// no contract says that either: a poll that knows of packets, but of fewer than its weight, finds what was put since
+#[test]
+fn a_poll_that_knows_of_too_few_reads_the_ring(rt: HostRuntime) -> Result<(), Fail> {
+    let (mut input, mut ctx) = ring(rt.alloc(), 4)?;
+    let mut batch = Batch::new();
+    let mut packets = [packet(9, 90); 4];
+    let burst = [packet(1, 10), packet(2, 20), packet(3, 30)];
+    assert_eq!(rt; input.put_all(&burst), 3);
+    assert_eq!(rt; ctx.poll(1, &mut batch), 1);
+    assert_eq!(rt; input.put(packet(4, 40)), Ok(()));
+    assert_eq!(rt; ctx.poll(3, &mut batch), 3);
+    assert_eq!(rt; batch.as_slice(), [burst[1], burst[2], packet(4, 40)].as_slice());
+    assert_eq!(rt; input.put_all(&burst), 3);
+    assert_eq!(rt; ctx.poll_into(1, &mut packets), 1);
+    assert_eq!(rt; input.put(packet(4, 40)), Ok(()));
+    assert_eq!(rt; ctx.poll_into(4, &mut packets), 3);
+    Ok(())
+}
+
 // after a context went to another owner and came back, a poll finds what was put meanwhile
 #[test]
 fn context_given_away_overlooks_nothing(rt: HostRuntime) -> Result<(), Fail> {
