@@ -94,6 +94,8 @@ fn no_act_is_made_behind_a_shut_gate(rt: HostRuntime) -> Result<(), Fail> {
 #[derive(Drop)]
 struct ShutFirst {
     shut: AtomicU32,
+    // How often worker 2 asked.
+    asked: AtomicU32,
 }
 
 impl Gate for ShutFirst {
@@ -103,24 +105,27 @@ impl Gate for ShutFirst {
             return false;
         }
         if worker == 2 {
+            self.asked.fetch_add(1, Ordering::SeqCst);
             comes(&self.shut, 1, LONG);
         }
         true
     }
 }
 
-// a worker that waits at an act while the gate returns false for another worker makes no further act
+// a worker that waits at an act while the gate returns false for another worker makes no further act, and asks for none
 #[test]
 fn a_shut_gate_stops_the_others(rt: HostRuntime) -> Result<(), Fail> {
     let made = [AtomicU32::new(0), AtomicU32::new(0)];
     let stations = two(rt.alloc(), &made[0], &made[1])?;
     let gate = ShutFirst {
         shut: AtomicU32::new(0),
+        asked: AtomicU32::new(0),
     };
     let done = run(&rt, rt.alloc(), stations, 2, &gate);
     assert!(rt; matches!(done, Err(WorkFault::GateShut)));
     assert_eq!(rt; made[0].load(Ordering::SeqCst), 0);
     assert!(rt; made[1].load(Ordering::SeqCst) <= 1);
+    assert!(rt; gate.asked.load(Ordering::SeqCst) <= 1);
     Ok(())
 }
 
