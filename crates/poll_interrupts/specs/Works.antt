@@ -54,5 +54,5 @@ module _ {R D G : Type 0} (acts : D → ℕ) (answer : D → ℕ → Act) (after
   pub record IsWorked (before done : InterruptWorker R D G) : Type 0 where
     pub why : IfSome done.stop (IsStop may_shut)
     pub same_handler : done.handler ≡ before.handler
-    pub is : IsDoneBy acts answer after (answers before.context.now.gate.now) before.handler.napi.now (is_some before.handler.thread)
+    pub is : IsDoneBy acts answer after (answers before.context.now.gate) before.handler.napi.now (is_some before.handler.thread)
         before.handler.number before done

@@ -188,7 +188,7 @@ impl<'p, 'n, R: Wait> InterruptHandler<'p, 'n, R> {
 
     // Returns the reason if the worker must not make its next act. If the gate returns false, the run stops.
     fn stop_before<G: Gate>(&self, context: &RunContext<R, G>, k: u32) -> Option<WorkFault>
-        ensures open { result ≡ None → G.answers context.now.gate.now self.now.number k true }
+        ensures open { result ≡ None → G.answers context.now.gate self.now.number k true }
         ensures why { IfSome result (IsStop G.may_shut) }
     {
         match context.stop() {
@@ -217,7 +217,7 @@ impl<'p, 'n, R: Wait> InterruptHandler<'p, 'n, R> {
             → AllActs (is_some self.now.thread) D.answer D.after device.old
             (D.acts device.old) handles result.0 rx.old rx.new }
         ensures let_go { result.1 ≡ None
-            → WasLet (G.answers context.now.gate.now) self.now.number (D.acts device.old) }
+            → WasLet (G.answers context.now.gate) self.now.number (D.acts device.old) }
         ensures device { result.1 ≡ None
             → device.new ≡ after_acts D.after device.old (D.acts device.old) }
         ensures ring { SameIn rx.old rx.new }
@@ -244,7 +244,7 @@ impl<'p, 'n, R: Wait> InterruptHandler<'p, 'n, R> {
 #[derive(Drop)]
 pub struct InterruptWorker<'t, 'p, 'n, R: Wait + Drop, D, G: Gate> {
     /// What all threads of the run share.
-    pub context: &'t RunContext<'t, R, G>,
+    pub context: &'t RunContext<R, G>,
     /// Where its interrupts go.
     pub handler: InterruptHandler<'p, 'n, R>,
     /// Its end of the list of its poller, for pushes.

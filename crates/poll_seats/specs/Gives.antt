@@ -51,7 +51,7 @@ module _ {R G S : Type 0} (idle : S → Bool) (turns : S → Bool → S → Type
   -- run ended early. What it polls is in the state after these turns.
   pub record IsPolled (before after : Poller R G S) : Type 0 where
     pub why : IfSome after.stop (IsStop may_shut)
-    pub started : after.stop ≡ None → idle before.served ≡ false → IsAsked answers before.context.now.gate.now before.name
+    pub started : after.stop ≡ None → idle before.served ≡ false → IsAsked answers before.context.now.gate before.name
     pub turned : after.stop ≡ None → idle before.served ≡ false → IsServed turns before.served after.served
     pub kept : (after.served ≡ before.served) ⊎ IsServed turns before.served after.served
     pub none : idle before.served ≡ true → after.served ≡ before.served

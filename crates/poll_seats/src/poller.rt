@@ -45,7 +45,7 @@ fn serve<R: Wait, S: Serves>(rt: &R, waker: &Waker, wait: &IdleWait, served: &mu
 #[derive(Drop)]
 pub struct Poller<'t, 'p, R: Wait + Drop, G: Gate, S: Drop> {
     /// What all threads of the run share.
-    pub context: &'t RunContext<'t, R, G>,
+    pub context: &'t RunContext<R, G>,
     /// The number by which the poller identifies itself to the gate.
     pub name: u32,
     /// The waker of the poller.

@@ -42,11 +42,11 @@ impl<G: Gate> Rule for Shut<G> {
 /// What all threads of a run share. Its private fields are the flags that say why no further acts are made, each 0 or 1. Proofs
 /// rest on their invariants: each stop has a reason.
 #[derive(Drop)]
-pub struct RunContext<'t, R, G: Gate> {
+pub struct RunContext<R, G: Gate> {
     /// The runtime: starts threads, and waits.
     pub rt: R,
     /// The check before each act.
-    pub gate: &'t G,
+    pub gate: G,
     /// How pollers poll.
     pub limits: PollLimits,
     // The thread of a poller could not be started. This is set before any worker begins.
@@ -57,10 +57,10 @@ pub struct RunContext<'t, R, G: Gate> {
     shut: AtomicIn<Shut<G>>,
 }
 
-impl<'t, R, G: Gate> RunContext<'t, R, G> {
+impl<R, G: Gate> RunContext<R, G> {
     /// Returns the context of a run that isn't stopped.
-    pub fn new(rt: R, gate: &'t G, limits: PollLimits) -> RunContext<'t, R, G>
-        ensures gate { result.gate.now ≡ gate.now }
+    pub fn new(rt: R, gate: G, limits: PollLimits) -> RunContext<R, G>
+        ensures gate { result.gate ≡ gate }
         ensures limits { result.limits ≡ limits }
     {
         RunContext {
@@ -102,7 +102,7 @@ impl<'t, R, G: Gate> RunContext<'t, R, G> {
 
     /// Calls the gate before an act, or when a poller starts. If it returns false, the run stops: no further acts are made.
     pub fn ask(&self, by: u32, act: u32) -> Option<WorkFault>
-        ensures open { result ≡ None → G.answers self.now.gate.now by act true }
+        ensures open { result ≡ None → G.answers self.now.gate by act true }
         ensures shut { IfSome result (IsStop G.may_shut) }
     {
         if self.gate.pass(by, act) {

@@ -253,23 +253,23 @@ module _ {R D G : Type 0} (acts : D → ℕ) (answer : D → ℕ → Act) (after
     (opened : AllZip IsKeptLoose stations loose) (ran : HaveRun acts answer after answers context pollers loose left)
     (ends : List (Finished D)) (finish : AllZip IsKeptFinishOf left ends) where
   abbrev asked : ℕ → Type 0
-  asked = IsAsked answers context.gate.now
+  asked = IsAsked answers context.gate
 
-  run_courses : Courses acts answer after (answers context.gate.now) asked context.limits ran.lists pollers stations ran.left_by.all ends
+  run_courses : Courses acts answer after (answers context.gate) asked context.limits ran.lists pollers stations ran.left_by.all ends
   run_courses =
       let by = ran.left_by in
-      courses_of acts answer after (answers context.gate.now) asked context.limits ran.lists pollers stations by.all ends
-      (subst (λ l. AllZip (Works acts answer after (answers context.gate.now) asked context.limits ran.lists pollers) stations l)
+      courses_of acts answer after (answers context.gate) asked context.limits ran.lists pollers stations by.all ends
+      (subst (λ l. AllZip (Works acts answer after (answers context.gate) asked context.limits ran.lists pollers) stations l)
       (sym by.workers_are)
       (zip_both _ _ _ _ _ opened ran.made))
-      (subst (λ l. AllZip (Turns acts answer after (answers context.gate.now) asked context.limits ran.lists pollers) stations l)
+      (subst (λ l. AllZip (Turns acts answer after (answers context.gate) asked context.limits ran.lists pollers) stations l)
       (sym by.threads_are)
       (zip_both _ _ _ _ _ opened ran.turned))
       (subst (λ l. AllByRecursion (λ (w : InterruptWorker R D G). w.stop ≡ None) l) (sym by.workers_are) (recursion_from_All _ _ ran.whole))
       (subst (λ l. AllByRecursion (λ (t : OwnThread R G). t.stop ≡ None) l) (sym by.threads_are) (recursion_from_All _ _ ran.whole_turns))
       by.each (subst (λ l. AllZip IsKeptFinishOf l ends) (sym by.loose_are) finish)
 
-  pub all_finished : AllZip (IsFinished acts answer after (answers context.gate.now)) stations ends
+  pub all_finished : AllZip (IsFinished acts answer after (answers context.gate)) stations ends
   all_finished = run_courses.finished
 
   -- the stations that a poller polled are its own ones
@@ -428,7 +428,7 @@ module _ {R D G : Type 0} (acts : D → ℕ) (answer : D → ℕ → Act) (after
     worked_of : (loose : DropBomb R (Loose D)) (job done : InterruptWorker R D G) → IsKeptJobOf context loose job
         → IsWiredJob lists wakers job
         → IsWorked acts answer after may_shut answers job done
-        → IsWorkedOf acts answer after (answers context.gate.now) lists (length wakers) loose done
+        → IsWorkedOf acts answer after (answers context.gate) lists (length wakers) loose done
     worked_of loose job done given wired made = record {
       napi = job.handler.napi.now;
       before = job;
@@ -437,9 +437,9 @@ module _ {R D G : Type 0} (acts : D → ℕ) (answer : D → ℕ → Act) (after
       handles = given.same_handles;
       list = subst (λ n. IsEndOf lists (poller_by (length wakers) n) job.list) given.same_number wired.list;
       same_number = ap (λ (h : InterruptHandler R). h.number) made.same_handler ∙ given.same_number;
-      is = subst (λ (s : RunContext R G). IsDone (answers s.gate.now) loose.value.has_thread loose.value.number) given.has
-          (subst (λ b. IsDone (answers job.context.now.gate.now) b loose.value.number) given.thread
-          (subst (λ n. IsDone (answers job.context.now.gate.now) (is_some job.handler.thread) n) given.same_number made.is));
+      is = subst (λ (s : RunContext R G). IsDone (answers s.gate) loose.value.has_thread loose.value.number) given.has
+          (subst (λ b. IsDone (answers job.context.now.gate) b loose.value.number) given.thread
+          (subst (λ n. IsDone (answers job.context.now.gate) (is_some job.handler.thread) n) given.same_number made.is));
     }
       where
         IsDone : (ℕ → ℕ → Bool → Type 0) → Bool → ℕ → Type 0
@@ -448,7 +448,7 @@ module _ {R D G : Type 0} (acts : D → ℕ) (answer : D → ℕ → Act) (after
     pub all_worked : (loose : List (DropBomb R (Loose D))) (jobs done : List (InterruptWorker R D G))
         → AllZip (IsKeptJobOf context) loose jobs
         → AllByRecursion (IsWiredJob lists wakers) jobs → AllZip (IsWorked acts answer after may_shut answers) jobs done
-        → AllZip (IsWorkedOf acts answer after (answers context.gate.now) lists (length wakers)) loose done
+        → AllZip (IsWorkedOf acts answer after (answers context.gate) lists (length wakers)) loose done
     all_worked loose jobs done given wired made =
         zip_same _ _ _ _ (λ l d h. worked_of l h.0 d h.1.0 h.1.1 h.2) (zip_both _ _ _ _ _ (zip_right _ _ _ _ given wired) made)
 
@@ -476,7 +476,7 @@ module _ {R D G : Type 0} (may_shut : Type 0) (answers : G → ℕ → ℕ → B
     (are : map (λ p. p.served.list) pollers ≡ lists) where
   record CameBack (k : ℕ) (poller : OwnPoller R G) : Type 0 where
     pub seats : AreSeatsAt (length wakers) workers k poller
-    pub has : HasPolled (IsAsked answers context.gate.now) context.limits lists (length wakers) loose k poller
+    pub has : HasPolled (IsAsked answers context.gate) context.limits lists (length wakers) loose k poller
 
   came_back : (k : ℕ) (after before : OwnPoller R G) → IsAt pollers k before
       → IsPoller context wakers count (own_seats (length wakers) k sat) k before
@@ -504,8 +504,8 @@ module _ {R D G : Type 0} (may_shut : Type 0) (answers : G → ℕ → ℕ → B
               let busy = some_seat before.served (λ none. some (sym p.seats_are ∙ none)) in record {
                 first = before.served;
                 last = after.served;
-                started = subst (λ m. IsAsked answers context.gate.now m) p.named
-                    (subst (λ (s : RunContext R G). IsAsked answers s.gate.now before.name) p.has (did.started whole busy));
+                started = subst (λ m. IsAsked answers context.gate m) p.named
+                    (subst (λ (s : RunContext R G). IsAsked answers s.gate before.name) p.has (did.started whole busy));
                 paced = p.paced;
                 over = refl;
                 from = p.seats_are;
@@ -528,7 +528,7 @@ module _ {R D G : Type 0} (may_shut : Type 0) (answers : G → ℕ → ℕ → B
   all_seats_at k d low = (all_came k d low).seats
 
   -- each poller polled by these handles
-  pub all_have_polled : EachAt (HasPolled (IsAsked answers context.gate.now) context.limits lists (length wakers) loose) polled
+  pub all_have_polled : EachAt (HasPolled (IsAsked answers context.gate) context.limits lists (length wakers) loose) polled
   all_have_polled k d low = (all_came k d low).has
 
 -- ---- the threads of the instances took their turns
@@ -539,7 +539,7 @@ module _ {R D G : Type 0} (may_shut : Type 0) (answers : G → ℕ → ℕ → B
       → IsKeptThreadFor context loose side → IsWiredSide lists wakers side
       → IsPolled has_no_thread TurnsAlone may_shut answers side thread → thread.stop ≡ None
       → (after : Caller) → thread.served.seat.value.caller ≡ Some after
-      → TurnsIfThread R (IsAsked answers context.gate.now) context.limits lists
+      → TurnsIfThread R (IsAsked answers context.gate) context.limits lists
       (length wakers) has loose.value.number loose.value.thread after
   turned_by loose side thread false has for wired p whole after is =
       same_Some _ _ (sym is ∙ ap (λ (s : ThreadPoller R). s.seat.value.caller) (p.none (ap (λ b. not b) has)) ∙ for.seat.caller_is)
@@ -550,8 +550,8 @@ module _ {R D G : Type 0} (may_shut : Type 0) (answers : G → ℕ → ℕ → B
         record {
           first = side.served;
           last = thread.served;
-          started = subst (λ m. IsAsked answers context.gate.now m) for.named
-              (subst (λ (s : RunContext R G). IsAsked answers s.gate.now side.name) for.has (p.started whole busy));
+          started = subst (λ m. IsAsked answers context.gate m) for.named
+              (subst (λ (s : RunContext R G). IsAsked answers s.gate side.name) for.has (p.started whole busy));
           paced = for.paced;
           at = for.seat.number;
           waker = has;
@@ -565,10 +565,10 @@ module _ {R D G : Type 0} (may_shut : Type 0) (answers : G → ℕ → ℕ → B
   pub all_turned : (loose : List (DropBomb R (Loose D))) (sides threads : List (OwnThread R G))
       → AllZip (IsKeptThreadFor context) loose sides
       → AllByRecursion (IsWiredSide lists wakers) sides → AllZip (IsPolled has_no_thread TurnsAlone may_shut answers) sides threads
-      → AllZip (HasTurned (IsAsked answers context.gate.now) context.limits lists (length wakers)) loose threads
+      → AllZip (HasTurned (IsAsked answers context.gate) context.limits lists (length wakers)) loose threads
   all_turned loose sides threads for wired did =
       zip_same _ _ _ _ (λ l t h after is whole.
-      subst (λ b. TurnsIfThread R (IsAsked answers context.gate.now) context.limits lists
+      subst (λ b. TurnsIfThread R (IsAsked answers context.gate) context.limits lists
       (length wakers) b l.value.number l.value.thread after)
       h.1.0.seat.thread (turned_by l h.0 t _ refl h.1.0 h.1.1 h.2 whole after is))
       (zip_both _ _ _ _ _ (zip_right _ _ _ _ for wired) did)

@@ -120,9 +120,9 @@ pub record HaveRun {R D G : Type 0} (acts : D → ℕ) (answer : D → ℕ → A
   pub polled : List (Poller R G (ListPoller R))
   pub threads : List (Poller R G (ThreadPoller R))
   pub same : length polled ≡ pollers
-  pub made : AllZip (IsWorkedOf acts answer after (answers context.gate.now) lists pollers) loose workers
-  pub ran : EachAt (HasPolled (IsAsked answers context.gate.now) context.limits lists pollers loose) polled
-  pub turned : AllZip (HasTurned (IsAsked answers context.gate.now) context.limits lists pollers) loose threads
+  pub made : AllZip (IsWorkedOf acts answer after (answers context.gate) lists pollers) loose workers
+  pub ran : EachAt (HasPolled (IsAsked answers context.gate) context.limits lists pollers loose) polled
+  pub turned : AllZip (HasTurned (IsAsked answers context.gate) context.limits lists pollers) loose threads
   pub left_by : AreLeftBy workers polled threads left
   pub whole : All (λ w. w.stop ≡ None) workers
   pub whole_polls : All (λ p. p.stop ≡ None) polled

@@ -66,7 +66,7 @@ fn list_of<R: Wait + Drop + Copy>(
 /// Returns the pollers with these wakers, each with room for this many handles, and for each of them two ends of its list for
 /// each of this many stations.
 pub(crate) fn pollers_of<'t, 'p, 'n, R: Wait + Drop + Copy, G: Gate>(
-    context: &'t RunContext<'t, R, G>,
+    context: &'t RunContext<R, G>,
     alloc: Global,
     wakers: &'p [Waker],
     waits: Vec<IdleWait>,

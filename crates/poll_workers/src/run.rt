@@ -46,7 +46,7 @@ fn stop_of_run<'t, 'p, 'n, R: Wait + Drop + Copy, D: Device + Drop, G: Gate>(
 // Runs all threads in one scope, with the parts of the instances that are for them, and takes these parts back. If an allocation
 // fails, no thread starts.
 fn run_threads<'t, 'p, 'n, R, D, G>(
-    context: &'t RunContext<'t, R, G>,
+    context: &'t RunContext<R, G>,
     alloc: Global,
     wakers: &'p [Waker],
     waits: Vec<IdleWait>,
@@ -82,7 +82,7 @@ where
 
 // Opens all stations, runs them, and closes their instances.
 fn run_all<'t, R, D, G>(
-    context: &'t RunContext<'t, R, G>,
+    context: &'t RunContext<R, G>,
     alloc: Global,
     pollers: usize,
     stations: Vec<Station<D>>,
@@ -96,10 +96,10 @@ where
     requires stations { All IsStation (vec_items stations) }
     requires count { vec_len stations ≤ 16 }
     ensures finished { IfOk result
-        (λ all. AllZip (IsFinished D.acts D.answer D.after (G.answers context.now.gate.now))
+        (λ all. AllZip (IsFinished D.acts D.answer D.after (G.answers context.now.gate))
         (vec_items stations) (vec_items all)) }
     ensures polled { IfOk result
-        (λ all. ArePolled R (IsAsked G.answers context.now.gate.now) context.now.limits
+        (λ all. ArePolled R (IsAsked G.answers context.now.gate) context.now.limits
         D.acts D.answer D.after pollers (vec_items stations) (vec_items all)) }
     ensures why { IfErr result (IsStop G.may_shut) }
 {

@@ -36,8 +36,8 @@ fn thread_waker<'n>(placed: &'n Placed) -> Option<&'n Waker>
 }
 
 // Returns the interrupt handler of an instance's worker: where its interrupts go.
-fn handler_at<'t, 'p, 'n, R: Copy, G: Gate>(
-    context: &RunContext<'t, R, G>,
+fn handler_at<'p, 'n, R: Copy, G: Gate>(
+    context: &RunContext<R, G>,
     waker: &'p Waker,
     placed: &'n Placed,
     number: u32,
@@ -84,7 +84,7 @@ fn seat_of<'n, R: Wait + Drop + Copy>(
 
 // Returns the parts of one instance: its worker, the handle for the poller of its list, and its thread poller.
 fn split<'t, 'p, 'n, R: Wait + Drop + Copy, D: Drop, G: Gate>(
-    context: &'t RunContext<'t, R, G>,
+    context: &'t RunContext<R, G>,
     waker: &'p Waker,
     placed: &'n DropBomb<R, Placed>,
     loose: Loose<D>,
@@ -144,7 +144,7 @@ fn split<'t, 'p, 'n, R: Wait + Drop + Copy, D: Drop, G: Gate>(
 
 /// Distributes the opened instances over the threads of the run. `ends` has two ends of its poller's list for each instance.
 pub(crate) fn spread<'t, 'p, 'n, R: Wait + Drop + Copy, D: Device + Drop, G: Gate>(
-    context: &'t RunContext<'t, R, G>,
+    context: &'t RunContext<R, G>,
     wakers: &'p [Waker],
     placed: &'n [DropBomb<R, Placed>],
     loose: Vec<DropBomb<R, Loose<D>>>,

@@ -10,7 +10,7 @@ invariant-loop-k g l =
     let brought = arrivals g.D.Device.answer after d l.k in record {
       of : AreHandlesOf l.self.napi.now l.handles;
       lists : Lists l.self.number l.fn.handles.caller.pass l.handles.caller.pass l.initial.list l.list;
-      let_go : WasLet (g.G.Gate.answers l.context.gate.now) l.self.number l.k;
+      let_go : WasLet (g.G.Gate.answers l.context.gate) l.self.number l.k;
       acted : AllActs (is_some l.self.thread) g.D.Device.answer after d l.k l.fn.handles l.handles l.initial.rx l.rx;
       made : l.device ≡ after_acts after d l.k;
       acts : g.D.Device.acts l.device ≡ g.D.Device.acts d;
