@@ -89,8 +89,8 @@ pub wired_end : {R : Type 0} (lists : List (SharedList R)) (k n : ℕ) (given en
 wired_end lists k n given end is same e =
     subst (λ m. IsEndOf lists m end) (sym e) (subst (λ x. IsEndOf lists k x) (sym same) is)
 
-pub wired_waker : (wakers : List Waker) (k n : ℕ) (here waker : Waker) → IsAt wakers k here → waker ≡ here → n ≡ k → IsAt wakers n waker
-wired_waker wakers k n here waker is same e = subst (λ m. IsAt wakers m waker) (sym e) (subst (λ b. IsAt wakers k b) (sym same) is)
+pub wired_waker : (wakers : List Waker) (k n : ℕ) (own waker : Waker) → IsAt wakers k own → waker ≡ own → n ≡ k → IsAt wakers n waker
+wired_waker wakers k n own waker is same e = subst (λ m. IsAt wakers m waker) (sym e) (subst (λ b. IsAt wakers k b) (sym same) is)
 
 -- ---- the counts while one more handle is added
 
