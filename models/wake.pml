@@ -111,7 +111,7 @@ proctype Worker(byte number) {
     turn_on(number);                                                            /* poll_interrupts/worker run */
     do
     :: act < (number == 0 -> ACTS : OTHER_ACTS) ->                              /* poll_interrupts/worker make_acts */
-       if :: refused || stopped -> break :: else fi;                            /* poll_tasks/signals stop */
+       if :: refused || stopped -> break :: else fi;                            /* poll_tasks/context stop */
        if :: true :: stopped = true; break fi;                                  /* poll_interrupts/worker stop_before */
        if
        :: ring[number] = ring[number] + 1;                                      /* poll_interrupts/worker make_act */

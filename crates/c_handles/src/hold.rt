@@ -107,55 +107,15 @@ impl CallerState {
         }
     }
 
-    // The four functions below write the state from which the caller was taken out, and return the status. Each is a function
-    // of its own, so that the write occurs once in the machine code. The match on the old state shows the compiler that nothing
-    // is dropped.
+    // Writes the state after a call to a caller that was taken out for it, and returns the call's status. The match on the old
+    // state shows the compiler that nothing is dropped.
     #[inline(always)]
-    fn rest(&mut self, caller: Caller, answer: u32) -> u32
+    fn put(&mut self, state: CallerState, answer: u32) -> u32
         requires { self.old ≡ hold.Gone }
-        ensures place { self.new ≡ hold.Rests caller }
+        ensures place { self.new ≡ state }
         ensures answer { result ≡ answer }
     {
-        let taken = mem::replace(self, CallerState::Rests(caller));
-        match &taken {
-            CallerState::Gone => answer,
-            _ => unreachable!(),
-        }
-    }
-
-    #[inline(always)]
-    fn grant(&mut self, granted: Granted, answer: u32) -> u32
-        requires { self.old ≡ hold.Gone }
-        ensures place { self.new ≡ hold.Granted granted }
-        ensures answer { result ≡ answer }
-    {
-        let taken = mem::replace(self, CallerState::Granted(granted));
-        match &taken {
-            CallerState::Gone => answer,
-            _ => unreachable!(),
-        }
-    }
-
-    #[inline(always)]
-    fn poll(&mut self, polling: Polling, answer: u32) -> u32
-        requires { self.old ≡ hold.Gone }
-        ensures place { self.new ≡ hold.Polls polling }
-        ensures answer { result ≡ answer }
-    {
-        let taken = mem::replace(self, CallerState::Polls(polling));
-        match &taken {
-            CallerState::Gone => answer,
-            _ => unreachable!(),
-        }
-    }
-
-    #[inline(always)]
-    fn busy(&mut self, busy: Busy, answer: u32) -> u32
-        requires { self.old ≡ hold.Gone }
-        ensures place { self.new ≡ hold.Busy busy }
-        ensures answer { result ≡ answer }
-    {
-        let taken = mem::replace(self, CallerState::Busy(busy));
+        let taken = mem::replace(self, state);
         match &taken {
             CallerState::Gone => answer,
             _ => unreachable!(),
@@ -192,10 +152,10 @@ impl CallerState {
         }
         let caller = mem::replace(self, CallerState::Gone).into_caller();
         match caller.try_schedule(napi) {
-            TryPrep::Granted(granted) => self.grant(granted, status::GRANTED),
-            TryPrep::Missed(caller) => self.rest(caller, status::MISSED),
-            TryPrep::Disabled(caller) => self.rest(caller, status::DISABLED),
-            TryPrep::Changed(caller) => self.rest(caller, status::CHANGED),
+            TryPrep::Granted(granted) => self.put(CallerState::Granted(granted), status::GRANTED),
+            TryPrep::Missed(caller) => self.put(CallerState::Rests(caller), status::MISSED),
+            TryPrep::Disabled(caller) => self.put(CallerState::Rests(caller), status::DISABLED),
+            TryPrep::Changed(caller) => self.put(CallerState::Rests(caller), status::CHANGED),
         }
     }
 
@@ -209,7 +169,7 @@ impl CallerState {
             return status::NOT_ALLOWED;
         }
         let granted = mem::replace(self, CallerState::Gone).into_granted();
-        self.rest(granted.hand(napi, kind), status::OK)
+        self.put(CallerState::Rests(granted.hand(napi, kind)), status::OK)
     }
 
     #[inline]
@@ -223,8 +183,8 @@ impl CallerState {
         }
         let caller = mem::replace(self, CallerState::Gone).into_caller();
         match caller.take(napi, kind) {
-            Ok(polling) => self.poll(polling, status::TAKEN),
-            Err(caller) => self.rest(caller, status::NOT_THERE),
+            Ok(polling) => self.put(CallerState::Polls(polling), status::TAKEN),
+            Err(caller) => self.put(CallerState::Rests(caller), status::NOT_THERE),
         }
     }
 
@@ -238,7 +198,7 @@ impl CallerState {
             return status::NOT_ALLOWED;
         }
         let polling = mem::replace(self, CallerState::Gone).into_polling();
-        self.rest(polling.requeue(napi), status::OK)
+        self.put(CallerState::Rests(polling.requeue(napi)), status::OK)
     }
 
     #[inline]
@@ -269,9 +229,9 @@ impl CallerState {
         }
         let polling = mem::replace(self, CallerState::Gone).into_polling();
         match polling.try_complete(napi) {
-            TryDone::Released(caller) => self.rest(caller, status::RELEASED),
-            TryDone::Again(granted) => self.grant(granted, status::AGAIN),
-            TryDone::Changed(polling) => self.poll(polling, status::CHANGED),
+            TryDone::Released(caller) => self.put(CallerState::Rests(caller), status::RELEASED),
+            TryDone::Again(granted) => self.put(CallerState::Granted(granted), status::AGAIN),
+            TryDone::Changed(polling) => self.put(CallerState::Polls(polling), status::CHANGED),
         }
     }
 
@@ -286,9 +246,9 @@ impl CallerState {
         }
         let caller = mem::replace(self, CallerState::Gone).into_caller();
         match caller.try_busy(napi) {
-            TryBusy::Taken(busy) => self.busy(busy, status::TAKEN),
-            TryBusy::Refused(caller) => self.rest(caller, status::BUSY),
-            TryBusy::Changed(caller) => self.rest(caller, status::CHANGED),
+            TryBusy::Taken(busy) => self.put(CallerState::Busy(busy), status::TAKEN),
+            TryBusy::Refused(caller) => self.put(CallerState::Rests(caller), status::BUSY),
+            TryBusy::Changed(caller) => self.put(CallerState::Rests(caller), status::CHANGED),
         }
     }
 
@@ -303,8 +263,8 @@ impl CallerState {
         }
         let busy = mem::replace(self, CallerState::Gone).into_busy();
         match busy.try_stop(napi) {
-            TryStop::Stopped(polling) => self.poll(polling, status::OK),
-            TryStop::Changed(busy) => self.busy(busy, status::CHANGED),
+            TryStop::Stopped(polling) => self.put(CallerState::Polls(polling), status::OK),
+            TryStop::Changed(busy) => self.put(CallerState::Busy(busy), status::CHANGED),
         }
     }
 

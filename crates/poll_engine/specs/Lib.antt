@@ -25,12 +25,19 @@ pub use Rattle.poll_list.specs.declared.list_in.ListIn
 pub use Rattle.poll_list.specs.declared.shared.SharedList
 pub use Rattle.poll_shared.specs.Tries
 pub use Rattle.poll_tasks.specs.Asks
+pub use Rattle.poll_tasks.specs.Faults as WorkFaults
 pub use Rattle.poll_tasks.specs.Refusals
+pub use Rattle.poll_tasks.specs.Trails
+pub use Rattle.poll_tasks.specs.declared.fault.WorkFault
+pub use Rattle.poll_tasks.specs.declared.trail.Asked
+pub use Rattle.poll_tasks.specs.declared.trail.Trail
 pub use Rattle.poll_interrupts.specs.Acts
 pub use Rattle.poll_interrupts.specs.Calls
 pub use Rattle.poll_interrupts.specs.Closings
 pub use Rattle.poll_interrupts.specs.Deals
+pub use Rattle.poll_interrupts.specs.Hands
 pub use Rattle.poll_interrupts.specs.Opens
+pub use Rattle.poll_interrupts.specs.Questions
 pub use Rattle.poll_interrupts.specs.Runs
 pub use Rattle.poll_interrupts.specs.declared.act_list.ActList
 pub use Rattle.poll_interrupts.specs.declared.acts.Act
@@ -38,7 +45,5 @@ pub use Rattle.poll_interrupts.specs.declared.station.Closed
 pub use Rattle.poll_interrupts.specs.declared.station.Finished
 pub use Rattle.poll_interrupts.specs.declared.station.Station
 pub use Rattle.poll_workers.specs.Courses
-pub use Rattle.poll_workers.specs.Faults as WorkFaults
 pub use Rattle.poll_workers.specs.Finishes
 pub use Rattle.poll_workers.specs.Numbers
-pub use Rattle.poll_workers.specs.declared.fault.WorkFault

@@ -14,5 +14,5 @@ pub use poll_runs::{
     poll_thread_of, run_is_function, run_is_shown, run_softirq, runs_agree,
 };
 pub use poll_shared::{busy_instance, poll_instance, poll_instance_by_thread};
-pub use poll_tasks::{Gate, OpenGate};
-pub use poll_workers::{WorkFault, have_distinct_numbers, run_workers};
+pub use poll_tasks::{Asked, Gate, OpenGate, Trail, WorkFault};
+pub use poll_workers::{have_distinct_numbers, run_workers};

@@ -1,16 +1,15 @@
 -- The effect of acts on a worker's handles on its instance.
 use Rattle.std.specs.Prelude.{◌≡◌, ◌⊎◌, ◌≤◌, ℕ, zero, suc, Bool, true, false, List, [], ◌∷◌, ◌++◌, length, if◌then◌else◌}
 use Rattle.rx_ring.specs.{declared.{ends.RxIn.RxIn, packet.Packet.Packet}, Ends.{SameIn, capacity_of, put_list}}
-use Rattle.{napi_model.specs.declared.{state.Seen.Seen, event.{Event.Event, Operation.Operation}}, napi_word.specs.declared.table.Pass.Pass}
-use Rattle.napi_calls.specs.{declared.answers.Sched.Sched, Calls.{Disables, Enables, Schedules}, Made.Made, Seats.own_list}
-use Rattle.{poll_list.specs.{declared.list_in.ListIn.ListIn, SharedList.pushed_by}, poll_interrupts.specs.declared.acts.Act.Act}
+use Rattle.{napi_model.specs.declared.state.Seen.Seen, napi_word.specs.declared.table.Pass.Pass}
+use Rattle.napi_calls.specs.{declared.answers.Sched.Sched, Calls.{Disables, Enables, Schedules}, Made.Made}
+use Rattle.poll_interrupts.specs.declared.acts.Act.{Act}
 use Rattle.poll_interrupts.specs.declared.acts.Act.TheVariants.{Arrive, Disable, Enable, SetThreaded, Nothing}
 use Rattle.poll_interrupts.specs.declared.worker.{WorkerHandles.WorkerHandles, ControllerState.{ControllerState, TheVariants.{On, Off}}}
 use Rattle.poll_interrupts.specs.{Acts.after_acts, Handles.{is_on, pass_of}}
 use Rattle.napi_model.specs.declared.state.Kind.TheVariants as kind
 use Rattle.napi_model.specs.declared.event.Operation.TheVariants as operation
 use Rattle.napi_calls.specs.declared.answers.Sched.TheVariants as sched
-use Rattle.poll_list.specs.SharedList as list
 
 -- An instance that was granted is queued: for its own thread if it has one and the state word then shows THREADED, otherwise on
 -- the list.
@@ -28,24 +27,6 @@ GoesOn thread (sched.Disabled caller) q = q ≡ caller.pass
 -- an interrupt: requests a poll, and queues the instance if the request is granted
 abbrev pub Interrupts : Bool → Pass → Pass → Type 0
 Interrupts thread p q = (s : Sched) × Schedules p s × GoesOn thread s q
-
--- the operation queues the instance on the list
-abbrev pub is_listing : Operation → Bool
-is_listing (operation.Hand kind.List) = true
-is_listing _ = false
-
--- what is pushed for these events: the instance's number, once for each time that it was queued on the list
-abbrev pub listings : ℕ → List Event → List ℕ
-listings number [] = []
-listings number (e ∷ es) = (if is_listing e.operation then number ∷ [] else []) ++ listings number es
-
--- Between the passes p and q, the caller queued its instance on the list as many times as its number was pushed there, and
--- nothing else was pushed.
-pub record Lists {R : Type 0} (number : ℕ) (p q : Pass) (before after : ListIn R) : Type 0 where
-  pub same : list.SameListIn before after
-  pub did : List Event
-  pub grown : own_list q ≡ own_list p ++ did
-  pub pushed : pushed_by after ≡ pushed_by before ++ listings number did
 
 -- the packet is the last one that was put
 abbrev pub IsPutLast : Packet → RxIn → Type 0

@@ -9,6 +9,7 @@ module _ {D : Type 0} where
   pub record IsFinishOf (loose : Loose D) (end : Finished D) : Type 0 where
     pub same_number : end.number ≡ loose.number
     pub same_device : end.device ≡ loose.device
+    pub same_asked : end.asked ≡ loose.asked
     pub put : end.totals.put ≡ capped (length (put_list loose.rx))
     pub bytes : end.totals.bytes ≡ capped (bytes_of (put_list loose.rx))
     pub sum : length (put_list loose.rx) < 2 ^ 64 → end.totals.put ≡ end.totals.polled + end.totals.left

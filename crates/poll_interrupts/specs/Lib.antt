@@ -5,5 +5,7 @@ pub mod Opens
 pub mod Deals
 pub mod Ends
 pub mod Calls
+pub mod Hands
+pub mod Questions
 pub mod Closings
 pub mod Runs

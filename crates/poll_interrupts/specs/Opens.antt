@@ -2,7 +2,7 @@
 use Rattle.poll_interrupts.specs.{Runs.{controller_number, poller_number, thread_number}, declared.station.Station.Station}
 use Rattle.poll_interrupts.specs.{declared.opening.{Placed.Placed, Loose.Loose}, Handles.{AreAtRest, AreUnused, IsUnused, pass_of}}
 use Rattle.std.specs.Prelude.{◌≡◌, ◌≤◌, [], vec_len, vec_capacity}
-use Rattle.poll_tasks.specs.Wakers.{Wakes}
+use Rattle.poll_tasks.specs.{Trails.questions, Wakers.Wakes}
 use Rattle.napi_calls.specs.declared.{types.Napi.Napi, kept.DropBomb.DropBomb}
 use Rattle.napi_calls.specs.{Seats.pass_number, Instance.{IsSeatOf, callers_of, first_of_instance, ring_of_instance}}
 use Rattle.rx_ring.specs.{Ends.{IsOneRing, capacity_of, put_list, received_list, ring_name}, declared.ends.{RxCtx.RxCtx, RxIn.RxIn}}
@@ -34,6 +34,7 @@ module _ {D : Type 0} where
     pub unused : AreUnused loose.handles
     pub poller : IsUnused poller_number loose.poller
     pub own : IsUnused thread_number loose.thread
+    pub unasked : questions loose.asked ≡ []
 
   -- the parts that go to the threads (or came back from them) and the part that stays with the caller belong to one instance
   -- and one ring

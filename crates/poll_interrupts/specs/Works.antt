@@ -1,10 +1,10 @@
 -- The contract of a worker, for its own station.
 use Rattle.std.specs.Prelude.{◌≡◌, ℕ, ◌+◌, ◌≤◌, ◌++◌, Bool, None, IfSome, is_some, length}
-use Rattle.{poll_tasks.specs.{Asks.WasLet, Stops.IsStop}, rx_ring.specs.{declared.ends.RxIn.RxIn, Ends.SameIn}}
+use Rattle.{poll_tasks.specs.{Asks.WasLet, Stops.IsStop, Trails.questions}, rx_ring.specs.{declared.ends.RxIn.RxIn, Ends.SameIn}}
 use Rattle.{rx_ring.specs.Ends.{capacity_of, put_list}, napi_calls.specs.{declared.types.Napi.Napi, Seats.{pass_number, own_list}}}
 use Rattle.poll_interrupts.specs.declared.{acts.Act.Act, worker.{WorkerHandles.WorkerHandles, InterruptWorker.InterruptWorker}}
 use Rattle.poll_interrupts.specs.Acts.{after_acts}
-use Rattle.poll_interrupts.specs.{Acts.arrivals, Calls.Lists, Runs.{Ledger, Whose, WorksBy}}
+use Rattle.poll_interrupts.specs.{Acts.arrivals, Hands.{ThreadWakesAndClose, Lists}, Questions.all_questions, Runs.{Ledger, Whose, WorksBy}}
 use Rattle.poll_interrupts.specs.Handles.{AreAtRest, AreSameHandles, is_on, pass_of}
 
 -- the ledger of a worker, read off its handles and the ring's input
@@ -37,9 +37,15 @@ module _ {R D G : Type 0} (acts : D → ℕ) (answer : D → ℕ → Act) (after
   pub record IsDoneBy (napi : Napi) (thread : Bool) (number : ℕ) (before done : InterruptWorker R D G) : Type 0 where
     pub handles : AreAtRest napi done.handles.value
     pub same : AreSameHandles before.handles.value done.handles.value
-    -- it pushed the station's number once for each time that it queued the instance on the list, and nothing else
-    pub lists : Lists number before.handles.value.caller.pass done.handles.value.caller.pass before.list done.list
+    -- it pushed the station's number once for each time that it queued the instance on the list, and nothing else; and it woke the
+    -- poller after each push
+    pub lists : Lists before.handler before.handles.value.caller.pass done.handles.value.caller.pass before.out done.out
+    -- it woke the instance's thread after each time that it queued the instance for it, and closed the thread's queue at its end
+    pub wakes : ThreadWakesAndClose before.handler before.handles.value.caller.pass done.handles.value.caller before.out done.out
     pub let_go : done.stop ≡ None → WasLet answers number (acts before.device)
+    -- it asked the gate once before each act
+    pub asked : done.stop ≡ None
+        → questions done.out.asked ≡ questions before.out.asked ++ all_questions after number before.device (acts before.device)
     pub run : done.stop ≡ None → HasWorked thread before done
     pub made : done.stop ≡ None → done.device ≡ after_acts after before.device (acts before.device)
     pub ring : SameIn before.rx done.rx
@@ -54,5 +60,5 @@ module _ {R D G : Type 0} (acts : D → ℕ) (answer : D → ℕ → Act) (after
   pub record IsWorked (before done : InterruptWorker R D G) : Type 0 where
     pub why : IfSome done.stop (IsStop may_shut)
     pub same_handler : done.handler ≡ before.handler
-    pub is : IsDoneBy acts answer after (answers before.context.now.gate.now) before.handler.napi.now (is_some before.handler.thread)
+    pub is : IsDoneBy acts answer after (answers before.context.now.gate) before.handler.napi.now (is_some before.handler.thread)
         before.handler.number before done

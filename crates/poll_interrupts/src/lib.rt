@@ -12,6 +12,6 @@ mod worker;
 pub use act_list::ActList;
 pub use acts::{Act, Device};
 pub use dealing::poller_of;
-pub use opening::{Loose, Placed, end_all, open_all, shut_all};
+pub use opening::{Loose, Placed, end_all, open_all};
 pub use station::{Closed, Finished, Station};
-pub use worker::{InterruptHandler, InterruptWorker, WorkerHandles};
+pub use worker::{InterruptHandler, InterruptWorker, Outbox, WorkerHandles};

@@ -1,6 +1,6 @@
 //! How the instances of stations are opened and closed.
 
-ghost use Rattle.std.specs.Prelude.{◌≡◌, ◌≤◌, ◌+◌, ℕ, [], ◌∷◌, IfOk, length, slice_get, Some, vec_items, vec_len, vec_capacity};
+ghost use Rattle.std.specs.Prelude.{◌≡◌, ◌≤◌, ◌+◌, ℕ, [], ◌∷◌, IfOk, OnOk, length, slice_get, Some, vec_items, vec_len, vec_capacity};
 ghost use Rattle.std.specs.List.{All, AllZip};
 ghost use Rattle.napi_calls.specs.Instance.{IsNewSeat, IsSeatOf, callers_of};
 ghost use Rattle.napi_calls.specs.declared.types.Caller.{Caller};
@@ -13,7 +13,7 @@ ghost use Rattle.poll_interrupts.specs.Handles.{AreAtRest};
 use crate::station::{Closed, Finished, Station};
 use crate::worker::{ControllerState, WorkerHandles};
 use napi_calls::{Caller, DropBomb, Napi, NewBack};
-use poll_tasks::{IdleWait, Waker};
+use poll_tasks::{Asked, IdleWait, Trail, Waker};
 use rx_ring::{RxCtx, RxIn, finish, ring};
 use std::alloc::{AllocError, Global};
 use std::snapshot::Snapshot;
@@ -52,6 +52,8 @@ pub struct Loose<D> {
     pub has_thread: bool,
     /// How that thread waits.
     pub wait: IdleWait,
+    /// The worker's questions to the gate.
+    pub asked: Trail<Asked<D>>,
 }
 
 impl Placed {
@@ -130,9 +132,7 @@ fn open<D: Drop>(alloc: Global, station: Station<D>) -> Result<(Placed, Loose<D>
         device,
     } = station;
     let (waker, wait) = Waker::new(alloc)?;
-    let Ok((rx, ctx)) = ring(alloc, capacity) else {
-        return Err(AllocError);
-    };
+    let (rx, ctx) = ring(alloc, capacity).map_err(|_| AllocError)?;
     let (napi, mut callers, control) = match Napi::new(alloc, ctx, 3) {
         Ok(made) => made,
         Err(NewBack { fault: _, ctx: _ }) => return Err(AllocError),
@@ -160,6 +160,7 @@ fn open<D: Drop>(alloc: Global, station: Station<D>) -> Result<(Placed, Loose<D>
         thread,
         has_thread,
         wait,
+        asked: Trail::new(),
     };
     Ok((placed, loose))
 }
@@ -178,6 +179,7 @@ fn end<D: Drop>(placed: Placed, loose: Loose<D>) -> Finished<D>
         thread,
         has_thread: _,
         wait: _,
+        asked,
     } = loose;
     let (closed, ctx) = placed.close(handles, poller, thread);
     let totals = finish(rx, ctx);
@@ -186,27 +188,11 @@ fn end<D: Drop>(placed: Placed, loose: Loose<D>) -> Finished<D>
         device,
         totals,
         closed,
+        asked,
     }
 }
 
-/// Closes instances that no thread has used.
-pub fn shut_all<R: Wait + Drop, D: Drop>(
-    placed: Vec<DropBomb<R, Placed>>,
-    loose: Vec<DropBomb<R, Loose<D>>>,
-)
-    requires { AllZip IsKeptPartOf (vec_items loose) (vec_items placed) }
-{
-    let mut others = loose.into_iter();
-    let mut all = placed.into_iter();
-    while let Some(other) = others.next() {
-        let Some(one) = all.next() else {
-            unreachable!()
-        };
-        let _finished = end(one.open(), other.open());
-    }
-}
-
-/// Closes all instances, in order, after their threads have ended. Requires room for the results.
+/// Closes instances, in order, that no thread uses any more. Requires room for the results.
 pub fn end_all<R: Wait + Drop, D: Drop>(
     placed: Vec<DropBomb<R, Placed>>,
     loose: Vec<DropBomb<R, Loose<D>>>,
@@ -228,31 +214,26 @@ pub fn end_all<R: Wait + Drop, D: Drop>(
     finished
 }
 
-/// Opens the instances of all stations. If an allocation fails, those already opened are closed.
+/// Opens the instances of all stations, in order. Requires room for their parts. If an allocation fails, those that were opened
+/// before stay open.
 pub fn open_all<R: Wait + Drop + Copy, D: Drop>(
     rt: R,
     alloc: Global,
     stations: Vec<Station<D>>,
-) -> Result<(Vec<DropBomb<R, Placed>>, Vec<DropBomb<R, Loose<D>>>), AllocError>
+    placed: &mut Vec<DropBomb<R, Placed>>,
+    loose: &mut Vec<DropBomb<R, Loose<D>>>,
+) -> Result<(), AllocError>
     requires stations { All IsStation (vec_items stations) }
-    ensures loose { IfOk result (λ r. AllZip IsKeptLoose (vec_items stations) (vec_items r.1)) }
-    ensures sides { IfOk result (λ r. AllZip IsKeptSideOf (vec_items r.1) (vec_items r.0)) }
-    ensures len { IfOk result
-        (λ r. (vec_len r.0 ≡ vec_len stations) × (vec_len r.1 ≡ vec_len stations)) }
+    requires placed { HasRoom (vec_len stations) placed.old }
+    requires loose { HasRoom (vec_len stations) loose.old }
+    ensures loose { OnOk result (AllZip IsKeptLoose (vec_items stations) (vec_items loose.new)) }
+    ensures sides { AllZip IsKeptSideOf (vec_items loose.new) (vec_items placed.new) }
+    ensures few { vec_len loose.new ≤ vec_len stations }
 {
-    let mut placed = Vec::with_capacity(alloc, stations.len())?;
-    let mut loose = Vec::with_capacity(alloc, stations.len())?;
     for station in stations {
-        match open(alloc, station) {
-            Ok((one, other)) => {
-                placed.push_reserved(DropBomb::new(rt, one));
-                loose.push_reserved(DropBomb::new(rt, other));
-            }
-            Err(error) => {
-                shut_all(placed, loose);
-                return Err(error);
-            }
-        }
+        let (one, other) = open(alloc, station)?;
+        placed.push_reserved(DropBomb::new(rt, one));
+        loose.push_reserved(DropBomb::new(rt, other));
     }
-    Ok((placed, loose))
+    Ok(())
 }

@@ -5,6 +5,7 @@ ghost use Rattle.rx_ring.specs.declared.ends.RxCtx.{RxCtx};
 ghost use Rattle.napi_calls.specs.Closed.{IsClosed};
 
 use napi_calls::{Caller, Control, Napi, Off};
+use poll_tasks::{Asked, Trail};
 use rx_ring::Totals;
 use std::snapshot::Snapshot;
 
@@ -33,6 +34,8 @@ pub struct Finished<D> {
     pub totals: Totals,
     /// Its instance and all its callers, as they were when it was closed.
     pub closed: Closed,
+    /// The questions to the gate before its acts, each with the device at that time. Only proofs read them.
+    pub asked: Trail<Asked<D>>,
 }
 
 /// A closed instance with its three callers and its controller, for contracts: it has no bytes at run time. A value of this

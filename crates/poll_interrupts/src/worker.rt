@@ -1,19 +1,22 @@
 //! An interrupt worker: makes its device's acts, and queues the instance for its poller.
 
-ghost use Rattle.std.specs.Prelude.{◌≡◌, ℕ, ◌+◌, ◌≤◌, ◌<◌, ◌++◌, true, false, None, IfSome, is_some, length};
+ghost use Rattle.std.specs.Prelude.{◌≡◌, ℕ, ◌+◌, ◌≤◌, ◌<◌, ◌++◌, ◌∷◌, [], true, false, None, IfSome, is_some, length};
 ghost use Rattle.rx_ring.specs.Ends.{SameIn, capacity_of, put_list};
 ghost use Rattle.napi_calls.specs.Instance.{IsSeatOf};
 ghost use Rattle.poll_interrupts.specs.Acts.{after_acts, arrivals, brings};
-ghost use Rattle.poll_interrupts.specs.Calls.{Acts, AllActs, HandsOver, Interrupts, IsPutLast, Lists, TurnsOff, TurnsOn};
+ghost use Rattle.poll_interrupts.specs.Calls.{Acts, AllActs, HandsOver, Interrupts, IsPutLast, TurnsOff, TurnsOn};
+ghost use Rattle.poll_interrupts.specs.Hands.{Lists, ThreadWakes};
+ghost use Rattle.poll_interrupts.specs.Questions.{all_questions};
 ghost use Rattle.poll_interrupts.specs.Handles.{AreAtRest, AreHandlesOf, AreSameHandles, pass_of};
 ghost use Rattle.poll_tasks.specs.Asks.{WasLet};
 ghost use Rattle.poll_tasks.specs.Stops.{IsStop};
+ghost use Rattle.poll_tasks.specs.Trails.{questions};
 
 use crate::acts::{Act, Device};
 use napi_calls::{Between, Caller, Control, DropBomb, Granted, Napi, Off, On, Sched};
 use napi_model::Kind;
 use poll_list::ListIn;
-use poll_tasks::{Gate, RunContext, Stop, Task, Waker};
+use poll_tasks::{Asked, Gate, RunContext, Signal, Task, Trail, Waker, WorkFault};
 use rx_ring::{Packet, RxIn};
 use std::sync::Wait;
 use std::thread;
@@ -44,6 +47,37 @@ pub struct WorkerHandles {
     pub(crate) threaded: bool,
 }
 
+/// What goes out of a worker: pushes on its poller's list, questions to the gate, and wake-ups. The last three only proofs read.
+#[derive(Drop)]
+pub struct Outbox<R, D> {
+    /// Its end of the list of its poller, for pushes.
+    pub list: ListIn<R>,
+    /// Its questions to the gate, each with the device at that time.
+    pub asked: Trail<Asked<D>>,
+    /// Its wake-ups of the list's poller, each with the list at that time.
+    pub list_wakes: Trail<Signal<ListIn<R>>>,
+    /// Its wake-ups of the instance's thread, each with the caller at that time.
+    pub thread_wakes: Trail<Signal<Caller>>,
+}
+
+impl<R, D> Outbox<R, D> {
+    ghost use Rattle.poll_tasks.specs.Trails.{signals};
+
+    /// Returns the outbox of a worker that has asked these questions, and has woken no thread yet.
+    pub fn new(list: ListIn<R>, asked: Trail<Asked<D>>) -> Outbox<R, D>
+        ensures list { result.list ≡ list }
+        ensures asked { result.asked ≡ asked }
+        ensures wakes { (signals result.list_wakes ≡ []) × (signals result.thread_wakes ≡ []) }
+    {
+        Outbox {
+            list,
+            asked,
+            list_wakes: Trail::new(),
+            thread_wakes: Trail::new(),
+        }
+    }
+}
+
 /// Where the interrupts of a worker go: the instance and the wakers.
 #[derive(Drop)]
 pub struct InterruptHandler<'p, 'n, R> {
@@ -61,48 +95,60 @@ pub struct InterruptHandler<'p, 'n, R> {
 
 impl<'p, 'n, R: Wait> InterruptHandler<'p, 'n, R> {
     // Queues the instance on the list, and wakes the poller of the list.
-    fn hand_to_list(&self, list: &mut ListIn<R>, granted: Granted) -> Caller
+    fn hand_to_list<D>(&self, out: &mut Outbox<R, D>, granted: Granted) -> Caller
         requires { IsSeatOf self.now.napi.now granted.pass }
         ensures of { IsSeatOf self.now.napi.now result.pass }
         ensures handed { HandsOver false granted.pass result.pass }
-        ensures lists { Lists self.now.number granted.pass result.pass list.old list.new }
+        ensures lists { Lists self.now granted.pass result.pass out.old out.new }
+        ensures wakes { ThreadWakes self.now granted.pass result.pass out.old out.new }
+        ensures asked { out.new.asked ≡ out.old.asked }
     {
         let caller = granted.hand(self.napi, Kind::List);
-        list.push(self.number);
-        self.poller.wake();
+        out.list.push(self.number);
+        self.poller.wake(&out.list, &mut out.list_wakes);
         caller
     }
 
     // Queues a granted instance: for its thread, if it has one and THREADED is set, otherwise on the list; and wakes the poller
     // (`____napi_schedule`).
-    fn hand_over(&self, list: &mut ListIn<R>, mut granted: Granted) -> Caller
+    fn hand_over<D>(&self, out: &mut Outbox<R, D>, mut granted: Granted) -> Caller
         requires { IsSeatOf self.now.napi.now granted.pass }
         ensures of { IsSeatOf self.now.napi.now result.pass }
         ensures handed { HandsOver (is_some self.now.thread) granted.pass result.pass }
-        ensures lists { Lists self.now.number granted.pass result.pass list.old list.new }
+        ensures lists { Lists self.now granted.pass result.pass out.old out.new }
+        ensures wakes { ThreadWakes self.now granted.pass result.pass out.old out.new }
+        ensures asked { out.new.asked ≡ out.old.asked }
     {
         let Some(waker) = self.thread else {
-            return self.hand_to_list(list, granted);
+            return self.hand_to_list(out, granted);
         };
         if !granted.look(self.napi).flags.threaded {
-            return self.hand_to_list(list, granted);
+            return self.hand_to_list(out, granted);
         }
         let caller = granted.hand(self.napi, Kind::Thread);
-        waker.wake();
+        waker.wake(&caller, &mut out.thread_wakes);
         caller
     }
 
     // The interrupt of a packet that was put: requests a poll, and queues the instance if the request is granted
     // (`napi_schedule`).
-    fn interrupt(&self, list: &mut ListIn<R>, caller: Caller, rx: &RxIn, packet: Packet) -> Caller
+    fn interrupt<D>(
+        &self,
+        out: &mut Outbox<R, D>,
+        caller: Caller,
+        rx: &RxIn,
+        packet: Packet,
+    ) -> Caller
         requires of { IsSeatOf self.now.napi.now caller.pass }
         requires put { IsPutLast packet rx.now }
         ensures of { IsSeatOf self.now.napi.now result.pass }
         ensures interrupts { Interrupts (is_some self.now.thread) caller.pass result.pass }
-        ensures lists { Lists self.now.number caller.pass result.pass list.old list.new }
+        ensures lists { Lists self.now caller.pass result.pass out.old out.new }
+        ensures wakes { ThreadWakes self.now caller.pass result.pass out.old out.new }
+        ensures asked { out.new.asked ≡ out.old.asked }
     {
         match caller.schedule(&self.rt, self.napi) {
-            Sched::Granted(granted) => self.hand_over(list, granted),
+            Sched::Granted(granted) => self.hand_over(out, granted),
             Sched::Missed(caller) | Sched::Disabled(caller) => caller,
         }
     }
@@ -137,9 +183,10 @@ impl<'p, 'n, R: Wait> InterruptHandler<'p, 'n, R> {
 
     // Makes the next act: the device returns it, and the worker executes it.
     #[inline(always)]
+    #[tactic(auto, using(crate::proofs::Listings::wakes_same, crate::proofs::Listings::wakes_none))]
     fn make_act<D: Device>(
         &self,
-        list: &mut ListIn<R>,
+        out: &mut Outbox<R, D>,
         device: &mut D,
         k: u32,
         handles: WorkerHandles,
@@ -150,8 +197,10 @@ impl<'p, 'n, R: Wait> InterruptHandler<'p, 'n, R> {
         ensures of { AreHandlesOf self.now.napi.now result }
         ensures made { Acts (is_some self.now.thread)
             (D.answer device.old k) handles result rx.old rx.new }
-        ensures lists { Lists self.now.number handles.caller.pass result.caller.pass
-            list.old list.new }
+        ensures lists { Lists self.now handles.caller.pass result.caller.pass out.old out.new }
+        ensures wakes { ThreadWakes self.now handles.caller.pass result.caller.pass
+            out.old out.new }
+        ensures asked { out.new.asked ≡ out.old.asked }
         ensures device { device.new ≡ D.after device.old k }
         ensures acts { D.acts device.new ≡ D.acts device.old }
         ensures ring { SameIn rx.old rx.new }
@@ -164,7 +213,7 @@ impl<'p, 'n, R: Wait> InterruptHandler<'p, 'n, R> {
         match device.act(k) {
             Act::Arrive(packet) => match rx.put(packet) {
                 Ok(()) => {
-                    handles.caller = self.interrupt(list, handles.caller, rx, packet);
+                    handles.caller = self.interrupt(out, handles.caller, rx, packet);
                     handles
                 }
                 Err(_dropped) => handles,
@@ -187,13 +236,21 @@ impl<'p, 'n, R: Wait> InterruptHandler<'p, 'n, R> {
     }
 
     // Returns the reason if the worker must not make its next act. If the gate returns false, the run stops.
-    fn stop_before<G: Gate>(&self, context: &RunContext<R, G>, k: u32) -> Option<Stop>
-        ensures open { result ≡ None → G.answers context.now.gate.now self.now.number k true }
+    fn stop_before<D, G: Gate>(
+        &self,
+        context: &RunContext<R, G>,
+        k: u32,
+        device: &D,
+        asked: &mut Trail<Asked<D>>,
+    ) -> Option<WorkFault>
+        ensures open { result ≡ None → G.answers context.now.gate self.now.number k true }
         ensures why { IfSome result (IsStop G.may_shut) }
+        ensures asked { result ≡ None → questions asked.new
+            ≡ questions asked.old ++ (self.now.number, k, device.now) ∷ [] }
     {
-        match context.flags.stop() {
+        match context.stop() {
             Some(stop) => Some(stop),
-            None => context.ask(self.number, k),
+            None => context.ask(self.number, k, device, asked),
         }
     }
 
@@ -201,23 +258,26 @@ impl<'p, 'n, R: Wait> InterruptHandler<'p, 'n, R> {
     #[tactic(auto, using(crate::proofs::ActSteps::steps))]
     fn make_acts<D: Device, G: Gate>(
         &self,
-        list: &mut ListIn<R>,
+        out: &mut Outbox<R, D>,
         device: &mut D,
         handles: WorkerHandles,
         rx: &mut RxIn,
         context: &RunContext<R, G>,
-    ) -> (WorkerHandles, Option<Stop>)
+    ) -> (WorkerHandles, Option<WorkFault>)
         requires { AreHandlesOf self.now.napi.now handles }
         ensures of { AreHandlesOf self.now.napi.now result.0 }
         ensures same { AreSameHandles handles result.0 }
-        ensures lists { Lists self.now.number handles.caller.pass result.0.caller.pass
-            list.old list.new }
+        ensures lists { Lists self.now handles.caller.pass result.0.caller.pass out.old out.new }
+        ensures wakes { ThreadWakes self.now handles.caller.pass result.0.caller.pass
+            out.old out.new }
+        ensures asked { result.1 ≡ None → questions out.new.asked ≡ questions out.old.asked
+            ++ all_questions D.after self.now.number device.old (D.acts device.old) }
         ensures why { IfSome result.1 (IsStop G.may_shut) }
         ensures made { result.1 ≡ None
             → AllActs (is_some self.now.thread) D.answer D.after device.old
             (D.acts device.old) handles result.0 rx.old rx.new }
         ensures let_go { result.1 ≡ None
-            → WasLet (G.answers context.now.gate.now) self.now.number (D.acts device.old) }
+            → WasLet (G.answers context.now.gate) self.now.number (D.acts device.old) }
         ensures device { result.1 ≡ None
             → device.new ≡ after_acts D.after device.old (D.acts device.old) }
         ensures ring { SameIn rx.old rx.new }
@@ -230,10 +290,10 @@ impl<'p, 'n, R: Wait> InterruptHandler<'p, 'n, R> {
     {
         let mut handles = handles;
         for k in 0..device.acts() {
-            if let Some(stop) = self.stop_before(context, k) {
+            if let Some(stop) = self.stop_before(context, k, device, &mut out.asked) {
                 return (handles, Some(stop));
             }
-            handles = self.make_act(list, device, k, handles, rx);
+            handles = self.make_act(out, device, k, handles, rx);
         }
         (handles, None)
     }
@@ -244,11 +304,11 @@ impl<'p, 'n, R: Wait> InterruptHandler<'p, 'n, R> {
 #[derive(Drop)]
 pub struct InterruptWorker<'t, 'p, 'n, R: Wait + Drop, D, G: Gate> {
     /// What all threads of the run share.
-    pub context: &'t RunContext<'t, R, G>,
+    pub context: &'t RunContext<R, G>,
     /// Where its interrupts go.
     pub handler: InterruptHandler<'p, 'n, R>,
-    /// Its end of the list of its poller, for pushes.
-    pub list: ListIn<R>,
+    /// What goes out of it.
+    pub out: Outbox<R, D>,
     /// The device.
     pub device: D,
     /// The input of the device's receive ring.
@@ -256,14 +316,17 @@ pub struct InterruptWorker<'t, 'p, 'n, R: Wait + Drop, D, G: Gate> {
     /// Its handles on the instance, which is disabled before and after the run.
     pub handles: DropBomb<R, WorkerHandles>,
     /// The reason, if not all acts were made.
-    pub stop: Option<Stop>,
+    pub stop: Option<WorkFault>,
     ghost of: { AreAtRest handler.napi.now handles.value },
 }
 
 impl<'t, 'p, 'n, R: Wait + Copy + Drop, D: Device + Drop, G: Gate> Task
     for InterruptWorker<'t, 'p, 'n, R, D, G> {
+    ghost use Rattle.std.specs.Prelude.{false};
     ghost use Rattle.poll_interrupts.specs.Works.{IsWorked};
     ghost use Rattle.poll_tasks.specs.Stops.{IsStop};
+
+    ghost idle = { λ _. false };
 
     ghost gives = { IsWorked D.acts D.answer D.after G.may_shut G.answers };
 
@@ -279,7 +342,7 @@ impl<'t, 'p, 'n, R: Wait + Copy + Drop, D: Device + Drop, G: Gate> Task
         let InterruptWorker {
             context,
             handler,
-            mut list,
+            mut out,
             mut device,
             mut rx,
             handles,
@@ -288,7 +351,7 @@ impl<'t, 'p, 'n, R: Wait + Copy + Drop, D: Device + Drop, G: Gate> Task
         let mut handles = handles.open();
         handles.control = handler.turn_on(handles.control, handles.threaded);
         let (mut handles, stop) = handler.make_acts(
-            &mut list,
+            &mut out,
             &mut device,
             handles,
             &mut rx,
@@ -296,12 +359,12 @@ impl<'t, 'p, 'n, R: Wait + Copy + Drop, D: Device + Drop, G: Gate> Task
         );
         handles.control = handler.turn_off(handles.control);
         if let Some(waker) = handler.thread {
-            waker.close();
+            waker.close(&handles.caller, &mut out.thread_wakes);
         }
         InterruptWorker {
             context,
             handler,
-            list,
+            out,
             device,
             rx,
             handles: DropBomb::new(context.rt, handles),
@@ -309,7 +372,7 @@ impl<'t, 'p, 'n, R: Wait + Copy + Drop, D: Device + Drop, G: Gate> Task
         }
     }
 
-    fn stop(&self) -> Option<Stop> {
+    fn stop(&self) -> Option<WorkFault> {
         self.stop
     }
 }

@@ -1,8 +1,8 @@
 -- What the thread of a poller, and the thread of an instance, return.
 use Rattle.{poll_list.specs.declared.shared.SharedList.SharedList, napi_calls.specs.declared.{kept.DropBomb.DropBomb, types.Caller.Caller}}
-use Rattle.poll_tasks.specs.{Asks.IsAsked, Stops.IsStop, declared.limits.PollLimits.PollLimits}
+use Rattle.poll_tasks.specs.{Asks.IsAsked, Stops.IsStop, Trails.questions, declared.context.PollLimits.PollLimits}
 use Rattle.poll_list.specs.declared.list_in.ListIn.{ListIn}
-use Rattle.std.specs.Prelude.{◌≡◌, ◌⊎◌, ℕ, ◌+◌, Bool, true, false, List, Some, None, IfSome, IsSome, vec_items}
+use Rattle.std.specs.Prelude.{◌≡◌, ◌⊎◌, ℕ, ◌+◌, ◌++◌, ◌∷◌, [], Bool, true, false, List, Some, None, IfSome, IsSome, vec_items}
 use Rattle.poll_seats.specs.declared.{poller.Poller.Poller, handle.PollHandle.PollHandle, list_poller.ListPoller.ListPoller}
 use Rattle.poll_seats.specs.declared.thread_poller.ThreadPoller.{ThreadPoller}
 use Rattle.poll_seats.specs.{Turns.{TurnsAlone, TurnsByRun}, Serving.IsServed}
@@ -51,7 +51,11 @@ module _ {R G S : Type 0} (idle : S → Bool) (turns : S → Bool → S → Type
   -- run ended early. What it polls is in the state after these turns.
   pub record IsPolled (before after : Poller R G S) : Type 0 where
     pub why : IfSome after.stop (IsStop may_shut)
-    pub started : after.stop ≡ None → idle before.served ≡ false → IsAsked answers before.context.now.gate.now before.name
+    pub started : after.stop ≡ None → idle before.served ≡ false → IsAsked answers before.context.now.gate before.name
+    -- it asked the gate exactly once, before its turns, unless it had nothing to poll or its run ended early
+    pub once : after.stop ≡ None → idle before.served ≡ false
+        → questions after.asked ≡ questions before.asked ++ (before.name, 0, before.served) ∷ []
+    pub never : idle before.served ≡ true → questions after.asked ≡ questions before.asked
     pub turned : after.stop ≡ None → idle before.served ≡ false → IsServed turns before.served after.served
     pub kept : (after.served ≡ before.served) ⊎ IsServed turns before.served after.served
     pub none : idle before.served ≡ true → after.served ≡ before.served

@@ -3,6 +3,7 @@ use Rattle.std.specs.Prelude.{◌≡◌, ◌++◌, ◌==◌, not, is_some, Bool,
 use Rattle.poll_list.specs.SharedList.{IsAllPopped, PopsCame, in_hand, pushed_by}
 use Rattle.poll_runs.specs.{Polls.{At, Chain, Poll}, Run.IsRun, declared.{bench.ThreadReport.ThreadReport, run.RunReport.RunReport}}
 use Rattle.poll_seats.specs.declared.{list_poller.ListPoller.ListPoller, thread_poller.ThreadPoller.ThreadPoller}
+use Rattle.poll_tasks.specs.Trails.{signals_with, wakes_after}
 use Rattle.poll_seats.specs.{HandleBenches.PollsSeat, Polled.PollsByThread}
 use Rattle.poll_seats.specs.{Polled.handed_on, SeatKeeping.IsSameSeat}
 
@@ -35,5 +36,8 @@ module _ {R : Type 0} where
     pub polls : PollsByThread before.limits.weight before.limits.window before.seat.value.caller report
         after.batch.items after.seat.value.caller
     pub handed : pushed_by after.list ≡ pushed_by before.list ++ handed_on report.next before.seat.value.number
+    -- after a push it wakes the list's poller, once
+    pub woken : signals_with pushed_by after.wakes ≡ signals_with pushed_by before.wakes
+        ++ wakes_after before.poller.now (pushed_by before.list) (handed_on report.next before.seat.value.number)
     pub limits : after.limits ≡ before.limits
     pub found_polls : found ≡ nat_lt 0 report.polls

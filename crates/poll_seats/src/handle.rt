@@ -9,7 +9,7 @@ use napi_calls::{Caller, Napi};
 use napi_model::Kind;
 use poll_runs::{Next, Once, ThreadReport};
 use poll_shared::{poll_instance, poll_instance_by_thread};
-use poll_tasks::Waker;
+use poll_tasks::{Signal, Trail, Waker};
 use rx_ring::Batch;
 use std::mem;
 use std::sync::Wait;
@@ -30,6 +30,7 @@ pub struct PollHandle<'n> {
 impl<'n> PollHandle<'n> {
     ghost use Rattle.std.specs.Prelude.{◌≡◌, ◌≤◌, IsSome, Some, is_some};
     ghost use Rattle.poll_seats.specs.Polled.{Polls, PollsByThread};
+    ghost use Rattle.poll_seats.specs.Woken.{WakesThread};
     ghost use Rattle.poll_seats.specs.SeatKeeping.{IsSameSeat};
 
     // Puts the caller back into the handle, after a poll.
@@ -63,12 +64,20 @@ impl<'n> PollHandle<'n> {
         caller
     }
 
-    /// Polls the instance once, if it is on the list. If the poll queues it for its thread, the thread is woken.
-    pub(crate) fn poll<R: Wait>(&mut self, rt: &R, weight: u32, batch: &mut Batch) -> Once
+    /// Polls the instance once, if it is on the list. If the poll queues it for its thread, the thread is woken then.
+    pub(crate) fn poll<R: Wait>(
+        &mut self,
+        rt: &R,
+        weight: u32,
+        batch: &mut Batch,
+        wakes: &mut Trail<Signal<Option<Caller>>>,
+    ) -> Once
         requires weight { IsWeight weight }
         ensures same { IsSameSeat self.old self.new }
         ensures polls { Polls (is_some self.old.thread) weight self.old.caller result
             batch.new.items self.new.caller }
+        ensures wakes { WakesThread self.old.thread result.next self.new.caller
+            wakes.old wakes.new }
         ensures work { result.work ≤ weight }
     {
         let Some(caller) = mem::replace(&mut self.caller, None) else {
@@ -89,7 +98,7 @@ impl<'n> PollHandle<'n> {
         if once.next == Next::Again(Kind::Thread)
             && let Some(waker) = self.thread
         {
-            waker.wake();
+            waker.wake(&self.caller, wakes);
         }
         once
     }

@@ -1,14 +1,14 @@
 //! A poller with a list. Its handles form a [`Bench`], over which it makes polling runs while there is an instance on the list.
 
-ghost use Rattle.std.specs.Prelude.{◌≡◌, ◌==◌, position, vec_items};
+ghost use Rattle.std.specs.Prelude.{◌≡◌, ◌==◌, ◌<◌, position, vec_capacity, vec_len};
 ghost use Rattle.poll_tasks.specs.Limits.{IsLawful};
 
 use crate::handle::PollHandle;
-use crate::poller::Serves;
-use napi_calls::DropBomb;
+use crate::poller::{Poller, Serves};
+use napi_calls::{Caller, DropBomb};
 use poll_list::SharedList;
 use poll_runs::{Bench, BusyReport, Next, Once, RunReport, ThreadReport, run_softirq};
-use poll_tasks::PollLimits;
+use poll_tasks::{Gate, PollLimits, Signal, Trail};
 use rx_ring::Batch;
 use std::sync::Wait;
 
@@ -18,6 +18,8 @@ pub(crate) struct HandleBench<'n, R: Wait + Drop> {
     rt: R,
     seats: Vec<DropBomb<R, PollHandle<'n>>>,
     batch: Batch,
+    // The wake-ups of the instances' threads, each with the caller at that time.
+    wakes: Trail<Signal<Option<Caller>>>,
 }
 
 // Returns the index of the handle on the instance with this number.
@@ -34,7 +36,12 @@ impl<'n, R: Wait + Drop> Bench for HandleBench<'n, R> {
 
     fn poll_once(&mut self, id: u32, weight: u32) -> Once {
         match find(self.seats.as_slice(), id) {
-            Some(at) => self.seats[at].value.poll(&self.rt, weight, &mut self.batch),
+            Some(at) => {
+                let batch = &mut self.batch;
+                self.seats[at]
+                    .value
+                    .poll(&self.rt, weight, batch, &mut self.wakes)
+            }
             None => Once {
                 work: 0,
                 next: Next::Absent,
@@ -75,7 +82,7 @@ impl<'n, R: Wait + Drop> ListPoller<'n, R> {
     ) -> Self
         requires { IsLawful limits }
         ensures list { result.list ≡ list }
-        ensures seats { vec_items result.bench.seats ≡ vec_items seats.entry }
+        ensures seats { result.bench.seats ≡ seats.entry }
         ensures limits { result.limits ≡ limits }
     {
         ListPoller {
@@ -84,26 +91,10 @@ impl<'n, R: Wait + Drop> ListPoller<'n, R> {
                 rt,
                 seats,
                 batch: Batch::new(),
+                wakes: Trail::new(),
             },
             limits,
         }
-    }
-
-    /// Returns the handles.
-    pub fn leave(self) -> Vec<DropBomb<R, PollHandle<'n>>>
-        ensures { result ≡ self.entry.bench.seats }
-    {
-        let ListPoller {
-            list: _,
-            bench,
-            limits: _,
-        } = self;
-        let HandleBench {
-            rt: _,
-            seats,
-            batch: _,
-        } = bench;
-        seats
     }
 
     // Runs over the instances on the list, with the budget, the weight and the window of the limits (`net_rx_action`).
@@ -116,6 +107,28 @@ impl<'n, R: Wait + Drop> ListPoller<'n, R> {
             window,
         } = self.limits;
         run_softirq(&mut self.list, &mut self.bench, budget, weight, window)
+    }
+}
+
+impl<'t, 'p, 'n, R: Wait + Drop, G: Gate> Poller<'t, 'p, R, G, ListPoller<'n, R>> {
+    ghost use Rattle.poll_seats.specs.HandleBenches.{HasFirst, HasOneMore, TakesFirst};
+
+    /// Adds a handle. Requires room for it.
+    pub fn add(&mut self, seat: DropBomb<R, PollHandle<'n>>)
+        requires { vec_len self.old.served.bench.seats < vec_capacity self.old.served.bench.seats }
+        ensures { HasOneMore self.old seat.entry self.new }
+    {
+        let served = &mut self.served;
+        served.bench.seats.push_reserved(seat);
+    }
+
+    /// Takes the first of its handles, and returns its caller.
+    pub fn take(&mut self) -> Caller
+        requires { HasFirst self.old }
+        ensures { TakesFirst self.old result self.new }
+    {
+        let served = &mut self.served;
+        served.bench.seats.remove(0).open().leave()
     }
 }
 

@@ -2,7 +2,7 @@
 
 ghost use Rattle.poll_seats.specs.Serving.{IsServed};
 
-use poll_tasks::{Gate, IdleWait, RunContext, Stop, Task, Waker};
+use poll_tasks::{Asked, Gate, IdleWait, RunContext, Task, Trail, Waker, WorkFault};
 use std::sync::Wait;
 
 /// What a poller polls: the instances on a list, or the one instance whose thread it is.
@@ -45,7 +45,7 @@ fn serve<R: Wait, S: Serves>(rt: &R, waker: &Waker, wait: &IdleWait, served: &mu
 #[derive(Drop)]
 pub struct Poller<'t, 'p, R: Wait + Drop, G: Gate, S: Drop> {
     /// What all threads of the run share.
-    pub context: &'t RunContext<'t, R, G>,
+    pub context: &'t RunContext<R, G>,
     /// The number by which the poller identifies itself to the gate.
     pub name: u32,
     /// The waker of the poller.
@@ -54,13 +54,17 @@ pub struct Poller<'t, 'p, R: Wait + Drop, G: Gate, S: Drop> {
     pub wait: IdleWait,
     /// What it polls.
     pub served: S,
+    /// Its questions to the gate, each with what it polls at that time. Only proofs read them.
+    pub asked: Trail<Asked<S>>,
     /// The reason, if its run ended early: a thread couldn't be started, and it took no turn; or its gate returned false.
-    pub stop: Option<Stop>,
+    pub stop: Option<WorkFault>,
 }
 
 impl<'t, 'p, R: Wait + Drop, G: Gate, S: Serves + Drop> Task for Poller<'t, 'p, R, G, S> {
     ghost use Rattle.poll_seats.specs.Gives.{IsPolled};
     ghost use Rattle.poll_tasks.specs.Stops.{IsStop};
+
+    ghost idle = { λ p. S.idle p.served };
 
     ghost gives = { IsPolled S.idle S.turns G.may_shut G.answers };
 
@@ -79,17 +83,17 @@ impl<'t, 'p, R: Wait + Drop, G: Gate, S: Serves + Drop> Task for Poller<'t, 'p, 
             return poller;
         }
         let context = poller.context;
-        if context.flags.is_unpolled() {
-            poller.stop = Some(Stop::Refused);
+        if context.is_unpolled() {
+            poller.stop = Some(WorkFault::SpawnFailed);
             return poller;
         }
-        poller.stop = context.ask(poller.name, 0);
         let own = &mut poller;
+        own.stop = context.ask(own.name, 0, &own.served, &mut own.asked);
         serve(&context.rt, own.waker, &own.wait, &mut own.served);
         poller
     }
 
-    fn stop(&self) -> Option<Stop> {
+    fn stop(&self) -> Option<WorkFault> {
         self.stop
     }
 }

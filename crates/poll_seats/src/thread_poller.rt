@@ -3,6 +3,7 @@
 ghost use Rattle.std.specs.Prelude.{◌≡◌, ◌++◌, not, is_some};
 ghost use Rattle.poll_list.specs.SharedList.{pushed_by};
 ghost use Rattle.poll_tasks.specs.Limits.{IsLawful};
+ghost use Rattle.poll_tasks.specs.Trails.{signals_with, wakes_after};
 ghost use Rattle.poll_seats.specs.Polled.{handed_on};
 
 use crate::handle::PollHandle;
@@ -11,7 +12,7 @@ use napi_calls::DropBomb;
 use napi_model::Kind;
 use poll_list::ListIn;
 use poll_runs::Next;
-use poll_tasks::{PollLimits, Waker};
+use poll_tasks::{PollLimits, Signal, Trail, Waker};
 use rx_ring::Batch;
 use std::sync::Wait;
 
@@ -26,6 +27,8 @@ pub struct ThreadPoller<'p, 'n, R: Wait + Drop> {
     pub list: ListIn<R>,
     /// The waker of that list's poller.
     pub poller: &'p Waker,
+    /// The wake-ups of that poller, each with the list at that time. Only proofs read them.
+    pub wakes: Trail<Signal<ListIn<R>>>,
     /// Its weight and window.
     pub limits: PollLimits,
     /// The packets of the last poll.
@@ -34,12 +37,20 @@ pub struct ThreadPoller<'p, 'n, R: Wait + Drop> {
 }
 
 // Pushes an instance on the list, if it was queued there after its thread's last poll, and wakes the poller of the list.
-fn hand_on<R: Wait>(list: &mut ListIn<R>, poller: &Waker, number: u32, next: Next)
-    ensures { pushed_by list.new ≡ pushed_by list.old ++ handed_on next number }
+fn hand_on<R: Wait>(
+    list: &mut ListIn<R>,
+    poller: &Waker,
+    wakes: &mut Trail<Signal<ListIn<R>>>,
+    number: u32,
+    next: Next,
+)
+    ensures pushed { pushed_by list.new ≡ pushed_by list.old ++ handed_on next number }
+    ensures woken { signals_with pushed_by wakes.new ≡ signals_with pushed_by wakes.old
+        ++ wakes_after poller.now (pushed_by list.old) (handed_on next number) }
 {
     if matches!(next, Next::Repoll | Next::Again(Kind::List)) {
         list.push(number);
-        poller.wake();
+        poller.wake(list, wakes);
     }
 }
 
@@ -64,6 +75,7 @@ impl<'p, 'n, R: Wait + Drop> Serves for ThreadPoller<'p, 'n, R> {
         hand_on(
             &mut self.list,
             self.poller,
+            &mut self.wakes,
             self.seat.value.number,
             report.next,
         );

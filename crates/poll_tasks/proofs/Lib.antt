@@ -1,2 +1,2 @@
-pub mod Zips
 pub mod ListFacts
+mod Walks

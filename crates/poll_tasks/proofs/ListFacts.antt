@@ -1,21 +1,37 @@
--- Two lists whose items are related index by index.
-use Rattle.std.proofs.Common.{◌≡◌, ◌≢◌, ◌<◌, ◌≤◌, ℕ, zero, suc, Bool, true, false, cond}
-use Rattle.std.proofs.Common.{List, [], ◌∷◌, ◌++◌, length, sym, refl, ap, ◌∙◌, subst}
-use Rattle.std.{proofs.Common.{append-nil, arith, All, eqb, get_or, get_or-set_other, get_or-set_same, set}, specs.Prelude.{filter, map}}
-use Rattle.std.{proofs.lemmas.{Bool.{eqb-true, eqb-false}, Grind.common_steps}, specs.List.{AllByRecursion, AllZip, remove}}
+-- Two lists whose items are related index by index, and properties of an item and its index.
+use Rattle.std.proofs.Common.{◌≡◌, ◌≢◌, ◌<◌, ◌≤◌, ℕ, zero, suc, Bool, true, false, cond, List, [], ◌∷◌, ◌++◌, length, ⊎_elim}
+use Rattle.std.proofs.Common.{sym, refl, ap, ◌∙◌, subst, arith, append-nil, append_assoc, length-append, get_or, set}
+use Rattle.std.proofs.{Common.{get_or-set_other, get_or-set_same}, lemmas.{Bool.cases_eq, Grind.common_steps, Slice.Zip.AllZip-long}}
+use Rattle.std.proofs.lemmas.List.{get_or_at, get_or-map, length-map, length-set, nil_from_length}
+use Rattle.std.specs.{Prelude.{filter, map}, List.{AllByRecursion, AllZip, remove}}
 use Rattle.poll_tasks.specs.Tasks.{EachAt, IsAt}
 
+-- ---- the items that were yielded, and the rest
+
+-- one more item was yielded
+pub before_more : {A : Type 0} (all xs rest rest' : List A) (x : A) → xs ++ rest ≡ all → rest ≡ x ∷ rest'
+    → (length xs < length all) × (get_or all (length xs) x ≡ x) × ((xs ++ x ∷ []) ++ rest' ≡ all)
+before_more all xs rest rest' x e r =
+    let whole : all ≡ xs ++ x ∷ rest' = sym e ∙ ap (λ l. xs ++ l) r in (
+      (let n = ap (λ l. length l) whole in omega (arith, length-append xs (x ∷ rest'))),
+      ap (λ l. get_or l (length xs) x) whole ∙ get_or_at xs x rest' x (length xs) refl,
+      append_assoc xs (x ∷ []) rest' ∙ sym whole,
+    )
+
+-- all items were yielded
 pub none_left : {A : Type 0} (all xs rest : List A) → xs ++ rest ≡ all → rest ≡ [] → xs ≡ all
 none_left all xs rest e n = sym (append-nil xs) ∙ ap (λ l. xs ++ l) (sym n) ∙ e
 
-module _ {A B : Type 0} where
-  pub zip_nil : (R : A → B → Type 0) (ys : List B) → AllZip R [] ys → ys ≡ []
-  zip_nil R [] h = refl
-  zip_nil R (y ∷ ys) h = absurd h
+-- the first item was removed
+pub first_of : {A : Type 0} (xs ys : List A) (x : A) → 1 ≤ length xs → x ≡ get_or xs 0 x → ys ≡ remove xs 0 → xs ≡ x ∷ ys
+first_of [] ys x some first rest = absurd (omega (arith, some))
+first_of (z ∷ xs) ys x some first rest = grind (arith, common_steps)
 
+-- ---- two lists
+
+module _ {A B : Type 0} where
   pub zip_empty : (R : A → B → Type 0) (xs : List A) (ys : List B) → AllZip R xs ys → xs ≡ [] → ys ≡ []
-  zip_empty R [] ys h n = zip_nil R ys h
-  zip_empty R (x ∷ xs) ys h n = absurd (let e = ap (λ l. length l) n in omega arith)
+  zip_empty R xs ys h n = nil_from_length ys (AllZip-long R xs ys h ∙ ap (λ l. length l) n)
 
   pub zip_flip : (R : A → B → Type 0) (xs : List A) (ys : List B) → AllZip R xs ys → AllZip (λ y x. R x y) ys xs
   zip_flip R [] [] h = tt
@@ -44,11 +60,6 @@ module _ {A B : Type 0} where
   zip_same R S (x ∷ xs) (y ∷ ys) f h = (f x y h.0, zip_same R S xs ys f h.1)
   zip_same R S xs ys f h = absurd h
 
-pub each_index : {A : Type 0} (P : A → Type 0) (xs : List A) → AllByRecursion P xs → All P xs
-each_index P [] h k d b = absurd (omega arith)
-each_index P (x ∷ xs) h zero d b = h.0
-each_index P (x ∷ xs) h (suc k) d b = each_index P xs h.1 k d (omega arith)
-
 pub zip_both : {A B C : Type 0} (R : A → B → Type 0) (S : B → C → Type 0) (xs : List A) (ys : List B) (zs : List C)
     → AllZip R xs ys → AllZip S ys zs → AllZip (λ x z. (y : B) × R x y × S y z) xs zs
 zip_both R S [] [] [] h k = tt
@@ -72,40 +83,17 @@ zip_filtered Q p q (x ∷ xs) (y ∷ ys) f h =
     (zip_cond Q (p x) x y (filter p xs) (filter q ys) h.0 (zip_filtered Q p q xs ys f h.1))
 zip_filtered Q p q xs ys f h = absurd h
 
-cond_more : {A : Type 0} (b : Bool) (y : A) (l r m : List A) → l ≡ r ++ m → cond b (y ∷ l) l ≡ cond b (y ∷ r) r ++ m
-cond_more true y l r m e = ap (λ z. y ∷ z) e
-cond_more false y l r m e = e
-
-pub filter_more : {A : Type 0} (p : A → Bool) (xs : List A) (x : A) → filter p (xs ++ x ∷ []) ≡ filter p xs ++ cond (p x) (x ∷ []) []
-filter_more p [] x = refl
-filter_more p (y ∷ xs) x = cond_more (p y) y (filter p (xs ++ x ∷ [])) (filter p xs) (cond (p x) (x ∷ []) []) (filter_more p xs x)
-
-fewer_if : {A : Type 0} (b : Bool) (x : A) (l : List A) (n : ℕ) → length l ≤ n → length (cond b (x ∷ l) l) ≤ suc n
-fewer_if true x l n h = omega (arith, h)
-fewer_if false x l n h = omega (arith, h)
-
-pub filter_fewer : {A : Type 0} (p : A → Bool) (xs : List A) → length (filter p xs) ≤ length xs
-filter_fewer p [] = omega arith
-filter_fewer p (x ∷ xs) = fewer_if (p x) x (filter p xs) (length xs) (filter_fewer p xs)
-
 -- ---- a property of each item, by its index
 
 -- a property of each item still holds if one item was replaced
-each_set_at : {A : Type 0} (P Q : ℕ → A → Type 0) (xs : List A) (i : ℕ) (y : A) → i < length xs → Q i y
-    → ((k : ℕ) (x : A) → k ≢ i → P k x → Q k x)
-    → (k : ℕ) (d : A) (b : Bool) → eqb k i ≡ b → k < length xs → P k (get_or xs k d) → Q k (get_or (set xs i y) k d)
-each_set_at P Q xs i y within new others k d true e low p =
-    let same = eqb-true k i e in
-    subst (λ n. Q n (get_or (set xs i y) n d)) (sym same) (subst (λ z. Q i z) (sym (get_or-set_same xs i y d within)) new)
-each_set_at P Q xs i y within new others k d false e low p =
-    let ne = eqb-false k i e in
-    subst (λ z. Q k z) (sym (get_or-set_other xs i k y d ne)) (others k _ ne p)
-
 pub each_set : {A : Type 0} (P Q : ℕ → A → Type 0) (xs : List A) (i : ℕ) (y : A) → i < length xs → EachAt P xs → Q i y
-    → ((k : ℕ) (x : A) → k ≢ i → P k x → Q k x) → length (set xs i y) ≡ length xs → EachAt Q (set xs i y)
-each_set P Q xs i y within were new others long k d low =
-    let below : k < length xs = omega (arith, low, long) in
-    each_set_at P Q xs i y within new others k d (eqb k i) refl below (were k d below)
+    → ((k : ℕ) (x : A) → k ≢ i → P k x → Q k x) → EachAt Q (set xs i y)
+each_set P Q xs i y within were new others k d low =
+    let below : k < length xs = omega (arith, low, length-set xs i y) in ⊎_elim
+    (λ (same : k ≡ i). subst (λ n. Q n (get_or (set xs i y) n d)) (sym same)
+    (subst (λ z. Q i z) (sym (get_or-set_same xs i y d within)) new))
+    (λ (ne : k ≢ i). subst (λ z. Q k z) (sym (get_or-set_other xs i k y d ne)) (others k _ ne (were k d below)))
+    (cases_eq k i)
 
 -- if each item of the first list has P, and two lists are related by R, each item of the second one is related to an item with
 -- P
@@ -125,10 +113,8 @@ at_place P (x ∷ xs) each (suc k) low =
 
 -- an item that was mapped keeps its index
 pub at_mapped : {A B : Type 0} (f : A → B) (xs : List A) (k : ℕ) (x : A) → IsAt xs k x → IsAt (map f xs) k (f x)
-at_mapped f [] k x at = absurd (let low = at.0 in omega (arith, low))
-at_mapped f (y ∷ xs) zero x at = (omega arith, ap f at.1)
-at_mapped f (y ∷ xs) (suc k) x at =
-    let h = at_mapped f xs k x (let low = at.0 in omega (arith, low), at.1) in (let low = h.0 in omega (arith, low), h.1)
+at_mapped f xs k x at =
+    let low = at.0 in (omega (arith, low, length-map xs f), get_or-map f xs k x (f x) low ∙ ap f at.1)
 
 pub each_more : {A : Type 0} (P : ℕ → A → Type 0) (xs : List A) (x : A) → EachAt P xs → P (length xs) x → EachAt P (xs ++ x ∷ [])
 each_more P [] x each here zero d low = here
@@ -136,8 +122,3 @@ each_more P [] x each here (suc k) d low = absurd (omega (arith, low))
 each_more P (y ∷ xs) x each here zero d low = each 0 d (omega arith)
 each_more P (y ∷ xs) x each here (suc k) d low =
     each_more (λ n a. P (suc n) a) xs x (λ n a b. each (suc n) a (omega (arith, b))) here k d (omega (arith, low))
-
--- the first item was removed
-pub first_of : {A : Type 0} (xs ys : List A) (x : A) → 1 ≤ length xs → x ≡ get_or xs 0 x → ys ≡ remove xs 0 → xs ≡ x ∷ ys
-first_of [] ys x some first rest = absurd (omega (arith, some))
-first_of (z ∷ xs) ys x some first rest = grind (arith, common_steps)

@@ -1,7 +1,10 @@
--- Why a thread's work ended early.
-use Rattle.poll_tasks.specs.{Refusals.IsRefused, declared.signals.Stop.{Stop, TheVariants.{Refused, Shut}}}
+-- Why a thread's work ended early, or a run failed.
+use Rattle.poll_tasks.specs.{Faults.IsWantOfMemory, Refusals.IsRefused}
+use Rattle.poll_tasks.specs.declared.fault.WorkFault.{WorkFault, TheVariants.{OutOfMemory, GateShut, SpawnFailed}}
 
--- a thread could not be started, or the gate returned false, which implies the given property of the gate
-abbrev pub IsStop : Type 0 → Stop → Type 0
-IsStop may_shut Refused = IsRefused
-IsStop may_shut Shut = may_shut
+-- an allocation failed, or a thread could not be started, or the gate returned false, which implies the given property of the
+-- gate
+abbrev pub IsStop : Type 0 → WorkFault → Type 0
+IsStop may_shut OutOfMemory = IsWantOfMemory
+IsStop may_shut GateShut = may_shut
+IsStop may_shut SpawnFailed = IsRefused

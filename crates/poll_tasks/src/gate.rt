@@ -20,6 +20,16 @@ pub trait Gate {
         ensures answers { answers self.now worker act result };
 }
 
+impl<G: Gate> Gate for &G {
+    ghost may_shut = { G.may_shut };
+
+    ghost answers = { λ gate. G.answers gate.now };
+
+    fn pass(&self, worker: u32, act: u32) -> bool {
+        (**self).pass(worker, act)
+    }
+}
+
 /// A gate that always returns true.
 #[derive(Drop)]
 pub struct OpenGate;

@@ -1,43 +1,48 @@
 //! Tasks that each run in their own thread.
 
-ghost use Rattle.std.specs.Prelude.{◌≤◌, ◌≡◌, List, None, IfSome, vec_len, vec_capacity};
+ghost use Rattle.std.specs.Prelude.{◌≤◌, ◌≡◌, List, None, IfErr, IfSome, OnOk, vec_len, vec_capacity};
 ghost use Rattle.std.specs.List.{All, AllZip};
 ghost use Rattle.poll_tasks.specs.Tasks.{HasRoom, IsSpawned};
 
-use crate::signals::{SpawnFailure, Stop};
+use crate::context::SpawnFailure;
+use crate::fault::WorkFault;
 use std::snapshot::Snapshot;
 use std::sync::atomic::{AtomicIn, Ordering};
 use std::thread::{Promise, PromisedHandle, Scope, Threads};
 
 /// What one thread does. `run` returns the task itself, so its fields contain the results.
 pub trait Task {
-    ghost use Rattle.std.specs.Prelude.{◌≡◌, Option};
-    ghost use Rattle.poll_tasks.specs.declared.signals.Stop.{Stop};
+    ghost use Rattle.std.specs.Prelude.{◌≡◌, Bool, Option};
+    ghost use Rattle.poll_tasks.specs.declared.fault.WorkFault.{WorkFault};
+
+    /// Whether it waits for no other task.
+    ghost idle: { Self → Bool };
 
     /// `gives before after`: the task before `run`, and as `run` returns it.
     ghost gives: { Self → Self → Type 0 };
 
     /// The reason, if its work ended early.
-    ghost stopped: { Self → Option Stop };
+    ghost stopped: { Self → Option WorkFault };
 
     /// `may_stop stop`: what holds if its work ended early for this reason.
-    ghost may_stop: { Stop → Type 0 };
+    ghost may_stop: { WorkFault → Type 0 };
 
     /// Returns whether it needs no thread, because it waits for no other task.
-    fn is_idle(&self) -> bool;
+    fn is_idle(&self) -> bool
+        ensures { result ≡ idle self.now };
 
     /// Does the work of the task.
     fn run(self) -> Self
         ensures { gives self result };
 
     /// Returns the reason if its work ended early.
-    fn stop(&self) -> Option<Stop>
+    fn stop(&self) -> Option<WorkFault>
         ensures { result ≡ stopped self.now };
 }
 
-/// The postcondition of a thread: it returns its task after it has run.
+// The postcondition of a thread: it returns its task after it has run.
 #[derive(Drop)]
-pub struct Gives<J>(pub(crate) Snapshot<J>);
+pub(crate) struct Gives<J>(pub(crate) Snapshot<J>);
 
 impl<J: Task> Promise<J> for Gives<J> {
     ghost kept_by = { λ p out. J.gives p.0.value out };
@@ -45,7 +50,7 @@ impl<J: Task> Promise<J> for Gives<J> {
 
 /// A task that was started.
 #[derive(Drop)]
-pub enum Spawned<J: Task> {
+pub(crate) enum Spawned<J: Task> {
     /// Its thread was started.
     Running(PromisedHandle<J, Gives<J>>),
     /// It was run by the caller's thread, because it needs no thread or because no thread could be started.
@@ -112,16 +117,16 @@ pub(crate) fn join_all<R: Threads, J: Task>(
     }
 }
 
-/// Returns the reason of the first of these tasks whose work ended early.
-pub fn first_stop<J: Task>(tasks: &[J]) -> Option<Stop>
+/// Fails with the reason of the first of these tasks whose work ended early.
+pub fn first_stop<J: Task>(tasks: &[J]) -> Result<(), WorkFault>
     requires { All (λ j. IfSome (J.stopped j) J.may_stop) tasks.now }
-    ensures none { result ≡ None → All (λ j. J.stopped j ≡ None) tasks.now }
-    ensures some { IfSome result J.may_stop }
+    ensures whole { OnOk result (All (λ j. J.stopped j ≡ None) tasks.now) }
+    ensures why { IfErr result J.may_stop }
 {
     for task in tasks {
         if let Some(stop) = task.stop() {
-            return Some(stop);
+            return Err(stop);
         }
     }
-    None
+    Ok(())
 }

@@ -1,14 +1,13 @@
 -- What the pollers of a run hold of its instances.
-use Rattle.poll_workers.specs.Outcomes.{AreSeatsAt, IsSeatWith, Outcome, TakesNext}
+use Rattle.poll_workers.specs.Outcomes.{AreSeatsAt, IsSeatWith, Outcome}
 use Rattle.napi_calls.specs.declared.kept.DropBomb.{DropBomb}
-use Rattle.std.proofs.Common.{◌≡◌, ◌≢◌, ℕ, suc, ◌-◌, ◌%◌, ◌<◌, Bool, true, false, cond, List, []}
-use Rattle.std.proofs.Common.{length, map, vec_items, sym, append-nil, append_assoc, arith, get_or}
-use Rattle.std.proofs.lemmas.{Bool.{eqb-true, ne_eqb}, List.{get_or_default, length-set, map-append}}
+use Rattle.std.proofs.Common.{◌≡◌, ◌≢◌, ℕ, suc, ◌-◌, ◌%◌, ◌<◌, Bool, true, false, cond, List, [], ◌∷◌, ◌++◌, ap, ◌∙◌, subst}
+use Rattle.std.proofs.Common.{length, map, vec_items, sym, refl, append-nil, append_assoc, arith, get_or, set}
+use Rattle.std.proofs.lemmas.{Bool.{eqb-true, ne_eqb}, List.{get_or_default, map-append, Elements.filter-append}, Slice.Zip.AllZip-long}
 use Rattle.std.specs.{List.{AllByRecursion, AllZip}, Prelude.filter}
-use Rattle.poll_tasks.{specs.Tasks.EachAt, proofs.{ListFacts.{each_set, filter_more, zip_nil}, Zips.zip_long}}
+use Rattle.poll_tasks.{specs.Tasks.EachAt, proofs.ListFacts.{each_set, zip_empty}}
 use Rattle.poll_interrupts.specs.{Deals.is_own, declared.worker.InterruptWorker.InterruptWorker}
-use Rattle.{poll_seats.specs.declared.handle.PollHandle.PollHandle, std.specs.Global.Vec}
-use Rattle.std.proofs.Common.{◌∷◌, ◌++◌, ap, ◌∙◌, subst}
+use Rattle.poll_seats.specs.declared.{handle.PollHandle.PollHandle, poller.Poller.Poller, list_poller.ListPoller.ListPoller}
 
 pub each_push : {A : Type 0} (P : A → Type 0) (xs : List A) (x : A) → AllByRecursion P xs → P x → AllByRecursion P (xs ++ x ∷ [])
 each_push P [] x h p = (p, tt)
@@ -21,96 +20,85 @@ not_other pollers number k n own ne =
 
 -- ---- the handles of a poller (names with "seat" are about them)
 
--- the poller's handles were used so far for its own stations, and the remaining handles are for the remaining stations
-pub record HasGiven {R D G : Type 0} (pollers : ℕ) (before : List (Vec (DropBomb R PollHandle))) (did : List (Outcome R D G))
-    (left : List (InterruptWorker R D G)) (k : ℕ) (turned : Vec (DropBomb R PollHandle)) : Type 0 where
-  pub rest : AreSeatsAt pollers left k turned
-  pub gone : (d : Vec (DropBomb R PollHandle))
-      → map (λ o. o.poller) (filter (λ o. is_own k pollers o.worker.handler.number) did) ++ vec_items turned ≡ vec_items (get_or before k d)
+abbrev OwnPoller : Type 0 → Type 0 → Type 0
+OwnPoller R G = Poller R G (ListPoller R)
 
-pub none_given : {R D G : Type 0} (pollers : ℕ) (before : List (Vec (DropBomb R PollHandle))) (left : List (InterruptWorker R D G))
-    → EachAt (AreSeatsAt pollers left) before → EachAt (HasGiven {R = R} {D = D} {G = G} pollers before [] left) before
-none_given {R} {D} {G} pollers before left each k d low = record {
-  rest = each k d low;
-  gone = λ e. ap (λ (t : Vec (DropBomb R PollHandle)). vec_items t) (get_or_default before k d e low);
-}
+abbrev seats : {R G : Type 0} → OwnPoller R G → List (DropBomb R PollHandle)
+seats poller = vec_items poller.served.bench.seats
 
-pub given_at : {R D G : Type 0} (pollers : ℕ) (before : List (Vec (DropBomb R PollHandle))) (did : List (Outcome R D G))
-    (all left : List (InterruptWorker R D G)) (polled : List (Vec (DropBomb R PollHandle)))
-    → all ≡ left → EachAt (HasGiven pollers before did all) polled → EachAt (HasGiven pollers before did left) polled
-given_at pollers before did all left polled e each k d low =
-    subst (λ l. HasGiven pollers before did l k (get_or polled k d)) e (each k d low)
+-- the handles of the poller with this number that were used for these instances
+abbrev used : {R D G : Type 0} → ℕ → ℕ → List (Outcome R D G) → List (DropBomb R PollHandle)
+used {R} {D} {G} pollers k did =
+    map (λ (o : Outcome R D G). o.poller) (filter (λ (o : Outcome R D G). is_own k pollers o.worker.handler.number) did)
 
-pub all_given : {R D G : Type 0} (pollers : ℕ) (before after : List (Vec (DropBomb R PollHandle))) (did : List (Outcome R D G))
-    → length after ≡ length before → EachAt (HasGiven pollers before did []) after
-    → EachAt (λ k turned. map (λ o. o.poller) (filter (λ o. is_own k pollers o.worker.handler.number) did) ≡ vec_items turned) before
-all_given {R} {D} {G} pollers before after did long each k d low =
-    let h = each k d (omega (arith, low, long)) in
-    sym (append-nil _)
-    ∙ ap (λ l. map (λ o. o.poller) (filter (λ o. is_own k pollers o.worker.handler.number) did) ++ l)
-    (sym (zip_nil {A = InterruptWorker R D G} (λ p kept. IsSeatWith p kept) (vec_items (get_or after k d)) h.rest))
-    ∙ h.gone d
+module _ {R D G : Type 0} (pollers : ℕ) (before : List (OwnPoller R G)) where
+  -- the poller's handles were used so far for its own stations, and the remaining handles are for the remaining stations
+  pub record HasGiven (did : List (Outcome R D G)) (left : List (InterruptWorker R D G)) (k : ℕ) (poller : OwnPoller R G) : Type 0 where
+    pub rest : AreSeatsAt pollers left k poller
+    pub gone : (d : OwnPoller R G) → used pollers k did ++ seats poller ≡ seats (get_or before k d)
 
-module _ {R D G : Type 0} (pollers : ℕ) (before : List (Vec (DropBomb R PollHandle))) (did : List (Outcome R D G))
-    (place : InterruptWorker R D G)
-    (left : List (InterruptWorker R D G)) where
-  abbrev Goes : InterruptWorker R D G → DropBomb R PollHandle → Type 0
-  Goes p kept = IsSeatWith p kept
+  pub none_given : (left : List (InterruptWorker R D G)) → EachAt (AreSeatsAt pollers left) before → EachAt (HasGiven [] left) before
+  none_given left each k d low = record {
+    rest = each k d low;
+    gone = λ e. ap (λ (p : OwnPoller R G). seats p) (get_or_default before k d e low);
+  }
 
-  abbrev own_left : ℕ → List (InterruptWorker R D G)
-  own_left k = filter (λ (p : InterruptWorker R D G). is_own k pollers p.handler.number) left
+  pub given_at : (did : List (Outcome R D G)) (all left : List (InterruptWorker R D G)) (polled : List (OwnPoller R G))
+      → all ≡ left → EachAt (HasGiven did all) polled → EachAt (HasGiven did left) polled
+  given_at did all left polled e each k d low = subst (λ l. HasGiven did l k (get_or polled k d)) e (each k d low)
 
-  own_first : (k : ℕ) (was : Vec (DropBomb R PollHandle)) → is_own k pollers place.handler.number ≡ true
-      → HasGiven pollers before did (place ∷ left) k was → AllZip Goes (place ∷ own_left k) (vec_items was)
-  own_first k was own h = subst (λ b. AllZip Goes (cond b (place ∷ own_left k) (own_left k)) (vec_items was)) own h.rest
+  pub all_given : (did : List (Outcome R D G)) (after : List (OwnPoller R G)) → length after ≡ length before
+      → EachAt (HasGiven did []) after → EachAt (λ k poller. used pollers k did ≡ seats poller) before
+  all_given did after long each k d low =
+      let h = each k d (omega (arith, low, long)) in
+      sym (append-nil _)
+      ∙ ap (λ l. used pollers k did ++ l) (sym (zip_empty {A = InterruptWorker R D G} IsSeatWith [] (seats (get_or after k d)) h.rest refl))
+      ∙ h.gone d
 
-  -- there is a handle for the current station, and it is on its instance
-  pub some_left : (polled : List (Vec (DropBomb R PollHandle))) (k : ℕ) (was : Vec (DropBomb R PollHandle))
-      → is_own k pollers place.handler.number ≡ true → k < length polled → EachAt (HasGiven pollers before did (place ∷ left)) polled
-      → get_or polled k was ≡ was → suc (length (own_left k)) ≡ length (vec_items was)
-  some_left polled k was own within each there =
-      zip_long Goes (place ∷ own_left k) (vec_items was)
-      (own_first k was own (subst (λ t. HasGiven pollers before did (place ∷ left) k t) there (each k was within)))
+  module _ (did : List (Outcome R D G)) (place : InterruptWorker R D G) (left : List (InterruptWorker R D G))
+      (polled : List (OwnPoller R G)) (k : ℕ) (was : OwnPoller R G) (own : is_own k pollers place.handler.number ≡ true)
+      (within : k < length polled) (each : EachAt (HasGiven did (place ∷ left)) polled) (there : get_or polled k was ≡ was) where
+    abbrev own_left : ℕ → List (InterruptWorker R D G)
+    own_left n = filter (λ (p : InterruptWorker R D G). is_own n pollers p.handler.number) left
 
-  pub next_at : (polled : List (Vec (DropBomb R PollHandle))) (k : ℕ) (caller : DropBomb R PollHandle)
-      (after : List (Vec (DropBomb R PollHandle)))
-      → is_own k pollers place.handler.number ≡ true → k < length polled → EachAt (HasGiven pollers before did (place ∷ left)) polled
-      → TakesNext polled k caller after → IsSeatWith place caller
-  next_at polled k caller after own within each t =
-      let h = subst (λ z. HasGiven pollers before did (place ∷ left) k z) t.there (each k t.was within) in
-      (subst (λ l. AllZip Goes (place ∷ own_left k) l) t.first (own_first k t.was own h)).0
+    here : HasGiven did (place ∷ left) k was
+    here = subst (λ p. HasGiven did (place ∷ left) k p) there (each k was within)
 
-  module _ (o : Outcome R D G) (same : o.worker.handler.number ≡ place.handler.number) where
-    abbrev by : ℕ → Outcome R D G → Bool
-    by k o = is_own k pollers o.worker.handler.number
+    own_first : AllZip IsSeatWith (place ∷ own_left k) (seats was)
+    own_first = subst (λ b. AllZip IsSeatWith (cond b (place ∷ own_left k) (own_left k)) (seats was)) own here.rest
 
-    given_own : (k : ℕ) (was now : Vec (DropBomb R PollHandle)) → is_own k pollers place.handler.number ≡ true
-        → HasGiven pollers before did (place ∷ left) k was → vec_items was ≡ o.poller ∷ vec_items now
-        → HasGiven pollers before (did ++ o ∷ []) left k now
-    given_own k was now own h first = record {
-      rest = (subst (λ l. AllZip Goes (place ∷ own_left k) l) first (own_first k was own h)).1;
-      gone = λ d. ap (λ l. map (λ o. o.poller) l ++ vec_items now)
-          (filter_more (by k) did o ∙ ap (λ b. filter (by k) did ++ cond b (o ∷ []) []) (ap (λ n. is_own k pollers n) same ∙ own))
-          ∙ ap (λ l. l ++ vec_items now) (map-append (λ o. o.poller) (filter (by k) did) (o ∷ []))
-          ∙ append_assoc (map (λ o. o.poller) (filter (by k) did)) (o.poller ∷ []) (vec_items now)
-          ∙ ap (λ l. map (λ o. o.poller) (filter (by k) did) ++ l) (sym first) ∙ h.gone d;
-    }
+    -- there is a handle for the current station, and the next one is on its instance
+    pub some_left : suc (length (own_left k)) ≡ length (seats was)
+    some_left = sym (AllZip-long IsSeatWith (place ∷ own_left k) (seats was) own_first)
 
-    given_other : (k : ℕ) (x : Vec (DropBomb R PollHandle)) → is_own k pollers place.handler.number ≡ false
-        → HasGiven pollers before did (place ∷ left) k x → HasGiven pollers before (did ++ o ∷ []) left k x
-    given_other k x others h = record {
-      rest = subst (λ b. AllZip Goes (cond b (place ∷ own_left k) (own_left k)) (vec_items x)) others h.rest;
-      gone = λ d. ap (λ l. map (λ o. o.poller) l ++ vec_items x)
-          (filter_more (by k) did o ∙ ap (λ b. filter (by k) did ++ cond b (o ∷ []) []) (ap (λ n. is_own k pollers n) same ∙ others)
-          ∙ append-nil (filter (by k) did)) ∙ h.gone d;
-    }
+    pub next_at : (seat : DropBomb R PollHandle) (rest : List (DropBomb R PollHandle)) → seats was ≡ seat ∷ rest → IsSeatWith place seat
+    next_at seat rest first = (subst (λ l. AllZip IsSeatWith (place ∷ own_left k) l) first own_first).0
 
     -- the next handle belongs to the current station
-    pub given_more : (polled : List (Vec (DropBomb R PollHandle))) (k : ℕ) (after : List (Vec (DropBomb R PollHandle)))
-        → is_own k pollers place.handler.number ≡ true → k < length polled → EachAt (HasGiven pollers before did (place ∷ left)) polled
-        → TakesNext polled k o.poller after → EachAt (HasGiven pollers before (did ++ o ∷ []) left) after
-    given_more polled k after own within each t =
-        let h = subst (λ z. HasGiven pollers before did (place ∷ left) k z) t.there (each k t.was within) in
-        subst (λ l. EachAt (HasGiven pollers before (did ++ o ∷ []) left) l) (sym t.rest)
-        (each_set (HasGiven pollers before did (place ∷ left)) _ polled k t.now within each (given_own k t.was t.now own h t.first)
-        (λ n x ne g. given_other n x (not_other pollers place.handler.number k n own ne) g) (length-set polled k t.now))
+    pub given_more : (o : Outcome R D G) (now : OwnPoller R G) → o.worker ≡ place → seats was ≡ o.poller ∷ seats now
+        → EachAt (HasGiven (did ++ o ∷ []) left) (set polled k now)
+    given_more o now same first =
+        each_set (HasGiven did (place ∷ left)) (HasGiven (did ++ o ∷ []) left) polled k now within each (record {
+          rest = (subst (λ l. AllZip IsSeatWith (place ∷ own_left k) l) first own_first).1;
+          gone = λ d. ap (λ l. l ++ seats now) (more k true (at_place k ∙ own))
+              ∙ append_assoc (used pollers k did) (o.poller ∷ []) (seats now)
+              ∙ ap (λ l. used pollers k did ++ l) (sym first) ∙ here.gone d;
+        }) (λ n x ne g.
+        let others = not_other pollers place.handler.number k n own ne in
+        record {
+          rest = subst (λ b. AllZip IsSeatWith (cond b (place ∷ own_left n) (own_left n)) (seats x)) others g.rest;
+          gone = λ d. ap (λ l. l ++ seats x) (more n false (at_place n ∙ others) ∙ append-nil (used pollers n did)) ∙ g.gone d;
+        })
+      where
+        at_place : (n : ℕ) → is_own n pollers o.worker.handler.number ≡ is_own n pollers place.handler.number
+        at_place n = ap (λ (w : InterruptWorker R D G). is_own n pollers w.handler.number) same
+
+        by : ℕ → Outcome R D G → Bool
+        by n o = is_own n pollers o.worker.handler.number
+
+        more : (n : ℕ) (b : Bool) → is_own n pollers o.worker.handler.number ≡ b
+            → used pollers n (did ++ o ∷ []) ≡ used pollers n did ++ map (λ (o : Outcome R D G). o.poller) (cond b (o ∷ []) [])
+        more n b e =
+            ap (λ l. map (λ (o : Outcome R D G). o.poller) l) (filter-append (by n) did (o ∷ []))
+            ∙ map-append (λ (o : Outcome R D G). o.poller) (filter (by n) did) (cond (by n o) (o ∷ []) [])
+            ∙ ap (λ c. used pollers n did ++ map (λ (o : Outcome R D G). o.poller) (cond c (o ∷ []) [])) e

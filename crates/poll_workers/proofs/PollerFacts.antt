@@ -1,71 +1,70 @@
 -- Pollers receive their handles. (Names with "seat" are about these handles.)
-use Rattle.std.proofs.Common.{◌≡◌, ◌≢◌, ◌∙◌, ℕ, ◌+◌, ◌<◌, ◌≤◌, Bool, true, List, [], ◌∷◌, ◌++◌}
-use Rattle.std.proofs.Common.{length, ap, sym, subst, get_or, arith, append-nil}
-use Rattle.std.{proofs.{Common.{cond, vec_items}, lemmas.List.length-set}, specs.{Global.Vec, Prelude.{filter, vec_capacity}}}
-use Rattle.poll_tasks.proofs.ListFacts.{each_set, filter_fewer, filter_more}
-use Rattle.{poll_interrupts.specs.Deals.is_own, poll_workers.proofs.EndFacts.not_other}
-use Rattle.{napi_calls.specs.declared.kept.DropBomb.DropBomb, poll_seats.specs.declared.handle.PollHandle.PollHandle}
-use Rattle.poll_workers.specs.Spreads.{AreEndsOf, HaveOwn, IsEndOf, TakesSeat}
-use Rattle.std.proofs.Common.{All, set, zero, suc}
-use Rattle.poll_list.specs.declared.{list_in.ListIn.ListIn, shared.SharedList.SharedList}
-use Rattle.poll_tasks.specs.{Tasks.IsAt, declared.signals.Waker.Waker}
-use Rattle.poll_interrupts.specs.Deals.{poller_by}
-use Rattle.std.proofs.lemmas.Bool.{eqb-true}
+use Rattle.std.proofs.Common.{◌≡◌, ◌∙◌, ℕ, ◌+◌, ◌<◌, ◌≤◌, Bool, true, false, List, [], ◌∷◌, ◌++◌, length, ap, sym, subst}
+use Rattle.std.proofs.Common.{get_or, arith, append-nil, cond, map, vec_items, All, Some, set}
+use Rattle.std.{specs.{Global.Vec, Prelude.{filter, vec_capacity}}, proofs.lemmas.Bool.eqb-true}
+use Rattle.std.proofs.lemmas.List.{length-set, map-set, set-get_or, Elements.{All-pop, filter-append}}
+use Rattle.std.proofs.lemmas.List.Sums.{count_by-le-length, length-filter}
+use Rattle.{poll_tasks.proofs.ListFacts.each_set, poll_workers.proofs.EndFacts.not_other}
+use Rattle.{napi_calls.specs.declared.kept.DropBomb.DropBomb, poll_seats.specs.HandleBenches.HasOneMore}
+use Rattle.poll_seats.specs.declared.{handle.PollHandle.PollHandle, poller.Poller.Poller, list_poller.ListPoller.ListPoller}
+use Rattle.poll_workers.specs.Spreads.{AreEndsOf, ArePollers, IsEndOf, IsPoller, own_seats}
+use Rattle.poll_list.specs.{SharedList.IsNewList, declared.{list_in.ListIn.ListIn, shared.SharedList.SharedList}}
+use Rattle.poll_tasks.specs.{Tasks.IsAt, declared.{signals.Waker.Waker, context.RunContext.RunContext}}
+use Rattle.poll_interrupts.specs.Deals.{is_own, poller_by}
 
-module _ {R : Type 0} (count pollers : ℕ) (sat : List (DropBomb R PollHandle)) (seats : List (Vec (DropBomb R PollHandle))) (k : ℕ)
-    (have : HaveOwn count pollers sat seats) (within : k < length seats) where
+-- a poller among those of a run
+module _ {R G : Type 0} (context : RunContext R G) (wakers : List Waker) (count : ℕ) (sat : List (DropBomb R PollHandle))
+    (pollers : List (Poller R G (ListPoller R))) (k : ℕ) (was : Poller R G (ListPoller R))
+    (have : ArePollers context wakers count sat pollers) (within : k < length pollers) (there : get_or pollers k was ≡ was) where
   abbrev by : ℕ → DropBomb R PollHandle → Bool
-  by n s = is_own n pollers s.value.number
+  by n seat = is_own n (length wakers) seat.value.number
 
-  abbrev Own : List (DropBomb R PollHandle) → ℕ → Vec (DropBomb R PollHandle) → Type 0
-  Own l n own = (vec_items own ≡ filter (by n) l) × (count ≤ vec_capacity own)
+  here : IsPoller context wakers count (own_seats (length wakers) k sat) k was
+  here = subst (λ p. IsPoller context wakers count (own_seats (length wakers) k sat) k p) there (have.each k was within)
 
-  -- there is room for one more handle
-  pub has_room : (own : Vec (DropBomb R PollHandle)) → get_or seats k own ≡ own → length sat < count
-      → length (vec_items own) < vec_capacity own
-  has_room own there few =
-      let p = subst (λ t. Own sat k t) there (have k own within) in
-      let long = ap (λ l. length l) p.0 in
-      let fewer = filter_fewer (by k) sat in
-      omega (arith, long, fewer, few, p.1)
+  -- it has room for one more handle
+  pub has_room : length sat < count → length (vec_items was.served.bench.seats) < vec_capacity was.served.bench.seats
+  has_room few =
+      let long = ap (λ l. length l) here.seats_are in
+      let kept = length-filter (by k) sat in
+      let fewer = count_by-le-length (by k) sat in
+      let room = here.room in
+      omega (arith, long, kept, fewer, few, room)
 
-  -- one more handle was added to its poller
-  pub one_more : (seat : DropBomb R PollHandle) (after : List (Vec (DropBomb R PollHandle))) → is_own k pollers seat.value.number ≡ true
-      → TakesSeat seats k seat after
-      → HaveOwn count pollers (sat ++ seat ∷ []) after
-  one_more seat after own t =
-      subst (λ l. HaveOwn count pollers (sat ++ seat ∷ []) l) (sym t.rest)
-      (each_set (Own sat) (Own (sat ++ seat ∷ [])) seats k t.now within have new other (length-set seats k t.now))
+  -- one more handle was added to it
+  pub one_more : (seat : DropBomb R PollHandle) (now : Poller R G (ListPoller R)) → is_own k (length wakers) seat.value.number ≡ true
+      → HasOneMore was seat now → ArePollers context wakers count (sat ++ seat ∷ []) (set pollers k now)
+  one_more seat now own one = record {
+    each = each_set (λ n p. IsPoller context wakers count (own_seats (length wakers) n sat) n p)
+        (λ n p. IsPoller context wakers count (own_seats (length wakers) n (sat ++ seat ∷ [])) n p) pollers k now within have.each
+        (subst (λ p. IsPoller context wakers count (own_seats (length wakers) k (sat ++ seat ∷ [])) k p) (sym one.rest) (record {
+          has = here.has;
+          paced = one.limits ∙ here.paced;
+          named = here.named;
+          waker = here.waker;
+          wakes = here.wakes;
+          new = subst (λ (l : SharedList R). (ends : ℕ) × IsNewList ends l) (sym one.list) here.new;
+          seats_are = one.seats ∙ ap (λ l. l ++ seat ∷ []) here.seats_are ∙ sym (more k true own);
+          room = (let same = one.room in let room = here.room in omega (arith, same, room));
+        })) (λ n p ne h. subst (λ l. IsPoller context wakers count l n p)
+        (sym (more n false (not_other (length wakers) seat.value.number k n own ne) ∙ append-nil _)) h);
+    as_many = length-set pollers k now ∙ have.as_many;
+  }
     where
-      p : Own sat k t.was
-      p = subst (λ z. Own sat k z) t.there (have k t.was within)
+      more : (n : ℕ) (b : Bool) → is_own n (length wakers) seat.value.number ≡ b
+          → own_seats (length wakers) n (sat ++ seat ∷ []) ≡ own_seats (length wakers) n sat ++ cond b (seat ∷ []) []
+      more n b e = filter-append (by n) sat (seat ∷ []) ∙ ap (λ c. filter (by n) sat ++ cond c (seat ∷ []) []) e
 
-      new : Own (sat ++ seat ∷ []) k t.now
-      new = (
-        t.more ∙ ap (λ l. l ++ seat ∷ []) p.0
-            ∙ sym (filter_more (by k) sat seat ∙ ap (λ b. filter (by k) sat ++ cond b (seat ∷ []) []) own),
-        (let c = t.capacity in omega (arith, c, p.1)),
-      )
-
-      other : (n : ℕ) (x : Vec (DropBomb R PollHandle)) → n ≢ k → Own sat n x → Own (sat ++ seat ∷ []) n x
-      other n x ne q = (
-        q.0 ∙ sym (filter_more (by n) sat seat
-            ∙ ap (λ b. filter (by n) sat ++ cond b (seat ∷ []) []) (not_other pollers seat.value.number k n own ne)
-            ∙ append-nil (filter (by n) sat)),
-        q.1,
-      )
+  -- and it still has the same list
+  pub same_lists : (seat : DropBomb R PollHandle) (now : Poller R G (ListPoller R)) → HasOneMore was seat now
+      → map (λ (p : Poller R G (ListPoller R)). p.served.list) (set pollers k now)
+      ≡ map (λ (p : Poller R G (ListPoller R)). p.served.list) pollers
+  same_lists seat now one =
+      let list : Poller R G (ListPoller R) → SharedList R = λ p. p.served.list in
+      map-set list pollers k now ∙ ap (λ l. set (map list pollers) k l) one.list
+      ∙ sym (map-set list pollers k was) ∙ ap (λ l. map list l) (ap (λ p. set pollers k p) (sym there) ∙ set-get_or pollers k was)
 
 -- ---- the ends of lists that are taken
-
-all_cons : {A : Type 0} (P : A → Type 0) (x : A) (xs : List A) → P x → All P xs → All P (x ∷ xs)
-all_cons P x xs p h zero d low = p
-all_cons P x xs p h (suc k) d low = h k d (omega (arith, low))
-
-all_cut : {A : Type 0} (P : A → Type 0) (xs : List A) (y : A) → All P (xs ++ y ∷ []) → All P xs × P y
-all_cut P [] y h = (λ k d low. absurd (omega (arith, low)), h 0 y (omega arith))
-all_cut P (x ∷ xs) y h =
-    let rest = all_cut P xs y (λ k d low. h (suc k) d (omega (arith, low))) in
-    (all_cons P x xs (h 0 x (omega arith)) rest.0, rest.1)
 
 -- if two ends of a poller's list are taken from a vector of its ends, these and the remaining ones are ends of that list
 pub ends_cut : {R : Type 0} (lists : List (SharedList R)) (ends : List (Vec (ListIn R))) (k : ℕ) (was now : Vec (ListIn R))
@@ -76,9 +75,9 @@ pub ends_cut : {R : Type 0} (lists : List (SharedList R)) (ends : List (Vec (Lis
 ends_cut {R} lists ends k was now mid one other within there whole rest each =
     let P : ℕ → Vec (ListIn R) → Type 0 = λ n own. All (IsEndOf lists n) (vec_items own) in
     let all = subst (λ v. P k v) there (each k was within) in
-    let first = all_cut (IsEndOf lists k) mid one (subst (λ l. All (IsEndOf lists k) l) whole all) in
-    let second = all_cut (IsEndOf lists k) (vec_items now) other (subst (λ l. All (IsEndOf lists k) l) rest first.0) in
-    (first.1, second.1, each_set P P ends k now within each second.0 (λ n x ne h. h) (length-set ends k now))
+    let first = All-pop (IsEndOf lists k) (vec_items was) mid (Some one) whole all in
+    let second = All-pop (IsEndOf lists k) mid (vec_items now) (Some other) rest first.0 in
+    (first.1, second.1, each_set P P ends k now within each second.0 (λ n x ne h. h))
 
 -- ---- the list and the waker of a station's poller
 
@@ -90,13 +89,10 @@ pub wired_end : {R : Type 0} (lists : List (SharedList R)) (k n : ℕ) (given en
 wired_end lists k n given end is same e =
     subst (λ m. IsEndOf lists m end) (sym e) (subst (λ x. IsEndOf lists k x) (sym same) is)
 
-pub wired_waker : (wakers : List Waker) (k n : ℕ) (here waker : Waker) → IsAt wakers k here → waker ≡ here → n ≡ k → IsAt wakers n waker
-wired_waker wakers k n here waker is same e = subst (λ m. IsAt wakers m waker) (sym e) (subst (λ b. IsAt wakers k b) (sym same) is)
+pub wired_waker : (wakers : List Waker) (k n : ℕ) (own waker : Waker) → IsAt wakers k own → waker ≡ own → n ≡ k → IsAt wakers n waker
+wired_waker wakers k n own waker is same e = subst (λ m. IsAt wakers m waker) (sym e) (subst (λ b. IsAt wakers k b) (sym same) is)
 
 -- ---- the counts while one more handle is added
-
-pub within_of : (k n l m : ℕ) → l ≡ m → k < n → n ≡ m → k < l
-within_of k n l m e h f = omega (arith, e, h, f)
 
 pub ends_of : (left old ends : ℕ) → left + 1 ≡ old → old + old ≤ ends → left + left + 2 ≤ ends
 ends_of left old ends e h = omega (arith, e, h)
@@ -106,6 +102,3 @@ count_of did did' left old n h e f = omega (arith, h, e, f)
 
 pub same_count : (a a' b b' : ℕ) → a ≡ b → a' ≡ a + 1 → b' ≡ b + 1 → a' ≡ b'
 same_count a a' b b' h e f = omega (arith, h, e, f)
-
-pub same_next : (a a' n : ℕ) → a ≡ n → a' ≡ a + 1 → a' ≡ n + 1
-same_next a a' n h e = omega (arith, h, e)

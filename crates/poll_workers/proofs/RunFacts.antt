@@ -1,10 +1,11 @@
 -- What the parts of a run imply for its stations.
-use Rattle.std.proofs.lemmas.{Bool.ne_eqb, Grind.common_steps, List.{get_or_default, length-map, nil_from_length}}
+use Rattle.std.proofs.lemmas.{Bool.ne_eqb, Grind.common_steps, List.{get_or_default, nil_from_length, Elements.recursion_from_All}}
+use Rattle.std.proofs.lemmas.Option.{same_Some}
 use Rattle.std.proofs.Common.{◌≡◌, ◌≢◌, ℕ, zero, suc, ◌≤◌, ◌<◌, Bool, true, false, None, is_some, List, [], ◌∷◌, ◌++◌, sym}
-use Rattle.std.{proofs.Common.{ap, inl, inr, ◌∙◌, refl, subst, Some, All, arith, rules, get_or, length}, specs.Prelude.{filter, map}}
-use Rattle.std.specs.{Prelude.{◌⊎◌, IfSome, not, unwrap_or, vec_items, vec_len}, List.{AllByRecursion, AllZip}, Global.Vec}
-use Rattle.{poll_tasks.specs.Asks.WasLet, poll_interrupts.specs.Acts.{after_acts, arrivals}}
-use Rattle.poll_interrupts.specs.{Runs.HasRun, Deals.{is_dealt, is_own, poller_by}, Calls.listings, Ends.{IsFinishOf, IsKeptFinishOf}}
+use Rattle.std.{proofs.Common.{ap, ◌∙◌, refl, subst, Some, All, arith, rules, get_or, length}, specs.Prelude.{filter, map}}
+use Rattle.std.specs.{Prelude.{not, vec_items, vec_len}, List.{AllByRecursion, AllZip}, Global.Vec}
+use Rattle.{poll_tasks.specs.{Asks.WasLet, Trails.questions}, poll_interrupts.specs.{Acts.{after_acts, arrivals}, Questions.all_questions}}
+use Rattle.poll_interrupts.specs.{Runs.HasRun, Deals.{is_dealt, is_own, poller_by}, Hands.listings, Ends.{IsFinishOf, IsKeptFinishOf}}
 use Rattle.poll_interrupts.specs.{Runs.{Ledger, Whose, WorksBy, IsEnded, blank, controller_number, worker_number}}
 use Rattle.poll_interrupts.specs.{declared.station.Station.Station}
 use Rattle.poll_interrupts.specs.declared.{station.Finished.Finished}
@@ -15,24 +16,23 @@ use Rattle.poll_interrupts.specs.{Works.{IsDoneBy, IsWorked, ledger_of, whose}}
 use Rattle.poll_interrupts.specs.Handles.{AreAtRest, is_on, pass_of}
 use Rattle.poll_interrupts.specs.Opens.{IsHome, IsInputOf, IsKeptLoose, IsKeptPartOf, IsKeptSideOf, IsLoose}
 use Rattle.poll_list.specs.declared.{list_in.ListIn.ListIn, shared.SharedList.SharedList}
-use Rattle.poll_tasks.proofs.ListFacts.{at_mapped, at_place, each_index, each_zip, zip_and}
-use Rattle.poll_tasks.proofs.ListFacts.{zip_both, zip_each, zip_empty, zip_filtered, zip_flip}
-use Rattle.poll_tasks.proofs.ListFacts.{zip_right, zip_same}
+use Rattle.poll_tasks.proofs.ListFacts.{at_mapped, at_place, each_zip, zip_and, zip_both, zip_empty, zip_filtered}
+use Rattle.poll_tasks.proofs.ListFacts.{zip_flip, zip_right, zip_same}
 use Rattle.poll_tasks.specs.{Tasks.{EachAt, IsAt}, Asks.IsAsked}
-use Rattle.poll_tasks.specs.{Stops.IsStop, declared.{signals.Waker.Waker, limits.{RunContext.RunContext, PollLimits.PollLimits}}}
+use Rattle.poll_tasks.specs.declared.{signals.Waker.Waker, context.{RunContext.RunContext, PollLimits.PollLimits}}
 use Rattle.rx_ring.specs.{Ends.{SameIn, capacity_of, put_list}}
 use Rattle.rx_ring.specs.{ReceiveRing.{bytes_of, capped}, declared.{ends.RxIn.RxIn, packet.Packet.Packet}}
-use Rattle.poll_seats.specs.{SeatKeeping.{AreSameSeats, IsSameSeat}}
-use Rattle.poll_seats.specs.{Serving.IsServed, Turns.{TurnsAlone, TurnsByRun, has_no_seat, has_no_thread}}
+use Rattle.poll_seats.specs.SeatKeeping.{AreSameSeats, IsSameSeat}
+use Rattle.poll_seats.specs.Turns.{TurnsAlone, TurnsByRun, has_no_seat, has_no_thread}
 use Rattle.poll_seats.specs.declared.{handle.PollHandle.PollHandle, poller.Poller.Poller, list_poller.ListPoller.ListPoller}
 use Rattle.poll_seats.specs.declared.thread_poller.ThreadPoller.{ThreadPoller}
-use Rattle.poll_seats.{specs.Gives.{IsPolled}, proofs.SeatFacts.{seats_stay, seat_stays, served_alone, served_keeps}}
+use Rattle.poll_seats.{specs.Gives.{IsPolled}, proofs.SeatFacts.{served_alone, served_keeps}}
 use Rattle.napi_calls.specs.declared.{kept.DropBomb.DropBomb, types.{Caller.Caller, Napi.Napi}}
 use Rattle.napi_calls.specs.{Instance.IsSeatOf, Seats.{pass_number, own_list}}
 use Rattle.poll_workers.specs.Courses.{ArePolled, Course, HasPolled, HasTurned, HaveRun, IsCourse, IsCrew, IsFreshSeat, Pushes, TakesTurns}
 use Rattle.poll_workers.specs.{Courses.TurnsIfThread, Finishes.{IsFinished, IsWorkedOf}, Spreads.{AreEndsOf, ArePollers, IsEndOf}}
 use Rattle.poll_workers.specs.Spreads.{IsJobAt, IsKeptJobOf, IsKeptSeatFor, IsKeptThreadFor, IsNewEnd, IsPoller, IsSeatAt, IsThreadAt}
-use Rattle.poll_workers.specs.{Spreads.{IsWiredJob, IsWiredSide}, declared.pollers.Begin.Begin}
+use Rattle.poll_workers.specs.Spreads.{IsWiredJob, IsWiredSide, own_seats}
 use Rattle.poll_workers.specs.Outcomes.{AreLeftBy, AreSeatsAt, IsLeftBy, IsSeatWith, IsThreadWith, Outcome}
 
 -- the types of the pollers with a list, and of the threads of instances
@@ -110,10 +110,10 @@ module _ {R D G : Type 0} {acts : D → ℕ} {answer : D → ℕ → Act} {after
       record {
         list = new.0;
         there = subst (λ n. IsAt lists (poller_by pollers n) new.0) opened.same_number new.1;
-        end = worked.list;
+        end = worked.out.list;
         of = pushed.same.0 ∙ new.2.0;
-        pushed = pushed.pushed ∙ ap (λ l. l ++ listings loose.value.number pushed.did) new.2.1
-            ∙ ap (λ n. listings n pushed.did) opened.same_number
+        pushed = pushed.pushed ∙ ap (λ l. l ++ listings made.before.handler.number pushed.did) new.2.1
+            ∙ ap (λ n. listings n pushed.did) (made.number ∙ opened.same_number)
             ∙ ap (λ l. listings station.number l) (sym did ∙ sym (ap (λ (c : Caller). own_list c.pass) (ended.of.worker_is
             ∙ ap (λ (h : WorkerHandles). h.caller) taken.handles)));
       }
@@ -125,6 +125,7 @@ module _ {R D G : Type 0} {acts : D → ℕ} {answer : D → ℕ → Act} {after
       let done = made.is in
       let device : work.device ≡ station.device = made.device ∙ opened.same_device in
       let none : put_list work.rx ≡ [] = ap (λ (r : RxIn). put_list r) made.rx ∙ opened.nothing_put in
+      let unasked : questions work.out.asked ≡ [] = ap questions made.asked ∙ opened.unasked in
       let some_put = ap (λ l. length l) none in
       let few : length (put_list worked.rx) ≤ 4294967295 = (let h = done.few in omega (arith, h, some_put)) in
       let brought : List Packet = arrivals answer after station.device (acts station.device) in
@@ -139,6 +140,10 @@ module _ {R D G : Type 0} {acts : D → ℕ} {answer : D → ℕ → Act} {after
         same_number = ended.same_number ∙ taken.number ∙ made.same_number ∙ opened.same_number;
         let_go = subst (λ n. WasLet answers n (acts station.device)) opened.same_number
             (subst (λ (d : D). WasLet answers loose.value.number (acts d)) device (done.let_go whole));
+        asked = ap questions (ended.same_asked ∙ taken.asked) ∙ done.asked whole
+            ∙ ap (λ l. l ++ all_questions after loose.value.number work.device (acts work.device)) unasked
+            ∙ ap (λ (d : D). all_questions after loose.value.number d (acts d)) device
+            ∙ ap (λ n. all_questions after n station.device (acts station.device)) opened.same_number;
         made = ended.same_device ∙ taken.device ∙ done.made whole ∙ ap (λ (d : D). after_acts after d (acts d)) device;
         sum = ended.sum (let same = ap (λ (r : RxIn). length (put_list r)) taken.rx in omega (arith, few, same));
         put = λ room. (
@@ -229,10 +234,6 @@ zip_mapped f Q [] [] h = tt
 zip_mapped f Q (x ∷ xs) (y ∷ ys) h = (h.0, zip_mapped f Q xs ys h.1)
 zip_mapped f Q xs ys h = absurd h
 
-pub each_of : {A : Type 0} (P : A → Type 0) (xs : List A) → All P xs → AllByRecursion P xs
-each_of P [] h = tt
-each_of P (x ∷ xs) h = (h 0 x (omega arith), each_of P xs (λ k d b. h (suc k) d (omega arith)))
-
 fresh_of : {R D : Type 0} (station : Station D) (seat : DropBomb R PollHandle)
     → (loose : DropBomb R (Loose D)) × IsKeptLoose station loose × IsKeptSeatFor loose seat → IsFreshSeat station seat
 fresh_of station seat (loose, opened, for) =
@@ -253,36 +254,35 @@ crew_is R asked limits lists pollers number (c ∷ cs) turns = turns (λ e. absu
 
 -- what the threads of a run returned, if none failed
 module _ {R D G : Type 0} (acts : D → ℕ) (answer : D → ℕ → Act) (after : D → ℕ → D) (answers : G → ℕ → ℕ → Bool → Type 0)
-    (context : RunContext R G) (lists : List (SharedList R)) (pollers : ℕ) (stations : List (Station D)) (loose left : List (DropBomb R
-    (Loose D)))
-    (opened : AllZip IsKeptLoose stations loose) (ran : HaveRun acts answer after answers context lists pollers loose left)
+    (context : RunContext R G) (pollers : ℕ) (stations : List (Station D)) (loose left : List (DropBomb R (Loose D)))
+    (opened : AllZip IsKeptLoose stations loose) (ran : HaveRun acts answer after answers context pollers loose left)
     (ends : List (Finished D)) (finish : AllZip IsKeptFinishOf left ends) where
   abbrev asked : ℕ → Type 0
-  asked = IsAsked answers context.gate.now
+  asked = IsAsked answers context.gate
 
-  run_courses : Courses acts answer after (answers context.gate.now) asked context.limits lists pollers stations ran.left_by.all ends
+  run_courses : Courses acts answer after (answers context.gate) asked context.limits ran.lists pollers stations ran.left_by.all ends
   run_courses =
       let by = ran.left_by in
-      courses_of acts answer after (answers context.gate.now) asked context.limits lists pollers stations by.all ends
-      (subst (λ l. AllZip (Works acts answer after (answers context.gate.now) asked context.limits lists pollers) stations l)
+      courses_of acts answer after (answers context.gate) asked context.limits ran.lists pollers stations by.all ends
+      (subst (λ l. AllZip (Works acts answer after (answers context.gate) asked context.limits ran.lists pollers) stations l)
       (sym by.workers_are)
       (zip_both _ _ _ _ _ opened ran.made))
-      (subst (λ l. AllZip (Turns acts answer after (answers context.gate.now) asked context.limits lists pollers) stations l)
+      (subst (λ l. AllZip (Turns acts answer after (answers context.gate) asked context.limits ran.lists pollers) stations l)
       (sym by.threads_are)
       (zip_both _ _ _ _ _ opened ran.turned))
-      (subst (λ l. AllByRecursion (λ (w : InterruptWorker R D G). w.stop ≡ None) l) (sym by.workers_are) (each_of _ _ ran.whole))
-      (subst (λ l. AllByRecursion (λ (t : OwnThread R G). t.stop ≡ None) l) (sym by.threads_are) (each_of _ _ ran.whole_turns))
+      (subst (λ l. AllByRecursion (λ (w : InterruptWorker R D G). w.stop ≡ None) l) (sym by.workers_are) (recursion_from_All _ _ ran.whole))
+      (subst (λ l. AllByRecursion (λ (t : OwnThread R G). t.stop ≡ None) l) (sym by.threads_are) (recursion_from_All _ _ ran.whole_turns))
       by.each (subst (λ l. AllZip IsKeptFinishOf l ends) (sym by.loose_are) finish)
 
-  pub all_finished : AllZip (IsFinished acts answer after (answers context.gate.now)) stations ends
+  pub all_finished : AllZip (IsFinished acts answer after (answers context.gate)) stations ends
   all_finished = run_courses.finished
 
   -- the stations that a poller polled are its own ones
-  crew_of : (number : ℕ) (p : OwnPoller R G) → HasPolled asked context.limits lists pollers loose number p
+  crew_of : (number : ℕ) (p : OwnPoller R G) → HasPolled asked context.limits ran.lists pollers loose number p
       → map (λ o. o.poller) (filter (λ o. is_own number pollers o.worker.handler.number) ran.left_by.all)
       ≡ vec_items p.served.bench.seats → p.stop ≡ None
-      → IsCrew R asked context.limits lists pollers number (filter (λ c. is_dealt number pollers c.station) run_courses.all)
-  crew_of number p has back did = crew_is R asked context.limits lists pollers number own (λ some. record {
+      → IsCrew R asked context.limits ran.lists pollers number (filter (λ c. is_dealt number pollers c.station) run_courses.all)
+  crew_of number p has back did = crew_is R asked context.limits ran.lists pollers number own (λ some. record {
     list = has.list;
     there = has.there;
     ends = has.ends;
@@ -316,7 +316,7 @@ module _ {R D G : Type 0} (acts : D → ℕ) (answer : D → ℕ → Act) (after
 
   pub all_polled : ArePolled R asked context.limits acts answer after pollers stations ends
   all_polled = record {
-    lists = lists;
+    lists = ran.lists;
     courses = run_courses.all;
     stations_are = run_courses.stations_are;
     ends_are = run_courses.ends_are;
@@ -324,7 +324,7 @@ module _ {R D G : Type 0} (acts : D → ℕ) (answer : D → ℕ → Act) (after
     crews = λ number below.
         let by = ran.left_by in
         let polled = ran.polled in
-        let Polled : ℕ → OwnPoller R G → Type 0 = λ k p. IsAt polled k p × HasPolled asked context.limits lists pollers loose k p
+        let Polled : ℕ → OwnPoller R G → Type 0 = λ k p. IsAt polled k p × HasPolled asked context.limits ran.lists pollers loose k p
         × (p.stop ≡ None) in
         let low : number < length polled = (let same = ran.same in omega (arith, same, below)) in
         let t = at_place Polled polled (λ k d low. (
@@ -332,14 +332,11 @@ module _ {R D G : Type 0} (acts : D → ℕ) (answer : D → ℕ → Act) (after
           ran.ran k d low,
           ran.whole_polls k d low,
         )) number low in
-        let seats = map (λ p. p.served.bench.seats) polled in
-        let own = t.0.served.bench.seats in
-        let here = at_mapped (λ p. p.served.bench.seats) polled number t.0 t.1.0 in
-        let by_poller : map (λ o. o.poller) (filter (λ o. is_own number (length seats) o.worker.handler.number) by.all)
-        ≡ vec_items (get_or seats number own) = by.callers number own here.0 in
+        let by_poller : map (λ o. o.poller) (filter (λ o. is_own number (length polled) o.worker.handler.number) by.all)
+        ≡ vec_items (get_or polled number t.0).served.bench.seats = by.callers number t.0 low in
         crew_of number t.0 t.1.1
-        (subst (λ n. map (λ o. o.poller) (filter (λ o. is_own number n o.worker.handler.number) by.all) ≡ vec_items own)
-        (length-map polled (λ p. p.served.bench.seats) ∙ ran.same) (by_poller ∙ ap (λ v. vec_items v) here.1)) t.1.2;
+        (subst (λ n. map (λ o. o.poller) (filter (λ o. is_own number n o.worker.handler.number) by.all) ≡ vec_items t.0.served.bench.seats)
+        ran.same (by_poller ∙ ap (λ (p : OwnPoller R G). vec_items p.served.bench.seats) t.1.0.1)) t.1.2;
   }
 
 -- each station has a poller
@@ -350,30 +347,20 @@ none_polled R asked limits acts answer after pollers =
     record { lists = []; courses = []; stations_are = refl; ends_are = refl; each = tt; crews = λ number below. tt }
 
 -- the ends that were made together with the pollers' lists are ends of these lists
-pub ends_of_lists : {R : Type 0} (begins : List (Begin R)) (ends : List (Vec (ListIn R)))
-    → AllZip (λ begin e. All (IsNewEnd begin.list) (vec_items e)) begins ends → AreEndsOf (map (λ b. b.list) begins) ends
+pub ends_of_lists : {R G : Type 0} (pollers : List (OwnPoller R G)) (ends : List (Vec (ListIn R)))
+    → AllZip (λ p e. All (IsNewEnd p.served.list) (vec_items e)) pollers ends → AreEndsOf (map (λ p. p.served.list) pollers) ends
 ends_of_lists [] [] own k d low = absurd (omega (arith, low))
-ends_of_lists (b ∷ bs) (e ∷ es) own zero d low =
-    λ n x within. (b.list, (omega arith, refl), own.0 n x within)
-ends_of_lists {R} (b ∷ bs) (e ∷ es) own (suc k) d low = λ n x within.
-    let h = ends_of_lists bs es own.1 k d (omega (arith, low)) n x within in
+ends_of_lists (p ∷ ps) (e ∷ es) own zero d low = λ n x within. (p.served.list, (omega arith, refl), own.0 n x within)
+ends_of_lists (p ∷ ps) (e ∷ es) own (suc k) d low = λ n x within.
+    let h = ends_of_lists ps es own.1 k d (omega (arith, low)) n x within in
     (h.0, (let m = h.1.0 in omega (arith, m), h.1.1), h.2)
-ends_of_lists bs es own k d low = absurd own
-
-pub each_mapped : {A B : Type 0} (f : A → B) (P : ℕ → B → Type 0) (xs : List A) → EachAt (λ k x. P k (f x)) xs → EachAt P (map f xs)
-each_mapped f P [] h k d low = absurd (omega (arith, low))
-each_mapped f P (x ∷ xs) h zero d low = h 0 x (omega arith)
-each_mapped f P (x ∷ xs) h (suc k) d low =
-    each_mapped f (λ n y. P (suc n) y) xs (λ n a b. h (suc n) a (omega (arith, b))) k d (omega (arith, low))
+ends_of_lists ps es own k d low = absurd own
 
 -- a poller with a handle isn't idle
 some_seat : {R : Type 0} (served : ListPoller R) → vec_items served.bench.seats ≢ [] → has_no_seat served ≡ false
 some_seat served some =
     let seats = served.bench.seats in
     ne_eqb (vec_len seats) 0 (λ e. some (nil_from_length (vec_items seats) (grind (arith, common_steps, e))))
-
-some_is : {A : Type 0} {x y : A} → Some x ≡ Some y → x ≡ y
-some_is {x = x} e = ap (λ o. unwrap_or o x) e
 
 -- ---- what the threads returned of the parts that they got
 
@@ -407,10 +394,10 @@ module _ {R D G : Type 0} where
   parts_of (p ∷ ps) [] back taken = absurd back
   parts_of (p ∷ ps) (o ∷ os) back taken = (part_of p o back.0 taken.0, parts_of ps os back.1 taken.1)
 
-  pub all_parts : (placed : List (DropBomb R Placed)) (workers : List (InterruptWorker R D G)) (seats : List (Vec (DropBomb R PollHandle)))
+  pub all_parts : (placed : List (DropBomb R Placed)) (workers : List (InterruptWorker R D G)) (pollers : List (OwnPoller R G))
       (threads : List (OwnThread R G)) (left : List (DropBomb R (Loose D))) → AllZip IsBackAt placed workers
-      → AreLeftBy workers seats threads left → AllZip IsKeptPartOf left placed
-  all_parts placed workers seats threads left back by =
+      → AreLeftBy workers pollers threads left → AllZip IsKeptPartOf left placed
+  all_parts placed workers pollers threads left back by =
       subst (λ l. AllZip IsKeptPartOf l placed) by.loose_are
       (parts_of placed by.all (subst (λ l. AllZip IsBackAt placed l) (sym by.workers_are) back) by.each)
 
@@ -446,18 +433,20 @@ module _ {R D G : Type 0} (acts : D → ℕ) (answer : D → ℕ → Act) (after
     worked_of : (loose : DropBomb R (Loose D)) (job done : InterruptWorker R D G) → IsKeptJobOf context loose job
         → IsWiredJob lists wakers job
         → IsWorked acts answer after may_shut answers job done
-        → IsWorkedOf acts answer after (answers context.gate.now) lists (length wakers) loose done
+        → IsWorkedOf acts answer after (answers context.gate) lists (length wakers) loose done
     worked_of loose job done given wired made = record {
       napi = job.handler.napi.now;
       before = job;
+      number = given.same_number;
       device = given.same_device;
       rx = given.same_rx;
       handles = given.same_handles;
-      list = subst (λ n. IsEndOf lists (poller_by (length wakers) n) job.list) given.same_number wired.list;
+      asked = given.same_asked;
+      list = subst (λ n. IsEndOf lists (poller_by (length wakers) n) job.out.list) given.same_number wired.list;
       same_number = ap (λ (h : InterruptHandler R). h.number) made.same_handler ∙ given.same_number;
-      is = subst (λ (s : RunContext R G). IsDone (answers s.gate.now) loose.value.has_thread loose.value.number) given.has
-          (subst (λ b. IsDone (answers job.context.now.gate.now) b loose.value.number) given.thread
-          (subst (λ n. IsDone (answers job.context.now.gate.now) (is_some job.handler.thread) n) given.same_number made.is));
+      is = subst (λ (s : RunContext R G). IsDone (answers s.gate) loose.value.has_thread loose.value.number) given.has
+          (subst (λ b. IsDone (answers job.context.now.gate) b loose.value.number) given.thread
+          (subst (λ n. IsDone (answers job.context.now.gate) (is_some job.handler.thread) n) given.same_number made.is));
     }
       where
         IsDone : (ℕ → ℕ → Bool → Type 0) → Bool → ℕ → Type 0
@@ -466,32 +455,17 @@ module _ {R D G : Type 0} (acts : D → ℕ) (answer : D → ℕ → Act) (after
     pub all_worked : (loose : List (DropBomb R (Loose D))) (jobs done : List (InterruptWorker R D G))
         → AllZip (IsKeptJobOf context) loose jobs
         → AllByRecursion (IsWiredJob lists wakers) jobs → AllZip (IsWorked acts answer after may_shut answers) jobs done
-        → AllZip (IsWorkedOf acts answer after (answers context.gate.now) lists (length wakers)) loose done
+        → AllZip (IsWorkedOf acts answer after (answers context.gate) lists (length wakers)) loose done
     all_worked loose jobs done given wired made =
         zip_same _ _ _ _ (λ l d h. worked_of l h.0 d h.1.0 h.1.1 h.2) (zip_both _ _ _ _ _ (zip_right _ _ _ _ given wired) made)
 
 -- ---- the pollers
 
-module _ {R G : Type 0} {may_shut : Type 0} {answers : G → ℕ → ℕ → Bool → Type 0} where
-  polled_keeps : (before after : OwnPoller R G) → IsPolled has_no_seat TurnsByRun may_shut answers before after
-      → AreSameSeats (vec_items before.served.bench.seats) (vec_items after.served.bench.seats)
-  polled_keeps before after p = keeps before.served after.served p.kept
-    where
-      keeps : (b a : ListPoller R) → (a ≡ b) ⊎ IsServed TurnsByRun b a
-          → AreSameSeats (vec_items b.bench.seats) (vec_items a.bench.seats)
-      keeps b a (inl same) = subst (λ (x : ListPoller R). AreSameSeats (vec_items b.bench.seats) (vec_items x.bench.seats))
-          (sym same) (seats_stay _)
-      keeps b a (inr served) = served_keeps b a served
-
 module _ {R D G : Type 0} (may_shut : Type 0) (answers : G → ℕ → ℕ → Bool → Type 0) where
   thread_with : (placed : DropBomb R Placed) (done : InterruptWorker R D G) (before after : OwnThread R G) → IsBackAt placed done
       → IsThreadAt placed before → IsPolled has_no_thread TurnsAlone may_shut answers before after → IsThreadWith done after
   thread_with placed done before after back at p = seat_with placed done before.served.seat after.served.seat back at.seat
-      (keeps before.served after.served p.kept)
-    where
-      keeps : (b a : ThreadPoller R) → (a ≡ b) ⊎ IsServed TurnsAlone b a → IsSameSeat b.seat.value a.seat.value
-      keeps b a (inl same) = subst (λ (x : ThreadPoller R). IsSameSeat b.seat.value x.seat.value) (sym same) (seat_stays b.seat.value)
-      keeps b a (inr served) = served_alone b a served
+      (served_alone before.served after.served p.kept)
 
   pub all_threads_with : (placed : List (DropBomb R Placed)) (workers : List (InterruptWorker R D G)) (sides threads : List (OwnThread R G))
       → AllZip IsBackAt placed workers → AllZip IsThreadAt placed sides
@@ -500,25 +474,25 @@ module _ {R D G : Type 0} (may_shut : Type 0) (answers : G → ℕ → ℕ → B
       zip_same _ _ _ _ (λ w t h. thread_with h.1.0 w h.0 t h.1.1 h.1.2 h.2)
       (zip_both _ _ _ _ _ (zip_both _ _ _ _ _ (zip_flip _ _ _ back) at) did)
 
-module _ {R D G : Type 0} (may_shut : Type 0) (answers : G → ℕ → ℕ → Bool → Type 0) {context : RunContext R G}
-    {lists : List (SharedList R)} {wakers : List Waker} (n : ℕ) (placed : List (DropBomb R Placed)) (loose : List (DropBomb R (Loose D)))
+module _ {R D G : Type 0} (may_shut : Type 0) (answers : G → ℕ → ℕ → Bool → Type 0) {context : RunContext R G} {count : ℕ}
+    {lists : List (SharedList R)} {wakers : List Waker} (placed : List (DropBomb R Placed)) (loose : List (DropBomb R (Loose D)))
     (workers : List (InterruptWorker R D G)) (sat : List (DropBomb R PollHandle)) (pollers polled : List (OwnPoller R G))
     (back : AllZip IsBackAt placed workers) (at : AllZip IsSeatAt placed sat) (for : AllZip IsKeptSeatFor loose sat)
-    (have : ArePollers context wakers n sat pollers)
+    (have : ArePollers context wakers count sat pollers)
     (did : AllZip (IsPolled has_no_seat TurnsByRun may_shut answers) pollers polled)
     (are : map (λ p. p.served.list) pollers ≡ lists) where
   record CameBack (k : ℕ) (poller : OwnPoller R G) : Type 0 where
-    pub seats : AreSeatsAt n workers k poller.served.bench.seats
-    pub has : HasPolled (IsAsked answers context.gate.now) context.limits lists n loose k poller
+    pub seats : AreSeatsAt (length wakers) workers k poller
+    pub has : HasPolled (IsAsked answers context.gate) context.limits lists (length wakers) loose k poller
 
   came_back : (k : ℕ) (after before : OwnPoller R G) → IsAt pollers k before
-      → IsPoller context wakers (filter (λ (s : DropBomb R PollHandle). is_own k n s.value.number) sat) k before
+      → IsPoller context wakers count (own_seats (length wakers) k sat) k before
       → IsPolled has_no_seat TurnsByRun may_shut answers before after → CameBack k after
   came_back k after before at_k p did =
-      let by : ℕ → Bool = λ m. is_own k n m in
-      let own : List (DropBomb R PollHandle) = filter (λ (s : DropBomb R PollHandle). by s.value.number) sat in
+      let by : ℕ → Bool = λ m. is_own k (length wakers) m in
+      let own : List (DropBomb R PollHandle) = own_seats (length wakers) k sat in
       let ends = vec_items after.served.bench.seats in
-      let same : AreSameSeats own ends = subst (λ l. AreSameSeats l ends) p.seats_are (polled_keeps before after did) in
+      let same : AreSameSeats own ends = subst (λ l. AreSameSeats l ends) p.seats_are (served_keeps before.served after.served did.kept) in
       let Beside : InterruptWorker R D G → DropBomb R PollHandle → Type 0 = λ w s. (place : DropBomb R Placed) × IsBackAt place w
       × IsSeatAt place s in
       let both : AllZip Beside workers sat = zip_both _ _ _ _ _ (zip_flip _ _ _ back) at in
@@ -537,8 +511,8 @@ module _ {R D G : Type 0} (may_shut : Type 0) (answers : G → ℕ → ℕ → B
               let busy = some_seat before.served (λ none. some (sym p.seats_are ∙ none)) in record {
                 first = before.served;
                 last = after.served;
-                started = subst (λ m. IsAsked answers context.gate.now m) p.named
-                    (subst (λ (s : RunContext R G). IsAsked answers s.gate.now before.name) p.has (did.started whole busy));
+                started = subst (λ m. IsAsked answers context.gate m) p.named
+                    (subst (λ (s : RunContext R G). IsAsked answers s.gate before.name) p.has (did.started whole busy));
                 paced = p.paced;
                 over = refl;
                 from = p.seats_are;
@@ -551,17 +525,17 @@ module _ {R D G : Type 0} (may_shut : Type 0) (answers : G → ℕ → ℕ → B
   all_came : (k : ℕ) (d : OwnPoller R G) → k < length polled → CameBack k (get_or polled k d)
   all_came k d low =
       let Mine : ℕ → OwnPoller R G → Type 0 =
-      λ k p. IsAt pollers k p × IsPoller context wakers (filter (λ (s : DropBomb R PollHandle). is_own k n s.value.number) sat) k p in
+      λ k p. IsAt pollers k p × IsPoller context wakers count (own_seats (length wakers) k sat) k p in
       let h = each_zip Mine (IsPolled has_no_seat TurnsByRun may_shut answers) pollers polled did
-      (λ k d low. ((low, sym (get_or_default pollers k d (get_or pollers k d) low)), have k d low)) k d low in
+      (λ k d low. ((low, sym (get_or_default pollers k d (get_or pollers k d) low)), have.each k d low)) k d low in
       came_back k (get_or polled k d) h.0 h.1.0 h.1.1 h.2
 
   -- each poller was returned with its handles on its own instances
-  pub all_seats_at : EachAt (λ k p. AreSeatsAt n workers k p.served.bench.seats) polled
+  pub all_seats_at : EachAt (AreSeatsAt (length wakers) workers) polled
   all_seats_at k d low = (all_came k d low).seats
 
   -- each poller polled by these handles
-  pub all_have_polled : EachAt (HasPolled (IsAsked answers context.gate.now) context.limits lists n loose) polled
+  pub all_have_polled : EachAt (HasPolled (IsAsked answers context.gate) context.limits lists (length wakers) loose) polled
   all_have_polled k d low = (all_came k d low).has
 
 -- ---- the threads of the instances took their turns
@@ -572,10 +546,10 @@ module _ {R D G : Type 0} (may_shut : Type 0) (answers : G → ℕ → ℕ → B
       → IsKeptThreadFor context loose side → IsWiredSide lists wakers side
       → IsPolled has_no_thread TurnsAlone may_shut answers side thread → thread.stop ≡ None
       → (after : Caller) → thread.served.seat.value.caller ≡ Some after
-      → TurnsIfThread R (IsAsked answers context.gate.now) context.limits lists
+      → TurnsIfThread R (IsAsked answers context.gate) context.limits lists
       (length wakers) has loose.value.number loose.value.thread after
   turned_by loose side thread false has for wired p whole after is =
-      some_is (sym is ∙ ap (λ (s : ThreadPoller R). s.seat.value.caller) (p.none (ap (λ b. not b) has)) ∙ for.seat.caller_is)
+      same_Some _ _ (sym is ∙ ap (λ (s : ThreadPoller R). s.seat.value.caller) (p.none (ap (λ b. not b) has)) ∙ for.seat.caller_is)
   turned_by loose side thread true has for wired p whole after is =
       let busy = ap (λ b. not b) has in (
         side.served.list,
@@ -583,8 +557,8 @@ module _ {R D G : Type 0} (may_shut : Type 0) (answers : G → ℕ → ℕ → B
         record {
           first = side.served;
           last = thread.served;
-          started = subst (λ m. IsAsked answers context.gate.now m) for.named
-              (subst (λ (s : RunContext R G). IsAsked answers s.gate.now side.name) for.has (p.started whole busy));
+          started = subst (λ m. IsAsked answers context.gate m) for.named
+              (subst (λ (s : RunContext R G). IsAsked answers s.gate side.name) for.has (p.started whole busy));
           paced = for.paced;
           at = for.seat.number;
           waker = has;
@@ -598,10 +572,10 @@ module _ {R D G : Type 0} (may_shut : Type 0) (answers : G → ℕ → ℕ → B
   pub all_turned : (loose : List (DropBomb R (Loose D))) (sides threads : List (OwnThread R G))
       → AllZip (IsKeptThreadFor context) loose sides
       → AllByRecursion (IsWiredSide lists wakers) sides → AllZip (IsPolled has_no_thread TurnsAlone may_shut answers) sides threads
-      → AllZip (HasTurned (IsAsked answers context.gate.now) context.limits lists (length wakers)) loose threads
+      → AllZip (HasTurned (IsAsked answers context.gate) context.limits lists (length wakers)) loose threads
   all_turned loose sides threads for wired did =
       zip_same _ _ _ _ (λ l t h after is whole.
-      subst (λ b. TurnsIfThread R (IsAsked answers context.gate.now) context.limits lists
+      subst (λ b. TurnsIfThread R (IsAsked answers context.gate) context.limits lists
       (length wakers) b l.value.number l.value.thread after)
       h.1.0.seat.thread (turned_by l h.0 t _ refl h.1.0 h.1.1 h.2 whole after is))
       (zip_both _ _ _ _ _ (zip_right _ _ _ _ for wired) did)

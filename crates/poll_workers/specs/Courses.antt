@@ -1,5 +1,5 @@
 -- Which poller polled which station in a run, and with which limits.
-use Rattle.poll_tasks.specs.{Asks.IsAsked, Tasks.{EachAt, IsAt}, declared.limits.{PollLimits.PollLimits, RunContext.RunContext}}
+use Rattle.poll_tasks.specs.{Asks.IsAsked, Tasks.{EachAt, IsAt}, declared.context.{PollLimits.PollLimits, RunContext.RunContext}}
 use Rattle.poll_workers.specs.{Finishes.IsWorkedOf, Outcomes.AreLeftBy, Spreads.{IsEndOf, IsKeptSeatFor}}
 use Rattle.poll_seats.specs.{declared.handle.PollHandle.PollHandle, Gives.{IsPolledAlone, IsPolledBy}}
 use Rattle.poll_seats.specs.declared.{poller.Poller.Poller, list_poller.ListPoller.ListPoller, thread_poller.ThreadPoller.ThreadPoller}
@@ -8,7 +8,7 @@ use Rattle.poll_list.specs.{SharedList.{IsInOf, IsNewList, pushed_by}, declared.
 use Rattle.std.specs.Prelude.{◌≡◌, ◌≢◌, ℕ, ◌<◌, Bool, List, [], ◌∷◌, Some, None, filter, is_some, length, map, MatchBool, vec_items}
 use Rattle.{std.specs.List.{All, AllByRecursion, AllZip}}
 use Rattle.{napi_calls.specs.{Seats.own_list, declared.{kept.DropBomb.DropBomb, types.Caller.Caller}}}
-use Rattle.poll_interrupts.specs.{Handles.IsUnused, Calls.listings, Deals.{is_dealt, is_own, poller_by}}
+use Rattle.poll_interrupts.specs.{Handles.IsUnused, Hands.listings, Deals.{is_dealt, is_own, poller_by}}
 use Rattle.poll_interrupts.specs.{declared.{opening.Loose.Loose, acts.Act.Act, station.{Finished.Finished, Station.Station}}, Runs.HasRun}
 use Rattle.poll_interrupts.specs.Runs.{poller_number, thread_number}
 
@@ -114,15 +114,16 @@ module _ {R D G : Type 0} (asked : ℕ → Type 0) (limits : PollLimits) (lists 
 
 -- All threads of a run ended, none of them early, and returned these parts of the instances.
 pub record HaveRun {R D G : Type 0} (acts : D → ℕ) (answer : D → ℕ → Act) (after : D → ℕ → D) (answers : G → ℕ → ℕ → Bool → Type 0)
-    (context : RunContext R G) (lists : List (SharedList R)) (pollers : ℕ) (loose left : List (DropBomb R (Loose D))) : Type 0 where
+    (context : RunContext R G) (pollers : ℕ) (loose left : List (DropBomb R (Loose D))) : Type 0 where
+  pub lists : List (SharedList R)
   pub workers : List (InterruptWorker R D G)
   pub polled : List (Poller R G (ListPoller R))
   pub threads : List (Poller R G (ThreadPoller R))
   pub same : length polled ≡ pollers
-  pub made : AllZip (IsWorkedOf acts answer after (answers context.gate.now) lists pollers) loose workers
-  pub ran : EachAt (HasPolled (IsAsked answers context.gate.now) context.limits lists pollers loose) polled
-  pub turned : AllZip (HasTurned (IsAsked answers context.gate.now) context.limits lists pollers) loose threads
-  pub left_by : AreLeftBy workers (map (λ p. p.served.bench.seats) polled) threads left
+  pub made : AllZip (IsWorkedOf acts answer after (answers context.gate) lists pollers) loose workers
+  pub ran : EachAt (HasPolled (IsAsked answers context.gate) context.limits lists pollers loose) polled
+  pub turned : AllZip (HasTurned (IsAsked answers context.gate) context.limits lists pollers) loose threads
+  pub left_by : AreLeftBy workers polled threads left
   pub whole : All (λ w. w.stop ≡ None) workers
   pub whole_polls : All (λ p. p.stop ≡ None) polled
   pub whole_turns : All (λ p. p.stop ≡ None) threads

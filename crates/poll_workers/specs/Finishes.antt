@@ -1,10 +1,10 @@
 -- What holds after a finished run.
 use Rattle.std.specs.Prelude.{◌≡◌, ℕ, ◌+◌, ◌≤◌, Bool, length}
-use Rattle.{poll_tasks.specs.Asks.WasLet, rx_ring.specs.ReceiveRing.{bytes_of, capped}}
+use Rattle.{poll_tasks.specs.{Asks.WasLet, Trails.questions}, rx_ring.specs.ReceiveRing.{bytes_of, capped}}
 use Rattle.{napi_calls.specs.declared.{kept.DropBomb.DropBomb, types.Napi.Napi}}
 use Rattle.{poll_interrupts.specs.declared.{acts.Act.Act, opening.Loose.Loose}}
 use Rattle.poll_interrupts.specs.declared.{worker.InterruptWorker.InterruptWorker, station.{Finished.Finished, Station.Station}}
-use Rattle.poll_interrupts.specs.{Acts.{after_acts, arrivals}, Runs.HasRun, Works.IsDoneBy, Deals.poller_by}
+use Rattle.poll_interrupts.specs.{Acts.{after_acts, arrivals}, Questions.all_questions, Runs.HasRun, Works.IsDoneBy, Deals.poller_by}
 use Rattle.{poll_list.specs.declared.shared.SharedList.SharedList, poll_workers.specs.Spreads.IsEndOf, std.specs.Prelude.List}
 
 module _ {D : Type 0} (acts : D → ℕ) (answer : D → ℕ → Act) (after : D → ℕ → D) (answers : ℕ → ℕ → Bool → Type 0) where
@@ -13,6 +13,8 @@ module _ {D : Type 0} (acts : D → ℕ) (answer : D → ℕ → Act) (after : D
   pub record IsFinished (station : Station D) (end : Finished D) : Type 0 where
     pub same_number : end.number ≡ station.number
     pub let_go : WasLet answers station.number (acts station.device)
+    -- the gate was asked exactly once before each act, with the act's number, and before the device was asked for the act
+    pub asked : questions end.asked ≡ all_questions after station.number station.device (acts station.device)
     pub made : end.device ≡ after_acts after station.device (acts station.device)
     pub sum : end.totals.put ≡ end.totals.polled + end.totals.left
     pub put : length (arrivals answer after station.device (acts station.device)) ≤ station.capacity
@@ -26,9 +28,11 @@ module _ {D : Type 0} (acts : D → ℕ) (answer : D → ℕ → Act) (after : D
       : Type 0 where
     pub napi : Napi
     pub before : InterruptWorker R D G
+    pub number : before.handler.number ≡ loose.value.number
     pub device : before.device ≡ loose.value.device
     pub rx : before.rx ≡ loose.value.rx
     pub handles : before.handles.value ≡ loose.value.handles
-    pub list : IsEndOf lists (poller_by pollers loose.value.number) before.list
+    pub asked : before.out.asked ≡ loose.value.asked
+    pub list : IsEndOf lists (poller_by pollers loose.value.number) before.out.list
     pub same_number : done.handler.number ≡ loose.value.number
     pub is : IsDoneBy acts answer after answers napi loose.value.has_thread loose.value.number before done

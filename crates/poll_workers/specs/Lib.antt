@@ -1,7 +1,5 @@
-pub mod Faults
 pub mod Numbers
 pub mod Spreads
-pub mod Rooms
 pub mod Finishes
 pub mod Outcomes
 pub mod Courses

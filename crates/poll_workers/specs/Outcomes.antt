@@ -1,9 +1,10 @@
 -- What the threads of a run hold of the instances. (Names with "seat" are about the handles of pollers.)
-use Rattle.std.specs.Prelude.{◌≡◌, ℕ, List, ◌∷◌, IsSome, Some, filter, length, map, slice_index_or, slice_set, vec_items}
-use Rattle.{std.specs.{Global.Vec, List.{AllByRecursion, AllZip}}, poll_tasks.specs.Tasks.EachAt, poll_interrupts.specs.Deals.is_own}
+use Rattle.std.specs.Prelude.{◌≡◌, ℕ, List, IsSome, Some, filter, length, map, vec_items}
+use Rattle.{std.specs.List.{AllByRecursion, AllZip}, poll_tasks.specs.Tasks.EachAt, poll_interrupts.specs.Deals.is_own}
 use Rattle.napi_calls.specs.{declared.kept.DropBomb.DropBomb, Instance.IsSeatOf}
 use Rattle.poll_interrupts.specs.declared.{opening.Loose.Loose, worker.InterruptWorker.InterruptWorker}
-use Rattle.poll_seats.specs.declared.{handle.PollHandle.PollHandle, poller.Poller.Poller, thread_poller.ThreadPoller.ThreadPoller}
+use Rattle.poll_seats.specs.declared.{handle.PollHandle.PollHandle, list_poller.ListPoller.ListPoller}
+use Rattle.poll_seats.specs.declared.{poller.Poller.Poller, thread_poller.ThreadPoller.ThreadPoller}
 
 module _ {R D G : Type 0} where
   -- a handle with this caller, on the instance of the worker
@@ -15,9 +16,9 @@ module _ {R D G : Type 0} where
   IsThreadWith worker thread = IsSeatWith worker thread.served.seat
 
   -- a poller's handles are on its own instances, in the order of the instances
-  abbrev pub AreSeatsAt : ℕ → List (InterruptWorker R D G) → ℕ → Vec (DropBomb R PollHandle) → Type 0
-  AreSeatsAt pollers workers k own =
-      AllZip IsSeatWith (filter (λ worker. is_own k pollers worker.handler.number) workers) (vec_items own)
+  abbrev pub AreSeatsAt : ℕ → List (InterruptWorker R D G) → ℕ → Poller R G (ListPoller R) → Type 0
+  AreSeatsAt pollers workers k poller =
+      AllZip IsSeatWith (filter (λ worker. is_own k pollers worker.handler.number) workers) (vec_items poller.served.bench.seats)
 
   -- these are the parts of an instance as its threads left them: the device, the ring's input and the handles are the worker's,
   -- and the callers those of the poller and of the thread
@@ -28,20 +29,11 @@ module _ {R D G : Type 0} where
     pub device : loose.device ≡ worker.device
     pub rx : loose.rx ≡ worker.rx
     pub handles : loose.handles ≡ worker.handles.value
+    pub asked : loose.asked ≡ worker.out.asked
     pub poller_is : poller.value.caller ≡ Some loose.poller
     pub poller_of : IsSeatOf worker.handler.napi.now loose.poller.pass
     pub thread_is : thread.served.seat.value.caller ≡ Some loose.thread
     pub thread_of : IsSeatOf worker.handler.napi.now loose.thread.pass
-
--- the next of a poller's handles was taken
-pub record TakesNext {R : Type 0} (before : List (Vec (DropBomb R PollHandle))) (k : ℕ) (seat : DropBomb R PollHandle) (after : List (Vec
-    (DropBomb R PollHandle)))
-    : Type 0 where
-  pub was : Vec (DropBomb R PollHandle)
-  pub now : Vec (DropBomb R PollHandle)
-  pub there : slice_index_or before k was ≡ was
-  pub first : vec_items was ≡ seat ∷ vec_items now
-  pub rest : after ≡ slice_set before k now
 
 -- what the threads of one instance hold of it
 pub record Outcome (R D G : Type 0) : Type 0 where
@@ -52,12 +44,12 @@ pub record Outcome (R D G : Type 0) : Type 0 where
 
 module _ {R D G : Type 0} where
   -- what the threads hold of all instances, in order, each with the next handle of its poller
-  pub record AreLeftBy (workers : List (InterruptWorker R D G)) (seats : List (Vec (DropBomb R PollHandle)))
+  pub record AreLeftBy (workers : List (InterruptWorker R D G)) (pollers : List (Poller R G (ListPoller R)))
       (threads : List (Poller R G (ThreadPoller R))) (loose : List (DropBomb R (Loose D))) : Type 0 where
     pub all : List (Outcome R D G)
     pub workers_are : map (λ o. o.worker) all ≡ workers
     pub threads_are : map (λ o. o.thread) all ≡ threads
     pub loose_are : map (λ o. o.loose) all ≡ loose
     pub each : AllByRecursion (λ o. IsLeftBy o.worker o.poller o.thread o.loose.value) all
-    pub callers : EachAt (λ k own. map (λ o. o.poller) (filter (λ o. is_own k (length seats) o.worker.handler.number) all)
-        ≡ vec_items own) seats
+    pub callers : EachAt (λ k poller. map (λ o. o.poller) (filter (λ o. is_own k (length pollers) o.worker.handler.number) all)
+        ≡ vec_items poller.served.bench.seats) pollers

@@ -1,12 +1,10 @@
 -- The parts of stations, as they are distributed over the threads. (Names with "seat" are about the handles of pollers.)
-use Rattle.std.specs.Prelude.{◌≡◌, ℕ, ◌++◌, ◌≤◌, List, [], ◌∷◌, IfSome, IsSome, Some, filter, is_some, length}
-use Rattle.std.specs.Prelude.{slice_index_or, slice_set}
-use Rattle.std.specs.{Prelude.{vec_items, vec_capacity}, Global.Vec}
+use Rattle.std.specs.{Prelude.{◌≡◌, ℕ, ◌≤◌, List, [], IfSome, IsSome, Some, filter, is_some, length, vec_items, vec_capacity}, Global.Vec}
 use Rattle.poll_list.specs.{SharedList.{IsInOf, IsNewList, pushed_by}, declared.{list_in.ListIn.ListIn, shared.SharedList.SharedList}}
 use Rattle.{std.specs.List.All}
-use Rattle.{poll_tasks.specs.{Wakers.Wakes, declared.signals.Waker.Waker}, poll_interrupts.specs.Deals.{is_own, poller_by}}
-use Rattle.{poll_tasks.specs.Tasks.{EachAt, IsAt}, poll_workers.specs.declared.pollers.Begin.Begin}
-use Rattle.{napi_calls.specs.declared.{kept.DropBomb.DropBomb, types.Caller.Caller}, poll_tasks.specs.declared.limits.RunContext.RunContext}
+use Rattle.poll_interrupts.specs.Deals.{is_own, poller_by}
+use Rattle.poll_tasks.specs.{Tasks.{EachAt, IsAt}, Wakers.Wakes, declared.{context.RunContext.RunContext, signals.Waker.Waker}}
+use Rattle.napi_calls.specs.declared.{kept.DropBomb.DropBomb, types.Caller.Caller}
 use Rattle.poll_interrupts.specs.declared.{opening.{Placed.Placed, Loose.Loose}, worker.InterruptWorker.InterruptWorker}
 use Rattle.poll_seats.specs.declared.{handle.PollHandle.PollHandle, poller.Poller.Poller, list_poller.ListPoller.ListPoller}
 use Rattle.poll_seats.specs.{declared.thread_poller.ThreadPoller.ThreadPoller, Gives.{poller_name, thread_name}}
@@ -20,6 +18,7 @@ module _ {R D G : Type 0} where
     pub same_device : job.device ≡ loose.device
     pub same_rx : job.rx ≡ loose.rx
     pub same_handles : job.handles.value ≡ loose.handles
+    pub same_asked : job.out.asked ≡ loose.asked
     pub thread : is_some job.handler.thread ≡ loose.has_thread
 
   abbrev pub IsKeptJobOf : RunContext R G → DropBomb R (Loose D) → InterruptWorker R D G → Type 0
@@ -79,7 +78,7 @@ module _ {R : Type 0} where
   module _ {G : Type 0} (lists : List (SharedList R)) (wakers : List Waker) where
     -- a worker pushes on the list of its station's poller, and wakes that poller
     pub record IsWiredJob {D : Type 0} (job : InterruptWorker R D G) : Type 0 where
-      pub list : IsEndOf lists (poller_by (length wakers) job.handler.number) job.list
+      pub list : IsEndOf lists (poller_by (length wakers) job.handler.number) job.out.list
       pub waker : IsAt wakers (poller_by (length wakers) job.handler.number) job.handler.poller.now
 
     -- the thread poller of an instance pushes on the list of its station's poller, and wakes that poller
@@ -87,32 +86,14 @@ module _ {R : Type 0} where
       pub list : IsEndOf lists (poller_by (length wakers) side.served.seat.value.number) side.served.list
       pub waker : IsAt wakers (poller_by (length wakers) side.served.seat.value.number) side.served.poller.now
 
--- what a poller starts with contains a new list
-abbrev pub IsBegin : {R : Type 0} → Begin R → Type 0
-IsBegin begin = (ends : ℕ) × IsNewList ends begin.list
+-- of these handles, those of the poller with this number, if there are this many pollers
+abbrev pub own_seats : {R : Type 0} → ℕ → ℕ → List (DropBomb R PollHandle) → List (DropBomb R PollHandle)
+own_seats {R} pollers number seats = filter (λ (seat : DropBomb R PollHandle). is_own number pollers seat.value.number) seats
 
-module _ {R : Type 0} where
-  -- each of this many pollers has its own handles, and room for this many
-  abbrev pub HaveOwn : ℕ → ℕ → List (DropBomb R PollHandle) → List (Vec (DropBomb R PollHandle)) → Type 0
-  HaveOwn count pollers seats =
-      EachAt (λ k own. (vec_items own ≡ filter (λ (s : DropBomb R PollHandle). is_own k pollers s.value.number) seats) ×
-      (count ≤ vec_capacity own))
-
-  -- a poller has one more handle
-  pub record TakesSeat (before : List (Vec (DropBomb R PollHandle))) (poller : ℕ) (seat : DropBomb R PollHandle) (after : List (Vec
-      (DropBomb R PollHandle))) : Type 0 where
-    pub was : Vec (DropBomb R PollHandle)
-    pub now : Vec (DropBomb R PollHandle)
-    pub there : slice_index_or before poller was ≡ was
-    pub more : vec_items now ≡ vec_items was ++ seat ∷ []
-    pub capacity : vec_capacity now ≡ vec_capacity was
-    pub rest : after ≡ slice_set before poller now
-
-module _ {R G : Type 0} where
+module _ {R G : Type 0} (context : RunContext R G) (wakers : List Waker) (count : ℕ) where
   -- The poller with this number has the context that all threads share, the waker of this number, which wakes it, a new list,
-  -- and these handles.
-  pub record IsPoller (context : RunContext R G) (wakers : List Waker) (seats : List (DropBomb R PollHandle)) (number : ℕ)
-      (poller : Poller R G (ListPoller R)) : Type 0 where
+  -- and these handles, with room for this many.
+  pub record IsPoller (seats : List (DropBomb R PollHandle)) (number : ℕ) (poller : Poller R G (ListPoller R)) : Type 0 where
     pub has : poller.context.now ≡ context
     pub paced : poller.served.limits ≡ context.limits
     pub named : poller.name ≡ poller_name number
@@ -120,8 +101,9 @@ module _ {R G : Type 0} where
     pub wakes : Wakes poller.waker.now poller.wait
     pub new : (ends : ℕ) × IsNewList ends poller.served.list
     pub seats_are : vec_items poller.served.bench.seats ≡ seats
+    pub room : count ≤ vec_capacity poller.served.bench.seats
 
-  -- all of this many pollers have what they need, each with its own handles
-  abbrev pub ArePollers : RunContext R G → List Waker → ℕ → List (DropBomb R PollHandle) → List (Poller R G (ListPoller R)) → Type 0
-  ArePollers context wakers pollers seats =
-      EachAt (λ k poller. IsPoller context wakers (filter (λ (s : DropBomb R PollHandle). is_own k pollers s.value.number) seats) k poller)
+  -- there is a poller for each waker, each with its own handles
+  pub record ArePollers (seats : List (DropBomb R PollHandle)) (pollers : List (Poller R G (ListPoller R))) : Type 0 where
+    pub each : EachAt (λ k poller. IsPoller (own_seats (length wakers) k seats) k poller) pollers
+    pub as_many : length pollers ≡ length wakers

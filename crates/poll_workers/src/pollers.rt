@@ -1,21 +1,17 @@
-//! The pollers of a run, each with its waker, its list and its handles.
+//! The pollers of a run, each with its waker and its list.
 
-ghost use Rattle.std.specs.Prelude.{◌≡◌, ◌≤◌, ◌<◌, ◌+◌, ℕ, [], List, IfOk, length, map, slice_index_or, vec_items, vec_len, vec_capacity};
-ghost use Rattle.std.specs.Global.{Vec};
-ghost use Rattle.std.specs.List.{All, AllByRecursion, AllZip};
-ghost use Rattle.napi_calls.specs.declared.kept.DropBomb.{DropBomb};
-ghost use Rattle.poll_seats.specs.declared.handle.PollHandle.{PollHandle};
-ghost use Rattle.poll_tasks.specs.Tasks.{HasRoom};
+ghost use Rattle.std.specs.Prelude.{◌≡◌, ◌≤◌, ◌<◌, ◌+◌, ℕ, [], List, IfOk, length, vec_items, vec_len};
+ghost use Rattle.std.specs.List.{All, AllZip};
+ghost use Rattle.poll_list.specs.SharedList.{IsNewList};
 ghost use Rattle.poll_list.specs.declared.shared.SharedList.{SharedList};
-ghost use Rattle.poll_tasks.specs.Wakers.{Wakes};
 ghost use Rattle.poll_tasks.specs.Limits.{IsLawful};
-ghost use Rattle.poll_workers.specs.Rooms.{AreBegins};
-ghost use Rattle.poll_workers.specs.Spreads.{AreEndsOf, ArePollers, HaveOwn, IsBegin, IsEndOf, IsNewEnd, TakesSeat};
+ghost use Rattle.poll_tasks.specs.Wakers.{Wakes};
+ghost use Rattle.poll_workers.specs.Spreads.{AreEndsOf, ArePollers, IsEndOf, IsNewEnd};
 
-use napi_calls::DropBomb;
+use poll_interrupts::InterruptWorker;
 use poll_list::{ListIn, SharedList, shared_list};
-use poll_seats::{ListPoller, PollHandle, Poller, ThreadPoller};
-use poll_tasks::{Gate, IdleWait, RunContext, Waker};
+use poll_seats::{ListPoller, Poller, ThreadPoller};
+use poll_tasks::{Gate, IdleWait, RunContext, Tasks, Trail, Waker};
 use std::alloc::{AllocError, Global};
 use std::sync::Wait;
 
@@ -28,97 +24,89 @@ pub(crate) type OwnPoller<'t, 'p, 'n, R, G> = Poller<'t, 'p, R, G, ListPoller<'n
 /// A poller that is the thread of an instance.
 pub(crate) type OwnThread<'t, 'p, 'n, R, G> = Poller<'t, 'n, R, G, ThreadPoller<'p, 'n, R>>;
 
-/// What a poller starts with, besides its waker and its handles: its list, and how it waits.
-#[derive(Drop)]
-pub(crate) struct Begin<R: Wait + Drop> {
-    list: SharedList<R>,
-    wait: IdleWait,
-}
+/// The tasks of a run.
+pub(crate) type RunTasks<'t, 'p, 'n, R, D, G> = Tasks<
+    OwnPoller<'t, 'p, 'n, R, G>,
+    InterruptWorker<'t, 'p, 'n, R, D, G>,
+    OwnThread<'t, 'p, 'n, R, G>,
+>;
 
-/// What all pollers start with, and for each of them two ends of its list for each station that it may have.
-#[derive(Drop)]
-pub(crate) struct Begins<R: Wait + Drop> {
-    pub(crate) pollers: Vec<Begin<R>>,
-    pub(crate) ends: Vec<Vec<ListIn<R>>>,
-}
-
-// Returns what a poller of at most this many stations starts with, and two ends of its list for each station.
-fn begin_of<R: Wait + Drop + Copy>(
-    rt: R,
-    alloc: Global,
-    count: usize,
-    wait: IdleWait,
-) -> Result<(Begin<R>, Vec<ListIn<R>>), AllocError>
-    requires { count ≤ 16 }
-    ensures begin { IfOk result (λ r. IsBegin r.0) }
-    ensures ends { IfOk result (λ r. count + count ≤ vec_len r.1) }
-    ensures own { IfOk result (λ r. All (IsNewEnd r.0.list) (vec_items r.1)) }
-    ensures wait { IfOk result (λ r. r.0.wait ≡ wait) }
-{
-    let Ok((list, ends)) = shared_list(rt, alloc, 2 * count as u32) else {
-        return Err(AllocError);
-    };
-    Ok((Begin { list, wait }, ends))
-}
-
-/// Returns the wakers of this many pollers, what these start with, and for each two ends of its list for each of this many
-/// stations.
-pub(crate) fn begins_of<R: Wait + Drop + Copy>(
-    rt: R,
+/// Returns the wakers of this many pollers, and how each of these pollers waits.
+pub(crate) fn wakers_of(
     alloc: Global,
     pollers: usize,
-    count: usize,
-) -> Result<(Vec<Waker>, Begins<R>), AllocError>
-    requires { count ≤ 16 }
+) -> Result<(Vec<Waker>, Vec<IdleWait>), AllocError>
     ensures len { IfOk result (λ r. length (vec_items r.0) ≡ pollers) }
-    ensures begins { IfOk result (λ r. AreBegins (vec_items r.0) count r.1) }
+    ensures wakes { IfOk result (λ r. AllZip Wakes (vec_items r.0) (vec_items r.1)) }
 {
-    let mut wakers = Vec::with_capacity(alloc, pollers)?;
-    let mut begins = Vec::with_capacity(alloc, pollers)?;
-    let mut ends = Vec::with_capacity(alloc, pollers)?;
+    let mut wakers = Vec::new(alloc);
+    let mut waits = Vec::new(alloc);
     for _ in 0..pollers {
         let (waker, wait) = Waker::new(alloc)?;
-        let (begin, own_ends) = begin_of(rt, alloc, count, wait)?;
-        wakers.push_reserved(waker);
-        begins.push_reserved(begin);
-        ends.push_reserved(own_ends);
+        wakers.push(waker)?;
+        waits.push(wait)?;
     }
-    let begins = Begins {
-        pollers: begins,
-        ends,
-    };
-    Ok((wakers, begins))
+    Ok((wakers, waits))
 }
 
-/// Returns empty vectors for the handles of this many pollers, each with room for this many handles.
-pub(crate) fn seats_of<'n, R: Wait + Drop + Copy>(
+// Returns a new list, and two ends of it for each of this many stations.
+fn list_of<R: Wait + Drop + Copy>(
+    rt: R,
     alloc: Global,
-    pollers: usize,
     count: usize,
-) -> Result<Vec<Vec<DropBomb<R, PollHandle<'n>>>>, AllocError>
-    ensures seats { IfOk result (λ r. (n : ℕ) → HaveOwn count n [] (vec_items r)) }
-    ensures len { IfOk result (λ r. length (vec_items r) ≡ pollers) }
+) -> Result<(SharedList<R>, Vec<ListIn<R>>), AllocError>
+    requires { count ≤ 16 }
+    ensures new { IfOk result (λ r. (ends : ℕ) × IsNewList ends r.0) }
+    ensures ends { IfOk result (λ r. count + count ≤ vec_len r.1) }
+    ensures own { IfOk result (λ r. All (IsNewEnd r.0) (vec_items r.1)) }
 {
-    let mut seats = Vec::with_capacity(alloc, pollers)?;
-    for _ in 0..pollers {
-        seats.push_reserved(Vec::with_capacity(alloc, count)?);
-    }
-    Ok(seats)
+    shared_list(rt, alloc, 2 * count as u32).map_err(|_| AllocError)
 }
 
-/// Adds a handle to a poller. Requires room for it.
-pub(crate) fn seat_at<'n, R: Wait + Drop>(
-    seats: &mut Vec<Vec<DropBomb<R, PollHandle<'n>>>>,
-    poller: usize,
-    seat: DropBomb<R, PollHandle<'n>>,
-)
-    requires within { poller < length (vec_items seats.old) }
-    requires room { (own : Vec (DropBomb _ _))
-        → slice_index_or (vec_items seats.old) poller own ≡ own
-        → vec_len own < vec_capacity own }
-    ensures { TakesSeat (vec_items seats.old) poller seat.entry (vec_items seats.new) }
+/// Returns the pollers with these wakers, each with room for this many handles, and for each of them two ends of its list for
+/// each of this many stations.
+pub(crate) fn pollers_of<'t, 'p, 'n, R: Wait + Drop + Copy, G: Gate>(
+    context: &'t RunContext<R, G>,
+    alloc: Global,
+    wakers: &'p [Waker],
+    waits: Vec<IdleWait>,
+    count: usize,
+) -> Result<(Vec<OwnPoller<'t, 'p, 'n, R, G>>, Vec<Vec<ListIn<R>>>), AllocError>
+    requires wakes { AllZip Wakes wakers.now (vec_items waits) }
+    requires few { length wakers.now ≤ 8 }
+    requires count { count ≤ 16 }
+    requires limits { IsLawful context.now.limits }
+    ensures pollers { IfOk result
+        (λ r. ArePollers context.now wakers.now count [] (vec_items r.0)) }
+    ensures own { IfOk result
+        (λ r. AllZip (λ p ends. All (IsNewEnd p.served.list) (vec_items ends))
+        (vec_items r.0) (vec_items r.1)) }
+    ensures enough { IfOk result (λ r. All (λ e. count + count ≤ vec_len e) (vec_items r.1)) }
 {
-    seats[poller].push_reserved(seat);
+    let mut pollers = Vec::new(alloc);
+    let mut ends = Vec::new(alloc);
+    let mut rest = wakers;
+    let mut waits = waits.into_iter();
+    while let Some(wait) = waits.next() {
+        let Some((waker, more)) = rest.split_first() else {
+            unreachable!()
+        };
+        rest = more;
+        let (list, own_ends) = list_of(context.rt, alloc, count)?;
+        let seats = Vec::with_capacity(alloc, count)?;
+        let name = FIRST_POLLER + pollers.len() as u32;
+        pollers.push(Poller {
+            context,
+            name,
+            waker,
+            wait,
+            served: ListPoller::new(context.rt, list, seats, context.limits),
+            asked: Trail::new(),
+            stop: None,
+        })?;
+        ends.push(own_ends)?;
+    }
+    Ok((pollers, ends))
 }
 
 /// Returns two ends of a poller's list, one for a worker and one for a thread poller.
@@ -141,52 +129,4 @@ pub(crate) fn two_ends<R: Wait + Drop>(
         unreachable!()
     };
     (one, other)
-}
-
-/// Returns the pollers with these wakers, starting values and handles. Requires room for them.
-pub(crate) fn pollers_of<'t, 'p, 'n, R: Wait + Drop + Copy, G: Gate>(
-    context: &'t RunContext<'t, R, G>,
-    wakers: &'p [Waker],
-    begins: Vec<Begin<R>>,
-    seats: Vec<Vec<DropBomb<R, PollHandle<'n>>>>,
-    room: Vec<OwnPoller<'t, 'p, 'n, R, G>>,
-) -> Vec<OwnPoller<'t, 'p, 'n, R, G>>
-    requires wakers { length (vec_items begins) ≡ length wakers.now }
-    requires seats { length (vec_items seats) ≡ length wakers.now }
-    requires few { length wakers.now ≤ 8 }
-    requires room { HasRoom (length wakers.now) room }
-    requires begins { AllByRecursion IsBegin (vec_items begins) }
-    requires wakes { AllZip (λ waker begin. Wakes waker begin.wait) wakers.now (vec_items begins) }
-    requires limits { IsLawful context.now.limits }
-    ensures pollers { (count n : ℕ) (sat : List (DropBomb _ PollHandle))
-        → HaveOwn count n sat (vec_items seats.entry)
-        → ArePollers context.now wakers.now n sat (vec_items result) }
-    ensures lists { map (λ p. p.served.list) (vec_items result)
-        ≡ map (λ b. b.list) (vec_items begins) }
-    ensures len { length (vec_items result) ≡ length wakers.now }
-{
-    let mut pollers = room;
-    let mut rest = wakers;
-    let mut begins = begins.into_iter();
-    let mut seats = seats.into_iter();
-    while let Some(begin) = begins.next() {
-        let Some(own) = seats.next() else {
-            unreachable!()
-        };
-        let Some((waker, more)) = rest.split_first() else {
-            unreachable!()
-        };
-        rest = more;
-        let Begin { list, wait } = begin;
-        let name = FIRST_POLLER + pollers.len() as u32;
-        pollers.push_reserved(Poller {
-            context,
-            name,
-            waker,
-            wait,
-            served: ListPoller::new(context.rt, list, own, context.limits),
-            stop: None,
-        });
-    }
-    pollers
 }

@@ -1,112 +1,94 @@
 //! A run of all stations.
 
-ghost use Rattle.std.specs.Prelude.{◌≡◌, ◌≤◌, IfErr, IfOk, IfSome, IsErrOf, IsTrue, None, length, map, vec_items, vec_len};
+ghost use Rattle.std.specs.Prelude.{◌≡◌, ◌≤◌, IfErr, IfOk, IfSome, IsErrOf, IsTrue, None, OnOk, length, vec_items, vec_len};
 ghost use Rattle.std.specs.List.{All, AllZip};
 ghost use Rattle.std.specs.Borrow.{Bor};
 ghost use Rattle.poll_tasks.specs.Asks.{IsAsked};
 ghost use Rattle.poll_workers.specs.Courses.{ArePolled, HaveRun, limits_of};
 ghost use Rattle.poll_workers.specs.Finishes.{IsFinished};
-ghost use Rattle.poll_workers.specs.declared.fault.WorkFault.TheVariants.{GateShut, OutOfMemory, SpawnFailed};
-ghost use Rattle.poll_workers.specs.Faults.{IsWantOfMemory, run_result};
+ghost use Rattle.poll_tasks.specs.declared.fault.WorkFault.TheVariants.{GateShut, OutOfMemory, SpawnFailed};
+ghost use Rattle.poll_tasks.specs.Faults.{IsWantOfMemory, run_result};
 ghost use Rattle.poll_workers.specs.Numbers.{have_distinct_numbers};
-ghost use Rattle.poll_workers.specs.Rooms.{AreBegins};
 ghost use Rattle.poll_interrupts.specs.Opens.{IsKeptPartOf, IsKeptSideOf, IsStation};
 ghost use Rattle.poll_tasks.specs.Limits.{IsLawful};
 ghost use Rattle.poll_tasks.specs.Refusals.{IsRefused};
 ghost use Rattle.poll_tasks.specs.Stops.{IsStop};
+ghost use Rattle.poll_tasks.specs.Wakers.{Wakes};
 
-use crate::fault::WorkFault;
-use crate::gathering::{RunTasks, gather, seats_left};
-use crate::pollers::{Begins, begins_of, pollers_of};
-use crate::rooms::{Rooms, rooms_of};
+use crate::gathering::gather;
+use crate::pollers::{RunTasks, pollers_of, wakers_of};
 use crate::spreading::spread;
 use napi_calls::DropBomb;
-use poll_interrupts::{Device, Finished, Loose, Placed, Station, end_all, open_all, shut_all};
-use poll_tasks::{Gate, PollLimits, RunContext, Stop, StopFlags, Tasks, Waker, drive, first_stop};
-use std::alloc::{AllocError, Global};
+use poll_interrupts::{Device, Finished, Loose, Placed, Station, end_all, open_all};
+use poll_tasks::{
+    Gate, IdleWait, PollLimits, RunContext, Tasks, Waker, WorkFault, drive, first_stop,
+};
+use std::alloc::Global;
+use std::mem;
 use std::sync::Wait;
 use std::thread::Threads;
 
-// The parts of the instances after the threads have ended, and the reason, if the run ended early.
-type Ended<R, D> = (Vec<DropBomb<R, Loose<D>>>, Option<Stop>);
-
-// Returns the reason if a run ended early.
+// Fails with the reason if a run ended early.
 fn stop_of_run<'t, 'p, 'n, R: Wait + Drop + Copy, D: Device + Drop, G: Gate>(
     tasks: &RunTasks<'t, 'p, 'n, R, D, G>,
-) -> Option<Stop>
+) -> Result<(), WorkFault>
     requires workers { All (λ w. IfSome w.stop (IsStop G.may_shut)) (vec_items tasks.now.workers) }
     requires pollers { All (λ p. IfSome p.stop (IsStop G.may_shut)) (vec_items tasks.now.pollers) }
     requires threads { All (λ p. IfSome p.stop (IsStop G.may_shut)) (vec_items tasks.now.threads) }
-    ensures workers { result ≡ None → All (λ w. w.stop ≡ None) (vec_items tasks.now.workers) }
-    ensures pollers { result ≡ None → All (λ p. p.stop ≡ None) (vec_items tasks.now.pollers) }
-    ensures threads { result ≡ None → All (λ p. p.stop ≡ None) (vec_items tasks.now.threads) }
-    ensures why { IfSome result (IsStop G.may_shut) }
+    ensures whole { OnOk result (All (λ w. w.stop ≡ None) (vec_items tasks.now.workers)
+        × All (λ p. p.stop ≡ None) (vec_items tasks.now.pollers)
+        × All (λ p. p.stop ≡ None) (vec_items tasks.now.threads)) }
+    ensures why { IfErr result (IsStop G.may_shut) }
 {
-    if let Some(stop) = first_stop(tasks.pollers.as_slice()) {
-        return Some(stop);
-    }
-    if let Some(stop) = first_stop(tasks.threads.as_slice()) {
-        return Some(stop);
-    }
+    first_stop(tasks.pollers.as_slice())?;
+    first_stop(tasks.threads.as_slice())?;
     first_stop(tasks.workers.as_slice())
 }
 
-// Runs all threads in one scope. If an allocation fails, no thread starts, and the parts for the threads are returned.
+// Runs all threads in one scope, with the parts of the instances that are for them, and takes these parts back. If an allocation
+// fails, no thread starts.
 fn run_threads<'t, 'p, 'n, R, D, G>(
-    context: &'t RunContext<'t, R, G>,
+    context: &'t RunContext<R, G>,
     alloc: Global,
     wakers: &'p [Waker],
-    begins: Begins<R>,
+    waits: Vec<IdleWait>,
     placed: &'n [DropBomb<R, Placed>],
-    loose: Vec<DropBomb<R, Loose<D>>>,
-) -> Result<Ended<R, D>, Vec<DropBomb<R, Loose<D>>>>
+    loose: &mut Vec<DropBomb<R, Loose<D>>>,
+) -> Result<(), WorkFault>
 where
     R: Threads + Wait + Copy + Drop + Send + Sync,
     D: Device + Drop + Send,
     G: Gate + Sync,
     requires pollers { (1 ≤ length wakers.now) × (length wakers.now ≤ 8) }
-    requires begins { AreBegins wakers.now (vec_len loose) begins }
+    requires wakes { AllZip Wakes wakers.now (vec_items waits) }
     requires limits { IsLawful context.now.limits }
-    requires sides { AllZip IsKeptSideOf (vec_items loose) placed.now }
-    ensures parts { IfOk result (λ e. AllZip IsKeptPartOf (vec_items e.0) placed.now) }
-    ensures len { IfOk result (λ e. vec_len e.0 ≡ vec_len loose) }
-    ensures why { IfOk result (λ e. IfSome e.1 (IsStop G.may_shut)) }
-    ensures ran { IfOk result (λ e. e.1 ≡ None
-        → HaveRun D.acts D.answer D.after G.answers context.now
-        (map (λ b. b.list) (vec_items begins.pollers)) (length wakers.now)
-        (vec_items loose) (vec_items e.0)) }
-    ensures back { IfErr result (λ b. vec_items b ≡ vec_items loose) }
+    requires count { vec_len loose.old ≤ 16 }
+    requires sides { AllZip IsKeptSideOf (vec_items loose.old) placed.now }
+    requires parts { AllZip IsKeptPartOf (vec_items loose.old) placed.now }
+    ensures parts { AllZip IsKeptPartOf (vec_items loose.new) placed.now }
+    ensures why { IfErr result (IsStop G.may_shut) }
+    ensures ran { OnOk result (HaveRun D.acts D.answer D.after G.answers context.now
+        (length wakers.now) (vec_items loose.old) (vec_items loose.new)) }
 {
-    let Ok(rooms) = rooms_of(alloc, wakers.len(), loose.len()) else {
-        return Err(loose);
-    };
-    let Begins { pollers, ends } = begins;
-    let Rooms {
-        tasks,
-        spawned,
-        seats,
-        left_seats,
-        left,
-    } = spread(context, wakers, placed, loose, ends, rooms);
-    let tasks = Tasks {
-        pollers: pollers_of(context, wakers, pollers, seats, tasks.pollers),
-        workers: tasks.workers,
-        threads: tasks.threads,
-    };
-    let tasks = drive(&context.rt, tasks, spawned, wakers, context.flags);
-    let stop = stop_of_run(&tasks);
-    let seats = seats_left(tasks.pollers, left_seats);
-    let left = gather(context.rt, tasks.workers, seats, tasks.threads, left);
-    Ok((left, stop))
+    let count = loose.len();
+    let (pollers, ends) = pollers_of(context, alloc, wakers, waits, count)?;
+    let tasks = Tasks::new(alloc, pollers, count)?;
+    let room = Vec::with_capacity(alloc, count)?;
+    let parts = mem::replace(loose, room);
+    let tasks = spread(context, wakers, placed, parts, ends, tasks);
+    let tasks = drive(context, tasks, wakers);
+    let ended = stop_of_run(&tasks);
+    gather(context.rt, tasks, loose);
+    ended
 }
 
-// Opens all stations, and runs them. If an allocation fails, no thread starts; if the run ended early, it returns the reason.
+// Opens all stations, runs them, and closes their instances.
 fn run_all<'t, R, D, G>(
-    context: &'t RunContext<'t, R, G>,
+    context: &'t RunContext<R, G>,
     alloc: Global,
     pollers: usize,
     stations: Vec<Station<D>>,
-) -> Result<Result<Vec<Finished<D>>, Stop>, AllocError>
+) -> Result<Vec<Finished<D>>, WorkFault>
 where
     R: Threads + Wait + Copy + Drop + Send + Sync,
     D: Device + Drop + Send,
@@ -116,51 +98,42 @@ where
     requires stations { All IsStation (vec_items stations) }
     requires count { vec_len stations ≤ 16 }
     ensures finished { IfOk result
-        (λ came. IfOk came
-        (λ all. AllZip (IsFinished D.acts D.answer D.after (G.answers context.now.gate.now))
-        (vec_items stations) (vec_items all))) }
+        (λ all. AllZip (IsFinished D.acts D.answer D.after (G.answers context.now.gate))
+        (vec_items stations) (vec_items all)) }
     ensures polled { IfOk result
-        (λ came. IfOk came
-        (λ all. ArePolled R (IsAsked G.answers context.now.gate.now) context.now.limits
-        D.acts D.answer D.after pollers (vec_items stations) (vec_items all))) }
-    ensures why { IfOk result (λ came. IfErr came (IsStop G.may_shut)) }
+        (λ all. ArePolled R (IsAsked G.answers context.now.gate) context.now.limits
+        D.acts D.answer D.after pollers (vec_items stations) (vec_items all)) }
+    ensures why { IfErr result (IsStop G.may_shut) }
 {
     let count = stations.len();
     if count == 0 {
-        return Ok(Ok(Vec::new(alloc)));
+        return Ok(Vec::new(alloc));
     }
-    let (wakers, begins) = begins_of(context.rt, alloc, pollers, count)?;
+    let (wakers, waits) = wakers_of(alloc, pollers)?;
     let finished = Vec::with_capacity(alloc, count)?;
-    let (placed, loose) = open_all(context.rt, alloc, stations)?;
+    let mut placed = Vec::with_capacity(alloc, count)?;
+    let mut loose = Vec::with_capacity(alloc, count)?;
+    if let Err(error) = open_all(context.rt, alloc, stations, &mut placed, &mut loose) {
+        end_all(placed, loose, finished);
+        return Err(error.into());
+    }
     let here = placed.as_slice();
-    match run_threads(context, alloc, wakers.as_slice(), begins, here, loose) {
-        Ok((left, stop)) => {
-            let finished = end_all(placed, left, finished);
-            match stop {
-                Some(stop) => Ok(Err(stop)),
-                None => Ok(Ok(finished)),
-            }
-        }
-        Err(loose) => {
-            shut_all(placed, loose);
-            Err(AllocError)
-        }
+    let ran = run_threads(context, alloc, wakers.as_slice(), waits, here, &mut loose);
+    let finished = end_all(placed, loose, finished);
+    match ran {
+        Ok(()) => Ok(finished),
+        Err(fault) => Err(fault),
     }
 }
 
-// Returns the result of a run, or its error.
-fn run_result<T: Drop>(
-    came: Result<Result<T, Stop>, AllocError>,
-    refused: bool,
-) -> Result<T, WorkFault>
+// Returns the result of a run, or its error. `refused` says whether a thread could not be started.
+fn run_result<T: Drop>(came: Result<T, WorkFault>, refused: bool) -> Result<T, WorkFault>
     ensures { result ≡ run_result came refused }
 {
     match came {
-        Err(AllocError) => Err(WorkFault::OutOfMemory),
+        Err(WorkFault::OutOfMemory) => Err(WorkFault::OutOfMemory),
         _ if refused => Err(WorkFault::SpawnFailed),
-        Ok(Err(Stop::Refused)) => Err(WorkFault::SpawnFailed),
-        Ok(Err(Stop::Shut)) => Err(WorkFault::GateShut),
-        Ok(Ok(all)) => Ok(all),
+        came => came,
     }
 }
 
@@ -214,17 +187,12 @@ where
     // Only if a thread could not be started, so not because of the gate.
     ensures spawn { IsErrOf result SpawnFailed → IsRefused }
 {
-    let flags = StopFlags::new();
-    let context = RunContext {
-        rt,
-        gate,
-        flags: &flags,
-        limits: PollLimits {
-            budget,
-            weight,
-            window,
-        },
+    let limits = PollLimits {
+        budget,
+        weight,
+        window,
     };
+    let context = RunContext::new(rt, gate, limits);
     let came = run_all(&context, alloc, pollers as usize, stations);
-    run_result(came, flags.is_refused())
+    run_result(came, context.is_refused())
 }

@@ -1,5 +1,5 @@
 -- From the rows of a trace to its stations, and from the result of a run on these to the report.
-use Rattle.std.proofs.lemmas.{Grind.common_steps, List.{take_all, Elements.All-filter, Sums.sum_by-le}}
+use Rattle.std.proofs.lemmas.{Grind.common_steps, List.{take_all, Elements.All-filter, Sums.sum_by-le}, Slice.Zip.all_zipped_more}
 use Rattle.std.proofs.Common.{◌≡◌, ◌∙◌, ℕ, ◌+◌, ◌-◌, ◌<◌, ◌≤◌, ap, sym, subst}
 use Rattle.std.proofs.Common.{Bool, true, false, Some, None, List, [], ◌∷◌, ◌++◌, length, slice_index_or, take, get_or, refl}
 use Rattle.std.{proofs.{Common.{arith, flat_map}, Math.Nat.min-eq_left}, specs.{List.{All, AllZip, find, range_with_len}, Prelude.◌==◌}}
@@ -7,10 +7,10 @@ use Rattle.std.specs.{Prelude.{Result, IfOk, OnOk, vec_items, filter, map, nat_l
 use Rattle.poll_interrupts.specs.{Runs.HasRun, declared.station.{Station.Station, Finished.Finished}}
 use Rattle.device_rows.{proofs.Accepted.accepted-at}
 use Rattle.device_rows.{specs.{Row.value_fits, Trace.AcceptedAfter, declared.{row.Row.Row, event.RowEvent.RowEvent}}}
-use Rattle.{poll_tasks.{proofs.Zips.zip_push, specs.Refusals.IsRefused}, rx_ring.specs.ReceiveRing.capped}
+use Rattle.{poll_tasks.specs.Refusals.IsRefused, rx_ring.specs.ReceiveRing.capped}
 use Rattle.device_script.proofs.{Rows.{filter-long, find-among, find-here, find-more, range-more}, ScriptFacts.{acts-made, arrivals-are}}
 use Rattle.device_script.specs.Script.{has_thread, is_act_of, is_open, is_rx, opening_of, openings_of, rx_of, script_of}
-use Rattle.{device_script.specs.ScriptShown.{Script, acts, script_after, answer}, poll_workers.specs.declared.fault.WorkFault.WorkFault}
+use Rattle.{device_script.specs.ScriptShown.{Script, acts, script_after, answer}, poll_tasks.specs.declared.fault.WorkFault.WorkFault}
 use Rattle.poll_workers.specs.{Finishes.IsFinished, Courses.{ArePolled, limits_of}}
 use Rattle.replay_args.specs.declared.settings.ReplaySettings.{ReplaySettings}
 use Rattle.replay_text.specs.declared.fault.ReplayFault.{ReplayFault, TheVariants.{OutputFailed, RingTooSmall}}
@@ -18,7 +18,7 @@ use Rattle.replay_threads.specs.{ThreadsReport.{arrived, bytes, threads_device_l
 use Rattle.replay_threads.specs.{Stations.{AreRunBy, IsStationEnd, IsStationOf}}
 use Rattle.replay_threads.specs.{Stations.{end_lines, is_small, small_fault}}
 use Rattle.replay_threads.specs.{Answer.{IsThreadsOutside, IsReportedAs, overflows}}
-use Rattle.poll_workers.specs.declared.fault.WorkFault.TheVariants as work
+use Rattle.poll_tasks.specs.declared.fault.WorkFault.TheVariants as work
 
 -- ---- the ranges of a row's numbers, if it is accepted
 
@@ -87,7 +87,7 @@ pub station-here : (rows : List Row) (number : ℕ) (devices : List ℕ) (statio
     → IsStationOf rows number station → AllZip (IsStationOf rows) devices stations
     → AllZip (IsStationOf rows) (devices ++ filter (is_opened rows) (number ∷ [])) (stations ++ station ∷ [])
 station-here rows number devices stations station is of before =
-    rw is (zip_push (IsStationOf rows) devices stations number station before of)
+    rw is (all_zipped_more (IsStationOf rows) devices stations number station before of)
 
 pub opened-more : (rows : List Row) (number : ℕ) → 1 ≤ number
     → filter (is_opened rows) (range_with_len 1 (number + 1 - 1))

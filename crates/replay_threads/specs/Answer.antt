@@ -5,11 +5,11 @@ use Rattle.replay_args.specs.declared.settings.ReplaySettings.{ReplaySettings}
 use Rattle.device_rows.specs.{Trace.{records_of, trace_of}, declared.{TraceFault.TraceFault, row.Row.Row}}
 use Rattle.{poll_tasks.specs.Refusals.IsRefused}
 use Rattle.{replay_threads.specs.{ThreadsReport.{arrived, opened_devices, threads_report}, Stations.AreRunBy}}
-use Rattle.poll_workers.specs.declared.fault.WorkFault.{WorkFault}
+use Rattle.poll_tasks.specs.declared.fault.WorkFault.{WorkFault}
 use Rattle.device_script.specs.{ScriptShown.Script, Script.opening_of}
 use Rattle.replay_text.specs.Outside.{IsReplayOutOfMemory, IsOutside as IsSerialOutside}
 use Rattle.replay_text.specs.declared.fault.ReplayFault.{ReplayFault, TheVariants.{GateShut, RingTooSmall, SpawnFailed, Trace}}
-use Rattle.poll_workers.specs.declared.fault.WorkFault.TheVariants as work
+use Rattle.poll_tasks.specs.declared.fault.WorkFault.TheVariants as work
 
 -- the capacity of a device's receive ring
 abbrev pub places_by : Option Row → ℕ

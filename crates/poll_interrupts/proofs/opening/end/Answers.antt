@@ -13,6 +13,7 @@ returns g c =
     record {
       same_number = refl;
       same_device = refl;
+      same_asked = refl;
       put = ap (λ (t : Totals). t.put) all.totals;
       bytes = ap (λ (t : Totals). t.bytes) all.totals;
       sum = all.sum;

@@ -1,6 +1,6 @@
 use Rattle.std.proofs.Common.{◌≡◌, ◌∷◌, ◌++◌, [], vec_items, arith}
-use Rattle.std.{specs.Vec.Iter.into_iter_items, proofs.lemmas.{Grind.common_steps, List.nil_from_length}}
-use Rattle.poll_tasks.proofs.{Zips.{zip_push, before_more}, ListFacts.none_left}
+use Rattle.std.{specs.Vec.Iter.into_iter_items, proofs.lemmas.{Grind.common_steps, List.nil_from_length, Slice.Zip.all_zipped_more}}
+use Rattle.poll_tasks.proofs.ListFacts.{before_more, none_left}
 use Rattle.poll_interrupts.proofs.opening.end_all.Goals as goal
 
 pub loop-other-init : goal.loop-other-init
@@ -13,8 +13,6 @@ loop-other-init g c =
         beside = rw (c.into_iter-others.ensures.rest, c.into_iter-all.ensures.rest) c.requires.parts;
         count = grind (arith, common_steps);
         room = c.requires.room.1;
-        long = grind (arith, common_steps);
-        as_long = grind (arith, common_steps);
       },
     )
 
@@ -32,14 +30,10 @@ loop-other-preserved g c =
       i.0 ++ c.in-Some.other ∷ [],
       record {
         whole = more.2;
-        ends = rw c.push_reserved.ensures.items (zip_push _ _ _ _ _ now.ends (rw (← c.open-in-Some.ensures) c.end.ensures));
+        ends = rw c.push_reserved.ensures.items (all_zipped_more _ _ _ _ _ now.ends (rw (← c.open-in-Some.ensures) c.end.ensures));
         beside = side.1;
         count = grind (arith, common_steps, now.count, c.in-Some.ensures.len, c.push_reserved.ensures.len);
         room = grind (arith, now.room, c.push_reserved.ensures.capacity);
-        long = (let a = now.long in let b = c.in-Some.ensures.items in let d = c.in-Some.ensures.len in
-            grind (arith, common_steps, a, b, d));
-        as_long = (let a = now.as_long in let b = c.in-Some-next.ensures.items in let d = c.in-Some-next.ensures.len in
-            grind (arith, common_steps, a, b, d));
       },
     )
 
@@ -47,6 +41,6 @@ pub returns : goal.returns
 returns g c =
     let now = c.loop-other.invariant.1 in
     let empty : into_iter_items c.loop-other.others ≡ [] =
-    nil_from_length _ (grind (arith, common_steps, now.long, c.in_default.ensures.len)) in
+    nil_from_length _ (grind (arith, common_steps, c.loop-other.others.rest.ok, c.in_default.ensures.len)) in
     let whole = none_left _ _ _ now.whole empty in
     rw (← whole) now.ends

@@ -1,4 +1,4 @@
-use Rattle.std.proofs.Common.{◌≡◌, ◌+◌, ◌≤◌, ◌++◌, List, length, vec_len, vec_capacity, vec_items}
+use Rattle.std.proofs.Common.{◌≡◌, ◌+◌, ◌≤◌, ◌++◌, List, vec_len, vec_capacity, vec_items}
 use Rattle.{std.specs.{Vec.Iter.{into_iter_items, into_iter_len}, List.AllZip}, napi_calls.specs.declared.kept.DropBomb.DropBomb}
 use Rattle.poll_interrupts.specs.{Opens.IsKeptPartOf, Ends.IsKeptFinishOf, declared.opening.Loose.Loose}
 use Rattle.poll_interrupts.proofs.opening.end_all.Given as goal
@@ -10,8 +10,6 @@ invariant-loop-other g l = (did : List (DropBomb g.row.R.Denot (Loose g.row.D.De
   beside : AllZip IsKeptPartOf (into_iter_items l.others) (into_iter_items l.all);
   count : vec_len l.finished + into_iter_len l.others ≡ vec_len l.fn.loose;
   room : vec_len l.fn.loose ≤ vec_capacity l.finished;
-  long : into_iter_len l.others ≡ length (into_iter_items l.others);
-  as_long : into_iter_len l.all ≡ length (into_iter_items l.all);
 }
 
 abbrev pub decreases-loop-other : goal.decreases-loop-other

@@ -1,20 +1,22 @@
-use Rattle.std.proofs.{Common.{ap, refl, ◌∙◌, rules, arith}, lemmas.Grind.common_steps}
+use Rattle.std.proofs.{Common.{◌≡◌, [], ap, refl, ◌∙◌, rules, arith}, lemmas.Grind.common_steps}
 use Rattle.rx_ring.specs.{declared.ends.RxCtx.RxCtx, Ends.received_list}
 use Rattle.poll_interrupts.proofs.opening.open.Goals as goal
 
 pub returns-clause-side : goal.returns-clause-side
 returns-clause-side g c =
-    let new = c.in-Ok-new.ensures in record {
+    let new = c.in-Ok.ensures in
+    let unreceived : received_list c.in_ok-rx.ctx ≡ [] = search rules in
+    record {
       part = record {
         number = refl;
         handles = ((c.next-caller.ensures.caller.instance, new.control.instance), refl);
         controller = new.control.number_is;
         poller = c.next-poller.ensures.caller.instance;
         thread = c.next-thread.ensures.caller.instance;
-        ring = (c.in-Ok.ctx, search rules, c.in-Ok.ensures.one);
+        ring = (c.in_ok-rx.ctx, search rules, search rules);
         home = record {
           callers = new.count.1;
-          nothing_received = ap (λ (x : RxCtx). received_list x) new.first ∙ c.in-Ok.ensures.empty.1;
+          nothing_received = ap (λ (x : RxCtx). received_list x) new.first ∙ unreceived;
           empty =
               grind (arith, common_steps, new.count.2, c.next-thread.ensures.left, c.next-poller.ensures.left, c.next-caller.ensures.left);
           room =
@@ -28,7 +30,7 @@ returns-clause-side g c =
 
 pub returns-clause-loose : goal.returns-clause-loose
 returns-clause-loose g c =
-    let new = c.in-Ok-new.ensures in
+    let new = c.in-Ok.ensures in
     let three = c.next-thread.ensures.left in
     let two = c.next-poller.ensures.left in
     let one = c.next-caller.ensures.left in
@@ -58,4 +60,5 @@ returns-clause-loose g c =
         number_is = c.next-thread.ensures.caller.number_is ∙ grind (arith, common_steps, new.count.2, three);
         nothing_done = c.next-thread.ensures.caller.nothing_done;
       };
+      unasked = search rules;
     }

@@ -1,6 +1,7 @@
-use Rattle.std.proofs.Common.{◌≡◌, ◌≤◌, ◌∷◌, ◌++◌, ◌∙◌, [], length, vec_items, refl, arith, sym, append-nil, ap}
-use Rattle.std.proofs.lemmas.{Grind.common_steps, List.nil_from_length}
-use Rattle.poll_tasks.proofs.{Zips.{zip_push, before_more, zip_through}, ListFacts.first_of}
+use Rattle.std.proofs.Common.{◌≡◌, ◌≤◌, ◌∷◌, ◌++◌, [], length, vec_items, refl, arith}
+use Rattle.std.proofs.lemmas.{Grind.common_steps, List.nil_from_length, Slice.Zip.all_zipped_more}
+use Rattle.poll_tasks.proofs.ListFacts.{before_more, first_of, none_left, zip_both, zip_same}
+use Rattle.poll_tasks.specs.{Tasks.IsSpawned, declared.tasks.Spawned.Spawned}
 use Rattle.poll_tasks.proofs.tasks.join_all.Goals.{in-Running, in-Ended}
 use Rattle.poll_tasks.proofs.tasks.join_all.Goals as goal
 
@@ -27,7 +28,7 @@ loop-spawned-preserved g c =
       i.0 ++ c.remove.result ∷ [],
       record {
         whole = more.2;
-        each = rw c.push_reserved.ensures.items (zip_push _ _ _ _ _ now.each (λ task was. elim c.match-remove.branch [
+        each = rw c.push_reserved.ensures.items (all_zipped_more _ _ _ _ _ now.each (λ task was. elim c.match-remove.branch [
           | in-Running w ↦ rw (w.task-is, ← (rw w.in-Running.is at was)) w.join-task.ensures
           | in-Ended w ↦ rw w.task-is (rw w.in-Ended.is at was)
         ]));
@@ -40,5 +41,7 @@ pub returns : goal.returns
 returns g c tasks were =
     let i = c.loop-spawned.invariant in
     let none : vec_items c.loop-spawned.spawned ≡ [] = nil_from_length _ (grind (arith, common_steps)) in
-    let whole = sym (append-nil i.0) ∙ ap (λ l. i.0 ++ l) (sym none) ∙ i.1.whole in
-    zip_through _ _ _ _ _ were (rw (← whole) i.1.each)
+    let whole : i.0 ≡ vec_items c.args.spawned.now = none_left _ _ _ i.1.whole none in
+    let Both : g.row.J.Denot → g.row.J.Denot → Type 0 = λ task out. (b : Spawned g.row.J.Denot) × IsSpawned g.J.Task.gives task b
+    × ((t : g.row.J.Denot) → IsSpawned g.J.Task.gives t b → g.J.Task.gives t out) in
+    zip_same Both _ _ _ (λ task out h. h.2 task h.1) (zip_both _ _ _ _ _ were (rw whole at i.1.each))

@@ -1,6 +1,6 @@
-use Rattle.std.proofs.{Common.{◌≡◌, ◌≤◌, ◌∷◌, ◌++◌, ◌∙◌, [], length, vec_items, rules, refl, arith, sym, append-nil, ap}}
-use Rattle.std.proofs.{lemmas.{Grind.common_steps, List.nil_from_length}}
-use Rattle.poll_tasks.proofs.{Zips.{zip_push, before_more}, ListFacts.first_of}
+use Rattle.std.proofs.Common.{◌≡◌, ◌≤◌, ◌∷◌, ◌++◌, [], length, vec_items, rules, refl, arith}
+use Rattle.std.proofs.lemmas.{Grind.common_steps, List.nil_from_length, Slice.Zip.all_zipped_more}
+use Rattle.poll_tasks.proofs.ListFacts.{before_more, first_of, none_left}
 use Rattle.poll_tasks.proofs.tasks.spawn_all.Goals as goal
 
 pub loop-spawned-init : goal.loop-spawned-init
@@ -27,7 +27,7 @@ loop-spawned-preserved g c =
       i.0 ++ c.remove.result ∷ [],
       record {
         whole = more.2;
-        each = rw c.push_reserved.ensures.items (zip_push _ _ _ _ _ now.each c.spawn.ensures);
+        each = rw c.push_reserved.ensures.items (all_zipped_more _ _ _ _ _ now.each c.spawn.ensures);
         count = grind (arith, common_steps, now.count, c.remove.ensures.len, c.push_reserved.ensures.len);
         room = grind (arith, now.room, c.push_reserved.ensures.capacity);
         left = grind (arith, now.left, c.remove.ensures.capacity);
@@ -39,7 +39,8 @@ returns g c =
     let i = c.loop-spawned.invariant in
     let now = i.1 in
     let none : vec_items c.loop-spawned.tasks ≡ [] = nil_from_length _ (grind (arith, common_steps)) in
+    let whole = none_left _ _ _ now.whole none in
     record {
-      each = rw (← (sym (append-nil i.0) ∙ ap (λ l. i.0 ++ l) (sym none) ∙ now.whole)) now.each;
+      each = rw (← whole) now.each;
       room = grind (arith, common_steps, now.count, now.left);
     }

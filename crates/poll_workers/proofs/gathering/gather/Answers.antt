@@ -1,13 +1,13 @@
 use Rattle.std.proofs.Common.{◌≡◌, ℕ, ◌<◌, ◌∷◌, ◌++◌, ◌∙◌, [], true, ap, sym, subst, refl, length, vec_items, arith}
 use Rattle.std.proofs.lemmas.{Grind.common_steps, List.{length-set, map-append, nil_from_length}}
-use Rattle.{std.specs.Vec.Iter.into_iter_items, poll_tasks.proofs.{Zips.before_more, ListFacts.{none_left, zip_empty}}}
+use Rattle.{std.specs.Vec.Iter.into_iter_items, poll_tasks.proofs.ListFacts.{before_more, none_left, zip_empty}}
 use Rattle.poll_workers.proofs.EndFacts.{all_given, each_push, given_at, given_more, next_at, none_given, some_left}
-use Rattle.{poll_workers.specs.Outcomes.{IsThreadWith, Outcome}, poll_interrupts.specs.Deals.is_own}
+use Rattle.{poll_workers.specs.Outcomes.{IsThreadWith, Outcome}, poll_interrupts.specs.Deals.is_own, napi_calls.specs.Instance.IsSeatOf}
 use Rattle.poll_workers.proofs.gathering.gather.Goals as goal
 
 pub loop-worker-init : goal.loop-worker-init
 loop-worker-init g c =
-    let none : vec_items c.args.room ≡ [] = nil_from_length _ (grind (arith, common_steps)) in (
+    let none : vec_items c.args.loose.now ≡ [] = nil_from_length _ (grind (arith, common_steps)) in (
       [],
       record {
         whole = c.into_iter-all.ensures.rest;
@@ -21,8 +21,6 @@ loop-worker-init g c =
         some = grind (arith, common_steps, c.requires.some);
         count = grind (arith, common_steps);
         room = c.requires.room.1;
-        long = grind (arith, common_steps);
-        sides_long = grind (arith, common_steps);
       },
     )
 
@@ -30,23 +28,29 @@ loop-worker-init g c =
 own_of : (pollers n k number : ℕ) → pollers ≡ n → is_own k pollers number ≡ true → is_own k n number ≡ true
 own_of pollers n k number e own = subst (λ m. is_own k m number ≡ true) e own
 
-pub next_of-seat-requires-clause-some : goal.next_of-seat-requires-clause-some
-next_of-seat-requires-clause-some g c turned there =
+pub take-caller-requires : goal.take-caller-requires
+take-caller-requires g c =
     let now = c.loop-worker.invariant.1 in
-    let own = own_of _ _ _ _ now.as_many c.poller_of.ensures.own in
-    let each = given_at _ _ _ _ _ _ c.in-Some.ensures.items now.seats in
-    let long = some_left _ _ _ _ _ _ _ turned own
-    (grind (arith, common_steps, c.poller_of.ensures.within, now.as_many, now.pollers)) each there in
-    grind (arith, common_steps, long)
+    let own = own_of _ _ _ _ now.as_many c.poller_of-poller.ensures.own in
+    let each = given_at _ _ _ _ _ (vec_items c.loop-worker.pollers) c.in-Some.ensures.items now.seats in
+    let within : c.poller_of-poller.result < length (vec_items c.loop-worker.pollers) =
+    grind (arith, common_steps, c.poller_of-poller.ensures.within, now.as_many, now.pollers) in
+    let long = some_left _ _ _ _ _ _ _ c.index_mut.result.now own within each (sym c.index_mut.ensures.value) in record {
+      some = grind (arith, common_steps, long);
+      caller = λ seat rest first.
+          (next_at _ _ _ _ _ _ _ c.index_mut.result.now own within each (sym c.index_mut.ensures.value) seat rest first).caller;
+    }
 
 pub leave-requires-clause-poller : goal.leave-requires-clause-poller
 leave-requires-clause-poller g c =
     let now = c.loop-worker.invariant.1 in
-    let own = own_of _ _ _ _ now.as_many c.poller_of.ensures.own in
-    let each = given_at _ _ _ _ _ (vec_items c.loop-worker.seats) c.in-Some.ensures.items now.seats in
-    let within : c.poller_of.result < length (vec_items c.loop-worker.seats) =
-    grind (arith, common_steps, c.poller_of.ensures.within, now.as_many, now.pollers) in
-    next_at _ _ _ _ _ _ _ _ _ own within each c.next_of-seat.ensures
+    let own = own_of _ _ _ _ now.as_many c.poller_of-poller.ensures.own in
+    let each = given_at _ _ _ _ _ (vec_items c.loop-worker.pollers) c.in-Some.ensures.items now.seats in
+    let within : c.poller_of-poller.result < length (vec_items c.loop-worker.pollers) =
+    grind (arith, common_steps, c.poller_of-poller.ensures.within, now.as_many, now.pollers) in
+    let taken = c.take-caller.ensures in
+    let at = next_at _ _ _ _ _ _ _ c.index_mut.result.now own within each (sym c.index_mut.ensures.value) _ _ taken.first in
+    subst (λ n. IsSeatOf n c.take-caller.result.pass) at.napi taken.of
 
 pub leave-requires-clause-thread : goal.leave-requires-clause-thread
 leave-requires-clause-thread g c =
@@ -58,13 +62,14 @@ loop-worker-preserved g c =
     let did = c.loop-worker.invariant.0 in
     let now = c.loop-worker.invariant.1 in
     let side = rw (c.in-Some.ensures.items, c.in-Some-next.ensures.items) at now.threads in
-    let own = own_of _ _ _ _ now.as_many c.poller_of.ensures.own in
-    let each = given_at _ _ _ _ _ _ c.in-Some.ensures.items now.seats in
-    let within : c.poller_of.result < length (vec_items c.loop-worker.seats) =
-    grind (arith, common_steps, c.poller_of.ensures.within, now.as_many, now.pollers) in
+    let own = own_of _ _ _ _ now.as_many c.poller_of-poller.ensures.own in
+    let each = given_at _ _ _ _ _ (vec_items c.loop-worker.pollers) c.in-Some.ensures.items now.seats in
+    let within : c.poller_of-poller.result < length (vec_items c.loop-worker.pollers) =
+    grind (arith, common_steps, c.poller_of-poller.ensures.within, now.as_many, now.pollers) in
+    let taken = c.take-caller.ensures in
     let o : Outcome g.row.R.Denot g.row.D.Denot g.row.G.Denot = record {
       worker = c.in-Some.worker;
-      poller = c.next_of-seat.result;
+      poller = taken.seat;
       thread = c.in-Some-next.side;
       loose = c.new.result;
     } in
@@ -75,19 +80,15 @@ loop-worker-preserved g c =
         whole = ap (λ l. l ++ into_iter_items c.next.new.self) (map-append (λ o. o.worker) did (o ∷ [])) ∙ more.2;
         sides_whole = ap (λ l. l ++ into_iter_items c.next-in-Some.new.self) (map-append (λ o. o.thread) did (o ∷ [])) ∙ turns_more.2;
         left = map-append (λ o. o.loose) did (o ∷ []) ∙ ap (λ l. l ++ c.new.result ∷ []) now.left ∙ sym c.push_reserved.ensures.items;
-        each = each_push _ did o now.each (rw c.new.ensures c.leave.ensures);
+        each = each_push _ did o now.each (rw c.new.ensures (c.leave.ensures taken.seat taken.caller_is));
         threads = side.1;
-        seats = given_more _ _ did _ _ o refl _ _ _ own within each c.next_of-seat.ensures;
-        pollers = ap (λ l. length l) c.next_of-seat.ensures.rest
-            ∙ length-set (vec_items c.loop-worker.seats) c.poller_of.result c.next_of-seat.ensures.now ∙ now.pollers;
+        seats = given_more _ _ did _ _ _ _ c.index_mut.result.now own within each (sym c.index_mut.ensures.value) o c.take-caller.new.self
+            refl taken.first;
+        pollers = length-set (vec_items c.loop-worker.pollers) c.poller_of-poller.result _ ∙ now.pollers;
         as_many = now.as_many;
         some = now.some;
         count = grind (arith, common_steps, now.count, c.in-Some.ensures.len, c.push_reserved.ensures.len);
         room = grind (arith, now.room, c.push_reserved.ensures.capacity);
-        long = (let a = now.long in let b = c.in-Some.ensures.items in let d = c.in-Some.ensures.len in
-            grind (arith, common_steps, a, b, d));
-        sides_long = (let a = now.sides_long in let b = c.in-Some-next.ensures.items in let d = c.in-Some-next.ensures.len in
-            grind (arith, common_steps, a, b, d));
       },
     )
 
@@ -96,7 +97,7 @@ returns g c =
     let did = c.loop-worker.invariant.0 in
     let now = c.loop-worker.invariant.1 in
     let empty : into_iter_items c.loop-worker.all ≡ [] =
-    nil_from_length _ (grind (arith, common_steps, now.long, c.in_default.ensures.len)) in
+    nil_from_length _ (grind (arith, common_steps, c.loop-worker.all.rest.ok, c.in_default.ensures.len)) in
     let no_sides : into_iter_items c.loop-worker.sides ≡ [] = zip_empty IsThreadWith _ _ now.threads empty in
     record {
       all = did;
@@ -104,5 +105,5 @@ returns g c =
       threads_are = none_left _ _ _ now.sides_whole no_sides;
       loose_are = now.left;
       each = now.each;
-      callers = all_given _ _ _ did now.pollers (given_at _ _ _ _ _ _ empty now.seats);
+      callers = all_given _ _ did _ now.pollers (given_at _ _ _ _ _ _ empty now.seats);
     }

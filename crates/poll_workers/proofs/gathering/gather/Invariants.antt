@@ -5,19 +5,18 @@ use Rattle.poll_workers.proofs.gathering.gather.Given as goal
 
 abbrev pub invariant-loop-worker : goal.invariant-loop-worker
 invariant-loop-worker g l = (did : List (Outcome g.row.R.Denot g.row.D.Denot g.row.G.Denot)) × record {
-  whole : map (λ o. o.worker) did ++ into_iter_items l.all ≡ vec_items l.fn.workers;
-  sides_whole : map (λ o. o.thread) did ++ into_iter_items l.sides ≡ vec_items l.fn.threads;
+  whole : map (λ o. o.worker) did ++ into_iter_items l.all ≡ vec_items l.fn.tasks.workers;
+  sides_whole : map (λ o. o.thread) did ++ into_iter_items l.sides ≡ vec_items l.fn.tasks.threads;
   left : map (λ o. o.loose) did ≡ vec_items l.loose;
   each : AllByRecursion (λ o. IsLeftBy o.worker o.poller o.thread o.loose.value) did;
   threads : AllZip IsThreadWith (into_iter_items l.all) (into_iter_items l.sides);
-  seats : EachAt (HasGiven (length (vec_items l.fn.seats)) (vec_items l.fn.seats) did (into_iter_items l.all)) (vec_items l.seats);
-  pollers : length (vec_items l.seats) ≡ length (vec_items l.fn.seats);
-  as_many : l.count ≡ length (vec_items l.fn.seats);
+  seats : EachAt (HasGiven (length (vec_items l.fn.tasks.pollers)) (vec_items l.fn.tasks.pollers) did (into_iter_items l.all))
+      (vec_items l.pollers);
+  pollers : length (vec_items l.pollers) ≡ length (vec_items l.fn.tasks.pollers);
+  as_many : l.count ≡ length (vec_items l.fn.tasks.pollers);
   some : 1 ≤ l.count;
-  count : vec_len l.loose + into_iter_len l.all ≡ vec_len l.fn.workers;
-  room : vec_len l.fn.workers ≤ vec_capacity l.loose;
-  long : into_iter_len l.all ≡ length (into_iter_items l.all);
-  sides_long : into_iter_len l.sides ≡ length (into_iter_items l.sides);
+  count : vec_len l.loose + into_iter_len l.all ≡ vec_len l.fn.tasks.workers;
+  room : vec_len l.fn.tasks.workers ≤ vec_capacity l.loose;
 }
 
 abbrev pub decreases-loop-worker : goal.decreases-loop-worker

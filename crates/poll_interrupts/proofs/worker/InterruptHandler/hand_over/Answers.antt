@@ -1,5 +1,5 @@
-use Rattle.std.proofs.Common.{◌≡◌, true, false, refl, rules}
-use Rattle.poll_interrupts.proofs.Listings.{lists_more, lists_none}
+use Rattle.std.proofs.{Common.{◌≡◌, true, false, refl, rules, arith}, lemmas.Grind.common_steps}
+use Rattle.poll_interrupts.proofs.Listings.{lists_more, lists_none, wakes_more, wakes_none}
 use Rattle.poll_interrupts.proofs.worker.InterruptHandler.hand_over.Goals as goal
 
 pub returns-then-not-look-clause-handed : goal.returns-then-not-look-clause-handed
@@ -14,8 +14,23 @@ returns-clause-handed g c =
 
 pub returns-then-not-look-clause-lists : goal.returns-then-not-look-clause-lists
 returns-then-not-look-clause-lists g c =
-    lists_more (lists_none c.args.list.now refl c.look.ensures.event) c.hand_to_list-then-not-look.ensures.lists
+    lists_more (lists_none c.args.out.now c.args.out.now refl refl refl c.look.ensures.event) c.hand_to_list-then-not-look.ensures.lists
+
+pub returns-then-not-look-clause-wakes : goal.returns-then-not-look-clause-wakes
+returns-then-not-look-clause-wakes g c =
+    wakes_more (wakes_none c.args.out.now c.args.out.now refl (λ w own. refl) c.look.ensures.event)
+    c.hand_to_list-then-not-look.ensures.wakes
 
 pub returns-clause-lists : goal.returns-clause-lists
 returns-clause-lists g c =
-    lists_more (lists_none c.args.list.now refl c.look.ensures.event) (lists_none c.args.list.now refl c.hand-caller.ensures.event)
+    lists_more (lists_none c.args.out.now c.args.out.now refl refl refl c.look.ensures.event)
+    (lists_none c.args.out.now _ refl refl refl c.hand-caller.ensures.event)
+
+pub returns-clause-wakes : goal.returns-clause-wakes
+returns-clause-wakes g c =
+    wakes_more (wakes_none c.args.out.now c.args.out.now refl (λ w own. refl) c.look.ensures.event)
+    (record {
+      did = _;
+      grown = c.hand-caller.ensures.event.grown;
+      woken = rw c.in-Some.is (grind (arith, common_steps, c.wake.ensures, c.hand-caller.ensures.event.grown));
+    })

@@ -1,6 +1,9 @@
-use Rattle.std.proofs.{lemmas.Grind.common_steps, Common.{◌≡◌, ◌+◌, ◌≤◌, ◌++◌, is_some, length, ap, sym, ◌∙◌, rules, arith, below_more}}
-use Rattle.poll_interrupts.proofs.{Listings.{lists_more, lists_same}, ActSteps.{acts-more, after_acts-more, arrivals-more, put_more}}
-use Rattle.{poll_interrupts.{proofs.LedgerSteps.all_same, specs.Acts.{after_acts, brings}}, rx_ring.specs.Ends.{capacity_of, put_list}}
+use Rattle.std.proofs.lemmas.Grind.{common_steps}
+use Rattle.std.proofs.Common.{◌≡◌, ◌+◌, ◌≤◌, ◌++◌, is_some, length, ap, refl, sym, ◌∙◌, rules, arith, below_more}
+use Rattle.poll_interrupts.proofs.Listings.{lists_more, lists_same, wakes_more, wakes_same}
+use Rattle.poll_interrupts.proofs.ActSteps.{acts-more, after_acts-more, arrivals-more, asked_more, put_more}
+use Rattle.{poll_tasks.specs.Trails.questions, rx_ring.specs.Ends.{capacity_of, put_list}}
+use Rattle.poll_interrupts.{proofs.LedgerSteps.all_same, specs.Acts.{after_acts, brings}}
 use Rattle.poll_interrupts.proofs.worker.InterruptHandler.make_acts.Goals as goal
 
 pub loop-k-preserved : goal.loop-k-preserved
@@ -14,7 +17,10 @@ loop-k-preserved g c =
     let then : length (put_list c.loop-k.rx) + length brought ≤ capacity_of c.args.rx.now
     → put_list c.make_act-handles.new.rx ≡ put_list c.loop-k.rx ++ brought = rw (← i.made, ← places) e.put in record {
       of = e.of;
-      lists = lists_more i.lists e.lists;
+      lists = lists_more i.lists (lists_more (lists_same c.loop-k.handles.caller.pass c.loop-k.out _ refl refl) e.lists);
+      wakes = wakes_more i.wakes (wakes_more (wakes_same c.loop-k.handles.caller.pass c.loop-k.out _ refl) e.wakes);
+      asked = asked_more after c.args.self.now.number c.loop-k.k d c.loop-k.device _ _ _ _ i.asked i.made
+          (c.stop_before.ensures.asked (search rules)) (ap questions e.asked);
       let_go = below_more _ _ i.let_go (c.stop_before.ensures.open (search rules));
       acted =
           acts-more (is_some c.args.self.now.thread) g.D.Device.answer after d c.loop-k.k c.args.handles c.loop-k.handles
@@ -30,7 +36,9 @@ loop-k-preserved g c =
 pub loop-k-init : goal.loop-k-init
 loop-k-init g c = record {
   of = c.requires;
-  lists = lists_same _ _;
+  lists = lists_same _ _ _ refl refl;
+  wakes = wakes_same _ _ _ refl;
+  asked = search rules;
   let_go = λ k below. absurd (omega (arith, below));
   acted = search rules;
   made = search rules;

@@ -1,9 +1,9 @@
-use Rattle.{std.proofs.Common.{rules, refl}, poll_seats.proofs.SeatFacts.{polls_nowhere, polls_there}}
+use Rattle.{std.proofs.Common.{None, Some, rules, refl}, poll_seats.proofs.SeatFacts.polls_at}
 use Rattle.poll_seats.proofs.list_poller.HandleBenchBench.poll_once.Goals as goal
 
 pub returns-in-Some-clause-leads : goal.returns-in-Some-clause-leads
 returns-in-Some-clause-leads g c =
-    polls_there {R = g.row.R.Denot} c.as_slice.result.now c.args.self.now c.args.id c.args.weight c.poll.result _ c.in-Some.at
+    polls_at {R = g.row.R.Denot} c.as_slice.result.now c.args.self.now c.args.id c.args.weight c.poll.result _ (Some c.in-Some.at)
     (search rules) c.in-Some.ensures (record {
       was = c.index_mut.result.now;
       now = _;
@@ -11,10 +11,11 @@ returns-in-Some-clause-leads g c =
       there = search rules;
       same = c.poll.ensures.same;
       polls = c.poll.ensures.polls;
+      wakes = c.poll.ensures.wakes;
       others = refl;
     })
 
 pub returns-in-None-clause-leads : goal.returns-in-None-clause-leads
 returns-in-None-clause-leads g c =
-    polls_nowhere {R = g.row.R.Denot} c.as_slice.result.now c.args.self.now c.args.id c.args.weight _ c.args.self.now
-    (search rules) c.in-None.ensures (record { work = refl; next = refl; seats = refl })
+    polls_at {R = g.row.R.Denot} c.as_slice.result.now c.args.self.now c.args.id c.args.weight _ c.args.self.now None
+    (search rules) c.in-None.ensures (record { work = refl; next = refl; wakes = refl; seats = refl })
