@@ -16,6 +16,7 @@ MOST_ROWS, MOST_PLACES, MOST_DEVICES, MOST_POLLERS = 100000, 65536, 16, 8
 # MiB.
 MEMORY = {"napi_serial": 28, "napi_series": 74, "napi_machine": 190, "napi_replay": 8192}
 HEADER = b"moment,device,event,value\n"
+QUOTED = b'"moment",device,event,value\n'  # the same record; the rows after it are read record by record
 REPLAYS = [("napi_serial", []), ("napi_replay", ["--mode", "shared"]), ("napi_replay", ["--mode", "threads"]), ("napi_series", [])]
 
 crates = sys.argv[1]
@@ -57,8 +58,8 @@ class Trace:
         self.sent[device] += times * (event == "tx")
         self.runs += times * (event == "softirq")
 
-    def text(self):
-        return HEADER + "".join(self.rows).encode()
+    def text(self, header=HEADER):
+        return header + "".join(self.rows).encode()
 
     def devices(self):
         return sum(",open," in row for row in self.rows)
@@ -99,10 +100,10 @@ def check_series(trace, lines, dropped):
         expect(lines[row].split(",")[5:7], [str(trace.arrived[device]), str(dropped.get(device, 0))], f"arrived and dropped of device {device}")
 
 
-def try_trace(name, trace, dropped=None, pollers=1, programs=None):
+def try_trace(name, trace, dropped=None, pollers=1, programs=None, header=HEADER):
     """Tries the trace with each program and in each mode."""
     global passed, failed
-    text = trace.text()
+    text = trace.text(header)
     for program, words in programs or REPLAYS:
         is_threads = "threads" in words
         try:
@@ -166,6 +167,8 @@ def try_rows():
     if trace.arrived[1] <= MOST_PLACES:
         raise ValueError("this trace is to have more packets than a ring has places")
     try_trace(f"{MOST_ROWS} rows at one device", trace, programs=REPLAYS[:2] + REPLAYS[3:])
+    for count in (1, 1000, MOST_ROWS):
+        try_trace(f"{count} rows after a header in quotes", rows_of(count, MOST_DEVICES), header=QUOTED)
 
 
 def try_threads():

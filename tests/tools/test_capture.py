@@ -84,6 +84,16 @@ class Captures(InFolder):
         done = run("from-pcap", "captured", "made", "--arrivals", folder=self.folder, path="/none")
         self.assertEqual((done.stderr, done.returncode), ("from-pcap: captured: it needs tcpdump, which isn't on PATH (Debian: apt install tcpdump)\n", 1))
 
+    def test_the_longest_packets_are_rows(self):
+        """Without tcpdump: a packet of 65,535 bytes is a row, and longer ones are counted in the notes."""
+        text, packet = struct.pack("<IHHiIII", 0xA1B2C3D4, 2, 4, 0, 0, 262144, 1), (MACS[1] + MACS[0] + b"\x08\x06").ljust(60, b"\0")
+        for place, length in enumerate((60, 65534, 65535, 65536, 262144)):
+            text += struct.pack("<IIII", 1_700_000_000, place, len(packet), length) + packet
+        (self.folder / "captured").write_bytes(text)
+        rows, notes = self.made("captured", "--arrivals", path="/none")
+        self.assertEqual([row.split(",")[2] for row in rows.splitlines()[1:]], ["60", "65534", "65535"])
+        self.assertIn("no row: packets without a length of 1 to 65535 bytes, 2\n", notes)
+
     def test_what_a_million_packets_take(self):
         """Reads 100,000 packets; the limit on processor time leaves room for a machine ten times slower than one second per million."""
         (self.folder / "captured").write_bytes(capture_of(1, count=1000)[:24] + 100 * capture_of(1, count=1000)[24:])

@@ -17,6 +17,8 @@ mod dealing;
 #[cfg(test)]
 mod events;
 #[cfg(test)]
+mod pausing;
+#[cfg(test)]
 mod refusals;
 #[cfg(test)]
 mod switching;

@@ -14,8 +14,8 @@ const SETTINGS: u64 = 10_000_000;
 
 const ROUNDS: u64 = 2000;
 
-// Sets and clears THREADED until `over` is set.
-fn keep_setting(napi: &Napi, caller: Caller, over: &AtomicBool) -> Caller
+/// Sets and clears THREADED until `over` is set.
+pub(crate) fn keep_setting(napi: &Napi, caller: Caller, over: &AtomicBool) -> Caller
     requires { IsSeatOf napi.now caller.pass }
 {
     let mut caller = caller;
