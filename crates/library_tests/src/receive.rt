@@ -6,9 +6,16 @@ ghost use Rattle.rx_ring.specs.ReceiveRing.{NAPI_POLL_WEIGHT, held_of};
 ghost use Rattle.rx_ring.specs.Ends.{IsOneRing, SameIn, SameCtx, capacity_of, ring_of};
 
 use rx_ring::{Batch, Packet, RingFault, RxCounts, RxCtx, RxIn, Totals, beside, finish, ring};
+use std::alloc::Global;
+use std::process::Abort;
 use std::sync::Wait;
 use std::test::Fail;
 use std::thread;
+
+// Capacities that are tried with the numbers next to them, up to the greatest.
+const SIZES: [usize; 11] = [
+    128, 256, 512, 1000, 1024, 2048, 4096, 8192, 16_384, 32_768, 65_536,
+];
 
 fn packet(number: u64, bytes: u32) -> Packet {
     Packet { number, bytes }
@@ -70,16 +77,29 @@ fn receive_ring_of_two(rt: HostRuntime) -> Result<(), Fail> {
     Ok(())
 }
 
-// the program `memory_tests` tests failing allocations
+// Makes a ring of this capacity, and fills it.
+fn fill_ring(rt: &impl Abort, alloc: Global, capacity: usize) -> Result<(), Fail> {
+    let (mut input, ctx) = ring(alloc, capacity)?;
+    for k in 0..capacity {
+        assert!(rt; input.put(packet(k as u64, 1)).is_ok());
+    }
+    assert_eq!(rt; input.put(packet(0, 1)), Err(packet(0, 1)));
+    assert_eq!(rt; ctx.counts().polls, 0);
+    Ok(())
+}
+
+// there is memory for each capacity; the program `memory_tests` tests failing allocations
 #[test]
-fn rings_of_the_least_and_the_greatest_capacity(rt: HostRuntime) -> Result<(), Fail> {
-    for capacity in [1, 65_536] {
-        let (mut input, ctx) = ring(rt.alloc(), capacity)?;
-        for k in 0..capacity {
-            assert!(rt; input.put(packet(k as u64, 1)).is_ok());
+fn rings_of_many_capacities(rt: HostRuntime) -> Result<(), Fail> {
+    for capacity in 1..100 {
+        fill_ring(&rt, rt.alloc(), capacity)?;
+    }
+    for size in SIZES {
+        fill_ring(&rt, rt.alloc(), size.saturating_sub(1))?;
+        fill_ring(&rt, rt.alloc(), size)?;
+        if size < 65_536 {
+            fill_ring(&rt, rt.alloc(), size.saturating_add(1))?;
         }
-        assert_eq!(rt; input.put(packet(0, 1)), Err(packet(0, 1)));
-        assert_eq!(rt; ctx.counts().polls, 0);
     }
     Ok(())
 }
@@ -144,6 +164,28 @@ fn a_poll_finds_what_was_put_after_a_million_packets(rt: HostRuntime) -> Result<
         assert_eq!(rt; ctx.poll(64, &mut batch), 1);
     }
     assert_eq!(rt; ctx.counts().packets, 1_024_000);
+    Ok(())
+}
+
+// no contract says that either: a poll that knows of packets, but of fewer than its weight, finds what was put since
+#[test]
+fn a_poll_that_knows_of_too_few_reads_the_ring(rt: HostRuntime) -> Result<(), Fail> {
+    let (mut input, mut ctx) = ring(rt.alloc(), 4)?;
+    let mut batch = Batch::new();
+    let mut packets = [packet(9, 90); 4];
+    let burst = [packet(1, 10), packet(2, 20), packet(3, 30)];
+    assert_eq!(rt; input.put_all(&burst), 3);
+    assert_eq!(rt; ctx.poll(1, &mut batch), 1);
+    assert_eq!(rt; input.put(packet(4, 40)), Ok(()));
+    assert_eq!(rt; ctx.poll(3, &mut batch), 3);
+    assert_eq!(rt;
+        batch.as_slice(),
+        [burst[1], burst[2], packet(4, 40)].as_slice()
+    );
+    assert_eq!(rt; input.put_all(&burst), 3);
+    assert_eq!(rt; ctx.poll_into(1, &mut packets), 1);
+    assert_eq!(rt; input.put(packet(4, 40)), Ok(()));
+    assert_eq!(rt; ctx.poll_into(4, &mut packets), 3);
     Ok(())
 }
 

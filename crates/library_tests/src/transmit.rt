@@ -2,6 +2,7 @@
 
 use dql_core::Dql;
 use std::alloc::Global;
+use std::process::Abort;
 use std::test::Fail;
 use tx_ring::{TxEvent, TxFault, TxRing, TxState};
 
@@ -85,7 +86,32 @@ fn transmit_refusals(rt: HostRuntime) -> Result<(), Fail> {
     Ok(())
 }
 
-// the program `memory_tests` tests failing allocations
+// Makes a ring of this capacity, and fills it.
+fn fill_ring(rt: &impl Abort, alloc: Global, capacity: usize) -> Result<(), Fail> {
+    let mut ring = new_ring(alloc, capacity, 1000)?;
+    for _ in 0..capacity {
+        ring.send(0)?;
+    }
+    assert_eq!(rt; ring.send(0), Err(TxFault::Full));
+    Ok(())
+}
+
+// there is memory for each capacity; the program `memory_tests` tests failing allocations
+#[test]
+fn rings_of_many_capacities(rt: HostRuntime) -> Result<(), Fail> {
+    for capacity in 1..100 {
+        fill_ring(&rt, rt.alloc(), capacity)?;
+    }
+    for size in [
+        128usize, 256, 512, 1000, 1024, 2048, 4096, 8192, 16_384, 32_768,
+    ] {
+        fill_ring(&rt, rt.alloc(), size.saturating_sub(1))?;
+        fill_ring(&rt, rt.alloc(), size)?;
+        fill_ring(&rt, rt.alloc(), size.saturating_add(1))?;
+    }
+    fill_ring(&rt, rt.alloc(), 65_535)
+}
+
 #[test]
 fn a_ring_of_the_greatest_capacity(rt: HostRuntime) -> Result<(), Fail> {
     let mut limit = Dql::new(1000, 1_879_048_192, 1000, 0)?;
