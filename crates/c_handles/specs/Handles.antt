@@ -32,18 +32,29 @@ abbrev pub OnSeat : (CallerObject → ℕ → Object → Type 0) → Object → 
 OnSeat P (body.Seat s) n after = P s n after
 OnSeat P other n after = OtherKind other n after
 
+-- one attempt at a call of a caller, whose result is counted
+abbrev pub SeatStep : SeatCall → CallerObject → ℕ → CallerObject → Type 0
+SeatStep call s n t = SeatAnswers call s.hold n t.hold × (t.answers ≡ count_answer n s.answers)
+
+abbrev pub SeatDoesIn : (CallerObject → ℕ → CallerObject → Type 0) → Object → ℕ → Object → Type 0
+SeatDoesIn P = OnSeat (λ s n after. IsCallerWith (λ t. P s n t) after)
+
+-- for a handle with a caller: the call returned this status, and the handle then has that caller
+abbrev pub SeatDoes : (CallerObject → ℕ → CallerObject → Type 0) → FqHandle → ℕ → FqHandle → Type 0
+SeatDoes P old n new = OnHandle (SeatDoesIn P) old.held.body n new.held.body
+
 abbrev pub SeatMakesIn : SeatCall → Object → ℕ → Object → Type 0
-SeatMakesIn call = OnSeat (λ s n after. IsCallerWith (λ t. SeatAnswers call s.hold n t.hold × (t.answers ≡ count_answer n s.answers)) after)
+SeatMakesIn call = SeatDoesIn (SeatStep call)
 
 abbrev pub SeatGivesIn : ℕ → List Packet → Object → ℕ → Object → Type 0
-SeatGivesIn weight given = OnSeat (λ s n after. IsCallerWith (λ t. SeatPolls weight given s.hold n t.hold × (t.answers ≡ s.answers)) after)
+SeatGivesIn weight given = SeatDoesIn (λ s n t. SeatPolls weight given s.hold n t.hold × (t.answers ≡ s.answers))
 
 -- A look shows this word. Of the two words, the first is the caller's variable before the call, and the second after it.
 abbrev pub ShowsWord : ℕ → ℕ → CallerState → ℕ → CallerState → Type 0
 ShowsWord before after h n k = ((n ≡ OK) × ((x : Seen) × SeatLooks h (Some x) k × (after ≡ word_of x))) ⊎ (Refused h n k × (after ≡ before))
 
 abbrev pub SeatShowsIn : ℕ → ℕ → Object → ℕ → Object → Type 0
-SeatShowsIn before after = OnSeat (λ s n b. IsCallerWith (λ t. ShowsWord before after s.hold n t.hold × (t.answers ≡ s.answers)) b)
+SeatShowsIn before after = SeatDoesIn (λ s n t. ShowsWord before after s.hold n t.hold × (t.answers ≡ s.answers))
 
 abbrev pub SeatShows : ℕ → ℕ → FqHandle → ℕ → FqHandle → Type 0
 SeatShows before after old n new = OnHandle (SeatShowsIn before after) old.held.body n new.held.body
@@ -70,8 +81,19 @@ abbrev pub OnController : (Controller → ℕ → Object → Type 0) → Object 
 OnController P (body.Controller c) n after = P c n after
 OnController P other n after = OtherKind other n after
 
+abbrev pub ControlDoesIn : (Controller → ℕ → Controller → Type 0) → Object → ℕ → Object → Type 0
+ControlDoesIn P = OnController (λ c n after. IsControllerWith (λ d. P c n d) after)
+
+-- for a handle with a controller: the call returned this status, and the handle then has that controller
+abbrev pub ControlDoes : (Controller → ℕ → Controller → Type 0) → FqHandle → ℕ → FqHandle → Type 0
+ControlDoes P old n new = OnHandle (ControlDoesIn P) old.held.body n new.held.body
+
+-- one attempt at a call of a controller
+abbrev pub ControlStep : ControlCall → Controller → ℕ → Controller → Type 0
+ControlStep call c n d = ControlAnswers call c.power n d.power
+
 abbrev pub ControlMakesIn : ControlCall → Object → ℕ → Object → Type 0
-ControlMakesIn call = OnController (λ c n after. IsControllerWith (λ d. ControlAnswers call c.power n d.power) after)
+ControlMakesIn call = ControlDoesIn (ControlStep call)
 
 abbrev pub ControlMakes : ControlCall → FqHandle → ℕ → FqHandle → Type 0
 ControlMakes call old n new = OnHandle (ControlMakesIn call) old.held.body n new.held.body

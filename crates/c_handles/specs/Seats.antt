@@ -25,14 +25,6 @@ abbrev pub IsResting : CallerState → Type 0
 IsResting (hold.Rests c) = Unit
 IsResting _ = ⊥
 
-abbrev pub IsGrantedCaller : CallerState → Type 0
-IsGrantedCaller (hold.Granted g) = Unit
-IsGrantedCaller _ = ⊥
-
-abbrev pub IsPolling : CallerState → Type 0
-IsPolling (hold.Polls w) = Unit
-IsPolling _ = ⊥
-
 abbrev pub IsBusy : CallerState → Type 0
 IsBusy (hold.Busy b) = Unit
 IsBusy _ = ⊥

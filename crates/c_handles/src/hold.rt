@@ -1,7 +1,7 @@
 //! The state of a caller of a shared instance: what its type says in Rattle is a value here.
 ghost use Rattle.std.specs.Prelude.{◌≡◌};
 ghost use Rattle.c_handles.specs.SeatCalls.{SeatAnswers, SeatLooks, hold_counts};
-ghost use Rattle.c_handles.specs.Seats.{SitsAt, IsResting, IsGrantedCaller, IsPolling, IsBusy};
+ghost use Rattle.c_handles.specs.Seats.{SitsAt, IsBusy};
 ghost use Rattle.c_handles.specs.declared.hold.CallerState.TheVariants as hold;
 ghost use Rattle.c_handles.specs.declared.hold.SeatCall.TheVariants as seat_call;
 
@@ -59,103 +59,15 @@ impl Drop for CallerState {
 }
 
 impl CallerState {
-    // Returns the caller, if it owns nothing.
-    #[inline]
-    fn into_caller(self) -> Caller
-        requires { IsResting self }
-        ensures { self ≡ hold.Rests result }
-    {
-        match self {
-            CallerState::Rests(caller) => caller,
-            _ => unreachable!(),
-        }
-    }
-
-    // Returns the caller, if it was granted the instance.
-    #[inline]
-    fn into_granted(self) -> Granted
-        requires { IsGrantedCaller self }
-        ensures { self ≡ hold.Granted result }
-    {
-        match self {
-            CallerState::Granted(granted) => granted,
-            _ => unreachable!(),
-        }
-    }
-
-    // Returns the poller, if it polls.
-    #[inline]
-    fn into_polling(self) -> Polling
-        requires { IsPolling self }
-        ensures { self ≡ hold.Polls result }
-    {
-        match self {
-            CallerState::Polls(polling) => polling,
-            _ => unreachable!(),
-        }
-    }
-
-    // Returns the busy poller, if it busy polls.
-    #[inline]
-    fn into_busy(self) -> Busy
-        requires { IsBusy self }
-        ensures { self ≡ hold.Busy result }
-    {
-        match self {
-            CallerState::Busy(busy) => busy,
-            _ => unreachable!(),
-        }
-    }
-
-    // The four functions below write the state from which the caller was taken out, and return the status. Each is a function
-    // of its own, so that the write occurs once in the machine code. The match on the old state shows the compiler that nothing
-    // is dropped.
+    // Writes the state after a call to a caller that was taken out for it, and returns the call's status. The match on the old
+    // state shows the compiler that nothing is dropped.
     #[inline(always)]
-    fn rest(&mut self, caller: Caller, answer: u32) -> u32
+    fn put(&mut self, state: CallerState, answer: u32) -> u32
         requires { self.old ≡ hold.Gone }
-        ensures place { self.new ≡ hold.Rests caller }
+        ensures place { self.new ≡ state }
         ensures answer { result ≡ answer }
     {
-        let taken = mem::replace(self, CallerState::Rests(caller));
-        match &taken {
-            CallerState::Gone => answer,
-            _ => unreachable!(),
-        }
-    }
-
-    #[inline(always)]
-    fn grant(&mut self, granted: Granted, answer: u32) -> u32
-        requires { self.old ≡ hold.Gone }
-        ensures place { self.new ≡ hold.Granted granted }
-        ensures answer { result ≡ answer }
-    {
-        let taken = mem::replace(self, CallerState::Granted(granted));
-        match &taken {
-            CallerState::Gone => answer,
-            _ => unreachable!(),
-        }
-    }
-
-    #[inline(always)]
-    fn poll(&mut self, polling: Polling, answer: u32) -> u32
-        requires { self.old ≡ hold.Gone }
-        ensures place { self.new ≡ hold.Polls polling }
-        ensures answer { result ≡ answer }
-    {
-        let taken = mem::replace(self, CallerState::Polls(polling));
-        match &taken {
-            CallerState::Gone => answer,
-            _ => unreachable!(),
-        }
-    }
-
-    #[inline(always)]
-    fn busy(&mut self, busy: Busy, answer: u32) -> u32
-        requires { self.old ≡ hold.Gone }
-        ensures place { self.new ≡ hold.Busy busy }
-        ensures answer { result ≡ answer }
-    {
-        let taken = mem::replace(self, CallerState::Busy(busy));
+        let taken = mem::replace(self, state);
         match &taken {
             CallerState::Gone => answer,
             _ => unreachable!(),
@@ -190,12 +102,14 @@ impl CallerState {
         if !matches!(self, CallerState::Rests(_)) {
             return status::NOT_ALLOWED;
         }
-        let caller = mem::replace(self, CallerState::Gone).into_caller();
+        let CallerState::Rests(caller) = mem::replace(self, CallerState::Gone) else {
+            unreachable!()
+        };
         match caller.try_schedule(napi) {
-            TryPrep::Granted(granted) => self.grant(granted, status::GRANTED),
-            TryPrep::Missed(caller) => self.rest(caller, status::MISSED),
-            TryPrep::Disabled(caller) => self.rest(caller, status::DISABLED),
-            TryPrep::Changed(caller) => self.rest(caller, status::CHANGED),
+            TryPrep::Granted(granted) => self.put(CallerState::Granted(granted), status::GRANTED),
+            TryPrep::Missed(caller) => self.put(CallerState::Rests(caller), status::MISSED),
+            TryPrep::Disabled(caller) => self.put(CallerState::Rests(caller), status::DISABLED),
+            TryPrep::Changed(caller) => self.put(CallerState::Rests(caller), status::CHANGED),
         }
     }
 
@@ -208,8 +122,10 @@ impl CallerState {
         if !matches!(self, CallerState::Granted(_)) {
             return status::NOT_ALLOWED;
         }
-        let granted = mem::replace(self, CallerState::Gone).into_granted();
-        self.rest(granted.hand(napi, kind), status::OK)
+        let CallerState::Granted(granted) = mem::replace(self, CallerState::Gone) else {
+            unreachable!()
+        };
+        self.put(CallerState::Rests(granted.hand(napi, kind)), status::OK)
     }
 
     #[inline]
@@ -221,10 +137,12 @@ impl CallerState {
         if !matches!(self, CallerState::Rests(_)) {
             return status::NOT_ALLOWED;
         }
-        let caller = mem::replace(self, CallerState::Gone).into_caller();
+        let CallerState::Rests(caller) = mem::replace(self, CallerState::Gone) else {
+            unreachable!()
+        };
         match caller.take(napi, kind) {
-            Ok(polling) => self.poll(polling, status::TAKEN),
-            Err(caller) => self.rest(caller, status::NOT_THERE),
+            Ok(polling) => self.put(CallerState::Polls(polling), status::TAKEN),
+            Err(caller) => self.put(CallerState::Rests(caller), status::NOT_THERE),
         }
     }
 
@@ -237,8 +155,10 @@ impl CallerState {
         if !matches!(self, CallerState::Polls(_)) {
             return status::NOT_ALLOWED;
         }
-        let polling = mem::replace(self, CallerState::Gone).into_polling();
-        self.rest(polling.requeue(napi), status::OK)
+        let CallerState::Polls(polling) = mem::replace(self, CallerState::Gone) else {
+            unreachable!()
+        };
+        self.put(CallerState::Rests(polling.requeue(napi)), status::OK)
     }
 
     #[inline]
@@ -267,11 +187,13 @@ impl CallerState {
         if !matches!(self, CallerState::Polls(_)) {
             return status::NOT_ALLOWED;
         }
-        let polling = mem::replace(self, CallerState::Gone).into_polling();
+        let CallerState::Polls(polling) = mem::replace(self, CallerState::Gone) else {
+            unreachable!()
+        };
         match polling.try_complete(napi) {
-            TryDone::Released(caller) => self.rest(caller, status::RELEASED),
-            TryDone::Again(granted) => self.grant(granted, status::AGAIN),
-            TryDone::Changed(polling) => self.poll(polling, status::CHANGED),
+            TryDone::Released(caller) => self.put(CallerState::Rests(caller), status::RELEASED),
+            TryDone::Again(granted) => self.put(CallerState::Granted(granted), status::AGAIN),
+            TryDone::Changed(polling) => self.put(CallerState::Polls(polling), status::CHANGED),
         }
     }
 
@@ -284,11 +206,13 @@ impl CallerState {
         if !matches!(self, CallerState::Rests(_)) {
             return status::NOT_ALLOWED;
         }
-        let caller = mem::replace(self, CallerState::Gone).into_caller();
+        let CallerState::Rests(caller) = mem::replace(self, CallerState::Gone) else {
+            unreachable!()
+        };
         match caller.try_busy(napi) {
-            TryBusy::Taken(busy) => self.busy(busy, status::TAKEN),
-            TryBusy::Refused(caller) => self.rest(caller, status::BUSY),
-            TryBusy::Changed(caller) => self.rest(caller, status::CHANGED),
+            TryBusy::Taken(busy) => self.put(CallerState::Busy(busy), status::TAKEN),
+            TryBusy::Refused(caller) => self.put(CallerState::Rests(caller), status::BUSY),
+            TryBusy::Changed(caller) => self.put(CallerState::Rests(caller), status::CHANGED),
         }
     }
 
@@ -301,10 +225,12 @@ impl CallerState {
         if !matches!(self, CallerState::Busy(_)) {
             return status::NOT_ALLOWED;
         }
-        let busy = mem::replace(self, CallerState::Gone).into_busy();
+        let CallerState::Busy(busy) = mem::replace(self, CallerState::Gone) else {
+            unreachable!()
+        };
         match busy.try_stop(napi) {
-            TryStop::Stopped(polling) => self.poll(polling, status::OK),
-            TryStop::Changed(busy) => self.busy(busy, status::CHANGED),
+            TryStop::Stopped(polling) => self.put(CallerState::Polls(polling), status::OK),
+            TryStop::Changed(busy) => self.put(CallerState::Busy(busy), status::CHANGED),
         }
     }
 

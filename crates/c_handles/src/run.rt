@@ -5,7 +5,7 @@ ghost use Rattle.poll_runs.specs.Driven.{and_poll};
 ghost use Rattle.poll_runs.specs.declared.bench.Next.{Next};
 ghost use Rattle.c_handles.specs.Status.{OK, DONE, NOT_ALLOWED};
 ghost use Rattle.c_handles.specs.Lists.{held_by_run};
-ghost use Rattle.c_handles.specs.Runs.{next_in, asked_id, list_run, list_has, is_doubled, Runs, IsThrough, IsBetweenPolls, HasSettings, SameSettingsIn, IsRunOf, push_status, begin_status, polled_status};
+ghost use Rattle.c_handles.specs.Runs.{next_in, asked_id, list_run, list_has, run_has, without, is_doubled, Runs, IsThrough, IsBetweenPolls, HasSettings, SameSettingsIn, IsRunOf, push_status, remove_status, begin_status, polled_status};
 
 use crate::lister::{FqRunReport, ListObject};
 use crate::status;
@@ -24,6 +24,20 @@ fn next_of(number: u32) -> Option<Next>
         4 => Some(Next::Absent),
         _ => None,
     }
+}
+
+// Returns the list without this number.
+fn without(list: &PlainList, id: u32) -> PlainList
+    ensures { result ≡ without id list.now }
+{
+    let mut others = PlainList::new();
+    let ids = list.ids();
+    for other in ids {
+        if *other != id {
+            others.push(*other);
+        }
+    }
+    others
 }
 
 impl ListObject {
@@ -74,6 +88,31 @@ impl ListObject {
             return status::FULL;
         }
         self.list.push(id);
+        status::OK
+    }
+
+    fn run_has(&self, id: u32) -> bool
+        ensures { result ≡ run_has (list_run self.now) id }
+    {
+        self.runs && (self.place.is_waiting(id) || self.place.asked() == Some(id))
+    }
+
+    /// Removes a number from the list, whose others keep their order. Returns BUSY if only the run has it, and NOT_THERE if
+    /// neither has it.
+    pub fn remove(&mut self, id: u32) -> u32
+        ensures status { result ≡ remove_status self.old id }
+        ensures removed { result ≡ OK → self.new.list ≡ without id self.old.list }
+        ensures run { list_run self.new ≡ list_run self.old }
+        ensures kept { result ≢ OK → self.new ≡ self.old }
+    {
+        if !self.list.ids().contains(&id) {
+            return if self.run_has(id) {
+                status::BUSY
+            } else {
+                status::NOT_THERE
+            };
+        }
+        self.list = without(&self.list, id);
         status::OK
     }
 

@@ -1,5 +1,5 @@
 //! A caller and the controller of a shared instance, each with the instance, as objects of handles.
-ghost use Rattle.std.specs.Prelude.{◌≡◌, ◌≤◌, length};
+ghost use Rattle.std.specs.Prelude.{◌≡◌, ◌≢◌, ◌≤◌, length, take};
 ghost use Rattle.std.specs.Arc.{arc_value};
 ghost use Rattle.c_handles.specs.Answers.{count_answer};
 ghost use Rattle.c_handles.specs.Status.{OK};
@@ -13,7 +13,7 @@ use crate::power::{ControlCall, ControlState};
 use crate::status;
 use napi_calls::Napi;
 use napi_model::Seen;
-use rx_ring::{Batch, RxCounts};
+use rx_ring::{Packet, RxCounts};
 use std::alloc::Global;
 use std::mem;
 use std::sync::Arc;
@@ -81,25 +81,25 @@ impl CallerObject {
         self.hold.counts()
     }
 
-    /// Like `Polling::poll` and `Busy::poll`.
+    /// Like `Polling::poll_into` and `Busy::poll_into`: sets `count`; the packets are the first `count` elements.
     #[inline]
-    pub fn poll(&mut self, weight: usize, batch: &mut Batch) -> u32
-        requires { IsWeight weight }
-        ensures polls { SeatPolls weight batch.new.items self.old.hold result self.new.hold }
-        ensures room { result ≡ OK → length batch.new.items ≤ weight }
+    pub fn poll(&mut self, weight: usize, out: &mut [Packet], count: &mut usize) -> u32
+        requires weight { IsWeight weight }
+        requires room { weight ≤ length out.old }
+        requires none { count.old ≡ 0 }
+        ensures polls { SeatPolls weight (take count.new out.new) self.old.hold result
+            self.new.hold }
+        ensures most { (count.new ≤ weight) × (count.new ≤ length out.new) }
         ensures answers { self.new.answers ≡ self.old.answers }
+        ensures kept { result ≢ OK → (count.new ≡ 0) × (out.new ≡ out.old)
+            × (self.new ≡ self.old) }
     {
-        match &mut self.hold {
-            CallerState::Polls(polling) => {
-                polling.poll(weight, batch);
-                status::OK
-            }
-            CallerState::Busy(busy) => {
-                busy.poll(weight, batch);
-                status::OK
-            }
-            _ => status::NOT_ALLOWED,
-        }
+        *count = match &mut self.hold {
+            CallerState::Polls(polling) => polling.poll_into(weight, out),
+            CallerState::Busy(busy) => busy.poll_into(weight, out),
+            _ => return status::NOT_ALLOWED,
+        };
+        status::OK
     }
 }
 

@@ -173,7 +173,8 @@ pub record IsDone (number packets : ℕ) (before : Driver) (reported : Result �
   pub err : OnErr reported (after ≡ before)
   pub many : IfErr reported (λ why. (why ≡ TooMany) ↔ ((number ≡ said_number_of before) × IsSome (polled_device before)))
 
--- what the driver asks for next, as of `Driver::next`
+-- What the driver asks for next: the same again while a report is awaited. The runs are polling runs over the list, as long as no
+-- other device is put on it during the run.
 pub record AsksNext (before : Driver) (todo : Todo) (after : Driver) : Type 0 where
   pub due : IsDue after todo.what
   pub number : AwaitsNothing before → IsNumberedTodo (said_number_of before) (said_number_of after) todo

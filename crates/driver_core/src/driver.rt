@@ -56,7 +56,7 @@ impl Driver {
     ghost use Rattle.driver_core.specs.Counts.{count_one_poll};
     ghost use Rattle.driver_core.specs.Device.{chore_at, after_interrupt, stage_is_listed, after_open, after_stop, MayStop};
     ghost use Rattle.driver_core.specs.Steps.{napi_of};
-    ghost use Rattle.driver_core.specs.Driver.{poll_counts_of, device_of, driver_devices, said_number_of, polled_device, poll_of, said_of, stage_of, is_running, driver_limits, list_of, AreClosed, Ends, DoesChore, IsDue, IsDriverReport, AwaitsNothing, IsIdle, IsNumberedTodo, IsReport, IsRunning, IsStep, PutsDevice, Reports};
+    ghost use Rattle.driver_core.specs.Driver.{poll_counts_of, device_of, driver_devices, said_number_of, polled_device, poll_of, said_of, stage_of, is_running, driver_limits, list_of, AreClosed, AsksNext, Ends, DoesChore, IsDue, IsDriverReport, AwaitsNothing, IsIdle, IsNumberedTodo, IsReport, IsRunning, IsStep, PutsDevice, Reports};
 
     /// Creates a driver of this many devices, at most 64, all closed.
     pub fn new(alloc: Global, devices: u32, limits: Limits) -> Result<Driver, AllocError>
@@ -338,20 +338,7 @@ impl Driver {
     #[inline(always)]
     fn ask_into<P: TodoPlace>(&mut self, place: &mut P) -> Todo
         requires free { AwaitsNothing self.old }
-        ensures due { IsDue self.new result.what }
-        ensures number { IsNumberedTodo (said_number_of self.old) (said_number_of self.new) result }
-        ensures devices { driver_devices self.new ≡ driver_devices self.old }
-        ensures counts { self.new.counts ≡ self.old.counts }
-        ensures limits { driver_limits self.new ≡ driver_limits self.old }
-        ensures begins { is_running self.old ≡ false → is_running self.new ≡ true
-            → IsRunning (list_of self.old) [] self.new }
-        ensures going { (start : List _) (polls : List Poll) → IsRunning start polls self.old
-            → is_running self.new ≡ true → IsRunning start polls self.new }
-        ensures ended { (start : List _) (polls : List Poll) (report : _)
-            → result.what ≡ Ended report → IsRunning start polls self.old
-            → IsDriverReport (driver_limits self.old) start polls self.new report }
-        ensures whole { (report : _) → result.what ≡ Ended report → is_running self.old ≡ false
-            → IsDriverReport (driver_limits self.old) (list_of self.old) [] self.new report }
+        ensures asks { AsksNext self.old result self.new }
         ensures takes { P.takes place.old result place.new }
     {
         if let Some((device, chore)) = self.devices.first_chore() {
@@ -376,23 +363,7 @@ impl Driver {
     /// Like [`next`](Driver::next); what it returns is also written to the place.
     #[inline(always)]
     pub fn next_into<P: TodoPlace>(&mut self, place: &mut P) -> Todo
-        ensures due { IsDue self.new result.what }
-        ensures number { AwaitsNothing self.old
-            → IsNumberedTodo (said_number_of self.old) (said_number_of self.new) result }
-        ensures again { ¬ AwaitsNothing self.old
-            → (self.new ≡ self.old) × (result.number ≡ said_number_of self.old) }
-        ensures devices { driver_devices self.new ≡ driver_devices self.old }
-        ensures counts { self.new.counts ≡ self.old.counts }
-        ensures limits { driver_limits self.new ≡ driver_limits self.old }
-        ensures begins { is_running self.old ≡ false → is_running self.new ≡ true
-            → IsRunning (list_of self.old) [] self.new }
-        ensures going { (start : List _) (polls : List Poll) → IsRunning start polls self.old
-            → is_running self.new ≡ true → IsRunning start polls self.new }
-        ensures ended { (start : List _) (polls : List Poll) (report : _)
-            → result.what ≡ Ended report → IsRunning start polls self.old
-            → IsDriverReport (driver_limits self.old) start polls self.new report }
-        ensures whole { (report : _) → result.what ≡ Ended report → is_running self.old ≡ false
-            → IsDriverReport (driver_limits self.old) (list_of self.old) [] self.new report }
+        ensures asks { AsksNext self.old result self.new }
         ensures takes { P.takes place.old result place.new }
     {
         let Some(todo) = self.last() else {
@@ -405,25 +376,7 @@ impl Driver {
     /// Returns what the caller has to do next. It returns the same action, with the same number, until that action is reported
     /// or isn't due any more.
     pub fn next(&mut self) -> Todo
-        ensures due { IsDue self.new result.what }
-        ensures number { AwaitsNothing self.old
-            → IsNumberedTodo (said_number_of self.old) (said_number_of self.new) result }
-        ensures again { ¬ AwaitsNothing self.old
-            → (self.new ≡ self.old) × (result.number ≡ said_number_of self.old) }
-        ensures devices { driver_devices self.new ≡ driver_devices self.old }
-        ensures counts { self.new.counts ≡ self.old.counts }
-        ensures limits { driver_limits self.new ≡ driver_limits self.old }
-
-        // The runs are polling runs over the list, as long as no other device is put on it during the run.
-        ensures begins { is_running self.old ≡ false → is_running self.new ≡ true
-            → IsRunning (list_of self.old) [] self.new }
-        ensures going { (start : List _) (polls : List Poll) → IsRunning start polls self.old
-            → is_running self.new ≡ true → IsRunning start polls self.new }
-        ensures ended { (start : List _) (polls : List Poll) (report : _)
-            → result.what ≡ Ended report → IsRunning start polls self.old
-            → IsDriverReport (driver_limits self.old) start polls self.new report }
-        ensures whole { (report : _) → result.what ≡ Ended report → is_running self.old ≡ false
-            → IsDriverReport (driver_limits self.old) (list_of self.old) [] self.new report }
+        ensures { AsksNext self.old result self.new }
     {
         self.next_into(&mut Nowhere)
     }

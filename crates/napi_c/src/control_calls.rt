@@ -3,7 +3,6 @@ ghost use Rattle.c_handles.specs.declared.power.ControlCall.TheVariants as contr
 ghost use Rattle.c_handles.specs.Handles.{ControlMakes, ControlMakesIn};
 
 use c_handles::{ControlCall, FqHandle, Object, status};
-use std::alloc::Global;
 
 fn step_in(at: &mut Object, call: ControlCall) -> u32
     ensures { ControlMakesIn call at.old result at.new }
@@ -15,37 +14,35 @@ fn step_in(at: &mut Object, call: ControlCall) -> u32
 }
 
 // Makes a call on the controller of a handle.
-fn on_control(alloc: Global, handle: &mut FqHandle, call: ControlCall) -> u32
+fn on_control(handle: &mut FqHandle, call: ControlCall) -> u32
     ensures { ControlMakes call handle.old result handle.new }
 {
-    let Some(mut boxed) = handle.take(alloc) else {
+    if !handle.is_set() {
         return status::BAD_HANDLE;
-    };
-    let status = step_in(&mut *boxed, call);
-    handle.put(boxed);
-    status
+    }
+    step_in(handle.held.as_mut(), call)
 }
 
 /// Like `Control::try_enable`: returns OK or CHANGED; NOT_ALLOWED if the instance isn't disabled.
 #[unsafe(no_mangle)]
-pub extern "C" fn fq_control_enable(alloc: Global, handle: &mut FqHandle, threaded: bool) -> u32
+pub extern "C" fn fq_control_enable(handle: &mut FqHandle, threaded: bool) -> u32
     ensures { ControlMakes (control_call.Enable threaded) handle.old result handle.new }
 {
-    on_control(alloc, handle, ControlCall::Enable(threaded))
+    on_control(handle, ControlCall::Enable(threaded))
 }
 
 /// Like `Control::mark`: returns OK; NOT_ALLOWED if the instance isn't enabled, or is marked already.
 #[unsafe(no_mangle)]
-pub extern "C" fn fq_control_mark(alloc: Global, handle: &mut FqHandle) -> u32
+pub extern "C" fn fq_control_mark(handle: &mut FqHandle) -> u32
     ensures { ControlMakes control_call.Mark handle.old result handle.new }
 {
-    on_control(alloc, handle, ControlCall::Mark)
+    on_control(handle, ControlCall::Mark)
 }
 
 /// Like `Control::try_take`: returns TAKEN, BUSY or CHANGED; NOT_ALLOWED if no disable is pending.
 #[unsafe(no_mangle)]
-pub extern "C" fn fq_control_try_take(alloc: Global, handle: &mut FqHandle) -> u32
+pub extern "C" fn fq_control_try_take(handle: &mut FqHandle) -> u32
     ensures { ControlMakes control_call.TryTake handle.old result handle.new }
 {
-    on_control(alloc, handle, ControlCall::TryTake)
+    on_control(handle, ControlCall::TryTake)
 }

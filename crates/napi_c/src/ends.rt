@@ -35,25 +35,23 @@ pub extern "C" fn fq_ring_split(alloc: Global, ring: &mut FqHandle, ctx: &mut Fq
     if ctx.is_set() {
         return status::IN_USE;
     }
-    let Some(mut first) = ring.take(alloc) else {
+    if !ring.is_set() {
         return status::BAD_HANDLE;
-    };
+    }
+    let body = ring.held.as_mut();
     // checked before anything is allocated
-    if !matches!(&*first, Object::Ring(_)) {
-        ring.put(first);
+    if !matches!(&*body, Object::Ring(_)) {
         return status::BAD_HANDLE;
     }
     let Ok(mut second) = Box::new(alloc, Object::Gone) else {
-        ring.put(first);
         return status::OUT_OF_MEMORY;
     };
-    let Object::Ring(whole) = mem::replace(&mut *first, Object::Gone) else {
+    let Object::Ring(whole) = mem::replace(body, Object::Gone) else {
         unreachable!()
     };
     let Ring { input, ctx: other } = whole;
-    *first = Object::In(input);
+    *body = Object::In(input);
     *second = Object::Ctx(other);
-    ring.put(first);
     ctx.put(second);
     status::OK
 }
@@ -101,7 +99,7 @@ fn counts_of(at: &Object) -> Option<RxCounts>
 /// Sets the counts of a ring's polls. Allowed for an object that has the ring's poll end: a ring, a caller (`fq_seat_..`) that
 /// polls, the controller of a disabled instance.
 #[unsafe(no_mangle)]
-pub extern "C" fn fq_count(alloc: Global, handle: &mut FqHandle, counts: &mut FqCounts) -> u32
+pub extern "C" fn fq_count(handle: &mut FqHandle, counts: &mut FqCounts) -> u32
     ensures counts { (c : RxCounts) → CountsAre c handle.old.held.body → (result ≡ OK)
         × (counts.new ≡ counts_for_c c) }
     ensures kept { result ≢ OK → counts.new ≡ counts.old }
@@ -111,18 +109,14 @@ pub extern "C" fn fq_count(alloc: Global, handle: &mut FqHandle, counts: &mut Fq
     ensures refused { result ≢ OK → result ≢ BAD_HANDLE → result ≡ NOT_ALLOWED }
     ensures same { handle.new.held.body ≡ handle.old.held.body }
 {
-    let Some(boxed) = handle.take(alloc) else {
+    if !handle.is_set() {
         return status::BAD_HANDLE;
-    };
-    let found = counts_of(&*boxed);
-    handle.put(boxed);
-    match found {
-        Some(found) => {
-            *counts = FqCounts::of(found);
-            status::OK
-        }
-        None => status::NOT_ALLOWED,
     }
+    let Some(found) = counts_of(handle.held.as_mut()) else {
+        return status::NOT_ALLOWED;
+    };
+    *counts = FqCounts::of(found);
+    status::OK
 }
 
 fn shown_in(at: &Object, shown: &mut FqRingShown) -> u32
@@ -141,17 +135,15 @@ fn shown_in(at: &Object, shown: &mut FqRingShown) -> u32
 
 /// Sets the state of a ring's input: its capacity, and how many packets were put. Allowed for a ring, and for the input of one.
 #[unsafe(no_mangle)]
-pub extern "C" fn fq_ring_show(alloc: Global, handle: &mut FqHandle, shown: &mut FqRingShown) -> u32
+pub extern "C" fn fq_ring_show(handle: &mut FqHandle, shown: &mut FqRingShown) -> u32
     ensures shown { (i : RingInput) → LeadsToItsInput i handle.old.held.body → (result ≡ OK)
         × (shown.new ≡ shown_of i.end) }
     ensures other { LeadsToOther has_input handle.old → result ≡ BAD_HANDLE }
     ensures kept { result ≢ OK → (shown.new ≡ shown.old) × (result ≡ BAD_HANDLE) }
     ensures same { handle.new.held.body ≡ handle.old.held.body }
 {
-    let Some(boxed) = handle.take(alloc) else {
+    if !handle.is_set() {
         return status::BAD_HANDLE;
-    };
-    let status = shown_in(&*boxed, shown);
-    handle.put(boxed);
-    status
+    }
+    shown_in(handle.held.as_mut(), shown)
 }

@@ -12,6 +12,7 @@ mod list;
 mod messages;
 mod names;
 mod ring;
+mod rules;
 mod seat_calls;
 mod serial;
 mod serial_calls;

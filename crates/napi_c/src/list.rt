@@ -1,7 +1,7 @@
 //! Poll lists and runs for C.
 ghost use Rattle.std.specs.Prelude.{◌≡◌, ◌≢◌, ◌↔◌, IsSome};
 ghost use Rattle.c_handles.specs.Handles.{LeadsToList, ListMakes, ListMakesIn};
-ghost use Rattle.c_handles.specs.Runs.{IsNewListObject, IsLength, IsPush, IsBeginCall, IsNext, IsPolledCall, IsEnd};
+ghost use Rattle.c_handles.specs.Runs.{IsNewListObject, IsLength, IsPush, IsRemoveCall, IsBeginCall, IsNext, IsPolledCall, IsEnd};
 ghost use Rattle.c_handles.specs.Status.{OK, IN_USE, OUT_OF_MEMORY};
 
 use c_handles::{FqHandle, FqRunReport, ListObject, Object, status};
@@ -41,15 +41,34 @@ fn push_in(at: &mut Object, id: u32) -> u32
 
 /// Appends a number to the list: returns OK; IN_USE if the list or its run has it already; FULL if they hold 64.
 #[unsafe(no_mangle)]
-pub extern "C" fn fq_list_push(alloc: Global, handle: &mut FqHandle, id: u32) -> u32
+pub extern "C" fn fq_list_push(handle: &mut FqHandle, id: u32) -> u32
     ensures { ListMakes (IsPush id) handle.old result handle.new }
 {
-    let Some(mut boxed) = handle.take(alloc) else {
+    if !handle.is_set() {
         return status::BAD_HANDLE;
-    };
-    let status = push_in(&mut *boxed, id);
-    handle.put(boxed);
-    status
+    }
+    push_in(handle.held.as_mut(), id)
+}
+
+fn remove_in(at: &mut Object, id: u32) -> u32
+    ensures { ListMakesIn (IsRemoveCall id) at.old result at.new }
+{
+    match at {
+        Object::List(list) => list.remove(id),
+        _ => status::BAD_HANDLE,
+    }
+}
+
+/// Removes a number from the list, for a device that goes away; the others keep their order. Returns OK; BUSY if it isn't on
+/// the list, but the run over the list polls it or will; NOT_THERE if neither has it. Nothing changes unless it returns OK.
+#[unsafe(no_mangle)]
+pub extern "C" fn fq_list_remove(handle: &mut FqHandle, id: u32) -> u32
+    ensures { ListMakes (IsRemoveCall id) handle.old result handle.new }
+{
+    if !handle.is_set() {
+        return status::BAD_HANDLE;
+    }
+    remove_in(handle.held.as_mut(), id)
 }
 
 fn len_in(at: &Object, len: &mut u32) -> u32
@@ -67,16 +86,14 @@ fn len_in(at: &Object, len: &mut u32) -> u32
 
 /// Returns how many numbers the list and its run hold together.
 #[unsafe(no_mangle)]
-pub extern "C" fn fq_list_len(alloc: Global, handle: &mut FqHandle, len: &mut u32) -> u32
+pub extern "C" fn fq_list_len(handle: &mut FqHandle, len: &mut u32) -> u32
     ensures makes { ListMakes (IsLength len.old len.new) handle.old result handle.new }
     ensures none { result ≢ OK → len.new ≡ len.old }
 {
-    let Some(boxed) = handle.take(alloc) else {
+    if !handle.is_set() {
         return status::BAD_HANDLE;
-    };
-    let status = len_in(&*boxed, len);
-    handle.put(boxed);
-    status
+    }
+    len_in(handle.held.as_mut(), len)
 }
 
 fn begin_in(at: &mut Object, budget: u32, weight: u32, window: u32) -> u32
@@ -91,7 +108,6 @@ fn begin_in(at: &mut Object, budget: u32, weight: u32, window: u32) -> u32
 /// Starts a run, like `PollingRun::begin`.
 #[unsafe(no_mangle)]
 pub extern "C" fn fq_run_begin(
-    alloc: Global,
     handle: &mut FqHandle,
     budget: u32,
     weight: u32,
@@ -99,12 +115,10 @@ pub extern "C" fn fq_run_begin(
 ) -> u32
     ensures { ListMakes (IsBeginCall budget weight window) handle.old result handle.new }
 {
-    let Some(mut boxed) = handle.take(alloc) else {
+    if !handle.is_set() {
         return status::BAD_HANDLE;
-    };
-    let status = begin_in(&mut *boxed, budget, weight, window);
-    handle.put(boxed);
-    status
+    }
+    begin_in(handle.held.as_mut(), budget, weight, window)
 }
 
 fn next_in(at: &mut Object, id: &mut u32) -> u32
@@ -119,16 +133,14 @@ fn next_in(at: &mut Object, id: &mut u32) -> u32
 
 /// Sets `id` to the number to poll next, and returns OK; returns DONE if the run is over (`PollingRun::next`).
 #[unsafe(no_mangle)]
-pub extern "C" fn fq_run_next(alloc: Global, handle: &mut FqHandle, id: &mut u32) -> u32
+pub extern "C" fn fq_run_next(handle: &mut FqHandle, id: &mut u32) -> u32
     ensures makes { ListMakes (IsNext id.old id.new) handle.old result handle.new }
     ensures none { result ≢ OK → id.new ≡ id.old }
 {
-    let Some(mut boxed) = handle.take(alloc) else {
+    if !handle.is_set() {
         return status::BAD_HANDLE;
-    };
-    let status = next_in(&mut *boxed, id);
-    handle.put(boxed);
-    status
+    }
+    next_in(handle.held.as_mut(), id)
 }
 
 fn polled_in(at: &mut Object, work: u32, next: u32) -> u32
@@ -143,15 +155,13 @@ fn polled_in(at: &mut Object, work: u32, next: u32) -> u32
 /// Reports the outcome of the poll, like `PollingRun::polled`. Returns IN_USE if its number would go back to a list that has it
 /// already.
 #[unsafe(no_mangle)]
-pub extern "C" fn fq_run_polled(alloc: Global, handle: &mut FqHandle, work: u32, next: u32) -> u32
+pub extern "C" fn fq_run_polled(handle: &mut FqHandle, work: u32, next: u32) -> u32
     ensures { ListMakes (IsPolledCall work next) handle.old result handle.new }
 {
-    let Some(mut boxed) = handle.take(alloc) else {
+    if !handle.is_set() {
         return status::BAD_HANDLE;
-    };
-    let status = polled_in(&mut *boxed, work, next);
-    handle.put(boxed);
-    status
+    }
+    polled_in(handle.held.as_mut(), work, next)
 }
 
 fn end_in(at: &mut Object, report: &mut FqRunReport) -> u32
@@ -166,14 +176,12 @@ fn end_in(at: &mut Object, report: &mut FqRunReport) -> u32
 
 /// Ends the run, like `PollingRun::end`.
 #[unsafe(no_mangle)]
-pub extern "C" fn fq_run_end(alloc: Global, handle: &mut FqHandle, report: &mut FqRunReport) -> u32
+pub extern "C" fn fq_run_end(handle: &mut FqHandle, report: &mut FqRunReport) -> u32
     ensures makes { ListMakes (IsEnd report.old report.new) handle.old result handle.new }
     ensures none { result ≢ OK → report.new ≡ report.old }
 {
-    let Some(mut boxed) = handle.take(alloc) else {
+    if !handle.is_set() {
         return status::BAD_HANDLE;
-    };
-    let status = end_in(&mut *boxed, report);
-    handle.put(boxed);
-    status
+    }
+    end_in(handle.held.as_mut(), report)
 }

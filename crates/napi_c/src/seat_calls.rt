@@ -1,7 +1,6 @@
 //! The calls of the callers of a shared instance (`fq_seat_..`). Each makes one attempt, and returns CHANGED if another thread
 //! interfered.
-ghost use Rattle.rx_ring.specs.declared.packet.Packet.{Packet};
-ghost use Rattle.std.specs.Prelude.{◌≡◌, ◌≢◌, ◌<◌, ◌≤◌, ◌⊎◌, List, true, false, length, take, Some, None};
+ghost use Rattle.std.specs.Prelude.{◌≡◌, ◌≢◌, ◌<◌, ◌≤◌, ◌⊎◌, true, false, length, take, Some, None};
 ghost use Rattle.napi_model.specs.declared.state.Kind.{Kind};
 ghost use Rattle.napi_model.specs.declared.event.Done.TheVariants as done;
 ghost use Rattle.c_handles.specs.declared.hold.SeatCall.TheVariants as seat_call;
@@ -16,8 +15,7 @@ ghost use Rattle.napi_c.specs.Objects.{is_polling_seat, is_seat, LeadsToKind, Le
 
 use c_handles::{FqAnswers, FqHandle, Object, SeatCall, kind_of, status};
 use napi_model::encode;
-use rx_ring::{Batch, MAX_WEIGHT, Packet};
-use std::alloc::Global;
+use rx_ring::{MAX_WEIGHT, Packet};
 
 #[inline(always)]
 fn step_in(at: &mut Object, call: SeatCall) -> u32
@@ -31,15 +29,13 @@ fn step_in(at: &mut Object, call: SeatCall) -> u32
 
 // Makes a call on the caller of a handle. It is inlined into each exported function, where the call is a constant.
 #[inline(always)]
-fn on_seat(alloc: Global, handle: &mut FqHandle, call: SeatCall) -> u32
+fn on_seat(handle: &mut FqHandle, call: SeatCall) -> u32
     ensures { SeatMakes call handle.old result handle.new }
 {
-    let Some(mut boxed) = handle.take(alloc) else {
+    if !handle.is_set() {
         return status::BAD_HANDLE;
-    };
-    let status = step_in(&mut *boxed, call);
-    handle.put(boxed);
-    status
+    }
+    step_in(handle.held.as_mut(), call)
 }
 
 fn look_in(at: &mut Object, word: &mut u64) -> u32
@@ -60,29 +56,27 @@ fn look_in(at: &mut Object, word: &mut u64) -> u32
 
 /// Sets `word` to the state word, a sum of bits. Allowed in every state of the caller.
 #[unsafe(no_mangle)]
-pub extern "C" fn fq_seat_look(alloc: Global, handle: &mut FqHandle, word: &mut u64) -> u32
+pub extern "C" fn fq_seat_look(handle: &mut FqHandle, word: &mut u64) -> u32
     ensures shows { SeatShows word.old word.new handle.old result handle.new }
     ensures none { result ≢ OK → word.new ≡ word.old }
 {
-    let Some(mut boxed) = handle.take(alloc) else {
+    if !handle.is_set() {
         return status::BAD_HANDLE;
-    };
-    let status = look_in(&mut *boxed, word);
-    handle.put(boxed);
-    status
+    }
+    look_in(handle.held.as_mut(), word)
 }
 
 /// Like `Caller::try_schedule`: returns GRANTED, MISSED, DISABLED or CHANGED; NOT_ALLOWED if the caller owns the instance.
 #[unsafe(no_mangle)]
-pub extern "C" fn fq_seat_schedule(alloc: Global, handle: &mut FqHandle) -> u32
+pub extern "C" fn fq_seat_schedule(handle: &mut FqHandle) -> u32
     ensures { SeatMakes seat_call.Schedule handle.old result handle.new }
 {
-    on_seat(alloc, handle, SeatCall::Schedule)
+    on_seat(handle, SeatCall::Schedule)
 }
 
 /// Like `Granted::hand`: returns OK; BAD_KIND; NOT_ALLOWED if the caller wasn't granted the instance.
 #[unsafe(no_mangle)]
-pub extern "C" fn fq_seat_hand(alloc: Global, handle: &mut FqHandle, kind: u32) -> u32
+pub extern "C" fn fq_seat_hand(handle: &mut FqHandle, kind: u32) -> u32
     ensures made { (k : Kind) → kind_in kind ≡ Some k
         → SeatMakes (seat_call.Hand k) handle.old result handle.new }
     ensures bad { kind_in kind ≡ None → (result ≡ BAD_KIND) × (handle.new ≡ handle.old) }
@@ -90,12 +84,12 @@ pub extern "C" fn fq_seat_hand(alloc: Global, handle: &mut FqHandle, kind: u32) 
     let Some(kind) = kind_of(kind) else {
         return status::BAD_KIND;
     };
-    on_seat(alloc, handle, SeatCall::Hand(kind))
+    on_seat(handle, SeatCall::Hand(kind))
 }
 
 /// Like `Caller::take`: returns TAKEN or NOT_THERE; BAD_KIND; NOT_ALLOWED if the caller owns the instance.
 #[unsafe(no_mangle)]
-pub extern "C" fn fq_seat_take(alloc: Global, handle: &mut FqHandle, kind: u32) -> u32
+pub extern "C" fn fq_seat_take(handle: &mut FqHandle, kind: u32) -> u32
     ensures made { (k : Kind) → kind_in kind ≡ Some k
         → SeatMakes (seat_call.Take k) handle.old result handle.new }
     ensures bad { kind_in kind ≡ None → (result ≡ BAD_KIND) × (handle.new ≡ handle.old) }
@@ -103,21 +97,21 @@ pub extern "C" fn fq_seat_take(alloc: Global, handle: &mut FqHandle, kind: u32) 
     let Some(kind) = kind_of(kind) else {
         return status::BAD_KIND;
     };
-    on_seat(alloc, handle, SeatCall::Take(kind))
+    on_seat(handle, SeatCall::Take(kind))
 }
 
 /// Like `Polling::requeue`: returns OK; NOT_ALLOWED if the caller doesn't poll.
 #[unsafe(no_mangle)]
-pub extern "C" fn fq_seat_requeue(alloc: Global, handle: &mut FqHandle) -> u32
+pub extern "C" fn fq_seat_requeue(handle: &mut FqHandle) -> u32
     ensures { SeatMakes seat_call.Requeue handle.old result handle.new }
 {
-    on_seat(alloc, handle, SeatCall::Requeue)
+    on_seat(handle, SeatCall::Requeue)
 }
 
 /// Like `Polling::try_complete`: returns RELEASED, AGAIN or CHANGED; HELD if the caller busy polls (`Busy::complete_held`);
 /// NOT_ALLOWED if it doesn't poll.
 #[unsafe(no_mangle)]
-pub extern "C" fn fq_seat_complete(alloc: Global, handle: &mut FqHandle) -> u32
+pub extern "C" fn fq_seat_complete(handle: &mut FqHandle) -> u32
     ensures makes { SeatMakes seat_call.Complete handle.old result handle.new }
     ensures released { result ≡ RELEASED
         → LeadsToSeat
@@ -126,42 +120,45 @@ pub extern "C" fn fq_seat_complete(alloc: Global, handle: &mut FqHandle) -> u32
         → LeadsToSeat
         (λ s. GrantedWith (EndsByReply done.Again true) s.hold) handle.new.held.body }
 {
-    on_seat(alloc, handle, SeatCall::Complete)
+    on_seat(handle, SeatCall::Complete)
 }
 
 /// Like `Caller::try_busy`: returns TAKEN, BUSY or CHANGED; NOT_ALLOWED if the caller owns the instance.
 #[unsafe(no_mangle)]
-pub extern "C" fn fq_seat_busy_take(alloc: Global, handle: &mut FqHandle) -> u32
+pub extern "C" fn fq_seat_busy_take(handle: &mut FqHandle) -> u32
     ensures { SeatMakes seat_call.BusyTake handle.old result handle.new }
 {
-    on_seat(alloc, handle, SeatCall::BusyTake)
+    on_seat(handle, SeatCall::BusyTake)
 }
 
 /// Like `Busy::try_stop`: returns OK, after which the caller polls once more, or CHANGED; NOT_ALLOWED if it doesn't busy poll.
 #[unsafe(no_mangle)]
-pub extern "C" fn fq_seat_busy_stop(alloc: Global, handle: &mut FqHandle) -> u32
+pub extern "C" fn fq_seat_busy_stop(handle: &mut FqHandle) -> u32
     ensures { SeatMakes seat_call.BusyStop handle.old result handle.new }
 {
-    on_seat(alloc, handle, SeatCall::BusyStop)
+    on_seat(handle, SeatCall::BusyStop)
 }
 
 /// Like `Caller::set_threaded`: returns OK; NOT_ALLOWED if the caller owns the instance.
 #[unsafe(no_mangle)]
-pub extern "C" fn fq_seat_set_threaded(alloc: Global, handle: &mut FqHandle, threaded: bool) -> u32
+pub extern "C" fn fq_seat_set_threaded(handle: &mut FqHandle, threaded: bool) -> u32
     ensures { SeatMakes (seat_call.SetThreaded threaded) handle.old result handle.new }
 {
-    on_seat(alloc, handle, SeatCall::SetThreaded(threaded))
+    on_seat(handle, SeatCall::SetThreaded(threaded))
 }
 
-fn poll_in(at: &mut Object, weight: usize, batch: &mut Batch) -> u32
-    requires { (1 ≤ weight) × (weight ≤ 64) }
-    ensures polls { SeatGivesIn weight batch.new.items at.old result at.new }
+fn poll_in(at: &mut Object, weight: usize, out: &mut [Packet], count: &mut usize) -> u32
+    requires weight { (1 ≤ weight) × (weight ≤ 64) }
+    requires room { weight ≤ length out.old }
+    requires none { count.old ≡ 0 }
+    ensures polls { SeatGivesIn weight (take count.new out.new) at.old result at.new }
     ensures there { is_polling_seat at.old ≡ true → result ≡ OK }
     ensures other { is_seat at.old ≡ false → result ≡ BAD_HANDLE }
-    ensures room { result ≡ OK → length batch.new.items ≤ weight }
+    ensures most { (count.new ≤ weight) × (count.new ≤ length out.new) }
+    ensures kept { result ≢ OK → (count.new ≡ 0) × (out.new ≡ out.old) × (at.new ≡ at.old) }
 {
     match at {
-        Object::Seat(seat) => seat.poll(weight, batch),
+        Object::Seat(seat) => seat.poll(weight, out, count),
         _ => status::BAD_HANDLE,
     }
 }
@@ -171,13 +168,12 @@ fn poll_in(at: &mut Object, weight: usize, batch: &mut Batch) -> u32
 /// error nothing was polled.
 #[unsafe(no_mangle)]
 pub extern "C" fn fq_seat_poll(
-    alloc: Global,
     handle: &mut FqHandle,
     weight: usize,
     out: &mut [Packet],
     count: &mut usize,
 ) -> u32
-    ensures polls { result ≡ OK
+    ensures polls { result ≢ BAD_WEIGHT → result ≢ NO_ROOM
         → SeatGives weight (take count.new out.new) handle.old result handle.new }
     ensures there { LeadsToKind is_polling_seat handle.old → 1 ≤ weight → weight ≤ 64
         → weight ≤ length out.old → result ≡ OK }
@@ -185,8 +181,7 @@ pub extern "C" fn fq_seat_poll(
         → weight ≤ length out.old → result ≡ BAD_HANDLE }
     ensures most { (count.new ≤ weight) × (count.new ≤ length out.new) }
     ensures none { result ≢ OK → (count.new ≡ 0) × (out.new ≡ out.old) }
-    ensures refused { result ≢ OK → (handle.new ≡ handle.old)
-        ⊎ ((given : List Packet) × SeatGives weight given handle.old result handle.new) }
+    ensures kept { result ≢ OK → handle.new ≡ handle.old }
     ensures weight { (weight ≡ 0) ⊎ (64 < weight) → result ≡ BAD_WEIGHT }
     ensures room { 1 ≤ weight → weight ≤ 64 → length out.old < weight → result ≡ NO_ROOM }
 {
@@ -197,18 +192,10 @@ pub extern "C" fn fq_seat_poll(
     if out.len() < weight {
         return status::NO_ROOM;
     }
-    let Some(mut boxed) = handle.take(alloc) else {
+    if !handle.is_set() {
         return status::BAD_HANDLE;
-    };
-    let mut batch = Batch::new();
-    let status = poll_in(&mut *boxed, weight, &mut batch);
-    handle.put(boxed);
-    if status == status::OK {
-        let given = batch.as_slice();
-        out[..given.len()].copy_from_slice(given);
-        *count = given.len();
     }
-    status
+    poll_in(handle.held.as_mut(), weight, out, count)
 }
 
 fn answers_in(at: &Object, answers: &mut FqAnswers) -> u32
@@ -229,7 +216,6 @@ fn answers_in(at: &Object, answers: &mut FqAnswers) -> u32
 /// Sets `answers` to the counts of the results of a caller's calls.
 #[unsafe(no_mangle)]
 pub extern "C" fn fq_seat_count(
-    alloc: Global,
     handle: &mut FqHandle,
     answers: &mut FqAnswers,
 ) -> u32
@@ -240,10 +226,8 @@ pub extern "C" fn fq_seat_count(
     ensures kept { result ≢ OK → (answers.new ≡ answers.old) × (result ≡ BAD_HANDLE) }
     ensures same { handle.new.held.body ≡ handle.old.held.body }
 {
-    let Some(boxed) = handle.take(alloc) else {
+    if !handle.is_set() {
         return status::BAD_HANDLE;
-    };
-    let status = answers_in(&*boxed, answers);
-    handle.put(boxed);
-    status
+    }
+    answers_in(handle.held.as_mut(), answers)
 }

@@ -11,13 +11,13 @@ use crate::serial::{FqNapi, state_of, step};
 use c_handles::status;
 use napi_model::{Call, Done, Kind, Operation};
 
-const GONE: u32 = 0;
+pub(crate) const GONE: u32 = 0;
 
-const AGAIN: u32 = 1;
+pub(crate) const AGAIN: u32 = 1;
 
-const AGAIN_THREAD: u32 = 2;
+pub(crate) const AGAIN_THREAD: u32 = 2;
 
-const REPOLL: u32 = 3;
+pub(crate) const REPOLL: u32 = 3;
 
 /// Ends a poll, full or not, as `__napi_poll` and its callers do. After a full poll the instance goes to the list again, or
 /// stays with its thread, unless a disable is pending. After any other poll it is completed, and queued again if a request was

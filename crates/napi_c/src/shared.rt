@@ -260,12 +260,10 @@ pub extern "C" fn fq_shared_new(
     if seats.len() < 2 || 8 < seats.len() {
         return status::BAD_COUNT;
     }
-    let Some(mut boxed) = input.take(alloc) else {
+    if !input.is_set() {
         return status::BAD_HANDLE;
-    };
-    let status = share(alloc, &mut *boxed, control, seats);
-    input.put(boxed);
-    status
+    }
+    share(alloc, input.held.as_mut(), control, seats)
 }
 
 /// Like `Napi::new`, but without a ring, for a card that the driver polls itself: `fq_seat_poll` returns no packets. `control`

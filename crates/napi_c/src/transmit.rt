@@ -73,7 +73,7 @@ pub extern "C" fn fq_tx_new(
 
 /// Like `TxRing::send`.
 #[unsafe(no_mangle)]
-pub extern "C" fn fq_tx_send(alloc: Global, handle: &mut FqHandle, bytes: u32) -> u32
+pub extern "C" fn fq_tx_send(handle: &mut FqHandle, bytes: u32) -> u32
     ensures ok { (t : TransmitQueue) → TxShows handle.old t → result ≡ OK
         → TxShows handle.new (after_send t bytes) }
     ensures status { (t : TransmitQueue) → TxShows handle.old t
@@ -81,12 +81,10 @@ pub extern "C" fn fq_tx_send(alloc: Global, handle: &mut FqHandle, bytes: u32) -
     ensures other { LeadsToOther is_tx handle.old → result ≡ BAD_HANDLE }
     ensures kept { result ≢ OK → handle.new.held.body ≡ handle.old.held.body }
 {
-    let Some(mut body) = handle.take(alloc) else {
+    if !handle.is_set() {
         return status::BAD_HANDLE;
-    };
-    let status = send_in(&mut *body, bytes);
-    handle.put(body);
-    status
+    }
+    send_in(handle.held.as_mut(), bytes)
 }
 
 fn send_in(body: &mut Object, bytes: u32) -> u32
@@ -108,7 +106,7 @@ fn send_in(body: &mut Object, bytes: u32) -> u32
 
 /// Like `TxRing::done`.
 #[unsafe(no_mangle)]
-pub extern "C" fn fq_tx_done(alloc: Global, handle: &mut FqHandle, count: u32, now: u64) -> u32
+pub extern "C" fn fq_tx_done(handle: &mut FqHandle, count: u32, now: u64) -> u32
     ensures ok { (t : TransmitQueue) → TxShows handle.old t → result ≡ OK
         → TxShows handle.new (after_done t count now) }
     ensures status { (t : TransmitQueue) → TxShows handle.old t
@@ -116,12 +114,10 @@ pub extern "C" fn fq_tx_done(alloc: Global, handle: &mut FqHandle, count: u32, n
     ensures other { LeadsToOther is_tx handle.old → result ≡ BAD_HANDLE }
     ensures kept { result ≢ OK → handle.new.held.body ≡ handle.old.held.body }
 {
-    let Some(mut body) = handle.take(alloc) else {
+    if !handle.is_set() {
         return status::BAD_HANDLE;
-    };
-    let status = done_in(&mut *body, count, now);
-    handle.put(body);
-    status
+    }
+    done_in(handle.held.as_mut(), count, now)
 }
 
 fn done_in(body: &mut Object, count: u32, now: u64) -> u32
@@ -143,19 +139,17 @@ fn done_in(body: &mut Object, count: u32, now: u64) -> u32
 
 /// Sets the caller's struct to the ring's state, like `TxRing::state`.
 #[unsafe(no_mangle)]
-pub extern "C" fn fq_tx_state(alloc: Global, handle: &mut FqHandle, state: &mut TxState) -> u32
+pub extern "C" fn fq_tx_state(handle: &mut FqHandle, state: &mut TxState) -> u32
     ensures shown { (t : TransmitQueue) → TxShows handle.old t → (result ≡ OK)
         × (state.new ≡ tx_state t) }
     ensures other { LeadsToOther is_tx handle.old → result ≡ BAD_HANDLE }
     ensures kept { result ≢ OK → (state.new ≡ state.old) × (result ≡ BAD_HANDLE) }
     ensures same { handle.new.held.body ≡ handle.old.held.body }
 {
-    let Some(body) = handle.take(alloc) else {
+    if !handle.is_set() {
         return status::BAD_HANDLE;
-    };
-    let status = state_in(&*body, state);
-    handle.put(body);
-    status
+    }
+    state_in(handle.held.as_mut(), state)
 }
 
 fn state_in(body: &Object, state: &mut TxState) -> u32

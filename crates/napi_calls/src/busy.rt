@@ -1,5 +1,5 @@
 //! Busy polling: the call by which a caller starts it, and the calls of a caller that busy polls.
-ghost use Rattle.std.specs.Prelude.{◌≡◌, ◌≤◌, [], ◌∷◌, ◌++◌, length, Some, true};
+ghost use Rattle.std.specs.Prelude.{◌≡◌, ◌≤◌, [], ◌∷◌, ◌++◌, length, take, drop, Some, true};
 ghost use Rattle.napi_model.specs.declared.state.Place.TheVariants as place;
 ghost use Rattle.napi_model.specs.declared.event.Done.TheVariants.{Held};
 ghost use Rattle.napi_model.specs.declared.event.Operation.TheVariants.{Look, Complete};
@@ -15,7 +15,7 @@ use crate::answers::{TryBusy, TryStop};
 use crate::between::{Between, Nothing};
 use crate::types::{Busy, Caller, Napi, Polling};
 use napi_model::Seen;
-use rx_ring::{Batch, MAX_WEIGHT, RxCounts, RxIn};
+use rx_ring::{Batch, MAX_WEIGHT, Packet, RxCounts, RxIn};
 use std::sync::Wait;
 
 impl Caller {
@@ -111,6 +111,22 @@ impl Busy {
             ++ batch.new.items }
     {
         self.ctx.poll(weight, batch)
+    }
+
+    /// Like [`poll`](Busy::poll), into an array that has room for at least `weight` packets: it moves the packets into the first
+    /// elements, and returns how many these are. The array's other elements stay as they are.
+    #[inline]
+    pub fn poll_into(&mut self, weight: usize, packets: &mut [Packet]) -> usize
+        requires weight { (1 ≤ weight) × (weight ≤ MAX_WEIGHT) }
+        requires room { weight ≤ length packets.old }
+        ensures next { GivesNext weight self.old.ctx self.new.ctx (take result packets.new) }
+        ensures work { result ≤ weight }
+        ensures others { drop result packets.new ≡ drop result packets.old }
+        ensures pass { self.new.pass ≡ self.old.pass }
+        ensures polled { polled self.new.pass self.new.ctx ≡ polled self.old.pass self.old.ctx
+            ++ take result packets.new }
+    {
+        self.ctx.poll_into(weight, packets)
     }
 
     /// The counts of the ring's polls so far, including those of other callers.

@@ -1,5 +1,5 @@
 //! The calls of a poller, which has the poll context.
-ghost use Rattle.std.specs.Prelude.{◌≡◌, ◌≤◌, [], ◌∷◌, ◌++◌, length, Some, false};
+ghost use Rattle.std.specs.Prelude.{◌≡◌, ◌≤◌, [], ◌∷◌, ◌++◌, length, take, drop, Some, false};
 ghost use Rattle.napi_model.specs.declared.state.Kind.TheVariants as kind;
 ghost use Rattle.napi_model.specs.declared.state.Place.TheVariants as place;
 ghost use Rattle.napi_model.specs.declared.event.Operation.TheVariants.{Look, Hand};
@@ -15,7 +15,7 @@ use crate::answers::{Completed, TryDone};
 use crate::between::{Between, Nothing};
 use crate::types::{Caller, Granted, Napi, Polling};
 use napi_model::{Done, Kind, Seen};
-use rx_ring::{Batch, MAX_WEIGHT, RxCounts, RxIn};
+use rx_ring::{Batch, MAX_WEIGHT, Packet, RxCounts, RxIn};
 use std::sync::Wait;
 
 impl Polling {
@@ -58,6 +58,22 @@ impl Polling {
             ++ batch.new.items }
     {
         self.ctx.poll(weight, batch)
+    }
+
+    /// Like [`poll`](Polling::poll), into an array that has room for at least `weight` packets: it moves the packets into the first
+    /// elements, and returns how many these are. The array's other elements stay as they are.
+    #[inline]
+    pub fn poll_into(&mut self, weight: usize, packets: &mut [Packet]) -> usize
+        requires weight { (1 ≤ weight) × (weight ≤ MAX_WEIGHT) }
+        requires room { weight ≤ length packets.old }
+        ensures next { GivesNext weight self.old.ctx self.new.ctx (take result packets.new) }
+        ensures work { result ≤ weight }
+        ensures others { drop result packets.new ≡ drop result packets.old }
+        ensures pass { self.new.pass ≡ self.old.pass }
+        ensures polled { polled self.new.pass self.new.ctx ≡ polled self.old.pass self.old.ctx
+            ++ take result packets.new }
+    {
+        self.ctx.poll_into(weight, packets)
     }
 
     /// The counts of the ring's polls so far, including those of other callers.

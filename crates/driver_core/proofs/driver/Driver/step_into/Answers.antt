@@ -3,7 +3,6 @@ use Rattle.driver_core.proofs.driver.Driver.step_into.Goals as goal
 pub returns-in-Ok-clause-steps : goal.returns-in-Ok-clause-steps
 returns-in-Ok-clause-steps g c =
     let done = c.in-Ok.ensures in
-    let next = c.ask_into.ensures in
     record {
       between = c.done.new.self;
       reports = record {
@@ -15,24 +14,12 @@ returns-in-Ok-clause-steps g c =
         err = done.err;
         many = done.many;
       };
-      asks = record {
-        due = next.due;
-        number = λ _. next.number;
-        again = λ busy. absurd (busy done.free);
-        devices = next.devices;
-        counts = next.counts;
-        limits = next.limits;
-        begins = next.begins;
-        going = next.going;
-        ended = next.ended;
-        whole = next.whole;
-      };
+      asks = c.ask_into.ensures.asks;
     }
 
 pub returns-in-Err-NotDue-clause-steps : goal.returns-in-Err-NotDue-clause-steps
 returns-in-Err-NotDue-clause-steps g c =
     let done = c.in-Err-NotDue.ensures in
-    let next = c.next_into.ensures in
     record {
       between = c.done.new.self;
       reports = record {
@@ -44,24 +31,12 @@ returns-in-Err-NotDue-clause-steps g c =
         err = done.err;
         many = rw c.in-Err-NotDue.field-0-is at done.many;
       };
-      asks = record {
-        due = next.due;
-        number = next.number;
-        again = next.again;
-        devices = next.devices;
-        counts = next.counts;
-        limits = next.limits;
-        begins = next.begins;
-        going = next.going;
-        ended = next.ended;
-        whole = next.whole;
-      };
+      asks = c.next_into.ensures.asks;
     }
 
 pub returns-in-Err-TooMany-clause-steps : goal.returns-in-Err-TooMany-clause-steps
 returns-in-Err-TooMany-clause-steps g c =
     let done = c.in-Err-TooMany.ensures in
-    let next = c.next.ensures in
     record {
       between = c.done.new.self;
       reports = record {
@@ -73,16 +48,5 @@ returns-in-Err-TooMany-clause-steps g c =
         err = done.err;
         many = rw c.in-Err-TooMany.field-0-is at done.many;
       };
-      asks = record {
-        due = next.due;
-        number = next.number;
-        again = next.again;
-        devices = next.devices;
-        counts = next.counts;
-        limits = next.limits;
-        begins = next.begins;
-        going = next.going;
-        ended = next.ended;
-        whole = next.whole;
-      };
+      asks = c.next.ensures;
     }
