@@ -259,9 +259,9 @@ fn busy_polled(rt: &impl Abort, napi: &Napi, busy: &mut Busy, packets: &[Packet]
     requires { IsSeatOf napi.now busy.old.pass }
     ensures { IsSeatOf napi.now busy.new.pass }
 {
-    let mut batch = Batch::new();
-    assert_eq!(rt; busy.poll(64, &mut batch), packets.len());
-    assert_eq!(rt; batch.as_slice(), packets);
+    let mut given = [PACKET; 64];
+    let count = busy.poll_into(64, &mut given);
+    assert_eq!(rt; &given[..count], packets);
 }
 
 // Caller 0 takes the instance to busy poll it, by the form of the call that waits; a completion returns Held.

@@ -15,6 +15,11 @@ const PACKET: Packet = Packet {
     bytes: 60,
 };
 
+const OTHER: Packet = Packet {
+    number: 8,
+    bytes: 61,
+};
+
 #[test]
 fn callers_out_of_range(rt: HostRuntime) -> Result<(), Fail> {
     for callers in [0, 1, 9, u32::MAX] {
@@ -45,9 +50,9 @@ fn poll_packet(rt: &impl Abort, alloc: Global, bed: Bed) {
     let owner = granted(rt, &napi, first);
     let first = handed(&napi, owner, Kind::List);
     let mut poller = taken(rt, &napi, first, Kind::List);
-    let mut batch = Batch::new();
-    assert_eq!(rt; poller.poll(64, &mut batch), 1);
-    assert_eq!(rt; batch.as_slice(), [PACKET].as_slice());
+    let mut packets = [OTHER; 3];
+    assert_eq!(rt; poller.poll_into(2, &mut packets), 1);
+    assert_eq!(rt; packets, [PACKET, OTHER, OTHER]);
     let first = released(rt, &napi, poller);
     let control = disabled(rt, &napi, control);
     let made = Vec::with_capacity(alloc, 2);
