@@ -107,12 +107,7 @@ fn begin_in(at: &mut Object, budget: u32, weight: u32, window: u32) -> u32
 
 /// Starts a run, like `PollingRun::begin`.
 #[unsafe(no_mangle)]
-pub extern "C" fn fq_run_begin(
-    handle: &mut FqHandle,
-    budget: u32,
-    weight: u32,
-    window: u32,
-) -> u32
+pub extern "C" fn fq_run_begin(handle: &mut FqHandle, budget: u32, weight: u32, window: u32) -> u32
     ensures { ListMakes (IsBeginCall budget weight window) handle.old result handle.new }
 {
     if !handle.is_set() {

@@ -1,18 +1,16 @@
 //! The kernel's rules for a shared instance that take several calls: an attempt is repeated until no other thread interferes, a
 //! granted instance is queued, a poll is ended, an instance is enabled or stopped.
 ghost use Rattle.std.specs.Prelude.{◌≡◌, ◌≢◌};
-ghost use Rattle.napi_model.specs.declared.event.Done.TheVariants as done;
 ghost use Rattle.c_handles.specs.declared.hold.SeatCall.TheVariants as seat_call;
-ghost use Rattle.c_handles.specs.declared.hold.CallerState.TheVariants as hold;
-ghost use Rattle.c_handles.specs.Endings.{EndsByReply, LeadsToSeat};
 ghost use Rattle.c_handles.specs.Handles.{SeatDoes, SeatDoesIn, SeatStep, ControlDoes, ControlDoesIn, ControlStep};
-ghost use Rattle.c_handles.specs.SeatCalls.{RestsWith};
 ghost use Rattle.c_handles.specs.Status.{OK};
-ghost use Rattle.napi_c.specs.Rules.{Completes, ControlSteps, HandsAgain, Repeats, SeatEnds, SeatHands, Stops};
+ghost use Rattle.napi_c.specs.Rules.{Completes, ControlSteps, Repeats, SeatEnds, SeatHands, Stops};
 ghost use Rattle.napi_c.specs.Serial.{NEXT_GONE};
 
 use crate::serial_end::{AGAIN, AGAIN_THREAD, GONE, REPOLL};
-use c_handles::{CallerObject, CallerState, ControlCall, Controller, FqHandle, Object, SeatCall, status};
+use c_handles::{
+    CallerObject, CallerState, ControlCall, Controller, FqHandle, Object, SeatCall, status,
+};
 use napi_model::Kind;
 
 // Makes a call, and repeats it while another thread interferes, at most 2^64 - 1 times.

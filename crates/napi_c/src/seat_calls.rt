@@ -215,10 +215,7 @@ fn answers_in(at: &Object, answers: &mut FqAnswers) -> u32
 
 /// Sets `answers` to the counts of the results of a caller's calls.
 #[unsafe(no_mangle)]
-pub extern "C" fn fq_seat_count(
-    handle: &mut FqHandle,
-    answers: &mut FqAnswers,
-) -> u32
+pub extern "C" fn fq_seat_count(handle: &mut FqHandle, answers: &mut FqAnswers) -> u32
     ensures shown { (s : CallerObject) → handle.old.held.body ≡ Some (variant.Seat s)
         → (result ≡ OK)
         × (answers.new ≡ s.answers) }
