@@ -60,7 +60,7 @@ abbrev pub SeatShows : ℕ → ℕ → FqHandle → ℕ → FqHandle → Type 0
 SeatShows before after old n new = OnHandle (SeatShowsIn before after) old.held.body n new.held.body
 
 abbrev pub SeatMakes : SeatCall → FqHandle → ℕ → FqHandle → Type 0
-SeatMakes call old n new = OnHandle (SeatMakesIn call) old.held.body n new.held.body
+SeatMakes call = SeatDoes (SeatStep call)
 
 abbrev pub SeatGives : ℕ → List Packet → FqHandle → ℕ → FqHandle → Type 0
 SeatGives weight given old n new = OnHandle (SeatGivesIn weight given) old.held.body n new.held.body
@@ -96,7 +96,7 @@ abbrev pub ControlMakesIn : ControlCall → Object → ℕ → Object → Type 0
 ControlMakesIn call = ControlDoesIn (ControlStep call)
 
 abbrev pub ControlMakes : ControlCall → FqHandle → ℕ → FqHandle → Type 0
-ControlMakes call old n new = OnHandle (ControlMakesIn call) old.held.body n new.held.body
+ControlMakes call = ControlDoes (ControlStep call)
 
 -- ---- lists
 
