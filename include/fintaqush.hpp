@@ -8,10 +8,13 @@
 #define FINTAQUSH_HPP
 
 #include "fintaqush.h"
+#include "fintaqush_raise.h"
 
 #include <array>
 #include <cstddef>
 #include <cstdint>
+#include <cstdlib>
+#include <memory>
 #include <optional>
 #include <string>
 #include <string_view>
@@ -814,7 +817,7 @@ private:
     Handle at_;
 };
 
-// Why a replay returned no report: its status, and for FQ_BAD_TRACE the number of the trace's fault (fq_fault_name) and its row.
+// Why a trace has no report, or can't have all its runs: the status, and for FQ_BAD_TRACE the number of the trace's fault (fq_fault_name) and its row.
 struct NoReport {
     std::uint32_t status, fault, row;
 };
@@ -836,6 +839,19 @@ struct NoReport {
     if (said != FQ_OK) return NoReport{said, replayed.fault, replayed.row};
     report.resize(replayed.length);
     return report;
+}
+
+// Adds to a trace the runs that the kernel would make with these settings, at most `restarts` after a softirq row (fq_raise_runs), and
+// returns the trace. Its replay is the raised replay. With more than 100000 rows it fails with fault 9.
+[[nodiscard]] inline std::variant<std::string, NoReport> raise_runs(std::string_view trace, const fq_settings &settings = FQ_USUAL_SETTINGS,
+                                                                    std::uint32_t restarts = FQ_UNTIL_EMPTY) {
+    const std::uint8_t none = 0;
+    const std::uint8_t *bytes = trace.empty() ? &none : reinterpret_cast<const std::uint8_t *>(trace.data());
+    fq_raised raised{};
+    const std::uint32_t said = fq_raise_runs(&settings, restarts, bytes, trace.size(), &raised);
+    const std::unique_ptr<std::uint8_t, decltype(&std::free)> owned(raised.trace, std::free);
+    if (said != FQ_OK) return NoReport{said, raised.fault, raised.row};
+    return std::string(reinterpret_cast<const char *>(raised.trace), raised.length);
 }
 
 // The settings of the machine, at first the defaults of napi_machine.

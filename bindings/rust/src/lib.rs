@@ -12,7 +12,8 @@
 //! - [`TxRing`]: a transmit ring under a byte queue limit.
 //! - [`List`]: a poll list, and runs over it.
 //! - [`Driver`]: the driver of up to 64 devices on one thread, which returns what has to be done at a card.
-//! - [`replay`]: the whole replay of a trace, on one thread.
+//! - [`replay`]: the whole replay of a trace, on one thread; [`raise_runs`] adds the runs that the kernel would make with a smaller
+//!   budget.
 //! - [`machine`](fn@machine): a machine that receives packets over simulated time, from arrivals to latencies.
 //!
 //! Every value may be sent to another thread. Only a [`Word`] may be used by two threads at a time; all others are `Send` but
@@ -59,6 +60,7 @@ mod list;
 mod machine;
 mod packets;
 mod polling;
+mod raising;
 mod replay;
 mod ring;
 mod serial;
@@ -80,6 +82,7 @@ pub use list::{List, Polled, Pushes, RunReport};
 pub use machine::{machine, MachineFault, MachineSettings};
 pub use packets::{Answers, Batch, Counts, Packet, RingShown, Totals, Weight};
 pub use polling::Polling;
+pub use raising::raise_runs;
 pub use replay::{replay, NoReport, Settings};
 pub use ring::{Input, Output, Ring};
 pub use serial::SerialNapi;
