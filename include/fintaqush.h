@@ -74,11 +74,11 @@ enum fq_status FQ_NUMBER {
     FQ_MISSED = 17,    /* schedule: already scheduled; one more poll follows, unless the controller owns it */
     FQ_DISABLED = 18,  /* schedule: a disable is pending; nothing is requested */
     FQ_TAKEN = 19,     /* take, busy take, take disable: the caller owns the instance */
-    FQ_NOT_THERE = 20, /* take: the instance isn't queued for this kind */
+    FQ_NOT_THERE = 20, /* take: the instance isn't queued for this kind; remove: neither the list nor its run has the number */
     FQ_RELEASED = 21,  /* complete: no caller owns the instance any more */
     FQ_AGAIN = 22,     /* complete: a request was missed; the caller owns the instance, and has to queue it again */
     FQ_HELD = 23,      /* complete: the caller busy polls, and continues; end: also after a thread's full poll */
-    FQ_BUSY = 24,      /* busy take, take disable: the instance isn't idle */
+    FQ_BUSY = 24,      /* busy take, take disable: the instance isn't idle; remove: only the run has the number */
     FQ_CHANGED = 25,   /* shared instances: another thread changed the instance, nothing is done; call again */
     FQ_FULL = 26,      /* put, push, send: there is no room */
     FQ_DONE = 27,      /* run: no device is left to poll */
@@ -617,11 +617,16 @@ struct fq_run_report {
 };
 
 /* Makes a poll list for up to 64 numbers of devices; for more devices use more lists, for example one for each processor. A number
- * leaves the list when its poll ends with FQ_NEXT_GONE. Returns FQ_OK; FQ_IN_USE; FQ_OUT_OF_MEMORY. */
+ * leaves the list when its poll ends with FQ_NEXT_GONE, or by fq_list_remove. Returns FQ_OK; FQ_IN_USE; FQ_OUT_OF_MEMORY. */
 FQ_CHECKED enum fq_status fq_list_new(struct fq_handle *list);
 /* Puts a number at the list's tail. Returns FQ_OK; FQ_IN_USE if it is on the list, or waits in the run over it; FQ_FULL if the list and
  * its run hold 64, including the number that is being polled: then end that poll with FQ_NEXT_AGAIN instead of a push. */
 FQ_CHECKED enum fq_status fq_list_push(struct fq_handle *list, uint32_t id);
+/* Removes a number from the list, for a device that goes away; the others keep their order. It may be called during a run. Returns FQ_OK;
+ * FQ_BUSY if it isn't on the list, but the run over it has it, which polls it, will poll it, or lists it at its end: then end its poll with
+ * FQ_NEXT_GONE, or end the run first; FQ_NOT_THERE if neither the list nor its run has it; FQ_BAD_HANDLE. Nothing changes unless it returns
+ * FQ_OK. */
+FQ_CHECKED enum fq_status fq_list_remove(struct fq_handle *list, uint32_t id);
 /* Sets *len to how many numbers the list and its run hold, including the one that is being polled. Returns FQ_OK; FQ_BAD_HANDLE. */
 FQ_CHECKED enum fq_status fq_list_len(struct fq_handle *FQ_RESTRICT list, uint32_t *FQ_RESTRICT len);
 /* Begins a run with a budget in packets, a weight in packets per poll, and a window in polls, as in struct fq_settings. Returns FQ_OK;

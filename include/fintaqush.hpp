@@ -693,7 +693,7 @@ struct [[nodiscard]] Ran {
     operator std::optional<fq_run_report>() const noexcept { return status == FQ_OK ? std::optional(report) : std::nullopt; }
 };
 
-// A poll list of one thread. A number leaves it when its poll ends with FQ_NEXT_GONE.
+// A poll list of one thread. A number leaves it when its poll ends with FQ_NEXT_GONE, or by remove.
 class [[nodiscard]] List {
 public:
     // Makes a list; returns nullopt if memory runs out.
@@ -706,6 +706,9 @@ public:
     // Puts a number at the list's tail. Returns FQ_OK; FQ_IN_USE if it is listed already; FQ_FULL if the list and its run hold
     // 64.
     Pushed push(std::uint32_t id) { return {fq_list_push(at_.raw(), id)}; }
+    // Removes a number from the list; the others keep their order. Returns FQ_OK; FQ_BUSY if only the run over the list has it;
+    // FQ_NOT_THERE if neither of them has it.
+    [[nodiscard]] Status remove(std::uint32_t id) { return fq_list_remove(at_.raw(), id); }
     // Returns how many numbers the list and its run hold.
     [[nodiscard]] std::uint32_t size() {
         std::uint32_t len = 0;
@@ -716,7 +719,7 @@ public:
     // Makes a run (net_rx_action). poll(id, weight) returns the packets that it processed, and how the poll ended. Returns FQ_BAD_WEIGHT
     // or FQ_BAD_BUDGET for the settings; FQ_NOT_ALLOWED within a run of this list; for what poll returned FQ_BAD_WORK, more packets than
     // the weight, FQ_BAD_NEXT, or FQ_IN_USE, to be listed although it has listed itself. After these, and if poll throws, the run ends:
-    // its device isn't listed any more, all others are. poll may push to this list, but not move it.
+    // its device isn't listed any more, all others are. poll may push to this list and remove from it, but not move it.
     template <class Poll>
     Ran run(std::uint32_t budget, std::uint32_t weight, std::uint32_t window, Poll poll) {
         if (const Status began = fq_run_begin(at_.raw(), budget, weight, window); began != FQ_OK) return {began, {}};

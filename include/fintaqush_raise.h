@@ -223,8 +223,10 @@ static inline enum fq_status fq_raising_all(struct fq_raising *at, const uint8_t
     enum fq_status said = fq_raising_play(at, trace, len);
     if (said != FQ_OK && !fq_raising_is_pending(at, said)) return said; /* that fault comes after the whole trace was read */
     fq_raising_split(at, trace, len);
-    for (uint32_t row = 1; row <= at->rows; row++)
-        if (fq_raising_is_run(at, row)) at->run[at->runs++].row = row;
+    for (uint32_t row = 1; row <= at->rows; row++) {
+        const struct fq_raising_run run = {row, 0, 0, 0};
+        if (fq_raising_is_run(at, row)) at->run[at->runs++] = run;
+    }
     while (at->settled < at->runs) {
         said = fq_raising_step(at);
         if (said != FQ_OK) return said;
@@ -242,8 +244,9 @@ static inline enum fq_status fq_raising_all(struct fq_raising *at, const uint8_t
 FQ_CHECKED static inline enum fq_status fq_raise_runs(const struct fq_settings *FQ_RESTRICT settings, uint32_t restarts, const uint8_t *FQ_RESTRICT trace, size_t len, struct fq_raised *FQ_RESTRICT raised) {
     const struct fq_raised none = {NULL, 0, 0, 0, 0};
     *raised = none;
-    struct fq_raising *const at = (struct fq_raising *)calloc(1, sizeof *at);
+    struct fq_raising *const at = (struct fq_raising *)malloc(sizeof *at);
     if (at == NULL) return FQ_OUT_OF_MEMORY;
+    memset(at, 0, offsetof(struct fq_raising, ends));
     at->settings = settings;
     at->restarts = restarts;
     const enum fq_status said = fq_raising_all(at, trace, len);

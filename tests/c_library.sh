@@ -132,7 +132,7 @@ echo 'it tells of itself what the header says' > "$scratch/told"
 check 'told.c compiles' compile gcc "$top/tests/c/told.c" "$scratch/tells" -O2
 check 'what the library tells of itself' compared "$scratch/told" "$scratch/tells"
 
-echo '16 corners, each answered as it has to be' > "$scratch/cornered"
+echo '18 corners, each answered as it has to be' > "$scratch/cornered"
 check 'corners.c compiles' compile gcc "$top/tests/c/corners.c" "$scratch/corners" -O2 "$wraps"
 check 'answers at corners' compared "$scratch/cornered" "$scratch/corners"
 
@@ -221,6 +221,22 @@ refuses_settings() {
 END
 }
 
+# raised_as_the_tool PROGRAM TRACE BUDGET WEIGHT WINDOW [RESTARTS]: the same trace as `fintaqush raise`, or the same fault and status.
+raised_as_the_tool() {
+    local program=$1 trace=$2 wanted=0 status=0
+    shift 2
+    timeout 600 "$top/tools/raise" "$trace" --program "$serial" --budget "$1" --weight "$2" --window "$3" ${4:+--restarts "$4"} > "$scratch/wanted" 2> "$scratch/wanted.line" || wanted=$?
+    [[ $program == *_cpp ]] || set -- "$1" "$2" "$3" "${4:--}"
+    timeout 600 "$program" "$@" < "$trace" > "$scratch/printed" 2> "$scratch/line" || status=$?
+    # the tool exits with 1 for each fault, and has words of its own for too many rows
+    case $status in
+        0) [ "$wanted" = 0 ] && cmp "$scratch/printed" "$scratch/wanted" ;;
+        2) [ "$wanted" = 1 ] && [ ! -s "$scratch/printed" ] && { grep -q -F "$(cat "$scratch/line")" "$scratch/wanted.line" ||
+            { grep -q 'raised there are' "$scratch/wanted.line" && grep -q -x 'trace fault 9 TooManyRows row 100001' "$scratch/line"; }; } ;;
+        *) false ;;
+    esac || { cat "$scratch/line" "$scratch/wanted.line"; false; }
+}
+
 # the most rows that a trace has, and one more
 awk 'BEGIN { print "moment,device,event,value"; for (i = 1; i < 17; i++) print "0," i ",open,64"
     for (i = 17; i <= 100000; i++) print int(i / 10) "," (i % 9 ? i % 16 + 1 ",rx," i % 1500 + 1 : "0,softirq,0") }' > "$scratch/long.csv"
@@ -229,6 +245,12 @@ printf 'moment,device,event,value\n0,1,open,4\n1,1,rx,10\n1,1,disable,0\n1,1,ena
 printf 'moment,device,event,value\n0,1,open,4\n0,1,open,4\n' > "$scratch/twice.csv"
 { cat "$top/examples/two-packets.csv" && head -c 70000000 /dev/zero | tr '\0' '\n'; } > "$scratch/blank.csv"
 { printf 'moment,device,event,value\n0,1,open,4\n1,1,rx,' && head -c 70000000 /dev/zero | tr '\0' 7; } > "$scratch/field.csv"
+# With a packet per run, as many rows as a trace has, and more; an enable row that has to wait for added runs; each form of a record.
+{ printf 'moment,device,event,value\n0,1,open,65536\n' && yes 0,1,rx,60 | head -n 49990 && echo 1,0,softirq,0; } > "$scratch/full.csv"
+{ cat "$scratch/full.csv" && yes 1,1,rx,60 | head -n 20 && echo 2,0,softirq,0; } > "$scratch/fuller.csv"
+printf 'moment,device,event,value\n0,1,open,8\n0,2,open,8\n0,1,rx,60\n0,2,rx,60\n1,2,disable,0\n2,0,softirq,0\n3,2,enable,0\n' > "$scratch/waits.csv"
+printf '\357\273\277"moment","device",event,value\r\n\r\n"0",01,open,8\r1,1,rx,60\n\n1,1,rx,60\n"2",0,"softirq","0' > "$scratch/quoted.csv"
+: > "$scratch/none_at_all.csv"
 if "$top/scripts/build.sh" napi_serial > "$scratch/log" 2>&1; then
     check 'the replay compiles' compile gcc "$top/tests/c/replay.c" "$scratch/replay" -O2
     for trace in "$top"/examples/*.csv "$scratch"/{long,longer,pending,twice,blank,field}.csv; do
@@ -241,6 +263,17 @@ if "$top/scripts/build.sh" napi_serial > "$scratch/log" 2>&1; then
         check "the replay of $(basename "$trace") in C++" as_the_tool "$scratch/replay_cpp" "$trace" 300 64 1024
     done
     check 'settings out of range' refuses_settings
+    check 'the raised replay compiles' compile gcc "$top/tests/c/raise.c" "$scratch/raise" -O2
+    check 'the raised replay in C++ compiles' compile g++ "$top/tests/c/raise.cpp" "$scratch/raise_cpp" -O2
+    for trace in "$top"/examples/*.csv "$scratch"/{full,fuller,waits,quoted,pending,twice,none_at_all}.csv; do
+        for settings in '16 8 1024' '1 1 1024' '300 5 2' '1 1 1024 2'; do
+            # shellcheck disable=SC2086 # three or four numbers
+            check "the raised $(basename "$trace") by $settings" raised_as_the_tool "$scratch/raise" "$trace" $settings
+        done
+    done
+    for trace in "$top/examples/linux-veth-bursts.csv" "$scratch"/{waits,none_at_all}.csv; do
+        check "the raised $(basename "$trace") in C++" raised_as_the_tool "$scratch/raise_cpp" "$trace" 7 3 1024
+    done
 else
     cp "$scratch/log" "$scratch/build.log"
     check 'napi_serial, which the replay is compared with' eval 'cat "$scratch/build.log"; false'
@@ -334,6 +367,10 @@ sanitized() {
     check "$name: the replay compiles" compile gcc "$top/tests/c/replay.c" "$scratch/sanitized" -O1 -g "$flag" -fno-sanitize-recover=all
     check "$name: the replay" as_the_tool "$scratch/sanitized" "$scratch/long.csv" 300 64 1024
     check "$name: the replay of a fault" as_the_tool "$scratch/sanitized" "$scratch/pending.csv" 300 64 1024
+    check "$name: the raised replay compiles" compile gcc "$top/tests/c/raise.c" "$scratch/sanitized" -O1 -g "$flag" -fno-sanitize-recover=all
+    for trace in "$top/examples/linux-veth-bursts.csv" "$scratch"/{fuller,waits,quoted}.csv; do
+        check "$name: the raised $(basename "$trace")" raised_as_the_tool "$scratch/sanitized" "$trace" 1 1 1024
+    done
 }
 
 export ASAN_OPTIONS=detect_leaks=1

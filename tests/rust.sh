@@ -82,6 +82,25 @@ check 'the example limit' compared "$scratch/target/debug/examples/limit"
 check 'it builds as a release' of build --release --example threads
 check 'the example threads as a release' compared "$scratch/target/release/examples/threads"
 
+# ---- the raised replay, compared with the tool
+
+# raised TRACE BUDGET WEIGHT: the report of the trace that `fintaqush raise` writes.
+raised() {
+    local serial=$top/crates/napi_serial/out/napi_serial
+    "$top/tools/raise" "$1" --program "$serial" --budget "$2" --weight "$3" > "$scratch/raised.csv" &&
+        "$serial" --budget="$2" --weight="$3" < "$scratch/raised.csv" > "$scratch/wanted" &&
+        timeout 300 "$scratch/target/debug/examples/raised" "$2" "$3" < "$1" | cmp - "$scratch/wanted"
+}
+
+if "$top/scripts/build.sh" napi_serial > "$scratch/build.log" 2>&1; then
+    for trace in "$top"/examples/*.csv; do
+        check "the raised $(basename "$trace")" raised "$trace" 16 8
+    done
+    check 'raised runs of one packet' raised "$top/examples/busy-poll.csv" 1 1
+else
+    check 'napi_serial, which the raised replay is compared with' eval 'cat "$scratch/build.log"; false'
+fi
+
 # ---- what the compiler rejects
 
 # The doc tests show that these don't compile; here, that nothing but what they name is wrong with them.

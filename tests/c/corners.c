@@ -1,7 +1,7 @@
-/* corners [NAME]: results in corner cases, each case by hand, with calls and structs of the header only. If one is wrong it
+/* corners [NAME]: results in corner cases, each case by hand, with calls and structs of the headers only. If one is wrong it
  * prints which, and exits with 9. To be linked with --wrap for malloc, realloc and free. */
 #include "memory.h"
-#include <fintaqush.h>
+#include <fintaqush_raise.h>
 #include <stdio.h>
 #include <stdlib.h>
 #include <string.h>
@@ -96,6 +96,24 @@ static void a_list_of_64(void) {
     want(fq_list_push(&list, 0) == FQ_FULL && fq_list_len(&list, &len) == FQ_OK && len == 64, "the list is full");
     want(fq_run_polled(&list, 0, FQ_NEXT_AGAIN) == FQ_OK && fq_list_len(&list, &len) == FQ_OK && len == 64, "it is listed again");
     for (uint32_t i = 1; i < 65; i++) want(fq_run_next(&list, &id) == FQ_OK && id == i % 64 && fq_run_polled(&list, 0, FQ_NEXT_GONE) == FQ_OK, "all in turn");
+    want(fq_run_next(&list, &id) == FQ_DONE && fq_abandon(&list) == FQ_OK && blocks == 0, "the end");
+}
+
+/* A device that goes away leaves the list, and the others keep their order. What only the run has can't leave. */
+static void a_device_leaves_a_list(void) {
+    struct fq_handle list = FQ_NONE;
+    struct fq_run_report report;
+    uint32_t id = 99, len = 99;
+    want(fq_list_remove(&list, 1) == FQ_BAD_HANDLE && fq_list_new(&list) == FQ_OK && fq_list_remove(&list, 1) == FQ_NOT_THERE, "an empty list");
+    for (uint32_t i = 1; i < 6; i++) want(fq_list_push(&list, i) == FQ_OK, "a push");
+    want(fq_list_remove(&list, 2) == FQ_OK && fq_list_remove(&list, 2) == FQ_NOT_THERE && fq_list_len(&list, &len) == FQ_OK && len == 4, "2 leaves, once");
+    want(fq_run_begin(&list, 300, 64, 1024) == FQ_OK && fq_run_next(&list, &id) == FQ_OK && id == 1, "1 is polled");
+    want(fq_list_remove(&list, 1) == FQ_BUSY && fq_list_remove(&list, 3) == FQ_BUSY, "the run has 1 and 3");
+    want(fq_list_push(&list, 1) == FQ_OK && fq_list_remove(&list, 1) == FQ_OK, "a push while it is polled is on the list");
+    want(fq_run_polled(&list, 64, FQ_NEXT_REPOLL) == FQ_OK && fq_list_remove(&list, 1) == FQ_BUSY, "the run lists 1 at its end");
+    want(fq_run_end(&list, &report) == FQ_OK && fq_list_remove(&list, 4) == FQ_OK && fq_list_remove(&list, 1) == FQ_OK, "4 and 1 leave");
+    want(fq_run_begin(&list, 300, 64, 1024) == FQ_OK, "a run");
+    for (uint32_t i = 3; i < 6; i += 2) want(fq_run_next(&list, &id) == FQ_OK && id == i && fq_run_polled(&list, 0, FQ_NEXT_GONE) == FQ_OK, "3, then 5");
     want(fq_run_next(&list, &id) == FQ_DONE && fq_abandon(&list) == FQ_OK && blocks == 0, "the end");
 }
 
@@ -258,6 +276,32 @@ static void refusals_of_a_replay(void) {
     want(fq_replay(&settings, (const uint8_t *)good, sizeof good - 1, report, 0, &told) == FQ_NO_ROOM && told.length > 0, "then the room");
 }
 
+/* With one packet per run, three runs take a packet each. Each poll was full and a request was missed, so a fourth run polls without a
+ * packet. The row at 3 ms finds the list empty, and stays. `restarts` limits what is added. */
+static void runs_that_the_kernel_would_add(void) {
+#define ROWS "moment,device,event,value\n0,1,open,8\n1,1,rx,60\n1,1,rx,60\n1,1,rx,60\n"
+#define RUN "2,0,softirq,0\n"
+#define LAST "3,0,softirq,0\n"
+    static const char given[] = ROWS RUN LAST;
+    static const struct {
+        uint32_t restarts, added;
+        const char *wanted;
+    } rows[] = {{FQ_UNTIL_EMPTY, 3, ROWS RUN RUN RUN RUN LAST}, {0, 0, given}, {1, 2, ROWS RUN RUN LAST LAST}, {3, 3, ROWS RUN RUN RUN RUN LAST}};
+    struct fq_settings settings = {1, 1, 1024};
+    struct fq_raised raised;
+    for (size_t i = 0; i < sizeof rows / sizeof rows[0]; i++) {
+        want(fq_raise_runs(&settings, rows[i].restarts, (const uint8_t *)given, sizeof given - 1, &raised) == FQ_OK, "runs are added");
+        want(raised.added == rows[i].added && raised.length == strlen(rows[i].wanted), "as many as the kernel would make");
+        want(memcmp(raised.trace, rows[i].wanted, raised.length) == 0, "after the runs that leave the list filled");
+        free(raised.trace);
+    }
+    settings.weight = 65;
+    want(fq_raise_runs(&settings, 0, (const uint8_t *)"?", 1, &raised) == FQ_BAD_WEIGHT && raised.trace == NULL && raised.fault == 0, "a weight of 65");
+    settings.weight = 1;
+    want(fq_raise_runs(&settings, 0, (const uint8_t *)"?", 1, &raised) == FQ_BAD_TRACE && raised.trace == NULL && raised.fault == 1, "no trace");
+    want(blocks == 0, "nothing is left");
+}
+
 /* The statuses of a free and of a list are those that the header names. */
 static void frees_and_lists(void) {
     struct fq_handle list = FQ_NONE;
@@ -300,10 +344,10 @@ static void buffers_in_turn(void) {
 static const struct {
     const char *name;
     void (*call)(void);
-} cases[] = {CASE(a_full_poll_of_a_thread), CASE(a_full_poll_of_a_busy_poller), CASE(bytes_of_an_instance), CASE(a_limit_out_of_bounds), CASE(a_polled_instance_is_handed), CASE(a_list_of_64),
+} cases[] = {CASE(a_full_poll_of_a_thread), CASE(a_full_poll_of_a_busy_poller), CASE(bytes_of_an_instance), CASE(a_limit_out_of_bounds), CASE(a_polled_instance_is_handed), CASE(a_list_of_64), CASE(a_device_leaves_a_list),
     CASE(weights_of_devices), CASE(a_split_of_what_is_no_ring), CASE(a_ring_whose_instance_is_refused), CASE(buffers_in_turn),
     CASE(ends_of_polls_on_one_thread), CASE(a_full_poll_under_a_disable), CASE(an_open_asks_once), CASE(handed_to_a_thread_that_was_set_meanwhile),
-    CASE(refusals_of_a_replay), CASE(frees_and_lists)};
+    CASE(refusals_of_a_replay), CASE(runs_that_the_kernel_would_add), CASE(frees_and_lists)};
 
 int main(int count, char **words) {
     unsigned called = 0;

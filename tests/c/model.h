@@ -217,6 +217,15 @@ static inline uint32_t model_push(struct model_list *l, uint32_t id) {
     return FQ_OK;
 }
 
+static inline uint32_t model_remove(struct model_list *l, uint32_t id) {
+    struct model_numbers others = {.count = 0};
+    for (uint32_t i = 0; i < l->list.count; i++)
+        if (l->list.at[i] != id) others.at[others.count++] = l->list.at[i];
+    const bool is_removed = others.count < l->list.count;
+    l->list = others;
+    return is_removed ? FQ_OK : model_is_listed(l, id) || (l->is_asked && l->asked == id) ? FQ_BUSY : FQ_NOT_THERE;
+}
+
 static inline uint32_t model_begin(struct model_list *l, uint32_t budget, uint32_t weight, uint32_t window) {
     if (l->runs) return FQ_NOT_ALLOWED;
     if (weight < 1 || weight > 64) return FQ_BAD_WEIGHT;

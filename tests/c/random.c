@@ -590,6 +590,11 @@ static void push(struct fq_handle *at, struct model_list *l) {
     want("push", fq_list_push(at, id), l != NULL ? model_push(l, id) : FQ_BAD_HANDLE);
 }
 
+static void remove_number(struct fq_handle *at, struct model_list *l) {
+    const uint32_t id = below(IDS);
+    want("remove", fq_list_remove(at, id), l != NULL ? model_remove(l, id) : FQ_BAD_HANDLE);
+}
+
 static void begin(struct fq_handle *at, struct model_list *l) {
     const uint32_t budget = below(200), weight = below(66), window = below(40);
     want("begin", fq_run_begin(at, budget, weight, window), l != NULL ? model_begin(l, budget, weight, window) : FQ_BAD_HANDLE);
@@ -623,9 +628,9 @@ static void length(struct fq_handle *at, struct model_list *l) {
 }
 
 static void call_of_list(void) {
-    static void (*const calls[])(struct fq_handle *, struct model_list *) = {push, push, push, begin, next, next, next, next, polled, polled, polled, polled, end_run, length};
+    static void (*const calls[])(struct fq_handle *, struct model_list *) = {push, push, push, begin, next, next, next, next, polled, polled, polled, polled, end_run, length, remove_number};
     const uint32_t i = one_of(LIST, LIST);
-    calls[below(14)](&handles[i], objects[i].lister != NULL ? &objects[i].lister->list : NULL);
+    calls[below(sizeof calls / sizeof calls[0])](&handles[i], objects[i].lister != NULL ? &objects[i].lister->list : NULL);
 }
 
 /* ---- any handle */
@@ -771,7 +776,7 @@ static const struct kind {
     KIND("transmit", sender_calls, FQ_BAD_BOUNDS, FQ_TOO_LARGE, FQ_TOO_MUCH_IN_FLIGHT, FQ_FULL, FQ_STOPPED, FQ_MORE_THAN_SENT, FQ_BAD_HANDLE, FQ_IN_USE, FQ_OUT_OF_MEMORY, FQ_BAD_CAPACITY),
     KIND("shared", shared_calls, FQ_GRANTED, FQ_MISSED, FQ_DISABLED, FQ_TAKEN, FQ_NOT_THERE, FQ_RELEASED, FQ_AGAIN, FQ_HELD, FQ_BUSY, FQ_FULL, FQ_NOT_ALLOWED, FQ_BAD_KIND,
         FQ_BAD_HANDLE, FQ_IN_USE, FQ_OUT_OF_MEMORY, FQ_BAD_COUNT, FQ_BAD_WEIGHT, FQ_NO_ROOM),
-    KIND("list", list_calls, FQ_FULL, FQ_DONE, FQ_NOT_ALLOWED, FQ_BAD_HANDLE, FQ_IN_USE, FQ_OUT_OF_MEMORY, FQ_BAD_WEIGHT, FQ_BAD_BUDGET, FQ_BAD_NEXT, FQ_BAD_WORK),
+    KIND("list", list_calls, FQ_NOT_THERE, FQ_BUSY, FQ_FULL, FQ_DONE, FQ_NOT_ALLOWED, FQ_BAD_HANDLE, FQ_IN_USE, FQ_OUT_OF_MEMORY, FQ_BAD_WEIGHT, FQ_BAD_BUDGET, FQ_BAD_NEXT, FQ_BAD_WORK),
     KIND("any", any_calls, FQ_FULL, FQ_BAD_HANDLE, FQ_IN_USE, FQ_OUT_OF_MEMORY),
 };
 

@@ -96,6 +96,7 @@ static void runs() {
     want(!list->run(300, 64, 1024, too_much) && list->size() == 0, "too many packets end a run");
     want(list->push(3) && !list->run(300, 65, 1024, too_much), "a weight of 65");
     want(list->run(300, 65, 1024, too_much).status == FQ_BAD_WEIGHT && list->run(0, 64, 1024, too_much).status == FQ_BAD_BUDGET, "and why");
+    want(list->push(4) && list->remove(4) == FQ_OK && list->remove(4) == FQ_NOT_THERE && list->size() == 1, "a number leaves the list");
     const auto report = list->run(300, 64, 1024, [](std::uint32_t id, std::uint32_t) { return std::pair(id, FQ_NEXT_GONE); });
     want(report && report->polls == 1 && report->work == 3, "a run behind those");
     refused_runs(*list);

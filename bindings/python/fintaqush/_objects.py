@@ -221,6 +221,11 @@ class List(_Owned):
         """Appends a number to the list; returns False if the list and its run hold 64. IN_USE if it is in the list already."""
         return bool(c.list_push(self._at, id) == Status.OK)
 
+    def remove(self, id: int) -> Status:
+        """Removes a number from the list; the others keep their order. Returns OK; BUSY, and nothing changes, if
+        only the run over the list has it; NOT_THERE if neither of them has it."""
+        return Status(c.list_remove(self._at, id))
+
     def __len__(self) -> int:
         """How many numbers the list and its run hold."""
         count = c.u32()
@@ -230,7 +235,7 @@ class List(_Owned):
     def run(self, poll: Callable[[int, int], tuple[int, Next]], budget: int = 300, weight: int = 64,
             window: int = 1024) -> RunReport:
         """Makes a run (`net_rx_action`): calls poll(id, weight) for the listed devices, until none is listed, or budget or
-        window is used up. poll returns the packets that it processed and how it ended, and may push others. BAD_BUDGET,
+        window is used up. poll returns the packets that it processed and how it ended, and may push and remove others. BAD_BUDGET,
         BAD_WEIGHT; NOT_ALLOWED in a run of this list; BAD_WORK, more packets than the weight; IN_USE, if it asks to be
         listed twice.
 

@@ -26,6 +26,10 @@ impl Fault {
     pub const MORE_THAN_QUEUED: Fault = Fault(sys::FQ_MORE_THAN_QUEUED);
     /// There is no room.
     pub const FULL: Fault = Fault(sys::FQ_FULL);
+    /// List: only the run over it has the number.
+    pub const BUSY: Fault = Fault(sys::FQ_BUSY);
+    /// List: neither the list nor the run over it has the number.
+    pub const NOT_THERE: Fault = Fault(sys::FQ_NOT_THERE);
     /// Transmit ring: the limit has stopped the queue.
     pub const STOPPED: Fault = Fault(sys::FQ_STOPPED);
     /// Transmit ring: more packets complete than it holds.

@@ -39,6 +39,13 @@ impl List {
         Fault::unless_made(unsafe { sys::fq_list_push(self.at.raw(), id) })
     }
 
+    /// Removes a number from the list; the others keep their order. Fails with [`BUSY`](Fault::BUSY) if only the run over the list
+    /// has it, which polls it, will poll it, or lists it at its end; with [`NOT_THERE`](Fault::NOT_THERE) if neither of them has it.
+    pub fn remove(&mut self, id: u32) -> Result<(), Fault> {
+        // SAFETY: only this list has the handle.
+        Fault::unless_made(unsafe { sys::fq_list_remove(self.at.raw(), id) })
+    }
+
     /// Returns how many numbers the list holds, including those of a run over it.
     pub fn len(&mut self) -> usize {
         let mut len = 0;
@@ -79,7 +86,7 @@ impl List {
     }
 }
 
-/// A list during a run, to which a poll may push.
+/// A list during a run, to which a poll may push, and from which it may remove.
 #[derive(Debug)]
 pub struct Pushes<'l> {
     list: &'l mut List,
@@ -89,6 +96,11 @@ impl Pushes<'_> {
     /// Like [`List::push`].
     pub fn push(&mut self, id: u32) -> Result<(), Fault> {
         self.list.push(id)
+    }
+
+    /// Like [`List::remove`].
+    pub fn remove(&mut self, id: u32) -> Result<(), Fault> {
+        self.list.remove(id)
     }
 }
 

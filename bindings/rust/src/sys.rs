@@ -575,6 +575,7 @@ extern "C" {
 
     pub fn fq_list_new(list: *mut fq_handle) -> u32;
     pub fn fq_list_push(list: *mut fq_handle, id: u32) -> u32;
+    pub fn fq_list_remove(list: *mut fq_handle, id: u32) -> u32;
     pub fn fq_list_len(list: *mut fq_handle, len: *mut u32) -> u32;
     pub fn fq_run_begin(list: *mut fq_handle, budget: u32, weight: u32, window: u32) -> u32;
     pub fn fq_run_next(list: *mut fq_handle, id: *mut u32) -> u32;
