@@ -788,7 +788,8 @@ struct fq_replayed {
  * settings; FQ_OUT_OF_MEMORY; FQ_BAD_TRACE, and replayed->fault and replayed->row say why; FQ_NO_ROOM, and replayed->length is the room
  * that the report needs; FQ_OK, and the first replayed->length bytes of the array are the report, with no terminating 0. The array is
  * unchanged unless it returns FQ_OK. For an empty trace or array the pointer still points to some byte. An instance's thread polls at
- * most 131072 times at a time, which no trace of 100000 rows reaches. */
+ * most 131072 times at a time, which no trace of 100000 rows reaches. fintaqush_raise.h adds the runs that the kernel would make with a
+ * smaller budget. */
 FQ_CHECKED enum fq_status fq_replay(const struct fq_settings *FQ_RESTRICT settings, const uint8_t *FQ_RESTRICT trace, size_t len, uint8_t *FQ_RESTRICT report, size_t room, struct fq_replayed *FQ_RESTRICT replayed);
 
 /* Returns the name of a trace's fault, for example "BadHeader"; "?" for an unknown number. */

@@ -3,7 +3,7 @@
  *
  * A trace has only the runs of the machine where it was recorded. If a run leaves devices on the poll list, because budget or weight is
  * smaller than there, the kernel raises the softirq again (net_rx_action). fq_raise_runs adds these runs to the trace, as the tool
- * `fintaqush raise` does; fq_replay replays the result:
+ * `fintaqush raise` does. fq_replay then replays the result:
  *
  *     struct fq_raised raised;
  *     if (fq_raise_runs(&settings, FQ_UNTIL_EMPTY, trace, len, &raised) == FQ_OK)

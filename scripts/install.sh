@@ -49,7 +49,7 @@ guide=share/doc/fintaqush # the pages for users of the library, and the examples
 pages=(C.md GUIDE.md LIMITS.md)
 examples=("$top"/examples/c/*)
 library_files=("$libdir"/{libfintaqush.a,"libfintaqush.so.$version","libfintaqush.so.$major",libfintaqush.so,pkgconfig/fintaqush.pc}
-    "$libdir"/cmake/Fintaqush/{FintaqushConfig,FintaqushConfigVersion}.cmake include/{fintaqush.h,fintaqush.hpp,fintaqush_tsan.h}
+    "$libdir"/cmake/Fintaqush/{FintaqushConfig,FintaqushConfigVersion}.cmake include/{fintaqush.h,fintaqush_raise.h,fintaqush.hpp,fintaqush_tsan.h}
     share/man/man3/fintaqush.3 "${pages[@]/#/$guide/}" "${examples[@]/#"$top"/$guide}")
 mapfile -t call_pages < <(python3 -EsSB "$top/scripts/header.py" --names) # a page for each group of calls, and one for each call, which leads there
 library_files+=("${call_pages[@]/#/share/man/man3/}")
@@ -175,6 +175,7 @@ put 644 "$scratch/libfintaqush.so.$version" "$libdir/libfintaqush.so.$version"
 ln -sf "libfintaqush.so.$version" "$to/$libdir/libfintaqush.so.$major"
 ln -sf "libfintaqush.so.$major" "$to/$libdir/libfintaqush.so"
 put 644 "$top/include/fintaqush.h" include/fintaqush.h
+put 644 "$top/include/fintaqush_raise.h" include/fintaqush_raise.h
 put 644 "$top/include/fintaqush.hpp" include/fintaqush.hpp
 put 644 "$top/include/fintaqush_tsan.h" include/fintaqush_tsan.h
 put 644 "$scratch/fintaqush.pc" "$libdir/pkgconfig/fintaqush.pc"

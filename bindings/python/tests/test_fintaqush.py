@@ -113,7 +113,7 @@ class TestLimit(Refusals):
         for call, values, line in ((Limit, (-1,), "min is 0 to 4294967295, not -1"), (Limit, (0, 2**32), "max is 0 to 4294967295"),
                                    (limit.completed, (0, 2**64), "now_ms is 0 to 18446744073709551615"), (Ring, (-1,), "capacity"),
                                    (Ring(1).put, (-1, 60), "number"), (Ring(1).put, (1, -60), "bytes"), (Ring(1).poll, (-1,), "weight"),
-                                   (List().push, (2**32,), "id"), (Napi, (-1,), "controller"), (Napi().schedule, (2**32,), "who"),
+                                   (List().push, (2**32,), "id"), (List().remove, (-1,), "id"), (Napi, (-1,), "controller"), (Napi().schedule, (2**32,), "who"),
                                    (replay, (b"", 2**32 + 300), "budget")):
             with self.assertRaisesRegex(ValueError, line):
                 call(*values)
@@ -362,6 +362,21 @@ class TestRuns(Refusals):
         self.assertEqual([softirq.push(device) for device in range(65)], [True] * 64 + [False])
         self.refused(Status.IN_USE, softirq.push, 5)
         self.assertEqual(len(softirq), 64)
+
+    def test_a_device_leaves_the_list(self):
+        softirq = List()
+        for device in range(1, 6):
+            softirq.push(device)
+        self.assertEqual([softirq.remove(2), softirq.remove(2), len(softirq)], [Status.OK, Status.NOT_THERE, 4])
+
+        def poll(device, weight):
+            self.assertEqual([softirq.remove(device), softirq.remove(3)], [Status.BUSY] * 2)
+            softirq.push(6)
+            self.assertEqual(softirq.remove(6), Status.OK)
+            return 0, Next.GONE
+
+        self.assertEqual(softirq.run(poll, window=1).polls, 1)
+        self.assertEqual([softirq.remove(4), softirq.remove(3), softirq.remove(5), len(softirq)], [Status.OK] * 3 + [0])
 
     def wrecked(self, fault, poll):
         """Checks that after a run in which the poll of device 2 of three fails, the list has the others, and can be run again."""

@@ -415,6 +415,28 @@ fn a_list_holds_64() {
 }
 
 #[test]
+fn a_device_leaves_the_list() {
+    let mut list = List::new().unwrap();
+    for id in 1..6 {
+        list.push(id).unwrap();
+    }
+    assert_eq!(list.remove(2), Ok(()));
+    assert_eq!(list.remove(2), Err(Fault::NOT_THERE));
+    let report = list.run(300, Weight::MAX, 1, |list, id| {
+        assert_eq!(
+            (id, list.remove(1), list.remove(3)),
+            (1, Err(Fault::BUSY), Err(Fault::BUSY))
+        );
+        list.push(6).unwrap();
+        assert_eq!(list.remove(6), Ok(()));
+        GONE
+    });
+    assert_eq!(report.unwrap().polls, 1);
+    assert_eq!(list.remove(4), Ok(()));
+    assert_eq!(listed(&mut list), [3, 5]);
+}
+
+#[test]
 fn a_run_that_is_refused_leaves_the_list() {
     let mut list = List::new().unwrap();
     list.push(3).unwrap();
@@ -449,6 +471,97 @@ fn a_poll_that_panics_ends_the_run() {
     let run = AssertUnwindSafe(|| list.run(300, Weight::MAX, 100, |_, _| panic!("a poll")));
     assert!(catch_unwind(run).is_err());
     assert_eq!(listed(&mut list), [2]);
+}
+
+// ---- raised replays
+
+const HEAD: &str = "moment,device,event,value\n0,1,open,8\n1,1,rx,60\n1,1,rx,60\n1,1,rx,60\n";
+const RUN: &str = "2,0,softirq,0\n";
+const LAST: &str = "3,0,softirq,0\n";
+const ONE: Settings = Settings {
+    budget: 1,
+    weight: 1,
+    window: 1024,
+};
+
+// With one packet per run, three runs take a packet each. Each poll was full and a request was missed, so a fourth run polls
+// without a packet. The row at 3 ms finds the list empty, and stays.
+#[test]
+fn runs_that_the_kernel_would_add() {
+    let trace = [HEAD, RUN, LAST].concat();
+    let all = [HEAD, RUN, RUN, RUN, RUN, LAST].concat();
+    let once = [HEAD, RUN, RUN, LAST, LAST].concat();
+    for (restarts, wanted) in [
+        (None, &all),
+        (Some(3), &all),
+        (Some(0), &trace),
+        (Some(1), &once),
+    ] {
+        let raised = raise_runs(trace.as_bytes(), &ONE, restarts).unwrap();
+        assert_eq!(raised, wanted.as_bytes());
+    }
+    let usual = raise_runs(trace.as_bytes(), &Settings::default(), None).unwrap();
+    assert_eq!(usual, trace.as_bytes());
+}
+
+#[test]
+fn every_form_of_a_record_is_raised() {
+    let trace = "\u{feff}\"moment\",\"device\",event,value\r\n\r\n\"0\",01,open,8\r1,1,rx,60\n\n1,1,rx,60\n\"2\",0,\"softirq\",\"0";
+    let raised = raise_runs(trace.as_bytes(), &ONE, None).unwrap();
+    let head = "moment,device,event,value\n0,01,open,8\n1,1,rx,60\n1,1,rx,60\n";
+    assert_eq!(raised, [head, RUN, RUN, RUN].concat().into_bytes());
+}
+
+// In the given rows the enable row meets a pending disable; with the added runs it doesn't.
+#[test]
+fn an_enable_row_that_waits_for_added_runs() {
+    let head =
+        "moment,device,event,value\n0,1,open,8\n0,2,open,8\n0,1,rx,60\n0,2,rx,60\n1,2,disable,0\n";
+    let trace = [head, RUN, "3,2,enable,0\n"].concat();
+    let pending = |row| Err(NoReport::Trace { fault: 12, row });
+    assert_eq!(replay(trace.as_bytes(), &ONE).map(|_| ()), pending(7));
+    assert!(replay(&raise_runs(trace.as_bytes(), &ONE, None).unwrap(), &ONE).is_ok());
+    assert_eq!(
+        raise_runs(trace.as_bytes(), &ONE, Some(0)).map(|_| ()),
+        pending(7)
+    );
+    let none = [head, "3,2,enable,0\n"].concat();
+    assert_eq!(
+        raise_runs(none.as_bytes(), &ONE, None).map(|_| ()),
+        pending(6)
+    );
+}
+
+#[test]
+fn what_cannot_be_raised() {
+    let refused = raise_runs(b"", &ONE, None);
+    assert_eq!(refused, Err(NoReport::Trace { fault: 1, row: 0 }));
+    let settings = Settings { weight: 65, ..ONE };
+    assert_eq!(
+        raise_runs(b"", &settings, None),
+        Err(NoReport::Refused(Fault::BAD_WEIGHT))
+    );
+    // With one packet per run 49990 packets take 49991 runs, the last one without a packet.
+    let mut rows = [
+        "moment,device,event,value\n0,1,open,65536\n",
+        &"0,1,rx,60\n".repeat(49990),
+        RUN,
+    ]
+    .concat();
+    let full = raise_runs(rows.as_bytes(), &ONE, None).unwrap();
+    assert_eq!(
+        full.iter().filter(|&&byte| byte == b'\n').count(),
+        1 + 49991 + 49991
+    );
+    rows += &["3,1,rx,60\n".repeat(20), LAST.to_string()].concat();
+    let more = raise_runs(rows.as_bytes(), &ONE, None);
+    assert_eq!(
+        more,
+        Err(NoReport::Trace {
+            fault: 9,
+            row: 100001
+        })
+    );
 }
 
 // ---- ends of polls on one thread, requests, opens
@@ -778,7 +891,10 @@ fn a_driver_polls_what_came_before_it_was_opened() {
     assert_eq!(did, wanted);
     let shown = driver.shown(1).unwrap();
     assert_eq!((card.open, card.taken), (true, 100));
-    assert_eq!((shown.state, shown.polls, shown.packets), (DeviceState::Open, 2, 100));
+    assert_eq!(
+        (shown.state, shown.polls, shown.packets),
+        (DeviceState::Open, 2, 100)
+    );
     assert_eq!(driver.interrupt(1), Ok(Prep::Granted));
     assert_eq!(driver.interrupt(1), Ok(Prep::Missed));
     driver.stop(1).unwrap();
@@ -816,7 +932,10 @@ fn a_loop_needs_only_steps() {
         }
     }
     let shown = driver.shown(0).unwrap();
-    assert_eq!((card.open, card.taken, shown.polls, shown.packets), (true, 100, 13, 100));
+    assert_eq!(
+        (card.open, card.taken, shown.polls, shown.packets),
+        (true, 100, 13, 100)
+    );
     driver.stop(0).unwrap();
     let mask = driver.next();
     todo = mask;
@@ -828,8 +947,14 @@ fn a_loop_needs_only_steps() {
 
 #[test]
 fn a_driver_refuses_what_is_not_due() {
-    assert_eq!(Driver::new(0, 300, Weight::MAX, 1024).unwrap_err(), Fault::BAD_COUNT);
-    assert_eq!(Driver::new(1, 0, Weight::MAX, 1024).unwrap_err(), Fault::BAD_BUDGET);
+    assert_eq!(
+        Driver::new(0, 300, Weight::MAX, 1024).unwrap_err(),
+        Fault::BAD_COUNT
+    );
+    assert_eq!(
+        Driver::new(1, 0, Weight::MAX, 1024).unwrap_err(),
+        Fault::BAD_BUDGET
+    );
     let mut driver = Driver::new(1, 300, Weight::new(8).unwrap(), 1024).unwrap();
     assert_eq!(driver.open(1), Err(Fault::BAD_DEVICE));
     assert_eq!(driver.interrupt(1), Err(Fault::BAD_DEVICE));
@@ -873,16 +998,37 @@ fn the_machine_reports_what_its_program_does() {
         ..MachineSettings::default()
     };
     let report = machine(arrivals, &settings).unwrap();
-    assert_eq!(report, include_bytes!("../../../crates/napi_machine/stdout"));
+    assert_eq!(
+        report,
+        include_bytes!("../../../crates/napi_machine/stdout")
+    );
     let falls = machine(b"moment,device,bytes\n5,1,60\n4,1,60\n", &settings).unwrap_err();
     let message = "arrivals fault 8 Falls row 2".to_string();
     assert_eq!(falls.to_string(), message);
-    assert_eq!(falls, MachineFault::Arrivals { fault: 8, row: 2, message });
-    let of_other_size = MachineSettings { size: 1, ..settings };
-    assert_eq!(machine(arrivals, &of_other_size), Err(MachineFault::Refused(Fault::BAD_SIZE)));
-    let late = MachineSettings { wake: 1_000_000_001, ..settings };
+    assert_eq!(
+        falls,
+        MachineFault::Arrivals {
+            fault: 8,
+            row: 2,
+            message
+        }
+    );
+    let of_other_size = MachineSettings {
+        size: 1,
+        ..settings
+    };
+    assert_eq!(
+        machine(arrivals, &of_other_size),
+        Err(MachineFault::Refused(Fault::BAD_SIZE))
+    );
+    let late = MachineSettings {
+        wake: 1_000_000_001,
+        ..settings
+    };
     assert_eq!(machine(arrivals, &late), Err(MachineFault::Setting(21)));
-    let many: String = (0..4000).map(|i| format!("{i},{},60\n", i % 64 + 1)).collect();
+    let many: String = (0..4000)
+        .map(|i| format!("{i},{},60\n", i % 64 + 1))
+        .collect();
     let many = format!("moment,device,bytes\n{many}");
     assert!(machine(many.as_bytes(), &settings).unwrap().len() > 4096);
 }
