@@ -32,7 +32,7 @@ const TOO_MANY_ROWS: NoReport = NoReport::Trace {
 /// // Two runs take a packet each. Each poll was full, and a packet came while a poll was requested, so a third run polls without a packet.
 /// assert_eq!(raised, [trace, "2,0,softirq,0\n", "2,0,softirq,0\n"].concat().into_bytes());
 /// let report = replay(&raised, &small)?;
-/// # assert!(report.ends_with(b"\nlist\ntotal devices 1 runs 3 polls 3 work 2 squeezed 3\n"));
+/// # assert!(report.ends_with(b"\nlist\ntotal devices 1 runs 3 polls 4 work 2 squeezed 2\n"));
 /// # Ok(())
 /// # }
 /// ```
