@@ -537,11 +537,8 @@ FQ_CHECKED static inline enum fq_status fq_seat_end_watched(struct fq_handle *FQ
     card->unmask(card->at);
     __sync_synchronize();
     if (!card->look(card->at)) return FQ_OK;
-    do said = fq_seat_schedule(seat);
-    while (said == FQ_CHANGED);
-    if (said != FQ_GRANTED) return FQ_OK; /* another caller has requested a poll, or a disable is pending */
-    card->mask(card->at);
-    return fq_seat_hand_again(seat, next);
+    said = fq_seat_request(seat, card, next); /* FQ_MISSED: another caller has requested a poll; FQ_DISABLED: a disable is pending */
+    return said == FQ_GRANTED || said == FQ_MISSED || said == FQ_DISABLED ? FQ_OK : said;
 }
 #endif
 

@@ -14,6 +14,8 @@ SYS = (TOP / "bindings/rust/src/sys.rs").read_text()
 RUSTS_OWN = {"fq_status_name", "fq_fault_name", "fq_seat_interrupt_masked", "fq_seat_end_watched", "fq_seat_end_unmasked",
              "fq_seat_request", "fq_control_open"}
 STRUCTS_OWN = {"fq_card"}
+# Inline functions that only C needs: Rust calls the exports fq_dql_new, fq_dql_limit, fq_dql_in_flight and fq_dql_avail.
+CS_OWN = {"fq_dql_init", "fq_dql_limit_here", "fq_dql_in_flight_here", "fq_dql_avail_here"}
 C_TYPES = {"u8": "uint8_t", "u32": "uint32_t", "u64": "uint64_t", "AtomicU64": "uint64_t", "i64": "int64_t", "usize": "size_t", "bool": "bool",
            "c_void": "void", "c_char": "char"}
 
@@ -29,7 +31,7 @@ def header_names():
     enumerators = [name for body in re.findall(r"^enum \w+ (?:FQ_NUMBER )?\{(.*?)\}", text, re.MULTILINE | re.DOTALL)
                    for name in re.findall(r"(FQ_\w+) =", body)]
     bits = re.findall(r"^#define (FQ_BIT_\w+)", text, re.MULTILINE)
-    return {"function": set(calls), "struct": set(structs), "number": set(enumerators + bits)}
+    return {"function": set(calls) - CS_OWN, "struct": set(structs), "number": set(enumerators + bits)}
 
 
 def functions():

@@ -82,6 +82,17 @@ static void refused_runs(List &list) {
     });
 }
 
+// A run in a run of the same list is rejected with its status, and the run goes on.
+static void a_run_in_a_run(List &list) {
+    const auto gone = [](std::uint32_t, std::uint32_t) { return std::pair(0u, FQ_NEXT_GONE); };
+    want(list.push(1) && list.push(2), "a list of two");
+    const Ran ran = list.run(300, 64, 1024, [&](std::uint32_t id, std::uint32_t) {
+        want(list.run(300, 64, 1024, gone).status == FQ_NOT_ALLOWED, "a run in a run");
+        return std::pair(id, FQ_NEXT_GONE);
+    });
+    want(ran.status == FQ_OK && ran->polls == 2 && ran->work == 3 && list.size() == 0, "the run goes on");
+}
+
 static void runs() {
     auto list = List::make();
     want(list && list->push(1) && list->push(2), "a list of two");
@@ -100,6 +111,7 @@ static void runs() {
     const auto report = list->run(300, 64, 1024, [](std::uint32_t id, std::uint32_t) { return std::pair(id, FQ_NEXT_GONE); });
     want(report && report->polls == 1 && report->work == 3, "a run behind those");
     refused_runs(*list);
+    a_run_in_a_run(*list);
 }
 
 static void rings() {

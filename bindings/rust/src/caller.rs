@@ -146,12 +146,7 @@ impl Caller {
             return (prep, Next::Gone);
         }
         mask();
-        let mut next = sys::FQ_NEXT_GONE;
-        // SAFETY: only this caller has the handle, and the number is elsewhere.
-        match unsafe { sys::fq_seat_hand_again(self.at.raw(), &mut next) } {
-            sys::FQ_OK => (prep, Next::of("seat_hand_again", next)),
-            said => unexpected("seat_hand_again", said),
-        }
+        (prep, hand_again(&mut self.at))
     }
 
     /// Reads the state word: a sum of the `FQ_BIT_..` of [`sys`].
@@ -222,12 +217,29 @@ impl Granted {
         self.at.look()
     }
 
-    /// Queues the instance on the list or for its thread (`____napi_schedule`).
+    /// Queues the instance as the kernel does (`____napi_schedule`): for its thread if `FQ_BIT_THREADED` is set. Returns where:
+    /// list the number, or wake the thread.
+    pub fn hand_again(mut self) -> (Caller, Next) {
+        let next = hand_again(&mut self.at);
+        (Caller { at: self.at }, next)
+    }
+
+    /// Queues the instance on the list or for its thread, whatever the state word says.
     pub fn hand(mut self, kind: Kind) -> Caller {
         // SAFETY: only this caller has the handle.
         match unsafe { sys::fq_seat_hand(self.at.raw(), kind.number()) } {
             sys::FQ_OK => Caller { at: self.at },
             said => unexpected("seat_hand", said),
         }
+    }
+}
+
+// Queues a granted instance as its state word says.
+fn hand_again(at: &mut Handle) -> Next {
+    let mut next = sys::FQ_NEXT_GONE;
+    // SAFETY: only this call has the handle, and the number is elsewhere.
+    match unsafe { sys::fq_seat_hand_again(at.raw(), &mut next) } {
+        sys::FQ_OK => Next::of("seat_hand_again", next),
+        said => unexpected("seat_hand_again", said),
     }
 }

@@ -1,12 +1,12 @@
 //! A poller, which has the poll context.
-use crate::answers::{Completed, End, Sched, TryDone};
+use crate::answers::{Completed, End, TryDone};
 use crate::caller::{Caller, Granted};
 use crate::card::{Look, Poll};
 use crate::fault::unexpected;
 use crate::handle::Handle;
 use crate::packets::{Answers, Batch, Counts, Packet, Weight};
 use crate::sys;
-use crate::words::{Kind, Next};
+use crate::words::Next;
 use std::sync::atomic::{fence, Ordering};
 
 /// A caller that polls the instance. After a poll of the whole weight it requeues the instance, after any other poll it
@@ -76,7 +76,7 @@ impl Polling {
     /// instance. Without this look an edge-triggered interrupt could be lost. The instance may be queued for its thread: wake
     /// it then, as after [`end`](Polling::end).
     pub fn end_watched(self, full: bool, card: &mut impl Look) -> End {
-        let caller = match self.end(full) {
+        let mut caller = match self.end(full) {
             End::Over(caller, Next::Gone) => caller,
             other => return other,
         };
@@ -85,13 +85,8 @@ impl Polling {
         if !card.look() {
             return End::Over(caller, Next::Gone);
         }
-        match caller.schedule() {
-            Sched::Granted(granted) => {
-                card.mask();
-                hand_again(granted)
-            }
-            Sched::Missed(caller) | Sched::Disabled(caller) => End::Over(caller, Next::Gone),
-        }
+        let (_, next) = caller.request_masked(card);
+        End::Over(caller, next)
     }
 
     /// Ends the poll of a card that can't be checked, after `work` packets. If that is below the weight, it unmasks the card
@@ -112,7 +107,8 @@ impl Polling {
             Completed::Released(caller) => End::Over(caller, Next::Gone),
             Completed::Again(granted) => {
                 card.mask();
-                hand_again(granted)
+                let (caller, next) = granted.hand_again();
+                End::Over(caller, next)
             }
         }
     }
@@ -139,15 +135,6 @@ impl Polling {
             }
         }
     }
-}
-
-// Queues the instance for its thread if `FQ_BIT_THREADED` is set, otherwise on the list.
-fn hand_again(mut granted: Granted) -> End {
-    let kind = match granted.look() & sys::FQ_BIT_THREADED {
-        0 => Kind::List,
-        _ => Kind::Thread,
-    };
-    End::Over(granted.hand(kind), Next::Again(kind))
 }
 
 // Polls with a handle that has the poll context.

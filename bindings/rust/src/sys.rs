@@ -642,43 +642,6 @@ pub fn fq_fault_name(fault: u32) -> &'static str {
     }
 }
 
-/// Writes a new limit into the caller's struct.
-///
-/// # Safety `dql` points to memory of its type.
-pub unsafe fn fq_dql_init(dql: *mut fq_dql, min: u32, max: u32, hold_ms: u64, now_ms: u64) -> u32 {
-    // SAFETY: the call takes only numbers.
-    let made = unsafe { fq_dql_new(min, max, hold_ms, now_ms) };
-    // SAFETY: the caller ensures where it points; the old content needs no drop.
-    unsafe { dql.write(made.dql) };
-    made.status
-}
-
-/// Returns the limit, read in place without a call.
-///
-/// # Safety
-/// `dql` points to a limit.
-pub unsafe fn fq_dql_limit_here(dql: *const fq_dql) -> u32 {
-    // SAFETY: as the caller ensures.
-    unsafe { (*dql).private_a[3] }
-}
-
-/// Returns the bytes in flight, read in place without a call.
-///
-/// # Safety
-/// `dql` points to a limit.
-pub unsafe fn fq_dql_in_flight_here(dql: *const fq_dql) -> u32 {
-    // SAFETY: as the caller says.
-    unsafe { (*dql).private_a[0].wrapping_sub((*dql).private_a[1]) }
-}
-
-/// Returns the bytes that may still be sent to the device, read in place without a call.
-///
-/// # Safety `dql` points to a limit.
-pub unsafe fn fq_dql_avail_here(dql: *const fq_dql) -> i64 {
-    // SAFETY: as the caller says.
-    unsafe { i64::from(fq_dql_limit_here(dql)) - i64::from(fq_dql_in_flight_here(dql)) }
-}
-
 /// Sets a bit, 0 to 63, and returns whether the word was 0.
 ///
 /// # Safety `word` points to a word.
