@@ -100,6 +100,16 @@ check 'each number has its name' each_has_a_name
 
 # ---- the examples
 
+# The driver and the simulator of the guide have as many lines as the pages say, at most 60 each.
+as_short_as_the_pages_say() {
+    local driver simulator
+    driver=$(wc -l < "$examples/edge.c") simulator=$(wc -l < "$examples/simulator.cpp")
+    [ "$driver" -le 60 ] && [ "$simulator" -le 60 ] && grep -q "edge.c. is a whole driver in $driver lines" "$top/docs/GUIDE.md" &&
+        grep -q "edge.c. is such a driver in $driver lines" "$top/docs/C.md" && grep -q "The whole simulator has $simulator lines" "$top/docs/GUIDE.md" &&
+        grep -q "one with a clock in $simulator lines" "$top/docs/C.md"
+}
+check 'a driver and a simulator in at most 60 lines' as_short_as_the_pages_say
+
 compilers=(gcc g++)
 for compiler in clang clang++; do
     ! has "$compiler" "the examples by $compiler" || compilers+=("$compiler")
@@ -237,6 +247,13 @@ raised_as_the_tool() {
     esac || { cat "$scratch/line" "$scratch/wanted.line"; false; }
 }
 
+# Without the added runs the kernel's disables are still pending at some enable row: fault 12. With them no run is missing.
+reports_all_runs() {
+    "$scratch/replay" "$2" 64 1024 < "$1" > "$scratch/printed" 2> "$scratch/line"
+    [ $? = 2 ] && grep -q '^trace fault 12 Pending row' "$scratch/line" || { echo 'its own runs are enough'; return 1; }
+    "$scratch/raise" "$2" 64 1024 - < "$1" > "$scratch/whole.csv" && "$scratch/replay" "$2" 64 1024 < "$scratch/whole.csv" | grep -q -x list
+}
+
 # the most rows that a trace has, and one more
 awk 'BEGIN { print "moment,device,event,value"; for (i = 1; i < 17; i++) print "0," i ",open,64"
     for (i = 17; i <= 100000; i++) print int(i / 10) "," (i % 9 ? i % 16 + 1 ",rx," i % 1500 + 1 : "0,softirq,0") }' > "$scratch/long.csv"
@@ -270,6 +287,9 @@ if "$top/scripts/build.sh" napi_serial > "$scratch/log" 2>&1; then
             # shellcheck disable=SC2086 # three or four numbers
             check "the raised $(basename "$trace") by $settings" raised_as_the_tool "$scratch/raise" "$trace" $settings
         done
+    done
+    for budget in 1 8 32; do
+        check "with all runs the trace of disables has a report by a budget of $budget" reports_all_runs "$top/examples/linux-napi-disable.csv" "$budget"
     done
     for trace in "$top/examples/linux-veth-bursts.csv" "$scratch"/{waits,none_at_all}.csv; do
         check "the raised $(basename "$trace") in C++" raised_as_the_tool "$scratch/raise_cpp" "$trace" 7 3 1024

@@ -567,6 +567,25 @@ fn what_cannot_be_raised() {
 // ---- ends of polls on one thread, requests, opens
 
 #[test]
+fn a_granted_instance_is_queued_as_its_word_says() {
+    for (threaded, kind) in [(false, Kind::List), (true, Kind::Thread)] {
+        let Shared {
+            input: _input,
+            control,
+            callers: [interrupts, poller],
+        } = Shared::new(4).unwrap();
+        let _on = control.enable(threaded);
+        let granted = match interrupts.schedule() {
+            Sched::Granted(granted) => granted,
+            other => panic!("{other:?}"),
+        };
+        let (_interrupts, next) = granted.hand_again();
+        assert_eq!(next, Next::Again(kind));
+        assert!(poller.take(kind).is_ok());
+    }
+}
+
+#[test]
 fn a_full_poll_under_a_disable_is_completed() {
     let mut napi = SerialNapi::new(CONTROLLER);
     napi.enable(CONTROLLER, false).unwrap();
