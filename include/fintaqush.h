@@ -14,9 +14,9 @@
  * - A struct fq_handle or fq_dql isn't copied, and only calls write its fields. An unset handle is all zero.
  * - No call is made from a signal handler, or from the forked child of a process with threads.
  *
- * No call blocks, sleeps, locks or starts a thread. fq_seat_interrupt, fq_seat_interrupt_masked, fq_seat_request, fq_seat_end,
- * fq_seat_end_watched, fq_seat_end_unmasked, fq_control_step and fq_control_open try again as long as an attempt returns FQ_CHANGED,
- * because another thread changed the instance: some thread always makes progress, but the number of attempts has no bound. fq_ring_new,
+ * No call blocks, sleeps, locks or starts a thread. fq_seat_schedule_prep, fq_seat_end, fq_control_step, and the inline functions over
+ * them, try again as long as an attempt returns FQ_CHANGED, because another thread changed the instance: some thread always makes
+ * progress. After 2^64 - 1 attempts, which no program makes, they return FQ_CHANGED, and may be called again. fq_ring_new,
  * fq_ring_split, fq_tx_new, fq_list_new, fq_driver_new, fq_shared_new, fq_shared_bare, fq_replay and fq_machine allocate memory, after
  * they have checked their arguments; if an allocation fails, they free what they allocated, and nothing has changed. fq_free,
  * fq_abandon and fq_ring_finish free memory. No other call allocates or frees.
@@ -448,15 +448,17 @@ struct fq_card {
     size_t (*poll)(void *at, size_t most); /* polls at most this many packets, and returns how many */
 };
 
-/* Handles an interrupt: schedules, and repeats the attempt while it returns FQ_CHANGED; if granted, masks the card and queues the
- * instance, in the kernel's order: if the card were masked after that, it would stay masked whenever the poller is faster. `kind`
- * follows FQ_BIT_THREADED, which fq_seat_request reads itself. Returns FQ_BAD_KIND; FQ_GRANTED, and the instance is queued; FQ_MISSED;
+/* Requests a poll (napi_schedule_prep), like fq_seat_schedule, but repeats the attempt while it returns FQ_CHANGED. Returns FQ_GRANTED;
+ * FQ_MISSED; FQ_DISABLED; FQ_BAD_HANDLE; FQ_NOT_ALLOWED. */
+FQ_CHECKED enum fq_status fq_seat_schedule_prep(struct fq_handle *seat);
+
+/* Handles an interrupt: requests a poll (fq_seat_schedule_prep); if granted, masks the card and queues the instance, in the kernel's
+ * order: if the card were masked after that, it would stay masked whenever the poller is faster. `kind` follows FQ_BIT_THREADED, which
+ * fq_seat_request reads itself. Returns FQ_BAD_KIND; FQ_GRANTED, and the instance is queued; FQ_MISSED;
  * FQ_DISABLED; FQ_BAD_HANDLE; FQ_NOT_ALLOWED. */
 FQ_CHECKED static inline enum fq_status fq_seat_interrupt_masked(struct fq_handle *seat, uint32_t kind, const struct fq_card *card) {
-    enum fq_status said;
     if (kind > FQ_THREAD) return FQ_BAD_KIND;
-    do said = fq_seat_schedule(seat);
-    while (said == FQ_CHANGED);
+    const enum fq_status said = fq_seat_schedule_prep(seat);
     if (said != FQ_GRANTED) return said;
     if (card->mask != NULL) card->mask(card->at);
     const enum fq_status handed = fq_seat_hand(seat, kind);
@@ -470,28 +472,19 @@ FQ_CHECKED static inline enum fq_status fq_seat_interrupt(struct fq_handle *seat
 }
 
 /* Queues a granted instance as the kernel does (____napi_schedule): for its thread if FQ_BIT_THREADED is set. Sets *next to
- * FQ_NEXT_AGAIN or FQ_NEXT_AGAIN_THREAD. Returns FQ_OK; FQ_BAD_HANDLE; FQ_NOT_ALLOWED. */
-FQ_CHECKED static inline enum fq_status fq_seat_hand_again(struct fq_handle *FQ_RESTRICT seat, uint32_t *FQ_RESTRICT next) {
-    uint64_t word;
-    const enum fq_status said = fq_seat_look(seat, &word);
-    *next = said == FQ_OK && word & FQ_BIT_THREADED ? FQ_NEXT_AGAIN_THREAD : FQ_NEXT_AGAIN;
-    return said == FQ_OK ? fq_seat_hand(seat, *next == FQ_NEXT_AGAIN ? FQ_LIST : FQ_THREAD) : said;
-}
+ * FQ_NEXT_AGAIN or FQ_NEXT_AGAIN_THREAD; FQ_NEXT_GONE unless it returns FQ_OK. Returns FQ_OK; FQ_BAD_HANDLE; FQ_NOT_ALLOWED. */
+FQ_CHECKED enum fq_status fq_seat_hand_again(struct fq_handle *FQ_RESTRICT seat, uint32_t *FQ_RESTRICT next);
 
 /* Requests a poll (napi_schedule), from an interrupt, a timer or a driver's open. Like fq_seat_interrupt_masked, but reads the kind from
  * the state word. Sets *next to where the instance is queued: after FQ_NEXT_AGAIN list the number, after FQ_NEXT_AGAIN_THREAD wake the
  * thread; FQ_NEXT_GONE unless it returns FQ_GRANTED. Returns FQ_GRANTED; FQ_MISSED; FQ_DISABLED; FQ_BAD_HANDLE; FQ_NOT_ALLOWED. */
 FQ_CHECKED static inline enum fq_status fq_seat_request(struct fq_handle *FQ_RESTRICT seat, const struct fq_card *FQ_RESTRICT card, uint32_t *FQ_RESTRICT next) {
-    enum fq_status said;
     *next = FQ_NEXT_GONE;
-    do said = fq_seat_schedule(seat);
-    while (said == FQ_CHANGED);
+    const enum fq_status said = fq_seat_schedule_prep(seat);
     if (said != FQ_GRANTED) return said;
     if (card->mask != NULL) card->mask(card->at);
     const enum fq_status handed = fq_seat_hand_again(seat, next);
-    if (handed == FQ_OK) return said;
-    *next = FQ_NEXT_GONE;
-    return handed;
+    return handed == FQ_OK ? said : handed;
 }
 
 /* Ends a poll as the kernel does (__napi_poll). `full` says that it returned its whole weight. After a full poll, if no disable is
@@ -502,29 +495,7 @@ FQ_CHECKED static inline enum fq_status fq_seat_request(struct fq_handle *FQ_RES
  * has to be woken; that may follow a poll from the list too. Returns FQ_OK; FQ_HELD: the seat keeps polling, as a busy poller does;
  * FQ_NOT_ALLOWED if it doesn't poll; FQ_BAD_HANDLE. *next is FQ_NEXT_GONE unless it returns FQ_OK. A seat polls as the thread while
  * FQ_BIT_SCHED_THREADED is set, which fq_seat_requeue doesn't clear. */
-FQ_CHECKED static inline enum fq_status fq_seat_end(struct fq_handle *FQ_RESTRICT seat, bool full, uint32_t *FQ_RESTRICT next) {
-    uint64_t word;
-    *next = FQ_NEXT_GONE;
-    enum fq_status said = fq_seat_look(seat, &word);
-    if (said != FQ_OK) return said;
-    if (full && !(word & (FQ_BIT_DISABLE | FQ_BIT_IN_BUSY_POLL | FQ_BIT_SCHED_THREADED))) {
-        said = fq_seat_requeue(seat);
-        if (said == FQ_OK) *next = FQ_NEXT_REPOLL;
-        return said;
-    }
-    if (full && !(word & (FQ_BIT_DISABLE | FQ_BIT_IN_BUSY_POLL))) {
-        struct fq_counts counts; /* only for its status: FQ_OK if the seat polls */
-        said = fq_count(seat, &counts);
-        return said == FQ_OK ? FQ_HELD : said;
-    }
-    do said = fq_seat_complete(seat);
-    while (said == FQ_CHANGED);
-    if (said == FQ_RELEASED) return FQ_OK;
-    if (said != FQ_AGAIN) return said;
-    said = fq_seat_hand_again(seat, next);
-    if (said != FQ_OK) *next = FQ_NEXT_GONE;
-    return said;
-}
+FQ_CHECKED enum fq_status fq_seat_end(struct fq_handle *FQ_RESTRICT seat, bool full, uint32_t *FQ_RESTRICT next);
 
 #if defined(__GNUC__)
 /* Ends a poll of a card whose queue can be checked by `look`. Like fq_seat_end; and if the instance was released, unmasks the card, and
@@ -581,19 +552,7 @@ FQ_CHECKED enum fq_status fq_control_try_take(struct fq_handle *control);       
  * instance is enabled, and a poll still has to be requested once (fq_control_open does so); or it is off. Returns FQ_OK, also to stop an
  * instance that is off; FQ_BUSY: a disable is pending, and the owner has to complete the instance before the next step; FQ_NOT_ALLOWED
  * to open one that isn't off; FQ_BAD_HANDLE. */
-FQ_CHECKED static inline enum fq_status fq_control_step(struct fq_handle *control, bool on, bool threaded) {
-    enum fq_status said;
-    if (on) {
-        do said = fq_control_enable(control, threaded);
-        while (said == FQ_CHANGED);
-        return said;
-    }
-    const enum fq_status marked = fq_control_mark(control); /* not allowed if the instance is marked already, or off */
-    if (marked != FQ_OK && marked != FQ_NOT_ALLOWED) return marked;
-    do said = fq_control_try_take(control);
-    while (said == FQ_CHANGED);
-    return said == FQ_BUSY || said == FQ_BAD_HANDLE ? said : FQ_OK;
-}
+FQ_CHECKED enum fq_status fq_control_step(struct fq_handle *control, bool on, bool threaded);
 
 /* Opens a driver's instance: enables it, and requests a poll once by a seat at rest (as virtnet_napi_enable does), so that what came
  * while it was off is polled. Returns, and sets *next, like fq_seat_request: FQ_GRANTED, and the number has to be listed or the thread

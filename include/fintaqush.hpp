@@ -392,11 +392,9 @@ struct [[nodiscard]] Ended {
 };
 
 inline Scheduled Caller::schedule() && noexcept {
-    std::uint32_t said;
-    do said = fq_seat_schedule(at_.raw());
-    while (said == FQ_CHANGED);
-    if (said == FQ_GRANTED) return {FQ_GRANTED, Granted(std::move(at_))};
-    return {Status(said), Caller(std::move(at_))};
+    const Status said = fq_seat_schedule_prep(at_.raw());
+    if (said == FQ_GRANTED) return {said, Granted(std::move(at_))};
+    return {said, Caller(std::move(at_))};
 }
 
 inline Took Caller::take(Kind kind) && noexcept {

@@ -151,7 +151,7 @@ check 'bursts in C++' "$scratch/bursts"
 
 # ---- a model card
 
-points=-Wl,--wrap=fq_seat_schedule,--wrap=fq_seat_hand,--wrap=fq_seat_take,--wrap=fq_seat_requeue,--wrap=fq_seat_complete
+points=-Wl,--wrap=fq_seat_schedule_prep,--wrap=fq_seat_hand,--wrap=fq_seat_hand_again,--wrap=fq_seat_end,--wrap=fq_seat_take,--wrap=fq_seat_complete
 echo 'the card hangs without a look, by a late mask and by an enable without a request, and never else' > "$scratch/hung"
 check 'the model card compiles' compile gcc "$top/tests/c/card.c" "$scratch/card" -O2 "$points"
 check 'the model card' compared "$scratch/hung" "$scratch/card"

@@ -60,10 +60,11 @@ static void point(void) {
         point();                            \
         return said;                        \
     }
-WRAP(fq_seat_schedule, (struct fq_handle *seat), (seat))
+WRAP(fq_seat_schedule_prep, (struct fq_handle *seat), (seat))
+WRAP(fq_seat_hand_again, (struct fq_handle *seat, uint32_t *next), (seat, next))
+WRAP(fq_seat_end, (struct fq_handle *seat, bool full, uint32_t *next), (seat, full, next))
 WRAP(fq_seat_hand, (struct fq_handle *seat, uint32_t to), (seat, to))
 WRAP(fq_seat_take, (struct fq_handle *seat, uint32_t from), (seat, from))
-WRAP(fq_seat_requeue, (struct fq_handle *seat), (seat))
 WRAP(fq_seat_complete, (struct fq_handle *seat), (seat))
 
 static void mask(void *at) {

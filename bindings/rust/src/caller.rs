@@ -74,16 +74,19 @@ impl Caller {
     ///
     /// While a disable is pending no poll is requested, and while the instance is disabled no poll follows: schedule once after
     /// each [`enable`](crate::Control::enable).
-    pub fn schedule(self) -> Sched {
-        let mut caller = self;
-        loop {
-            match caller.try_schedule() {
-                TryPrep::Granted(granted) => return Sched::Granted(granted),
-                TryPrep::Missed(missed) => return Sched::Missed(missed),
-                TryPrep::Disabled(disabled) => return Sched::Disabled(disabled),
-                TryPrep::Changed(changed) => caller = changed,
-            }
+    pub fn schedule(mut self) -> Sched {
+        match self.prep() {
+            Prep::Granted => Sched::Granted(Granted { at: self.at }),
+            Prep::Missed => Sched::Missed(self),
+            Prep::Disabled => Sched::Disabled(self),
         }
+    }
+
+    fn prep(&mut self) -> Prep {
+        // SAFETY: only this caller has the handle.
+        let said = unsafe { sys::fq_seat_schedule_prep(self.at.raw()) };
+        Prep::of("seat_schedule_prep", said)
+            .unwrap_or_else(|| unexpected("seat_schedule_prep", said))
     }
 
     /// Handles an interrupt: requests a poll, and queues the instance if the request is granted.
@@ -102,13 +105,7 @@ impl Caller {
     ///
     /// If `mask` panics, the instance is never polled again.
     pub fn interrupt_masked(&mut self, kind: Kind, card: &mut impl Card) -> Prep {
-        let prep = loop {
-            // SAFETY: only this caller has the handle.
-            let said = unsafe { sys::fq_seat_schedule(self.at.raw()) };
-            if let Some(prep) = Prep::of("seat_schedule", said) {
-                break prep;
-            }
-        };
+        let prep = self.prep();
         if prep == Prep::Granted {
             card.mask();
             // SAFETY: only this caller has the handle.
@@ -135,13 +132,7 @@ impl Caller {
     }
 
     fn request_and(&mut self, mask: impl FnOnce()) -> (Prep, Next) {
-        let prep = loop {
-            // SAFETY: only this caller has the handle.
-            let said = unsafe { sys::fq_seat_schedule(self.at.raw()) };
-            if let Some(prep) = Prep::of("seat_schedule", said) {
-                break prep;
-            }
-        };
+        let prep = self.prep();
         if prep != Prep::Granted {
             return (prep, Next::Gone);
         }
