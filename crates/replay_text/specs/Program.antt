@@ -38,10 +38,6 @@ abbrev pub AnswersBy : {F : Type 0} → (F → Type 0) → Result (List ℕ) F �
 AnswersBy IsOutside answer (Ok text) = answer ≡ Ok text
 AnswersBy IsOutside answer (Err fault) = IsOutside fault ⊎ (answer ≡ Err fault)
 
--- nothing else is known of a run
-abbrev pub NothingElse : {S : Type 0} → S → Option (List ℕ) → Type 0
-NothingElse settings input = Unit {0}
-
 -- The exit status is that of the error. Either its whole message was written to standard error and nothing else, or only a part
 -- of it, because the writer stopped or an allocation failed.
 pub record EndsBy {F : Type 0} (line_in : F → List ℕ) (status_in : F → ℕ) (fault : ProgramFault F) (old new : Option (List ℕ)) (code : ℕ)

@@ -4,7 +4,7 @@ ghost use Rattle.std.specs.Prelude.{◌≡◌, ◌≢◌, ◌⊎◌, ◌++◌, �
 ghost use Rattle.std.specs.Io.KnownBytes.{Appends, Keeps};
 ghost use Rattle.std.specs.Process.{exit_status};
 ghost use Rattle.device_rows.specs.Failures.{IsTraceOutOfMemory};
-ghost use Rattle.replay_text.specs.Program.{EndsBy, FailedBy, IsFaultOn, IsTextBy, NothingElse, program_fault_line, program_fault_status};
+ghost use Rattle.replay_text.specs.Program.{EndsBy, FailedBy, IsFaultOn, IsTextBy, program_fault_line, program_fault_status};
 ghost use Rattle.replay_text.specs.Stops.{HasStopped};
 ghost use Rattle.replay_text.specs.Written.{AppendsPart, LeavesBy, Writes};
 ghost use Rattle.replay_args.specs.Refusals.{IsArgsOutOfMemory};
@@ -63,9 +63,6 @@ pub trait Program {
     /// `answers settings bytes answer`: a run on these bytes can have this report, or this error.
     ghost answers: { Self.Settings → List ℕ → Result (List ℕ) Self.Fault → Type 0 };
 
-    /// `ran settings input`: what else is known of a run that wrote its report.
-    ghost ran: { Self.Settings → Option (List ℕ) → Type 0 } = { NothingElse };
-
     /// Returns the settings that the arguments ask for.
     fn parse(&self, alloc: Global, words: &[String]) -> Result<Self::Settings, WordFault>
         ensures asked { IfOk result (λ s. asks (map string_bytes words.now) (Some s)) }
@@ -82,7 +79,6 @@ pub trait Program {
     ) -> Result<(), Self::Fault>
         ensures written { OnOk result (Writes (λ bytes text. answers settings.now bytes (Ok text))
             (R.remaining input) (W.contents output.old) (W.contents output.new)) }
-        ensures ran { OnOk result (ran settings.now (R.remaining input)) }
         ensures fault { IfErr result (IsFaultOn (answers settings.now) (R.remaining input)) }
         ensures output { IfErr result (LeavesBy Self.Fault.output_failed
             (λ bytes text. answers settings.now bytes (Ok text))
@@ -164,9 +160,6 @@ pub fn run_asked<P: Program, R: Read + Drop, W: Write, E: Write>(
     ensures written { exit_status result ≡ 0
         → Writes (IsTextBy (P.asks (map string_bytes words.now)) P.answers)
         (R.remaining input) (W.contents output.old) (W.contents output.new) }
-    ensures ran { exit_status result ≡ 0
-        → (settings : P.Settings) × P.asks (map string_bytes words.now) (Some settings)
-        × P.ran settings (R.remaining input) }
     ensures quiet { exit_status result ≡ 0 → Keeps (E.contents errors.old) (E.contents errors.new) }
     ensures failed { exit_status result ≢ 0
         → FailedBy P.Fault.line P.Fault.status P.Fault.output_failed
