@@ -28,21 +28,6 @@ pub(crate) struct MachineTotals {
     pub used: u64,
 }
 
-impl fmt::Display for MachineTotals {
-    ghost use Rattle.std.specs.Prelude.{Some};
-    ghost use Rattle.machine_report.specs.Report.{machine_total_line};
-
-    ghost output = { λ totals. Some (machine_total_line totals) };
-
-    fn fmt<W: fmt::Write>(&self, f: &mut fmt::Formatter<W>) -> fmt::Result {
-        write!(
-            f,
-            "total devices {} arrived {} dropped {} polled {} refused {} used {}",
-            self.devices, self.arrived, self.dropped, self.polled, self.refused, self.used
-        )
-    }
-}
-
 /// The numbers in the line of an application on its own processor.
 #[derive(Clone, Copy)]
 pub(crate) struct ApplicationLine {
@@ -51,21 +36,6 @@ pub(crate) struct ApplicationLine {
     wakes: u64,
     used: u64,
     idle: u64,
-}
-
-impl fmt::Display for ApplicationLine {
-    ghost use Rattle.std.specs.Prelude.{Some};
-    ghost use Rattle.machine_report.specs.Report.{application_line};
-
-    ghost output = { λ line. Some (application_line line) };
-
-    fn fmt<W: fmt::Write>(&self, f: &mut fmt::Formatter<W>) -> fmt::Result {
-        write!(
-            f,
-            "application {} end {} wakes {} use {} idle {}",
-            self.number, self.end, self.wakes, self.used, self.idle
-        )
-    }
 }
 
 // What the report shows of waits.
@@ -205,7 +175,15 @@ fn add_application(text: &mut String, application: &ApplicationLine) -> Result<(
     ensures { OnOk result (string_bytes text.new
         ≡ string_bytes text.old ++ with_newline (application_line application.now)) }
 {
-    writeln!(text, "{application}")?;
+    writeln!(
+        text,
+        "application {} end {} wakes {} use {} idle {}",
+        application.number,
+        application.end,
+        application.wakes,
+        application.used,
+        application.idle
+    )?;
     Ok(())
 }
 
@@ -234,7 +212,16 @@ fn add_totals(text: &mut String, totals: &MachineTotals) -> Result<(), AllocErro
         (string_bytes text.new ≡ string_bytes text.old
         ++ with_newline (machine_total_line totals.now)) }
 {
-    writeln!(text, "{totals}")?;
+    writeln!(
+        text,
+        "total devices {} arrived {} dropped {} polled {} refused {} used {}",
+        totals.devices,
+        totals.arrived,
+        totals.dropped,
+        totals.polled,
+        totals.refused,
+        totals.used
+    )?;
     Ok(())
 }
 

@@ -48,7 +48,7 @@ impl<B: ReplayBench> Replay<B> {
     ghost use Rattle.device_bench.specs.Waiting.{one_when, is_left_to_list};
     ghost use Rattle.replay_rows.specs.Played.{replay_state};
     ghost use Rattle.replay_rows.specs.Refused.{IsSerialFault, IsRefusedAt};
-    ghost use Rattle.replay_rows.specs.Replay.{after_event, after_row, entry, is_early, start, with_busy, with_line, with_packet, with_run, with_thread, after_all_rows};
+    ghost use Rattle.replay_rows.specs.Replay.{after_event, after_row, entry, is_early, start, with_busy, with_packet, with_run, with_thread, after_all_rows};
     ghost use Rattle.replay_rows.specs.Transmits.{after_transmit, after_transmits};
 
     /// Returns a replay on a bench without devices, which collects its lines in `lines`.
@@ -90,11 +90,12 @@ impl<B: ReplayBench> Replay<B> {
         }
     }
 
-    // Makes one run over the poll list.
-    fn run(&mut self, settings: &ReplaySettings, row: u32) -> PollRecord
-        ensures state { with_line result (replay_state B.devices self.new)
-            ≡ with_run settings.now row (replay_state B.devices self.old) }
-        ensures lines { self.new.lines ≡ self.old.lines }
+    // Makes one run over the poll list, and adds its line.
+    fn run(&mut self, settings: &ReplaySettings, row: u32) -> Result<(), AllocError>
+        ensures state { OnOk result (replay_state B.devices self.new
+            ≡ with_run settings.now row (replay_state B.devices self.old)) }
+        ensures lines { OnOk result
+            (length self.new.lines.items ≡ length self.old.lines.items + 1) }
         ensures transmits { KeepsTransmits B.shows self.old.bench self.new.bench }
     {
         let run = run_softirq(
@@ -104,59 +105,57 @@ impl<B: ReplayBench> Replay<B> {
             settings.weight,
             settings.window,
         );
-        PollRecord::Softirq { row, run }
+        self.lines.push(PollRecord::Softirq { row, run })?;
+        Ok(())
     }
 
-    // Polls the device by its thread.
-    fn poll_thread(&mut self, settings: &ReplaySettings, row: u32, device: u32) -> PollRecord
-        ensures state { with_line result (replay_state B.devices self.new)
-            ≡ with_thread settings.now row device (replay_state B.devices self.old) }
-        ensures lines { self.new.lines ≡ self.old.lines }
+    // Polls the device by its thread, and adds the line.
+    fn poll_thread(
+        &mut self,
+        settings: &ReplaySettings,
+        row: u32,
+        device: u32,
+    ) -> Result<(), AllocError>
+        ensures state { OnOk result (replay_state B.devices self.new
+            ≡ with_thread settings.now row device (replay_state B.devices self.old)) }
+        ensures lines { OnOk result
+            (length self.new.lines.items ≡ length self.old.lines.items + 1) }
         ensures transmits { KeepsTransmits B.shows self.old.bench self.new.bench }
     {
         let report = self
             .bench
             .poll_thread(device, settings.weight, MOST_THREAD_POLLS);
         self.list_left(device, report.next);
-        PollRecord::Kthread {
+        self.lines.push(PollRecord::Kthread {
             row,
             device,
             report,
-        }
+        })?;
+        Ok(())
     }
 
-    // Busy polls the device.
+    // Busy polls the device, and adds the line.
     fn busy_poll(
         &mut self,
         settings: &ReplaySettings,
         row: u32,
         device: u32,
         rounds: u32,
-    ) -> PollRecord
+    ) -> Result<(), AllocError>
         requires { IsRounds rounds }
-        ensures state { with_line result (replay_state B.devices self.new)
-            ≡ with_busy settings.now row device rounds (replay_state B.devices self.old) }
-        ensures lines { self.new.lines ≡ self.old.lines }
+        ensures state { OnOk result (replay_state B.devices self.new
+            ≡ with_busy settings.now row device rounds (replay_state B.devices self.old)) }
+        ensures lines { OnOk result
+            (length self.new.lines.items ≡ length self.old.lines.items + 1) }
         ensures transmits { KeepsTransmits B.shows self.old.bench self.new.bench }
     {
         let report = self.bench.busy_poll(device, settings.weight, rounds);
         self.list_left(device, report.next);
-        PollRecord::Busy {
+        self.lines.push(PollRecord::Busy {
             row,
             device,
             report,
-        }
-    }
-
-    // Adds the line of a row that polled, for the report.
-    fn keep(&mut self, line: PollRecord) -> Result<(), AllocError>
-        ensures state { OnOk result
-            (replay_state B.devices self.new ≡ with_line line (replay_state B.devices self.old)) }
-        ensures bench { self.new.bench ≡ self.old.bench }
-        ensures lines { OnOk result
-            (length self.new.lines.items ≡ length self.old.lines.items + 1) }
-    {
-        self.lines.push(line)?;
+        })?;
         Ok(())
     }
 
@@ -187,24 +186,15 @@ impl<B: ReplayBench> Replay<B> {
             RowEvent::Rx => self.rx(row.device, row.value),
             RowEvent::Tx => self.bench.send(row.device, row.value),
             RowEvent::Finish => self.bench.done(row.device, row.value, row.moment),
-            RowEvent::Softirq => {
-                let line = self.run(settings, number);
-                self.keep(line)?;
-            }
-            RowEvent::Kthread => {
-                let line = self.poll_thread(settings, number, row.device);
-                self.keep(line)?;
-            }
+            RowEvent::Softirq => self.run(settings, number)?,
+            RowEvent::Kthread => self.poll_thread(settings, number, row.device)?,
             RowEvent::Disable => self.bench.disable(row.device),
             RowEvent::Enable => {
                 if !self.bench.enable(row.device) {
                     return Err(ReplayFault::Pending { row: number });
                 }
             }
-            RowEvent::Busy => {
-                let line = self.busy_poll(settings, number, row.device, row.value);
-                self.keep(line)?;
-            }
+            RowEvent::Busy => self.busy_poll(settings, number, row.device, row.value)?,
             RowEvent::Threaded => self.bench.set_threaded(row.device, row.value == 1),
         }
         Ok(())

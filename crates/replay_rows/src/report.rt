@@ -18,7 +18,6 @@ use poll_runs::PollList;
 use replay_args::ReplaySettings;
 use replay_text::{ReplayFault, add_transmit};
 use std::alloc::{AllocError, Global};
-use std::fmt;
 
 // Appends the line of each row that polled.
 fn add_lines(text: &mut String, lines: &[PollRecord]) -> Result<(), AllocError>
@@ -190,21 +189,6 @@ pub(crate) struct RunTotals {
     pub squeezed: u64,
 }
 
-impl fmt::Display for RunTotals {
-    ghost use Rattle.std.specs.Prelude.{Some};
-    ghost use Rattle.replay_rows.specs.Report.{total_line};
-
-    ghost output = { λ totals. Some (total_line totals) };
-
-    fn fmt<W: fmt::Write>(&self, f: &mut fmt::Formatter<W>) -> fmt::Result {
-        write!(
-            f,
-            "total devices {} runs {} polls {} work {} squeezed {}",
-            self.devices, self.runs, self.polls, self.work, self.squeezed
-        )
-    }
-}
-
 impl RunTotals {
     // Adds the run of a softirq row. A thread's polling and busy polling aren't runs, and add nothing.
     fn add(&mut self, line: &PollRecord)
@@ -253,7 +237,15 @@ fn add_totals(text: &mut String, totals: &RunTotals) -> Result<(), AllocError>
     ensures { OnOk result
         (string_bytes text.new ≡ string_bytes text.old ++ with_newline (total_line totals.now)) }
 {
-    writeln!(text, "{totals}")?;
+    writeln!(
+        text,
+        "total devices {} runs {} polls {} work {} squeezed {}",
+        totals.devices,
+        totals.runs,
+        totals.polls,
+        totals.work,
+        totals.squeezed
+    )?;
     Ok(())
 }
 
@@ -300,7 +292,7 @@ impl<B: ReplayBench> Replay<B> {
     /// this version.
     ///
     /// Fails if an allocation fails, or if an enable row meets a disable that is still pending.
-    fn report_rows(
+    pub(crate) fn report_rows(
         &mut self,
         alloc: Global,
         settings: &ReplaySettings,
@@ -322,37 +314,4 @@ impl<B: ReplayBench> Replay<B> {
         self.play_rows(alloc, settings, rows)?;
         Ok(self.report(alloc, version)?)
     }
-}
-
-/// Processes the rows of a trace on a bench that has no devices yet. Returns the bench, and the text of the rows' report, for a
-/// trace of this version.
-///
-/// Fails if an allocation fails, or if an enable row meets a disable that is still pending.
-pub(crate) fn report_on<B: ReplayBench>(
-    alloc: Global,
-    bench: B,
-    settings: &ReplaySettings,
-    version: u32,
-    rows: &[Row],
-) -> (B, Result<String, ReplayFault>)
-    requires accepted { AcceptedAfter [] rows.now }
-    requires count { length rows.now ≤ 100000 }
-    requires devices { B.devices bench ≡ empty }
-    requires transmits { B.shows bench empty }
-    ensures report { IfOk result.1
-        (λ text. serial_report settings.now version rows.now ≡ Ok (string_bytes text)) }
-    ensures fault { IfErr result.1 (λ fault. IsReplayOutOfMemory fault
-        ⊎ (serial_report settings.now version rows.now ≡ Err fault)) }
-    ensures unwritten { IfErr result.1 (λ fault. fault ≢ OutputFailed) }
-    ensures played { IfOk result.1
-        (λ text. LeavesDevices settings.now rows.now (B.devices result.0)) }
-{
-    let mut replay = Replay::new(bench, Vec::new(alloc));
-    let text = replay.report_rows(alloc, settings, version, rows);
-    let Replay {
-        bench,
-        list: _,
-        lines: _,
-    } = replay;
-    (bench, text)
 }

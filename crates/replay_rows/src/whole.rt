@@ -6,7 +6,7 @@ ghost use Rattle.replay_text.specs.Outside.{IsOutside};
 ghost use Rattle.replay_text.specs.Written.{IsFaultBy, LeavesText, Writes};
 ghost use Rattle.replay_rows.specs.Answer.{Plays, replay_of};
 
-use crate::report::report_on;
+use crate::replay::Replay;
 use device_bench::ReplayBench;
 use device_rows::read_trace;
 use replay_args::ReplaySettings;
@@ -48,12 +48,16 @@ pub fn replay_on<B: ReplayBench, R: Read + Drop, W: Write>(
         Ok(trace) => trace,
         Err(fault) => return (bench, Err(fault.into())),
     };
-    let (bench, text) = report_on(alloc, bench, settings, trace.version(), trace.rows());
-    match text {
-        Ok(text) => {
-            let written = write_text(writer, &text);
-            (bench, written)
-        }
-        Err(fault) => (bench, Err(fault)),
-    }
+    let mut replay = Replay::new(bench, Vec::new(alloc));
+    let text = replay.report_rows(alloc, settings, trace.version(), trace.rows());
+    let written = match text {
+        Ok(text) => write_text(writer, &text),
+        Err(fault) => Err(fault),
+    };
+    let Replay {
+        bench,
+        list: _,
+        lines: _,
+    } = replay;
+    (bench, written)
 }
