@@ -2,7 +2,7 @@
 
 ghost use Rattle.std.specs.Prelude.{◌≡◌, ◌≤◌, Some, IfOk, OnOk};
 ghost use Rattle.machine_model.specs.Machine.{queue_report};
-ghost use Rattle.machine_model.specs.Device.{after_packet, asks, queue_completed, queue_delivered, expired, expired_phase, has_room, interrupted, is_fired, is_masked, next_packet, notified, new_queue, queue_polled, raised_again, timer_of, without_next};
+ghost use Rattle.machine_model.specs.Device.{after_packet, asks, queue_completed, queue_delivered, expired, has_room, interrupted, is_fired, is_masked, next_packet, notified, new_queue, queue_polled, raised_again, timer_of, without_next};
 
 use crate::settings::MachineSettings;
 use crate::waits::{WaitCounts, Waits};
@@ -96,43 +96,6 @@ impl Model for ReceiveQueue {
     ghost invariant = { λ d. d.taken.capacity ≡ d.ring.capacity };
 }
 
-impl Phase {
-    /// Returns whether its interrupt is masked, so that the card doesn't report packets.
-    fn is_masked(self) -> bool
-        ensures { result ≡ is_masked self }
-    {
-        matches!(self, Phase::Scheduled | Phase::Deferred(_) | Phase::Fired)
-    }
-
-    /// Returns whether an interrupt has to be handled.
-    fn asks(self) -> bool
-        ensures { result ≡ asks self }
-    {
-        matches!(self, Phase::Raised | Phase::Fired)
-    }
-
-    /// When its timer expires, if one is set.
-    fn timer(self) -> Option<u64>
-        ensures { result ≡ timer_of self }
-    {
-        match self {
-            Phase::Coalescing(until) | Phase::Deferred(until) => Some(until),
-            _ => None,
-        }
-    }
-
-    /// Returns the phase after its timer expired.
-    fn expired(self) -> Phase
-        ensures { result ≡ expired_phase self }
-    {
-        match self {
-            Phase::Coalescing(_) => Phase::Raised,
-            Phase::Deferred(_) => Phase::Fired,
-            other => other,
-        }
-    }
-}
-
 impl ReceiveQueue {
     /// Returns a queue with an empty ring of this capacity.
     pub(crate) fn new(alloc: Global, capacity: u32) -> Result<ReceiveQueue, AllocError>
@@ -155,14 +118,17 @@ impl ReceiveQueue {
     pub(crate) fn asks(&self) -> bool
         ensures { result ≡ asks self.now.phase }
     {
-        self.phase.asks()
+        matches!(self.phase, Phase::Raised | Phase::Fired)
     }
 
     /// Returns whether its interrupt is masked, so that the card doesn't report packets.
     pub(crate) fn is_masked(&self) -> bool
         ensures { result ≡ is_masked self.now.phase }
     {
-        self.phase.is_masked()
+        matches!(
+            self.phase,
+            Phase::Scheduled | Phase::Deferred(_) | Phase::Fired
+        )
     }
 
     /// Returns whether its NAPI timer expired.
@@ -176,14 +142,21 @@ impl ReceiveQueue {
     pub(crate) fn timer(&self) -> Option<u64>
         ensures { result ≡ timer_of self.now.phase }
     {
-        self.phase.timer()
+        match self.phase {
+            Phase::Coalescing(until) | Phase::Deferred(until) => Some(until),
+            _ => None,
+        }
     }
 
     /// Expires its timer.
     pub(crate) fn expire(&mut self)
         ensures { self.new ≡ expired self.old }
     {
-        self.phase = self.phase.expired();
+        self.phase = match self.phase {
+            Phase::Coalescing(_) => Phase::Raised,
+            Phase::Deferred(_) => Phase::Fired,
+            other => other,
+        };
     }
 
     // Counts one more frame for the card, which asks for an interrupt now or later.
@@ -212,7 +185,7 @@ impl ReceiveQueue {
             self.counts.dropped = self.counts.dropped.saturating_add(1);
             return false;
         }
-        if !self.phase.is_masked() {
+        if !self.is_masked() {
             self.notify(moment, settings);
         }
         true

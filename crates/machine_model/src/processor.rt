@@ -7,7 +7,7 @@ ghost use Rattle.device_places.specs.Places.{at};
 ghost use Rattle.machine_model.specs.Devices.{asks_at};
 ghost use Rattle.machine_model.specs.Kept.{IsProcessorKept, all_scheduled, polled_by};
 ghost use Rattle.machine_model.specs.Machine.{ArrivesAt, FinishesAt, processor_report, queue_report};
-ghost use Rattle.machine_model.specs.Processor.{Advances, arrives, begins_run, delivers, disturbed, ends_current, ends_interrupt, ends_poll, ends_run, goes_on, interrupts, is_due, is_polling, leaves_softirq, poll_looks, opened_processor, rests, runs_first, scheduled, set_aside, spent, step, takes_up, upcoming, uses, woken};
+ghost use Rattle.machine_model.specs.Processor.{Advances, begins_run, delivers, disturbed, ends_current, ends_interrupt, ends_poll, ends_run, goes_on, interrupts, is_due, is_polling, leaves_softirq, poll_looks, opened_processor, rests, runs_first, scheduled, set_aside, spent, step, takes_up, upcoming, uses, woken};
 ghost use Rattle.machine_model.specs.Shown.{listed};
 ghost use Rattle.machine_model.specs.Waits.{saturated};
 ghost use Rattle.machine_model.specs.declared.processor.Work.TheVariants.{Nothing};
@@ -600,25 +600,8 @@ impl Processor {
         Ok(())
     }
 
-    /// Handles the arrival of a packet for a queue, on a processor that has advanced to that time.
-    #[tactic(auto, unfolding(crate::specs::Processor::arrives))]
-    fn come(&mut self, alloc: Global, moment: u64, number: u32) -> Result<(), AllocError>
-        requires { number < 64 }
-        ensures { OnOk result (self.new ≡ arrives moment number self.old) }
-    {
-        self.devices
-            .open(alloc, number as usize, self.settings.ring)?;
-        let is_taken = self.devices.arrive(number as usize, moment, &self.settings);
-        if self.work == Work::Nothing {
-            self.clock = moment;
-        }
-        if is_taken {
-            self.disturb(moment)?;
-        }
-        Ok(())
-    }
-
     /// Handles the arrival of a packet for a queue; the processor first advances to that time.
+    #[tactic(auto, unfolding(crate::specs::Processor::arrives))]
     pub(crate) fn arrive(
         &mut self,
         alloc: Global,
@@ -629,7 +612,15 @@ impl Processor {
         ensures { OnOk result (ArrivesAt moment number self.old self.new) }
     {
         self.advance(moment)?;
-        self.come(alloc, moment, number)?;
+        self.devices
+            .open(alloc, number as usize, self.settings.ring)?;
+        let is_taken = self.devices.arrive(number as usize, moment, &self.settings);
+        if self.work == Work::Nothing {
+            self.clock = moment;
+        }
+        if is_taken {
+            self.disturb(moment)?;
+        }
         Ok(())
     }
 

@@ -1,7 +1,7 @@
 use Rattle.std.proofs.Common.{arith}
 use Rattle.machine_model.specs.Device.{after_packet}
 use Rattle.machine_model.proofs.{KeptFacts.kept-devices, PlacesFacts.{same-packet, scheduled-same}}
-use Rattle.machine_model.proofs.processor.Processor.come.Goals as goal
+use Rattle.machine_model.proofs.processor.Processor.arrive.Goals as goal
 
 pub invariant_of-self-then-eq : goal.invariant_of-self-then-eq
 invariant_of-self-then-eq c =
