@@ -1,6 +1,6 @@
 //! A receive queue of a card, with its NAPI instance and its counts.
 
-ghost use Rattle.std.specs.Prelude.{◌≡◌, ◌≤◌, Some, IfOk, OnOk};
+ghost use Rattle.std.specs.Prelude.{◌≡◌, Some, IfOk, OnOk};
 ghost use Rattle.machine_model.specs.Machine.{queue_report};
 ghost use Rattle.machine_model.specs.Device.{after_packet, asks, queue_completed, queue_delivered, expired, has_room, interrupted, is_fired, is_masked, next_packet, notified, new_queue, queue_polled, raised_again, timer_of, without_next};
 

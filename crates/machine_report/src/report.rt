@@ -178,11 +178,7 @@ fn add_application(text: &mut String, application: &ApplicationLine) -> Result<(
     writeln!(
         text,
         "application {} end {} wakes {} use {} idle {}",
-        application.number,
-        application.end,
-        application.wakes,
-        application.used,
-        application.idle
+        application.number, application.end, application.wakes, application.used, application.idle
     )?;
     Ok(())
 }
@@ -215,12 +211,7 @@ fn add_totals(text: &mut String, totals: &MachineTotals) -> Result<(), AllocErro
     writeln!(
         text,
         "total devices {} arrived {} dropped {} polled {} refused {} used {}",
-        totals.devices,
-        totals.arrived,
-        totals.dropped,
-        totals.polled,
-        totals.refused,
-        totals.used
+        totals.devices, totals.arrived, totals.dropped, totals.polled, totals.refused, totals.used
     )?;
     Ok(())
 }

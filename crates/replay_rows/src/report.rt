@@ -1,13 +1,12 @@
 //! The report: the rows are processed, and the state after them is written as text, in all modes that process rows.
 
-ghost use Rattle.std.specs.Prelude.{◌≡◌, ◌≢◌, ◌⊎◌, ◌+◌, ◌^◌, ◌<◌, ◌≤◌, ◌++◌, [], Ok, Err, Some, IfErr, IfOk, OnOk, flat_map, length, string_bytes};
+ghost use Rattle.std.specs.Prelude.{◌≡◌, ◌⊎◌, ◌+◌, ◌^◌, ◌<◌, ◌≤◌, ◌++◌, [], Ok, Err, Some, IfErr, IfOk, OnOk, flat_map, length, string_bytes};
 ghost use Rattle.device_places.specs.Places.{empty};
 ghost use Rattle.device_rows.specs.Trace.{AcceptedAfter};
 ghost use Rattle.replay_rows.specs.Answer.{LeavesDevices};
 ghost use Rattle.replay_rows.specs.Report.{device_line, device_lines, held_part, list_line, napi_line, of_run, poll_line, serial_report, spaced, state_word, total_line, run_totals};
 ghost use Rattle.replay_text.specs.Lines.{with_newline, flag, tx_line};
 ghost use Rattle.replay_text.specs.Outside.{IsReplayOutOfMemory};
-ghost use Rattle.replay_text.specs.declared.fault.ReplayFault.TheVariants.{OutputFailed};
 
 use crate::line::PollRecord;
 use crate::replay::{Replay, room_for_lines};
@@ -240,11 +239,7 @@ fn add_totals(text: &mut String, totals: &RunTotals) -> Result<(), AllocError>
     writeln!(
         text,
         "total devices {} runs {} polls {} work {} squeezed {}",
-        totals.devices,
-        totals.runs,
-        totals.polls,
-        totals.work,
-        totals.squeezed
+        totals.devices, totals.runs, totals.polls, totals.work, totals.squeezed
     )?;
     Ok(())
 }
