@@ -159,10 +159,8 @@ check 'the model card' compared "$scratch/hung" "$scratch/card"
 # ---- attempts that another thread makes fail
 
 echo 'attempts fail, and each call repeats them' > "$scratch/repeated"
-for compiler in gcc $(command -v clang); do
-    check "$(basename "$compiler") compiles repeats.c" compile "$compiler" "$top/tests/c/repeats.c" "$scratch/repeats" -O2
-    check "$(basename "$compiler"): attempts that fail are repeated" compared "$scratch/repeated" "$scratch/repeats"
-done
+check 'repeats.c compiles' compile gcc "$top/tests/c/repeats.c" "$scratch/repeats" -O2
+check 'attempts that fail are repeated' compared "$scratch/repeated" "$scratch/repeats"
 
 # ---- a driver
 
