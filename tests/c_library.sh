@@ -151,7 +151,7 @@ check 'bursts in C++' "$scratch/bursts"
 
 # ---- a model card
 
-points=-Wl$(printf -- ',--wrap=fq_seat_%s' schedule schedule_prep hand hand_again take requeue complete complete_done end)
+points=-Wl$(printf ',--wrap=fq_seat_%s' schedule schedule_prep hand hand_again take requeue complete complete_done end)
 echo 'the card hangs without a look, by a late mask and by an enable without a request, and never else' > "$scratch/hung"
 check 'the model card compiles' compile gcc "$top/tests/c/card.c" "$scratch/card" -O2 "$points"
 check 'the model card' compared "$scratch/hung" "$scratch/card"
