@@ -224,7 +224,7 @@ def crate_picture(picture):
 
 
 def assurance(page):
-    """What docs/ASSURANCE.md says about the sources: the number of lines of definitions to read, within a tenth; that there is
+    """What docs/ASSURANCE.md says about the sources: the numbers of lines of definitions to read and of edits, within a tenth; that there is
     no axiom, unsafe code only in what exports C functions, and no atomic operation but sequentially consistent ones."""
     rows = re.findall(r"^\| (`crates/[^|]*\.antt`) \| (\d+) \|", page.read_text(), re.M)
     for names_told, lines in rows:
@@ -234,6 +234,11 @@ def assurance(page):
             yield f"{names_told} has {count} lines, and not {lines}"
     if len(rows) < 10:
         yield f"it lists {len(rows)} definitions with their lines"
+    edits = len(listed("crates/*/must-fail/*.edit"))
+    for name in ("docs/ASSURANCE.md", "docs/DECISIONS.md"):
+        for count in re.findall(r"\b[Ss]ome (\d+)(?: edits|: for each call the most informative edit)", (TOP / name).read_text()) or ["0"]:
+            if abs(edits - int(count)) * 10 > edits:
+                yield f"{name} says that there are some {count} must-fail edits, and there are {edits}"
     for name in listed("crates/*.antt", "crates/*.rt"):
         text = (TOP / name).read_text().replace(SENT, "", 1)
         if name.endswith(".antt") and re.search(r"^\s*axiom\b|\bPrim\.Axiom\b|\bpostulate\b", text, re.M):
