@@ -89,11 +89,20 @@ told_size() {
     awk -v told="$told" -v bytes="$(stat -c %s "$scratch/libfintaqush.a")" 'BEGIN { print told, bytes; exit !(bytes > told * 900 && bytes < told * 1100) }'
 }
 
+# The page names each function that the library needs.
+told_needs() {
+    local name
+    for name in $(nm -u "$scratch/libfintaqush.a" | awk 'NF == 2 && $2 !~ /^_GLOBAL_OFFSET_TABLE_$|^fq_/ { print $2 }' | sort -u); do
+        grep -q "^The library calls .*\`$name\`" "$top/docs/C.md" || { echo "docs/C.md doesn't name $name"; return 1; }
+    done
+}
+
 check 'the header declares what is exported' same_calls
 check 'it names the refusals of a replay in their order' order_of_a_replay
 check "the archive's size, as the page tells it" told_size
 check 'nothing else is exported' no_other_exports
 check 'nothing is asked for but the C library and libgcc' asks_for_libc_alone
+check 'the page names what is asked for' told_needs
 check 'no number twice' each_number_once
 check "the header's numbers are those that are proved" numbers_agree
 check 'each number has its name' each_has_a_name

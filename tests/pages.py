@@ -111,6 +111,45 @@ def lengths(_page):
         yield f"{first} words beside commands and tables, of at most {README_WORDS}"
 
 
+def versions(page):
+    """A page that states the version has to state the header's."""
+    version = re.search(r'^#define FQ_VERSION "(.*)"$', (TOP / "include/fintaqush.h").read_text(), re.M)[1]
+    stated = re.findall(r"^(?:\| Version \||version:) (\S+)", page.read_text(), re.M)
+    if stated != [version]:
+        yield f"it states the version {', '.join(stated) or 'nowhere'}, and the header has {version}"
+
+
+def times_in(page):
+    """The times of calls in ns that a page states, as texts."""
+    for numbers in re.findall(r"((?:\d+(?:\.\d+)?(?:, | and | to )?)+) ns\b", page.read_text()):
+        yield from re.findall(r"\d+(?:\.\d+)?", numbers)
+
+
+def speeds(page):
+    """A time of a call on another page has to be one of SPEED.md, which says how it was measured."""
+    known = set(times_in(TOP / "docs/SPEED.md"))
+    yield from (f"{number} ns is in no row of SPEED.md" for number in times_in(page) if number not in known)
+
+
+def durations(page):
+    """How long the first proof and all tests take is the same on each page, and lies around what DECISIONS.md has measured."""
+    measured = (TOP / "docs/DECISIONS.md").read_text()
+    first = [int(seconds) / 60 for seconds in re.findall(r"(\d+)(?: to \d+)? s on 4 idle cores", measured)]
+    whole = [int(minutes) for minutes in re.findall(r"the gate took (\d+) minutes", measured)]
+    stated = re.findall(r"(\d+) to (\d+) minutes on 4 cores", page.read_text())
+    wanted = [(str(int(min(first))), str(int(max(first)) + 1))] * (page.name != "WORKING.md") + [(str(min(whole)), str(max(whole)))]
+    if stated != wanted:
+        yield f"it states {stated} minutes for the first proof and for all tests, and DECISIONS.md has {wanted}"
+
+
+def pictures_by(page):
+    """What a page says that pictures need has to be in the table of what tests need."""
+    names = (TOP / "tests/needs.txt").read_text()
+    for name in re.findall(r"^(?:.*\. )?Pictures need (\w+)", page.read_text(), re.M):
+        if not re.search(rf"^{name} ", names, re.M):
+            yield f"pictures need {name}, which tests/needs.txt hasn't"
+
+
 def needs_of_crates():
     """The dependencies of each crate, by crates.txt."""
     return {row[1]: row[2].split() for row in re.finditer(r"^(\w+)(?: staticlib)?:(.*)", (TOP / "crates.txt").read_text(), re.M)}
@@ -185,7 +224,7 @@ def crate_picture(picture):
 
 
 def assurance(page):
-    """What docs/ASSURANCE.md says about the sources: the number of lines of definitions to read, within a tenth; that there is
+    """What docs/ASSURANCE.md says about the sources: the numbers of lines of definitions to read and of edits, within a tenth; that there is
     no axiom, unsafe code only in what exports C functions, and no atomic operation but sequentially consistent ones."""
     rows = re.findall(r"^\| (`crates/[^|]*\.antt`) \| (\d+) \|", page.read_text(), re.M)
     for names_told, lines in rows:
@@ -195,6 +234,11 @@ def assurance(page):
             yield f"{names_told} has {count} lines, and not {lines}"
     if len(rows) < 10:
         yield f"it lists {len(rows)} definitions with their lines"
+    edits = len(listed("crates/*/must-fail/*.edit"))
+    for name in ("docs/ASSURANCE.md", "docs/DECISIONS.md"):
+        for count in re.findall(r"\b[Ss]ome (\d+)(?: edits|: for each call the most informative edit)", (TOP / name).read_text()) or ["0"]:
+            if abs(edits - int(count)) * 10 > edits:
+                yield f"{name} says that there are some {count} must-fail edits, and there are {edits}"
     for name in listed("crates/*.antt", "crates/*.rt"):
         text = (TOP / name).read_text().replace(SENT, "", 1)
         if name.endswith(".antt") and re.search(r"^\s*axiom\b|\bPrim\.Axiom\b|\bpostulate\b", text, re.M):
@@ -245,8 +289,14 @@ def commands(all_pages):
 def checks():
     """Pairs of a page and what is wrong with it."""
     for page in pages():
-        for check in (links, named_files, names, kits, leftovers, ratios, snippets.snippets):
+        for check in (links, named_files, names, kits, leftovers, ratios, pictures_by, snippets.snippets):
             yield page, check(page)
+    for name in ("README.md", "CITATION.cff"):
+        yield TOP / name, versions(TOP / name)
+    for name in ("README.md", "docs/FAQ.md", "docs/LIMITS.md", "docs/COMPARISON.md", "docs/C.md", "docs/GUIDE.md"):
+        yield TOP / name, speeds(TOP / name)
+    for name in ("README.md", "docs/FAQ.md", "docs/WORKING.md"):
+        yield TOP / name, durations(TOP / name)
     for door in DOORS:
         yield TOP / "crates" / door / "README.md", door_page(TOP / "crates" / door / "README.md")
     yield TOP / "docs/C.md", claims.judge(TOP / "docs/C.md", ["napi_c", "c_handles", "replay_c", "machine_c"])

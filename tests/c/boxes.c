@@ -227,6 +227,26 @@ static void replays(void) {
     replayed("moment,device,event,value\n0,1,open,4\n1,1,rx,1\n1,1,disable,0\n1,1,enable,0\n", 4096, 300, FQ_BAD_TRACE);
 }
 
+static void machined(const char *arrivals, size_t room, uint32_t processors, uint32_t wanted) {
+    static uint8_t report[4096];
+    struct fq_machine_settings settings;
+    struct fq_machine_ran ran = {.size = sizeof ran};
+    want(fq_machine_usual(&settings, sizeof settings) == FQ_OK, "the usual settings");
+    settings.processors = processors, settings.threaded = 1;
+    want(fq_machine(&settings, (const uint8_t *)arrivals, strlen(arrivals), report, room, &ran) == wanted, "a machine");
+    nothing_is_left("of a machine");
+}
+
+static void machines(void) {
+    const char *const good = "moment,device,bytes\n0,1,60\n10,2,60\n10,1,1500\n900000,65,60\n";
+    machined(good, 4096, 2, FQ_OK);
+    machined(good, 10, 2, FQ_NO_ROOM);
+    machined(good, 4096, 1, FQ_BAD_ARRIVALS);
+    machined(good, 4096, 65, FQ_BAD_SETTING);
+    machined("moment,device,bytes\n5,1,60\n4,1,60\n", 4096, 2, FQ_BAD_ARRIVALS);
+    machined("", 4096, 2, FQ_BAD_ARRIVALS);
+}
+
 int main(void) {
     rings();
     transmit_rings();
@@ -234,6 +254,7 @@ int main(void) {
     drivers();
     instances();
     replays();
+    machines();
     printf("%d cases, and nothing is left\n", cases);
     return 0;
 }

@@ -153,6 +153,22 @@ static uint32_t make_replay(void) {
 }
 static bool replay_works(void) { return memcmp(report, wanted, ROOM) == 0; }
 
+static const char arrivals[] = "moment,device,bytes\n0,1,60\n10,2,60\n10,1,1500\n900000,65,60\n";
+static uint8_t wanted_of_machine[ROOM];
+
+static uint32_t make_machine(void) {
+    struct fq_machine_settings settings;
+    struct fq_machine_ran ran = {.size = sizeof ran};
+    want(fq_machine_usual(&settings, sizeof settings) == FQ_OK, "the usual settings", refused_take);
+    settings.processors = 2, settings.threaded = 1, settings.apart = 1;
+    memset(report, GUARD, ROOM);
+    const uint32_t said = fq_machine(&settings, (const uint8_t *)arrivals, sizeof arrivals - 1, report, ROOM, &ran);
+    for (size_t i = said == FQ_OK ? ran.length : 0; i < ROOM; i++)
+        want(report[i] == GUARD, "a byte that isn't the machine's report was written", refused_take);
+    return said;
+}
+static bool machine_works(void) { return memcmp(report, wanted_of_machine, ROOM) == 0; }
+
 /* With a trace whose runs are added in several replays, each longer than the one before. */
 static const char *const raised_head = "moment,device,event,value\n0,1,open,64\n", *const raised_row = "1,1,rx,60\n", *const raised_run = "2,0,softirq,0\n";
 static struct fq_raised raised;
@@ -195,12 +211,15 @@ static long refuse_each(const char *what, uint32_t (*make)(void), bool (*works)(
 int main(void) {
     want(make_replay() == FQ_OK, "there is no report", 0);
     memcpy(wanted, report, ROOM);
+    want(make_machine() == FQ_OK, "there is no report of the machine", 0);
+    memcpy(wanted_of_machine, report, ROOM);
     want(refuse_each("a ring", make_ring, ring_works) > 0, "a ring takes no memory", 0);
     want(refuse_each("a transmit ring", make_tx, tx_works) > 0, "a transmit ring takes no memory", 0);
     want(refuse_each("a list", make_list, list_works) > 0, "a list takes no memory", 0);
     want(refuse_each("a driver", make_driver, driver_works) > 3, "a driver takes no memory", 0);
     want(refuse_each("a shared instance", make_shared, shared_works) > 8, "a shared instance takes no memory", 0);
     want(refuse_each("a replay", make_replay, replay_works) > 0, "a replay takes no memory", 0);
+    want(refuse_each("the machine", make_machine, machine_works) > 5, "the machine takes no memory", 0);
     want(refuse_each("a raised trace", make_raised, raised_works) > 5, "a raised trace takes no memory", 0);
     want(refuse_each("a bare instance", make_bare, bare_works) > 8, "a bare instance takes no memory", 0);
     want(refuse_each("a split", make_split, split_works) > 1, "a split takes no memory", 0);

@@ -7,6 +7,7 @@ import re
 import shutil
 import subprocess
 import sys
+import types
 import unittest
 
 import timing
@@ -291,6 +292,12 @@ class Seen(unittest.TestCase):
         line = f"{'sender-7'.rjust(20)} [{timing.SENDER:03}] ..s1. 1000.000005000: napi_poll: napi poll on napi struct 0 for device vb1 work 3 budget 64"
         seen = self.seen(made.text() + line + "\n")
         self.assertEqual((list(predicting.visible_times(seen)), list(seen.sent)), ([made.time + 900] * 3, [made.time] * 3))
+
+    def test_arrivals_of_one_time_keep_their_places(self):
+        """Packets that are sent at the same time arrive in the order in which they were recorded, whichever device sent them."""
+        seen = types.SimpleNamespace(sent=[9, 9, 5, 9, 5], sent_by=["vb1", "va1", "vb1", "vb1", "va1"])
+        rows = predicting.arrivals_at(seen, {"va1": 1, "vb1": 2}).splitlines()[1:]
+        self.assertEqual([row.rsplit(",", 1)[0] for row in rows], ["0,2", "0,1", "4,2", "4,1", "4,2"])
 
     def test_percentiles(self):
         values = list(range(1, 11))
