@@ -16,7 +16,7 @@
  *
  * No call blocks, sleeps, locks or starts a thread. fq_seat_schedule_prep, fq_seat_complete_done, fq_seat_end and fq_control_step, and
  * the inline functions over them, repeat an attempt while other threads change the instance: some thread always makes progress. Every
- * call returns: after 2^64 - 1 attempts, which take centuries, these return FQ_CHANGED, and do nothing more. fq_ring_new, fq_ring_split,
+ * call returns: after 2^64 attempts, which take centuries, these return FQ_CHANGED, and do nothing more. fq_ring_new, fq_ring_split,
  * fq_tx_new, fq_list_new, fq_driver_new, fq_shared_new, fq_shared_bare, fq_replay and fq_machine allocate memory, after they have checked
  * their arguments; if an allocation fails, they free what they allocated, and nothing has changed. fq_free, fq_abandon and fq_ring_finish
  * free memory. No other call allocates or frees.
