@@ -166,6 +166,11 @@ static void new_ring(void) {
     *objects[i].ring = (struct ring){.users = 1, .places = places};
 }
 
+/* Few rings leave handles for the seats of instances. */
+static void only_ring(void) {
+    if (objects[one_of(RING, RING)].what != RING) new_ring();
+}
+
 static struct fq_packet random_packet(void) { return (struct fq_packet){((uint64_t)below(1 << 30) << 32) + below(1 << 30), below(70000)}; }
 
 static bool takes_puts(const struct object *o) { return o->what == RING || o->what == INPUT; }
@@ -311,15 +316,25 @@ static uint32_t seat_takes(struct object *o, uint32_t kind) {
 
 static uint32_t random_seat(void) { return one_of(SEAT, SEAT); }
 
+/* Mostly one in such a state. */
+static uint32_t seat_that(bool is_so(const struct object *)) {
+    const uint32_t from = random_seat();
+    for (uint32_t i = 0; i < HANDLES && below(8) != 0; i++)
+        if (is_so(&objects[(from + i) % HANDLES])) return (from + i) % HANDLES;
+    return from;
+}
+
+static bool may_end(const struct object *o) { return polls(o) || busy_polls(o); }
+
 /* Rarely out of range. */
 static uint32_t random_kind(void) { return below(9) ? below(2) : 2 + below(2); }
 
 static void seat_call(void) {
-    const uint32_t i = random_seat(), kind = random_kind();
+    const uint32_t which = below(12), i = which == 9 ? seat_that(may_end) : which == 10 ? seat_that(is_granted) : random_seat(), kind = random_kind();
     struct object *const o = &objects[i];
     const uint32_t other = o->what == SEAT ? FQ_NOT_ALLOWED : FQ_BAD_HANDLE;
     uint32_t next = 99, wanted, wanted_next;
-    switch (below(12)) {
+    switch (which) {
     case 0: want("schedule", fq_seat_schedule(&handles[i]), seat_schedules(o)); break;
     case 1: want("hand", fq_seat_hand(&handles[i], kind), seat_hands(o, kind)); break;
     case 2:
@@ -400,6 +415,17 @@ static void interrupt(void) {
     hold("masked exactly where it was granted", is_masked == (wanted == FQ_GRANTED));
 }
 
+static void request(void) {
+    const uint32_t i = random_seat();
+    uint32_t next = 99, wanted_next = FQ_NEXT_GONE;
+    const uint32_t wanted = seat_schedules(&objects[i]);
+    if (wanted == FQ_GRANTED) hold("the model hands", hands_again(&objects[i], &wanted_next) == FQ_OK);
+    is_masked = false;
+    want("a request", fq_seat_request(&handles[i], &card, &next), wanted);
+    hold("where it was queued", next == wanted_next);
+    hold("masked exactly if it was granted", is_masked == (wanted == FQ_GRANTED));
+}
+
 /* The model's end of a poll, full or not. */
 static uint32_t ends(struct object *o, bool full, uint32_t *next) {
     *next = FQ_NEXT_GONE;
@@ -423,7 +449,7 @@ static const char *polling_of(const struct object *o) {
 }
 
 static void end(void) {
-    const uint32_t i = random_seat();
+    const uint32_t i = seat_that(may_end);
     const bool full = below(2);
     const char *state = polling_of(&objects[i]);
     uint32_t next = 99, wanted_next;
@@ -433,7 +459,7 @@ static void end(void) {
 }
 
 static void end_watched(void) {
-    const uint32_t i = random_seat();
+    const uint32_t i = seat_that(may_end);
     const bool full = below(2);
     uint32_t next = 99, wanted_next;
     const uint32_t wanted = ends(&objects[i], full, &wanted_next);
@@ -449,7 +475,7 @@ static void end_watched(void) {
 }
 
 static void end_unmasked(void) {
-    const uint32_t i = random_seat();
+    const uint32_t i = seat_that(may_end);
     struct object *const o = &objects[i];
     const size_t weight = below(67), before = below((uint32_t)weight + 1);
     size_t work = before;
@@ -797,13 +823,13 @@ static void word_call(void) {
 typedef void a_call(void);
 static a_call *const ring_calls[] = {new_ring, put, put, put_all, put_all, poll_ring, poll_ring, split, finish, show_ring, counts, any_handle};
 static a_call *const sender_calls[] = {new_sender, send, send, send, done, done, show_sender, watch, any_handle};
-static a_call *const shared_calls[] = {new_ring, new_shared, put, put_all, seat_call, seat_call, seat_call, seat_call, poll_seat, look, counts, interrupt, end, end_watched,
+static a_call *const shared_calls[] = {only_ring, new_shared, put, put_all, seat_call, seat_call, seat_call, seat_call, poll_seat, look, counts, interrupt, request, end, end_watched,
     end_unmasked, control_call, control_call, any_handle};
 static a_call *const list_calls[] = {new_list, call_of_list, call_of_list, call_of_list, call_of_list, call_of_list, call_of_list, any_handle};
 static a_call *const limit_calls[] = {limit_call};
 static a_call *const instance_calls[] = {instance_call, instance_call, instance_call, word_call};
 static a_call *const any_calls[] = {new_ring, put, put_all, poll_ring, split, finish, show_ring, new_sender, send, done, watch, new_shared, seat_call, seat_call, poll_seat,
-    look, counts, interrupt, end, end_watched, end_unmasked, control_call, new_list, call_of_list, call_of_list, any_handle, limit_call, instance_call};
+    look, counts, interrupt, request, end, end_watched, end_unmasked, control_call, new_list, call_of_list, call_of_list, any_handle, limit_call, instance_call};
 
 static const char *const no_cases[] = {NULL};
 static const char *const sender_cases[] = {"watch, started: FQ_OK", "watch, stopped: FQ_OK", "watch, stopped: FQ_OK, stuck", "watch, stopped, back: FQ_OK", "watch: FQ_BAD_HANDLE", NULL};
