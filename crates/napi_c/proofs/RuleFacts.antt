@@ -23,7 +23,8 @@ granted_hands (hold.Granted g) kind n (hold.Rests c) m is = (m.0, tt)
 granted_hands (hold.Granted g) kind n _ m is = absurd m.1
 granted_hands _ kind n k m is = absurd is
 
-pub polls_requeues : (h : CallerState) (n : ℕ) (k : CallerState) → SeatAnswers seat_call.Requeue h n k → IsPolling h → (n ≡ OK) × IsResting k
+pub polls_requeues : (h : CallerState) (n : ℕ) (k : CallerState) → SeatAnswers seat_call.Requeue h n k → IsPolling h
+    → (n ≡ OK) × IsResting k
 polls_requeues (hold.Polls w) n (hold.Rests c) m is = (m.0, tt)
 polls_requeues (hold.Polls w) n _ m is = absurd m.1
 polls_requeues _ n k m is = absurd is

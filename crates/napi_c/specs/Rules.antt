@@ -62,7 +62,7 @@ pub record AfterComplete (said : ℕ) (s : CallerObject) (n next : ℕ) (t : Cal
   pub other : said ≢ RELEASED → said ≢ AGAIN → (n ≡ said) × (next ≡ NEXT_GONE) × (t ≡ s)
 
 -- `napi_complete_done`, repeated, and what follows it
-pub record Completes (s : CallerObject) (n next : ℕ) (t : CallerObject) : Type 0 where
+pub record SeatCompletes (s : CallerObject) (n next : ℕ) (t : CallerObject) : Type 0 where
   pub said : ℕ
   pub completed : CallerObject
   pub completes : Repeats (SeatStep seat_call.Complete) s said completed
@@ -70,11 +70,11 @@ pub record Completes (s : CallerObject) (n next : ℕ) (t : CallerObject) : Type
 
 -- After a full poll the caller looks. If a disable is pending it completes; a thread's poll goes on; any other puts the instance on
 -- the list again.
-pub record EndsFull (s : CallerObject) (n next : ℕ) (t : CallerObject) : Type 0 where
+pub record SeatEndsFull (s : CallerObject) (n next : ℕ) (t : CallerObject) : Type 0 where
   pub seen : Seen
   pub looked : CallerObject
   pub looks : SeatLooked s seen looked
-  pub completed : stays_scheduled true seen.flags ≡ false → Completes looked n next t
+  pub completed : stays_scheduled true seen.flags ≡ false → SeatCompletes looked n next t
   pub thread : stays_scheduled true seen.flags ≡ true → seen.flags.sched_threaded ≡ true
       → (n ≡ HELD) × (next ≡ NEXT_GONE) × (t ≡ looked)
   pub list : stays_scheduled true seen.flags ≡ true → seen.flags.sched_threaded ≡ false
@@ -85,18 +85,18 @@ abbrev pub is_full_poll : Bool → CallerState → Bool
 is_full_poll full (hold.Polls w) = full
 is_full_poll full _ = false
 
-abbrev pub EndsBy : Bool → CallerObject → ℕ → ℕ → CallerObject → Type 0
-EndsBy true = EndsFull
-EndsBy false = Completes
+abbrev pub SeatEndsBy : Bool → CallerObject → ℕ → ℕ → CallerObject → Type 0
+SeatEndsBy true = SeatEndsFull
+SeatEndsBy false = SeatCompletes
 
 -- the end of a poll, full or not. `next` says what a run has to know of it.
 abbrev pub SeatEnds : Bool → ℕ → CallerObject → ℕ → CallerObject → Type 0
-SeatEnds full next s n t = EndsBy (is_full_poll full s.hold) s n next t
+SeatEnds full next s n t = SeatEndsBy (is_full_poll full s.hold) s n next t
 
 -- ---- `napi_enable` and `napi_disable`
 
 -- the mark of a disable, unless it is made already, and then attempts to take the instance
-pub record Disables (c : Controller) (n : ℕ) (d : Controller) : Type 0 where
+pub record ControlDisables (c : Controller) (n : ℕ) (d : Controller) : Type 0 where
   pub said : ℕ
   pub marked : Controller
   pub marks : ControlStep control_call.Mark c said marked
@@ -105,17 +105,17 @@ pub record Disables (c : Controller) (n : ℕ) (d : Controller) : Type 0 where
   pub status : n ≡ (if last == TAKEN then OK else last)
 
 -- an instance that is off stays off
-abbrev pub StopsBy : Bool → Controller → ℕ → Controller → Type 0
-StopsBy true c n d = (n ≡ OK) × (d ≡ c)
-StopsBy false c n d = Disables c n d
+abbrev pub ControlStopsBy : Bool → Controller → ℕ → Controller → Type 0
+ControlStopsBy true c n d = (n ≡ OK) × (d ≡ c)
+ControlStopsBy false c n d = ControlDisables c n d
 
-abbrev pub Stops : Controller → ℕ → Controller → Type 0
-Stops c n d = StopsBy (is_control_off c.power) c n d
+abbrev pub ControlStops : Controller → ℕ → Controller → Type 0
+ControlStops c n d = ControlStopsBy (is_control_off c.power) c n d
 
 -- one step of a driver's open (`on`) or stop
 abbrev pub ControlSteps : Bool → Bool → Controller → ℕ → Controller → Type 0
 ControlSteps true threaded c n d = Repeats (ControlStep (control_call.Enable threaded)) c n d
-ControlSteps false threaded c n d = Stops c n d
+ControlSteps false threaded c n d = ControlStops c n d
 
 -- the controller of an instance that is on, or off
 abbrev pub IsSwitched : Bool → ControlState → Type 0

@@ -4,7 +4,7 @@ ghost use Rattle.c_handles.specs.declared.power.ControlCall.TheVariants as contr
 ghost use Rattle.c_handles.specs.Freeing.{is_control_off};
 ghost use Rattle.c_handles.specs.Handles.{ControlDoes, ControlDoesIn, ControlMakes, ControlMakesIn, IsControllerWith, LeadsToController};
 ghost use Rattle.c_handles.specs.Status.{OK};
-ghost use Rattle.napi_c.specs.Rules.{ControlSteps, IsSwitched, Stops};
+ghost use Rattle.napi_c.specs.Rules.{ControlSteps, IsSwitched, ControlStops};
 
 use crate::attempts::repeat;
 use c_handles::{ControlCall, ControlState, Controller, FqHandle, Object, status};
@@ -60,7 +60,7 @@ fn is_off(control: &Controller) -> bool
 
 // Marks the instance for a disable, unless that is done already, and tries to take it.
 fn stop(control: &mut Controller) -> u32
-    ensures makes { Stops control.old result control.new }
+    ensures makes { ControlStops control.old result control.new }
     ensures off { result ≡ OK → IsSwitched false control.new.power }
 {
     if is_off(control) {

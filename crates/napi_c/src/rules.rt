@@ -6,7 +6,7 @@ ghost use Rattle.c_handles.specs.Endings.{LeadsToSeat};
 ghost use Rattle.c_handles.specs.Handles.{IsCallerWith, SeatDoes, SeatDoesIn, SeatStep};
 ghost use Rattle.c_handles.specs.Seats.{IsGrantedCaller, IsPolling, IsResting};
 ghost use Rattle.c_handles.specs.Status.{OK};
-ghost use Rattle.napi_c.specs.Rules.{Completes, EndsFull, is_full_poll, Queues, Repeats, SeatEnds, SeatQueues};
+ghost use Rattle.napi_c.specs.Rules.{SeatCompletes, SeatEndsFull, is_full_poll, Queues, Repeats, SeatEnds, SeatQueues};
 ghost use Rattle.napi_c.specs.Serial.{NEXT_GONE};
 
 use crate::attempts::repeat;
@@ -35,7 +35,7 @@ pub extern "C" fn fq_seat_schedule_prep(handle: &mut FqHandle) -> u32
     repeat_in(handle.held.as_mut(), SeatCall::Schedule)
 }
 
-/// Completes a poll (`napi_complete_done`): like `fq_seat_complete`, repeated while another thread interferes. Returns RELEASED
+/// SeatCompletes a poll (`napi_complete_done`): like `fq_seat_complete`, repeated while another thread interferes. Returns RELEASED
 /// or AGAIN; HELD if the caller busy polls; NOT_ALLOWED if it doesn't poll; CHANGED only after 2^64 attempts.
 #[unsafe(no_mangle)]
 pub extern "C" fn fq_seat_complete_done(handle: &mut FqHandle) -> u32
@@ -90,10 +90,10 @@ pub extern "C" fn fq_seat_hand_again(handle: &mut FqHandle, next: &mut u32) -> u
     hand_in(handle.held.as_mut(), next)
 }
 
-// Completes the poll, and queues the instance again if a request was missed.
+// SeatCompletes the poll, and queues the instance again if a request was missed.
 fn complete(seat: &mut CallerObject, next: &mut u32) -> u32
     requires { next.old ≡ NEXT_GONE }
-    ensures makes { Completes seat.old result next.new seat.new }
+    ensures makes { SeatCompletes seat.old result next.new seat.new }
     ensures rests { result ≡ OK → IsResting seat.new.hold }
     ensures none { result ≢ OK → next.new ≡ NEXT_GONE }
 {
@@ -118,7 +118,7 @@ fn is_full_poll(full: bool, hold: &CallerState) -> bool
 fn end_full(seat: &mut CallerObject, next: &mut u32) -> u32
     requires polls { IsPolling seat.old.hold }
     requires gone { next.old ≡ NEXT_GONE }
-    ensures makes { EndsFull seat.old result next.new seat.new }
+    ensures makes { SeatEndsFull seat.old result next.new seat.new }
     ensures rests { result ≡ OK → IsResting seat.new.hold }
     ensures none { result ≢ OK → next.new ≡ NEXT_GONE }
 {

@@ -9,5 +9,6 @@ loop-init g c = refl
 pub loop-preserved : goal.loop-preserved
 unfolding Fails
 loop-preserved g c =
-    let failed = subst (λ (n : ℕ). g.T.Attempts.makes c.args.call c.loop.it n c.attempt-status.new.self) c.if-status-ne-CHANGED.false c.attempt-status.ensures in
+    let attempt = λ (n : ℕ). g.T.Attempts.makes c.args.call c.loop.it n c.attempt-status.new.self in
+    let failed = subst attempt c.if-status-ne-CHANGED.false c.attempt-status.ensures in
     rw add-one (c.loop.it, c.loop.invariant, failed)
