@@ -1,8 +1,8 @@
 #!/usr/bin/env python3
 """sizes.py FOLDER: runs each program in FOLDER/NAME/out on inputs of all sizes, with all the memory that it needs: none fails, and its
 report has the counts of the input. The sizes are the powers of two and the numbers next to them, up to the limits: 100,000 rows,
-rings of capacity 65,536, 16 devices, 8 pollers. Address space is limited to twice what the greatest of these inputs needed, unless
-threads share it. The last line is `N passed, M failed`."""
+rings of capacity 65,536, 16 devices, 8 pollers. Address space is limited to twice what the greatest of these inputs needed. The last
+line is `N passed, M failed`."""
 
 import os
 import resource
@@ -12,12 +12,14 @@ import time
 from collections import Counter
 
 MOST_ROWS, MOST_PLACES, MOST_DEVICES, MOST_POLLERS = 100000, 65536, 16, 8
-# MiB of address space: twice what the greatest input needed (14, 37 and 95). With threads each has a stack, and malloc's own 64
-# MiB.
-MEMORY = {"napi_serial": 28, "napi_series": 74, "napi_machine": 190, "napi_replay": 8192}
+# MiB of address space: twice what the greatest input needed (14, 37 and 95; 14 and 26 in serial and shared mode; 328 with 40 threads, each
+# of which has a stack of 8). malloc has one arena, because each further one takes 64 MiB of addresses that nothing uses.
+MEMORY = {"napi_serial": 28, "napi_series": 74, "napi_machine": 190, "napi_replay serial": 28, "napi_replay shared": 52, "napi_replay threads": 656}
+ENVIRONMENT = {**os.environ, "MALLOC_ARENA_MAX": "1"}
 HEADER = b"moment,device,event,value\n"
 QUOTED = b'"moment",device,event,value\n'  # the same record; the rows after it are read record by record
-REPLAYS = [("napi_serial", []), ("napi_replay", ["--mode", "shared"]), ("napi_replay", ["--mode", "threads"]), ("napi_series", [])]
+REPLAYS = [("napi_serial", []), ("napi_replay", ["--mode", "shared"]), ("napi_replay", ["--mode", "threads"]), ("napi_series", []),
+           ("napi_replay", ["--mode", "serial"])]
 
 crates = sys.argv[1]
 passed = failed = 0
@@ -33,9 +35,9 @@ def sizes(most):
 def run(program, words, text):
     """The lines that a program prints; a message on standard error raises an exception."""
     begun = time.monotonic()
-    most = MEMORY[program] << 20
+    most = MEMORY[" ".join([program, *words[1:2]]) if program == "napi_replay" else program] << 20
     done = subprocess.run([f"{crates}/{program}/out/{program}", *words], input=text, capture_output=True, check=False, timeout=300,
-                          preexec_fn=lambda: resource.setrlimit(resource.RLIMIT_AS, (most, most)))
+                          env=ENVIRONMENT, preexec_fn=lambda: resource.setrlimit(resource.RLIMIT_AS, (most, most)))
     took[" ".join([program, *words[:2]])] += time.monotonic() - begun
     if (done.returncode, done.stderr) != (0, b""):
         raise ValueError(f"status {done.returncode}, {done.stderr[:200]}")

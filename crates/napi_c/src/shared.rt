@@ -7,7 +7,7 @@ ghost use Rattle.napi_calls.specs.Instance.{IsSeatOf, first_of_instance};
 ghost use Rattle.napi_calls.specs.Seats.{own_list, state_shown};
 ghost use Rattle.c_handles.specs.declared.body.Object.TheVariants as variant;
 ghost use Rattle.c_handles.specs.declared.body.Ring.{Ring};
-ghost use Rattle.c_handles.specs.Rings.{LeadsTo};
+ghost use Rattle.c_handles.specs.Rings.{HasInput, LeadsTo, LeadsToItsInput};
 ghost use Rattle.napi_c.specs.Objects.{is_ring, LeadsToOther};
 ghost use Rattle.napi_c.specs.Shared.{AreFree, AreFresh, AreOfOne, AreUnthreaded, IsFree, IsInstanceOver, IsUnthreaded, LeadsToNewSeat};
 ghost use Rattle.c_handles.specs.Status.{OK, IN_USE, BAD_COUNT, BAD_HANDLE, OUT_OF_MEMORY};
@@ -200,6 +200,8 @@ fn share(alloc: Global, body: &mut Object, control: &mut FqHandle, seats: &mut [
         → body.new ≡ variant.In r.input }
     ensures over { (r : Ring) → body.old ≡ variant.Ring r → result ≡ OK
         → IsInstanceOver r.ctx control.new }
+    ensures left { (r : Ring) → body.old ≡ variant.Ring r → result ≡ OUT_OF_MEMORY
+        → HasInput r.input body.new }
     ensures kept { result ≢ OK → result ≢ OUT_OF_MEMORY → (control.new ≡ control.old)
         × (seats.new ≡ seats.old) × (body.new ≡ body.old) }
 {
@@ -244,6 +246,8 @@ pub extern "C" fn fq_shared_new(
         → IsInstanceOver r.ctx control.new }
     ensures kept { result ≢ OK → result ≢ OUT_OF_MEMORY → (control.new ≡ control.old)
         × (seats.new ≡ seats.old) × (input.new.held.body ≡ input.old.held.body) }
+    ensures left { (r : Ring) → LeadsTo input.old r → result ≡ OUT_OF_MEMORY
+        → LeadsToItsInput r.input input.new.held.body }
     ensures memory { result ≡ OUT_OF_MEMORY → IsFree control.new × AreFree seats.new }
     ensures in_use { ¬ (IsFree control.old × AreFree seats.old) → result ≡ IN_USE }
     ensures count { IsFree control.old → AreFree seats.old
