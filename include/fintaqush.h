@@ -727,10 +727,10 @@ struct fq_replayed {
 
 /* Replays a trace of `len` bytes, and writes its report to an array of `room` bytes. Returns FQ_BAD_WEIGHT, FQ_BAD_BUDGET for the
  * settings; FQ_OUT_OF_MEMORY; FQ_BAD_TRACE, and replayed->fault and replayed->row say why; FQ_NO_ROOM, and replayed->length is the room
- * that the report needs; FQ_OK, and the first replayed->length bytes of the array are the report, with no terminating 0. The array is
- * unchanged unless it returns FQ_OK. For an empty trace or array the pointer still points to some byte. An instance's thread polls at
- * most 131072 times at a time, which no trace of 100000 rows reaches. fintaqush_raise.h adds the runs that the kernel would make with a
- * smaller budget. */
+ * that the report needs; FQ_OK, and the first replayed->length bytes of the array are the report, with no terminating 0. All other bytes
+ * of the array are unchanged, and all of them unless it returns FQ_OK. For an empty trace or array the pointer still points to some byte.
+ * An instance's thread polls at most 131072 times at a time, which no trace of 100000 rows reaches. fintaqush_raise.h adds the runs that
+ * the kernel would make with a smaller budget. */
 FQ_CHECKED enum fq_status fq_replay(const struct fq_settings *FQ_RESTRICT settings, const uint8_t *FQ_RESTRICT trace, size_t len, uint8_t *FQ_RESTRICT report, size_t room, struct fq_replayed *FQ_RESTRICT replayed);
 
 /* Returns the name of a trace's fault, for example "BadHeader"; "?" for an unknown number. */
@@ -784,8 +784,8 @@ FQ_CHECKED enum fq_status fq_machine_usual(struct fq_machine_settings *settings,
 /* Runs the machine on arrivals of `len` bytes, and writes its report to an array of `room` bytes. Returns FQ_BAD_SIZE if a struct's
  * `size` isn't set, and *ran is unchanged; FQ_BAD_SETTING, and ran->setting says which; FQ_OUT_OF_MEMORY; FQ_BAD_ARRIVALS, and
  * ran->fault, ran->row and ran->message say why; FQ_NO_ROOM, and ran->length is the room that the report needs; FQ_OK, and the first
- * ran->length bytes of the array are the report, with no terminating 0. The array is unchanged unless it returns FQ_OK. For empty
- * arrivals or an empty array the pointer still points to some byte. */
+ * ran->length bytes of the array are the report, with no terminating 0. All other bytes of the array are unchanged, and all of
+ * them unless it returns FQ_OK. For empty arrivals or an empty array the pointer still points to some byte. */
 FQ_CHECKED enum fq_status fq_machine(const struct fq_machine_settings *FQ_RESTRICT settings, const uint8_t *FQ_RESTRICT arrivals, size_t len, uint8_t *FQ_RESTRICT report, size_t room, struct fq_machine_ran *FQ_RESTRICT ran);
 
 #ifdef __cplusplus
