@@ -14,12 +14,12 @@
  * - A struct fq_handle or fq_dql isn't copied, and only calls write its fields. An unset handle is all zero.
  * - No call is made from a signal handler, or from the forked child of a process with threads.
  *
- * No call blocks, sleeps, locks or starts a thread. fq_seat_interrupt, fq_seat_interrupt_masked, fq_seat_request, fq_seat_end,
- * fq_seat_end_watched, fq_seat_end_unmasked, fq_control_step and fq_control_open try again as long as an attempt returns FQ_CHANGED,
- * because another thread changed the instance: some thread always makes progress, but the number of attempts has no bound. fq_ring_new,
- * fq_ring_split, fq_tx_new, fq_list_new, fq_driver_new, fq_shared_new, fq_shared_bare, fq_replay and fq_machine allocate memory, after
- * they have checked their arguments; if an allocation fails, they free what they allocated, and nothing has changed. fq_free,
- * fq_abandon and fq_ring_finish free memory. No other call allocates or frees.
+ * No call blocks, sleeps, locks or starts a thread. fq_seat_schedule_prep, fq_seat_complete_done, fq_seat_end and fq_control_step, and
+ * the inline functions over them, repeat an attempt while other threads change the instance: some thread always makes progress. Every
+ * call returns: after 2^64 attempts, which take centuries, these return FQ_CHANGED, and do nothing more. fq_ring_new, fq_ring_split,
+ * fq_tx_new, fq_list_new, fq_driver_new, fq_shared_new, fq_shared_bare, fq_replay and fq_machine allocate memory, after they have checked
+ * their arguments; if an allocation fails, they free what they allocated, and nothing has changed. fq_free, fq_abandon and fq_ring_finish
+ * free memory. No other call allocates or frees.
  *
  * Memory order: what a thread wrote before it put a packet is visible to the thread whose poll returns that packet. A poll frees the
  * places of the packets that it returns, all at once: what was done before that poll is visible to the put that finds one of them free.
@@ -119,7 +119,7 @@ FQ_NONNULL size_t fq_fault_text(uint32_t fault, char *to, size_t room);
 enum fq_struct FQ_NUMBER {
     FQ_STRUCT_HANDLE = 0, FQ_STRUCT_DQL = 1, FQ_STRUCT_DQL_MADE = 2, FQ_STRUCT_NAPI = 3, FQ_STRUCT_PACKET = 4, FQ_STRUCT_COUNTS = 5,
     FQ_STRUCT_TOTALS = 6, FQ_STRUCT_RING_SHOWN = 7, FQ_STRUCT_TX_SHOWN = 8, FQ_STRUCT_ANSWERS = 9, FQ_STRUCT_RUN_REPORT = 10,
-    FQ_STRUCT_TODO = 11, FQ_STRUCT_DEVICE_SHOWN = 12
+    FQ_STRUCT_TODO = 11, FQ_STRUCT_DEVICE_SHOWN = 12, FQ_STRUCT_TX_WATCHDOG = 13
 };
 size_t fq_struct_size(uint32_t which);
 
@@ -386,19 +386,7 @@ struct fq_tx_watchdog {
 /* Checks a ring at each tick of that timer. Sets *stuck to whether the ring has been stopped, with no byte completed, for `limit_ms`
  * since the first check that found it so; if the clock went back to before that check, 0 ms have passed. Returns FQ_OK; FQ_BAD_HANDLE,
  * and *stuck is false. */
-FQ_CHECKED static inline enum fq_status fq_tx_watch(struct fq_handle *FQ_RESTRICT tx, struct fq_tx_watchdog *FQ_RESTRICT watchdog, uint64_t limit_ms, uint64_t now_ms, bool *FQ_RESTRICT stuck) {
-    struct fq_tx_shown state;
-    *stuck = false;
-    const enum fq_status said = fq_tx_state(tx, &state);
-    if (said != FQ_OK) return said;
-    if (!state.stopped || !watchdog->private_stopped || state.completed != watchdog->private_completed) {
-        watchdog->private_stopped = state.stopped;
-        watchdog->private_completed = state.completed;
-        watchdog->private_since = now_ms;
-    }
-    *stuck = state.stopped && (now_ms > watchdog->private_since ? now_ms - watchdog->private_since : 0) >= limit_ms;
-    return FQ_OK;
-}
+FQ_CHECKED enum fq_status fq_tx_watch(struct fq_handle *FQ_RESTRICT tx, struct fq_tx_watchdog *FQ_RESTRICT watchdog, uint64_t limit_ms, uint64_t now_ms, bool *FQ_RESTRICT stuck);
 
 /* ---- Instances that threads share. */
 
@@ -411,9 +399,11 @@ FQ_CHECKED enum fq_status fq_shared_new(struct fq_handle *FQ_RESTRICT ring, stru
 FQ_CHECKED enum fq_status fq_shared_bare(struct fq_handle *FQ_RESTRICT control, struct fq_handle *FQ_RESTRICT seats, size_t count);
 
 /* The calls of a seat, which is one caller of the instance. Each makes one attempt, after checks for FQ_BAD_KIND, FQ_BAD_WEIGHT,
- * FQ_NO_ROOM and FQ_BAD_HANDLE. A seat at rest, which owns nothing, may request a poll (napi_schedule_prep), take the instance from the
- * list or as its thread, take it to busy poll it (napi_busy_loop), and set whether polls are queued for its thread (dev_set_threaded). */
-FQ_CHECKED enum fq_status fq_seat_schedule(struct fq_handle *seat); /* FQ_GRANTED, FQ_MISSED, FQ_DISABLED, FQ_CHANGED */
+ * FQ_NO_ROOM and FQ_BAD_HANDLE; fq_seat_schedule_prep and fq_seat_complete_done repeat it while another thread changes the instance. A
+ * seat at rest, which owns nothing, may request a poll (napi_schedule_prep), take the instance from the list or as its thread, take it to
+ * busy poll it (napi_busy_loop), and set whether polls are queued for its thread (dev_set_threaded). */
+FQ_CHECKED enum fq_status fq_seat_schedule(struct fq_handle *seat);      /* FQ_GRANTED, FQ_MISSED, FQ_DISABLED, FQ_CHANGED */
+FQ_CHECKED enum fq_status fq_seat_schedule_prep(struct fq_handle *seat); /* FQ_GRANTED, FQ_MISSED, FQ_DISABLED */
 FQ_CHECKED enum fq_status fq_seat_take(struct fq_handle *seat, uint32_t kind); /* FQ_TAKEN, FQ_NOT_THERE */
 FQ_CHECKED enum fq_status fq_seat_busy_take(struct fq_handle *seat); /* FQ_TAKEN, FQ_BUSY, FQ_CHANGED */
 FQ_CHECKED enum fq_status fq_seat_set_threaded(struct fq_handle *seat, bool threaded); /* FQ_OK */
@@ -421,8 +411,9 @@ FQ_CHECKED enum fq_status fq_seat_set_threaded(struct fq_handle *seat, bool thre
 FQ_CHECKED enum fq_status fq_seat_hand(struct fq_handle *seat, uint32_t kind); /* FQ_OK */
 /* A seat that polls may poll the ring, like fq_ring_poll, and then requeues the instance or completes (napi_complete_done). */
 FQ_CHECKED enum fq_status fq_seat_poll(struct fq_handle *FQ_RESTRICT seat, size_t weight, struct fq_packet *FQ_RESTRICT out, size_t len, size_t *FQ_RESTRICT count);
-FQ_CHECKED enum fq_status fq_seat_requeue(struct fq_handle *seat);  /* FQ_OK: it is on the list again */
-FQ_CHECKED enum fq_status fq_seat_complete(struct fq_handle *seat); /* FQ_RELEASED, FQ_AGAIN, FQ_CHANGED; FQ_HELD for a busy poller */
+FQ_CHECKED enum fq_status fq_seat_requeue(struct fq_handle *seat);       /* FQ_OK: it is on the list again */
+FQ_CHECKED enum fq_status fq_seat_complete(struct fq_handle *seat);      /* FQ_RELEASED, FQ_AGAIN, FQ_CHANGED; FQ_HELD for a busy poller */
+FQ_CHECKED enum fq_status fq_seat_complete_done(struct fq_handle *seat); /* FQ_RELEASED, FQ_AGAIN; FQ_HELD for a busy poller */
 /* A seat that busy polls may poll and complete, and stops (busy_poll_stop): it then polls once more. */
 FQ_CHECKED enum fq_status fq_seat_busy_stop(struct fq_handle *seat); /* FQ_OK, FQ_CHANGED */
 
@@ -432,7 +423,7 @@ FQ_CHECKED enum fq_status fq_seat_look(struct fq_handle *FQ_RESTRICT seat, uint6
 struct fq_answers { /* each count saturates at its maximum */
     uint64_t granted, missed, disabled; /* requests (FQ_GRANTED ..) */
     uint64_t released, again, held;     /* completions */
-    uint64_t changed;                   /* attempts of any call that returned FQ_CHANGED */
+    uint64_t changed;                   /* attempts of any call that failed because another thread changed the instance */
 };
 
 /* Sets *answers to how often the seat's calls returned each result since it was made. Returns FQ_OK; FQ_BAD_HANDLE, and *answers is
@@ -448,15 +439,17 @@ struct fq_card {
     size_t (*poll)(void *at, size_t most); /* polls at most this many packets, and returns how many */
 };
 
-/* Handles an interrupt: schedules, and repeats the attempt while it returns FQ_CHANGED; if granted, masks the card and queues the
- * instance, in the kernel's order: if the card were masked after that, it would stay masked whenever the poller is faster. `kind`
- * follows FQ_BIT_THREADED, which fq_seat_request reads itself. Returns FQ_BAD_KIND; FQ_GRANTED, and the instance is queued; FQ_MISSED;
- * FQ_DISABLED; FQ_BAD_HANDLE; FQ_NOT_ALLOWED. */
+/* Queues a granted instance as the kernel does (____napi_schedule): for its thread if FQ_BIT_THREADED is set. Sets *next to
+ * FQ_NEXT_AGAIN or FQ_NEXT_AGAIN_THREAD. Returns FQ_OK; FQ_BAD_HANDLE; FQ_NOT_ALLOWED. *next is FQ_NEXT_GONE unless it returns FQ_OK. */
+FQ_CHECKED enum fq_status fq_seat_hand_again(struct fq_handle *FQ_RESTRICT seat, uint32_t *FQ_RESTRICT next);
+
+/* Handles an interrupt: requests a poll (fq_seat_schedule_prep); if granted, masks the card and queues the instance, in the kernel's
+ * order: if the card were masked after that, it would stay masked whenever the poller is faster. `kind` follows FQ_BIT_THREADED, which
+ * fq_seat_request reads itself. Returns FQ_BAD_KIND; FQ_GRANTED, and the instance is queued; FQ_MISSED; FQ_DISABLED; FQ_BAD_HANDLE;
+ * FQ_NOT_ALLOWED. */
 FQ_CHECKED static inline enum fq_status fq_seat_interrupt_masked(struct fq_handle *seat, uint32_t kind, const struct fq_card *card) {
-    enum fq_status said;
     if (kind > FQ_THREAD) return FQ_BAD_KIND;
-    do said = fq_seat_schedule(seat);
-    while (said == FQ_CHANGED);
+    const enum fq_status said = fq_seat_schedule_prep(seat);
     if (said != FQ_GRANTED) return said;
     if (card->mask != NULL) card->mask(card->at);
     const enum fq_status handed = fq_seat_hand(seat, kind);
@@ -469,62 +462,27 @@ FQ_CHECKED static inline enum fq_status fq_seat_interrupt(struct fq_handle *seat
     return fq_seat_interrupt_masked(seat, kind, &none);
 }
 
-/* Queues a granted instance as the kernel does (____napi_schedule): for its thread if FQ_BIT_THREADED is set. Sets *next to
- * FQ_NEXT_AGAIN or FQ_NEXT_AGAIN_THREAD. Returns FQ_OK; FQ_BAD_HANDLE; FQ_NOT_ALLOWED. */
-FQ_CHECKED static inline enum fq_status fq_seat_hand_again(struct fq_handle *FQ_RESTRICT seat, uint32_t *FQ_RESTRICT next) {
-    uint64_t word;
-    const enum fq_status said = fq_seat_look(seat, &word);
-    *next = said == FQ_OK && word & FQ_BIT_THREADED ? FQ_NEXT_AGAIN_THREAD : FQ_NEXT_AGAIN;
-    return said == FQ_OK ? fq_seat_hand(seat, *next == FQ_NEXT_AGAIN ? FQ_LIST : FQ_THREAD) : said;
-}
-
 /* Requests a poll (napi_schedule), from an interrupt, a timer or a driver's open. Like fq_seat_interrupt_masked, but reads the kind from
  * the state word. Sets *next to where the instance is queued: after FQ_NEXT_AGAIN list the number, after FQ_NEXT_AGAIN_THREAD wake the
  * thread; FQ_NEXT_GONE unless it returns FQ_GRANTED. Returns FQ_GRANTED; FQ_MISSED; FQ_DISABLED; FQ_BAD_HANDLE; FQ_NOT_ALLOWED. */
 FQ_CHECKED static inline enum fq_status fq_seat_request(struct fq_handle *FQ_RESTRICT seat, const struct fq_card *FQ_RESTRICT card, uint32_t *FQ_RESTRICT next) {
-    enum fq_status said;
     *next = FQ_NEXT_GONE;
-    do said = fq_seat_schedule(seat);
-    while (said == FQ_CHANGED);
+    const enum fq_status said = fq_seat_schedule_prep(seat);
     if (said != FQ_GRANTED) return said;
     if (card->mask != NULL) card->mask(card->at);
     const enum fq_status handed = fq_seat_hand_again(seat, next);
-    if (handed == FQ_OK) return said;
-    *next = FQ_NEXT_GONE;
-    return handed;
+    return handed == FQ_OK ? said : handed;
 }
 
 /* Ends a poll as the kernel does (__napi_poll). `full` says that it returned its whole weight. After a full poll, if no disable is
  * pending, a seat that took the instance from the list puts it on the list again, and one that took it as its thread polls again, at
- * once (FQ_HELD). After any other poll the instance is completed, with attempts repeated while they return FQ_CHANGED, and queued again
- * if a request was missed. Sets *next to how the poll ended, for fq_run_polled: FQ_NEXT_GONE, FQ_NEXT_AGAIN, FQ_NEXT_AGAIN_THREAD,
+ * once (FQ_HELD). After any other poll the instance is completed (fq_seat_complete_done), and queued again if a request was missed
+ * (fq_seat_hand_again). Sets *next to how the poll ended, for fq_run_polled: FQ_NEXT_GONE, FQ_NEXT_AGAIN, FQ_NEXT_AGAIN_THREAD,
  * FQ_NEXT_REPOLL. After FQ_NEXT_AGAIN and FQ_NEXT_REPOLL the number still has to be listed, after FQ_NEXT_AGAIN_THREAD the thread still
  * has to be woken; that may follow a poll from the list too. Returns FQ_OK; FQ_HELD: the seat keeps polling, as a busy poller does;
  * FQ_NOT_ALLOWED if it doesn't poll; FQ_BAD_HANDLE. *next is FQ_NEXT_GONE unless it returns FQ_OK. A seat polls as the thread while
  * FQ_BIT_SCHED_THREADED is set, which fq_seat_requeue doesn't clear. */
-FQ_CHECKED static inline enum fq_status fq_seat_end(struct fq_handle *FQ_RESTRICT seat, bool full, uint32_t *FQ_RESTRICT next) {
-    uint64_t word;
-    *next = FQ_NEXT_GONE;
-    enum fq_status said = fq_seat_look(seat, &word);
-    if (said != FQ_OK) return said;
-    if (full && !(word & (FQ_BIT_DISABLE | FQ_BIT_IN_BUSY_POLL | FQ_BIT_SCHED_THREADED))) {
-        said = fq_seat_requeue(seat);
-        if (said == FQ_OK) *next = FQ_NEXT_REPOLL;
-        return said;
-    }
-    if (full && !(word & (FQ_BIT_DISABLE | FQ_BIT_IN_BUSY_POLL))) {
-        struct fq_counts counts; /* only for its status: FQ_OK if the seat polls */
-        said = fq_count(seat, &counts);
-        return said == FQ_OK ? FQ_HELD : said;
-    }
-    do said = fq_seat_complete(seat);
-    while (said == FQ_CHANGED);
-    if (said == FQ_RELEASED) return FQ_OK;
-    if (said != FQ_AGAIN) return said;
-    said = fq_seat_hand_again(seat, next);
-    if (said != FQ_OK) *next = FQ_NEXT_GONE;
-    return said;
-}
+FQ_CHECKED enum fq_status fq_seat_end(struct fq_handle *FQ_RESTRICT seat, bool full, uint32_t *FQ_RESTRICT next);
 
 #if defined(__GNUC__)
 /* Ends a poll of a card whose queue can be checked by `look`. Like fq_seat_end; and if the instance was released, unmasks the card, and
@@ -561,10 +519,8 @@ FQ_CHECKED static inline enum fq_status fq_seat_end_unmasked(struct fq_handle *F
         if (*work >= weight) card->mask(card->at);
     }
     if (*work >= weight) return fq_seat_end(seat, true, next);
-    do said = fq_seat_complete(seat);
-    while (said == FQ_CHANGED);
-    if (said == FQ_RELEASED) return FQ_OK;
-    if (said != FQ_AGAIN) return said;
+    said = fq_seat_complete_done(seat);
+    if (said != FQ_AGAIN) return said == FQ_RELEASED ? FQ_OK : said;
     card->mask(card->at);
     return fq_seat_hand_again(seat, next);
 }
@@ -581,19 +537,7 @@ FQ_CHECKED enum fq_status fq_control_try_take(struct fq_handle *control);       
  * instance is enabled, and a poll still has to be requested once (fq_control_open does so); or it is off. Returns FQ_OK, also to stop an
  * instance that is off; FQ_BUSY: a disable is pending, and the owner has to complete the instance before the next step; FQ_NOT_ALLOWED
  * to open one that isn't off; FQ_BAD_HANDLE. */
-FQ_CHECKED static inline enum fq_status fq_control_step(struct fq_handle *control, bool on, bool threaded) {
-    enum fq_status said;
-    if (on) {
-        do said = fq_control_enable(control, threaded);
-        while (said == FQ_CHANGED);
-        return said;
-    }
-    const enum fq_status marked = fq_control_mark(control); /* not allowed if the instance is marked already, or off */
-    if (marked != FQ_OK && marked != FQ_NOT_ALLOWED) return marked;
-    do said = fq_control_try_take(control);
-    while (said == FQ_CHANGED);
-    return said == FQ_BUSY || said == FQ_BAD_HANDLE ? said : FQ_OK;
-}
+FQ_CHECKED enum fq_status fq_control_step(struct fq_handle *control, bool on, bool threaded);
 
 /* Opens a driver's instance: enables it, and requests a poll once by a seat at rest (as virtnet_napi_enable does), so that what came
  * while it was off is polled. Returns, and sets *next, like fq_seat_request: FQ_GRANTED, and the number has to be listed or the thread
@@ -783,10 +727,10 @@ struct fq_replayed {
 
 /* Replays a trace of `len` bytes, and writes its report to an array of `room` bytes. Returns FQ_BAD_WEIGHT, FQ_BAD_BUDGET for the
  * settings; FQ_OUT_OF_MEMORY; FQ_BAD_TRACE, and replayed->fault and replayed->row say why; FQ_NO_ROOM, and replayed->length is the room
- * that the report needs; FQ_OK, and the first replayed->length bytes of the array are the report, with no terminating 0. The array is
- * unchanged unless it returns FQ_OK. For an empty trace or array the pointer still points to some byte. An instance's thread polls at
- * most 131072 times at a time, which no trace of 100000 rows reaches. fintaqush_raise.h adds the runs that the kernel would make with a
- * smaller budget. */
+ * that the report needs; FQ_OK, and the first replayed->length bytes of the array are the report, with no terminating 0. All other bytes
+ * of the array are unchanged, and all of them unless it returns FQ_OK. For an empty trace or array the pointer still points to some byte.
+ * An instance's thread polls at most 131072 times at a time, which no trace of 100000 rows reaches. fintaqush_raise.h adds the runs that
+ * the kernel would make with a smaller budget. */
 FQ_CHECKED enum fq_status fq_replay(const struct fq_settings *FQ_RESTRICT settings, const uint8_t *FQ_RESTRICT trace, size_t len, uint8_t *FQ_RESTRICT report, size_t room, struct fq_replayed *FQ_RESTRICT replayed);
 
 /* Returns the name of a trace's fault, for example "BadHeader"; "?" for an unknown number. */
@@ -840,8 +784,8 @@ FQ_CHECKED enum fq_status fq_machine_usual(struct fq_machine_settings *settings,
 /* Runs the machine on arrivals of `len` bytes, and writes its report to an array of `room` bytes. Returns FQ_BAD_SIZE if a struct's
  * `size` isn't set, and *ran is unchanged; FQ_BAD_SETTING, and ran->setting says which; FQ_OUT_OF_MEMORY; FQ_BAD_ARRIVALS, and
  * ran->fault, ran->row and ran->message say why; FQ_NO_ROOM, and ran->length is the room that the report needs; FQ_OK, and the first
- * ran->length bytes of the array are the report, with no terminating 0. The array is unchanged unless it returns FQ_OK. For empty
- * arrivals or an empty array the pointer still points to some byte. */
+ * ran->length bytes of the array are the report, with no terminating 0. All other bytes of the array are unchanged, and all of
+ * them unless it returns FQ_OK. For empty arrivals or an empty array the pointer still points to some byte. */
 FQ_CHECKED enum fq_status fq_machine(const struct fq_machine_settings *FQ_RESTRICT settings, const uint8_t *FQ_RESTRICT arrivals, size_t len, uint8_t *FQ_RESTRICT report, size_t room, struct fq_machine_ran *FQ_RESTRICT ran);
 
 #ifdef __cplusplus

@@ -350,10 +350,7 @@ public:
     template <class Card>
     [[nodiscard]] End end_unmasked(Card &card, Weight weight, std::size_t &work) && noexcept;
     [[nodiscard]] Completed complete() && noexcept {
-        std::uint32_t said;
-        do said = fq_seat_complete(at_.raw());
-        while (said == FQ_CHANGED);
-        if (said == FQ_AGAIN) return Completed(Granted(std::move(at_)));
+        if (fq_seat_complete_done(at_.raw()) == FQ_AGAIN) return Completed(Granted(std::move(at_)));
         return Completed(Caller(std::move(at_)));
     }
 
@@ -392,11 +389,9 @@ struct [[nodiscard]] Ended {
 };
 
 inline Scheduled Caller::schedule() && noexcept {
-    std::uint32_t said;
-    do said = fq_seat_schedule(at_.raw());
-    while (said == FQ_CHANGED);
-    if (said == FQ_GRANTED) return {FQ_GRANTED, Granted(std::move(at_))};
-    return {Status(said), Caller(std::move(at_))};
+    const Status said = fq_seat_schedule_prep(at_.raw());
+    if (said == FQ_GRANTED) return {said, Granted(std::move(at_))};
+    return {said, Caller(std::move(at_))};
 }
 
 inline Took Caller::take(Kind kind) && noexcept {
@@ -469,8 +464,7 @@ public:
     // Enables the instance (napi_enable). Request a poll once after it (Caller::request), or enable by open: an earlier request isn't
     // polled.
     [[nodiscard]] Control<On> enable(bool threaded) && noexcept {
-        while (fq_control_enable(at_.raw(), threaded) == FQ_CHANGED) {
-        }
+        detail::made(fq_control_step(at_.raw(), true, threaded));
         return Control<On>(std::move(at_));
     }
     // Opens a driver's instance (fq_control_open): enables it, and requests a poll once by this caller, with card.mask() if that is
@@ -489,6 +483,7 @@ public:
     }
 
 private:
+    friend class Control<On>;
     friend class Control<Marked>;
     friend struct Shared;
     friend struct Bare;
@@ -501,10 +496,7 @@ class [[nodiscard]] Control<Marked> {
 public:
     // Takes the instance if no caller owns it; otherwise returns the controller unchanged.
     [[nodiscard]] std::variant<Control<Marked>, Control<Off>> try_take() && noexcept {
-        std::uint32_t said;
-        do said = fq_control_try_take(at_.raw());
-        while (said == FQ_CHANGED);
-        if (said == FQ_BUSY) return Control<Marked>(std::move(at_));
+        if (fq_control_step(at_.raw(), false, false) == FQ_BUSY) return Control<Marked>(std::move(at_));
         return Control<Off>(std::move(at_));
     }
 
@@ -520,13 +512,8 @@ inline Control<Marked> Control<On>::mark() && noexcept {
 }
 
 inline Control<Off> Control<On>::disable() && noexcept {
-    auto marked = std::move(*this).mark();
-    for (;;) {
-        auto tried = std::move(marked).try_take();
-        if (auto *off = std::get_if<Control<Off>>(&tried)) return std::move(*off);
-        marked = std::move(std::get<Control<Marked>>(tried));
-        std::this_thread::yield();
-    }
+    while (fq_control_step(at_.raw(), false, false) == FQ_BUSY) std::this_thread::yield();
+    return Control<Off>(std::move(at_));
 }
 
 // The input end of a ring, whose other end belongs to an instance or an Output.

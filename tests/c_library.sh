@@ -151,7 +151,7 @@ echo 'it tells of itself what the header says' > "$scratch/told"
 check 'told.c compiles' compile gcc "$top/tests/c/told.c" "$scratch/tells" -O2
 check 'what the library tells of itself' compared "$scratch/told" "$scratch/tells"
 
-echo '18 corners, each answered as it has to be' > "$scratch/cornered"
+echo '19 corners, each answered as it has to be' > "$scratch/cornered"
 check 'corners.c compiles' compile gcc "$top/tests/c/corners.c" "$scratch/corners" -O2 "$wraps"
 check 'answers at corners' compared "$scratch/cornered" "$scratch/corners"
 
@@ -160,10 +160,16 @@ check 'bursts in C++' "$scratch/bursts"
 
 # ---- a model card
 
-points=-Wl,--wrap=fq_seat_schedule,--wrap=fq_seat_hand,--wrap=fq_seat_take,--wrap=fq_seat_requeue,--wrap=fq_seat_complete
+points=-Wl$(printf ',--wrap=fq_seat_%s' schedule schedule_prep hand hand_again take requeue complete complete_done end)
 echo 'the card hangs without a look, by a late mask and by an enable without a request, and never else' > "$scratch/hung"
 check 'the model card compiles' compile gcc "$top/tests/c/card.c" "$scratch/card" -O2 "$points"
 check 'the model card' compared "$scratch/hung" "$scratch/card"
+
+# ---- attempts that another thread makes fail
+
+echo 'attempts fail, and each call repeats them' > "$scratch/repeated"
+check 'repeats.c compiles' compile gcc "$top/tests/c/repeats.c" "$scratch/repeats" -O2
+check 'attempts that fail are repeated' compared "$scratch/repeated" "$scratch/repeats"
 
 # ---- a driver
 

@@ -11,8 +11,8 @@ TOP = pathlib.Path(__file__).resolve().parent.parent
 HEADER = (TOP / "include/fintaqush.h").read_text()
 SYS = (TOP / "bindings/rust/src/sys.rs").read_text()
 # The functions whose types are Rust's own, or that are methods over its traits of a card; and that struct.
-RUSTS_OWN = {"fq_status_name", "fq_fault_name", "fq_seat_interrupt_masked", "fq_seat_end_watched", "fq_seat_end_unmasked",
-             "fq_seat_request", "fq_control_open"}
+RUSTS_OWN = {"fq_status_name", "fq_fault_name", "fq_seat_interrupt", "fq_seat_interrupt_masked", "fq_seat_end_watched",
+             "fq_seat_end_unmasked", "fq_seat_request", "fq_control_open"}
 STRUCTS_OWN = {"fq_card"}
 # Inline functions that only C needs: Rust calls the exports fq_dql_new, fq_dql_limit, fq_dql_in_flight and fq_dql_avail.
 CS_OWN = {"fq_dql_init", "fq_dql_limit_here", "fq_dql_in_flight_here", "fq_dql_avail_here"}

@@ -3,7 +3,7 @@
  * comes at that point. At every point of an interrupt, and of another poll, a whole poll may run, as on another processor,
  * and a disable starts at every point. In the end nothing may wait on the card, which then isn't masked. The orders of
  * fintaqush.h never fail there; the three that hang real cards do: no check after the unmask, a mask after the hand-over, and an
- * enable without a request.
+ * enable without a request. A call that makes several steps is tried as it is, and step by step, with points between the steps.
  * To be linked with --wrap for the calls of a seat. */
 #include <fintaqush.h>
 #include <stdio.h>
@@ -13,7 +13,7 @@ enum order { WATCHED, UNMASKED, UNLOOKED, LATE, UNASKED };
 enum { WEIGHT = 2, PACKETS = 3, POINTS = 120, TURNS = 90, NEVER = 1000 };
 
 static enum order order;
-static bool threaded;
+static bool threaded, by_steps;
 static struct fq_handle control, seats[3]; /* the interrupt's seat, and two pollers' */
 
 /* The points at which things happen: points are counted. */
@@ -51,20 +51,44 @@ static void point(void) {
     if ((handles || polls != 0) && polls < 2 && turn_now++ == turn_at) turn();
 }
 
-#define WRAP(call, declared, passed)        \
-    uint32_t __real_##call declared;        \
-    uint32_t __wrap_##call declared;        \
-    uint32_t __wrap_##call declared {       \
-        point();                            \
-        const uint32_t said = __real_##call passed; \
-        point();                            \
-        return said;                        \
+/* The steps of fq_seat_hand_again and fq_seat_end, as the header describes them. */
+static uint32_t hands_again(struct fq_handle *seat, uint32_t *next) {
+    uint64_t word;
+    must(fq_seat_look(seat, &word) == FQ_OK, "a look");
+    *next = word & FQ_BIT_THREADED ? FQ_NEXT_AGAIN_THREAD : FQ_NEXT_AGAIN;
+    return fq_seat_hand(seat, word & FQ_BIT_THREADED ? FQ_THREAD : FQ_LIST);
+}
+
+static uint32_t ends(struct fq_handle *seat, bool full, uint32_t *next) {
+    uint64_t word;
+    must(fq_seat_look(seat, &word) == FQ_OK, "a look");
+    const bool is_polled_on = full && !(word & FQ_BIT_DISABLE), is_thread = word & FQ_BIT_SCHED_THREADED;
+    *next = is_polled_on && !is_thread ? FQ_NEXT_REPOLL : FQ_NEXT_GONE;
+    if (is_polled_on) return is_thread ? FQ_HELD : fq_seat_requeue(seat);
+    const uint32_t said = fq_seat_complete(seat);
+    return said == FQ_AGAIN ? hands_again(seat, next) : said == FQ_RELEASED ? FQ_OK : said;
+}
+
+/* A call with a point before and after it, or its steps. */
+#define WRAP(call, declared, passed, steps)             \
+    uint32_t __real_##call declared;                    \
+    uint32_t __wrap_##call declared;                    \
+    uint32_t __wrap_##call declared {                   \
+        steps;                                          \
+        point();                                        \
+        const uint32_t said = __real_##call passed;     \
+        point();                                        \
+        return said;                                    \
     }
-WRAP(fq_seat_schedule, (struct fq_handle *seat), (seat))
-WRAP(fq_seat_hand, (struct fq_handle *seat, uint32_t to), (seat, to))
-WRAP(fq_seat_take, (struct fq_handle *seat, uint32_t from), (seat, from))
-WRAP(fq_seat_requeue, (struct fq_handle *seat), (seat))
-WRAP(fq_seat_complete, (struct fq_handle *seat), (seat))
+WRAP(fq_seat_schedule, (struct fq_handle *seat), (seat), )
+WRAP(fq_seat_hand, (struct fq_handle *seat, uint32_t to), (seat, to), )
+WRAP(fq_seat_take, (struct fq_handle *seat, uint32_t from), (seat, from), )
+WRAP(fq_seat_requeue, (struct fq_handle *seat), (seat), )
+WRAP(fq_seat_complete, (struct fq_handle *seat), (seat), )
+WRAP(fq_seat_schedule_prep, (struct fq_handle *seat), (seat), if (by_steps) return fq_seat_schedule(seat))
+WRAP(fq_seat_complete_done, (struct fq_handle *seat), (seat), if (by_steps) return fq_seat_complete(seat))
+WRAP(fq_seat_hand_again, (struct fq_handle *seat, uint32_t *next), (seat, next), if (by_steps) return hands_again(seat, next))
+WRAP(fq_seat_end, (struct fq_handle *seat, bool full, uint32_t *next), (seat, full, next), if (by_steps) return ends(seat, full, next))
 
 static void mask(void *at) {
     (void)at;
@@ -187,8 +211,8 @@ static unsigned long each(unsigned from, unsigned first) {
 static unsigned long all(enum order which) {
     unsigned long hung = 0;
     order = which;
-    for (int kinds = 0; kinds < 2; kinds++) {
-        threaded = kinds != 0;
+    for (int kinds = 0; kinds < 4; kinds++) {
+        threaded = kinds % 2 != 0, by_steps = kinds > 1;
         packets = 3, turn_at = stop_at = NEVER;
         hung += each(0, 0);
         packets = 2;

@@ -261,6 +261,21 @@ static void handed_to_a_thread_that_was_set_meanwhile(void) {
     given_up();
 }
 
+/* A ring is stuck from the first check on if the limit is 0, and for as long as nothing is completed, also if the clock goes back. */
+static void a_stopped_ring_is_watched(void) {
+    struct fq_handle tx = FQ_NONE;
+    struct fq_tx_watchdog watchdog = {false, 0, 0};
+    bool stuck = true;
+    want(fq_tx_watch(&tx, &watchdog, 0, 7, &stuck) == FQ_BAD_HANDLE && !stuck && watchdog.private_since == 0, "no ring");
+    want(fq_tx_new(&tx, 1, 0, 1, 1000, 0) == FQ_OK && fq_tx_watch(&tx, &watchdog, 0, UINT64_MAX, &stuck) == FQ_OK && !stuck, "it isn't stopped");
+    want(fq_tx_send(&tx, 60) == FQ_OK && fq_tx_watch(&tx, &watchdog, 0, 5, &stuck) == FQ_OK && stuck, "stopped for 0 ms");
+    want(fq_tx_watch(&tx, &watchdog, UINT64_MAX - 5, UINT64_MAX - 1, &stuck) == FQ_OK && !stuck, "a ms too few");
+    want(fq_tx_watch(&tx, &watchdog, UINT64_MAX - 5, UINT64_MAX, &stuck) == FQ_OK && stuck, "as long as a clock counts");
+    want(fq_tx_watch(&tx, &watchdog, 1, 4, &stuck) == FQ_OK && !stuck && fq_tx_watch(&tx, &watchdog, 1, 6, &stuck) == FQ_OK && stuck, "a clock that goes back");
+    want(fq_tx_done(&tx, 1, 9) == FQ_OK && fq_tx_watch(&tx, &watchdog, 0, UINT64_MAX, &stuck) == FQ_OK && !stuck, "it is started");
+    want(fq_free(&tx) == FQ_OK && blocks == 0, "the end");
+}
+
 /* If several errors apply, a replay returns the one that the header names first. */
 static void refusals_of_a_replay(void) {
     static const char good[] = "moment,device,event,value\n0,1,open,4\n";
@@ -346,7 +361,7 @@ static const struct {
     void (*call)(void);
 } cases[] = {CASE(a_full_poll_of_a_thread), CASE(a_full_poll_of_a_busy_poller), CASE(bytes_of_an_instance), CASE(a_limit_out_of_bounds), CASE(a_polled_instance_is_handed), CASE(a_list_of_64), CASE(a_device_leaves_a_list),
     CASE(weights_of_devices), CASE(a_split_of_what_is_no_ring), CASE(a_ring_whose_instance_is_refused), CASE(buffers_in_turn),
-    CASE(ends_of_polls_on_one_thread), CASE(a_full_poll_under_a_disable), CASE(an_open_asks_once), CASE(handed_to_a_thread_that_was_set_meanwhile),
+    CASE(ends_of_polls_on_one_thread), CASE(a_full_poll_under_a_disable), CASE(an_open_asks_once), CASE(handed_to_a_thread_that_was_set_meanwhile), CASE(a_stopped_ring_is_watched),
     CASE(refusals_of_a_replay), CASE(runs_that_the_kernel_would_add), CASE(frees_and_lists)};
 
 int main(int count, char **words) {

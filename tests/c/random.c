@@ -15,6 +15,10 @@ static uint64_t seed = 1;
 static unsigned long call;
 static bool seen[128]; /* the numbers that were returned */
 
+/* Results of the calls that make several steps, each with the state before it and with how a poll ended. */
+static char met[99][64];
+static size_t mets;
+
 static uint32_t below(uint32_t bound) {
     seed = seed * UINT64_C(6364136223846793005) + UINT64_C(1442695040888963407);
     return (uint32_t)((seed >> 33) % bound);
@@ -37,6 +41,23 @@ static void want(const char *what, uint32_t said, uint32_t wanted) {
         exit(1);
     }
     hold("no memory is taken", takes == 0);
+}
+
+/* The same, and the result is kept, with the state before the call and with what it led to. */
+static void want_in(const char *what, const char *state, uint32_t said, uint32_t wanted, const char *to) {
+    char name[sizeof met[0]];
+    size_t i = 0;
+    want(what, said, wanted);
+    snprintf(name, sizeof name, "%s%s: %s%s", what, state, fq_status_name(said), to);
+    while (i < mets && strcmp(met[i], name) != 0) i++;
+    hold("room for what is met", i < sizeof met / sizeof met[0]);
+    if (i == mets) memcpy(met[mets++], name, sizeof name);
+}
+
+/* How a poll ended, by its number. */
+static const char *how(uint32_t next) {
+    static const char *const names[] = {"", ", again", ", to the thread", ", repoll"};
+    return next < 4 ? names[next] : ", ?";
 }
 
 /* The same for a call that allocates if all else is right: true if it succeeded. `before` is what was on the heap. */
@@ -143,6 +164,11 @@ static void new_ring(void) {
     objects[i] = object_of(RING);
     objects[i].ring = UNUSED(rings);
     *objects[i].ring = (struct ring){.users = 1, .places = places};
+}
+
+/* Few rings leave handles for the seats of instances. */
+static void only_ring(void) {
+    if (objects[one_of(RING, RING)].what != RING) new_ring();
 }
 
 static struct fq_packet random_packet(void) { return (struct fq_packet){((uint64_t)below(1 << 30) << 32) + below(1 << 30), below(70000)}; }
@@ -275,6 +301,13 @@ static uint32_t seat_hands(struct object *o, uint32_t kind) {
     return is_granted(o) ? model_hand(napi_of(o), o->who, kind) : (uint32_t)FQ_NOT_ALLOWED;
 }
 
+/* Hands over what was granted, by the word's threaded bit. */
+static uint32_t hands_again(struct object *o, uint32_t *next) {
+    const uint32_t kind = o->what == SEAT && napi_of(o)->threaded ? FQ_THREAD : FQ_LIST, said = seat_hands(o, kind);
+    *next = said != FQ_OK ? FQ_NEXT_GONE : kind == FQ_THREAD ? FQ_NEXT_AGAIN_THREAD : FQ_NEXT_AGAIN;
+    return said;
+}
+
 static uint32_t seat_takes(struct object *o, uint32_t kind) {
     if (kind > FQ_THREAD) return FQ_BAD_KIND;
     if (o->what != SEAT) return FQ_BAD_HANDLE;
@@ -283,14 +316,25 @@ static uint32_t seat_takes(struct object *o, uint32_t kind) {
 
 static uint32_t random_seat(void) { return one_of(SEAT, SEAT); }
 
+/* Mostly one in such a state. */
+static uint32_t seat_that(bool is_so(const struct object *)) {
+    const uint32_t from = random_seat();
+    for (uint32_t i = 0; i < HANDLES && below(8) != 0; i++)
+        if (is_so(&objects[(from + i) % HANDLES])) return (from + i) % HANDLES;
+    return from;
+}
+
+static bool may_end(const struct object *o) { return polls(o) || busy_polls(o); }
+
 /* Rarely out of range. */
 static uint32_t random_kind(void) { return below(9) ? below(2) : 2 + below(2); }
 
 static void seat_call(void) {
-    const uint32_t i = random_seat(), kind = random_kind();
+    const uint32_t which = below(12), i = which == 9 ? seat_that(may_end) : which == 10 ? seat_that(is_granted) : random_seat(), kind = random_kind();
     struct object *const o = &objects[i];
     const uint32_t other = o->what == SEAT ? FQ_NOT_ALLOWED : FQ_BAD_HANDLE;
-    switch (below(9)) {
+    uint32_t next = 99, wanted, wanted_next;
+    switch (which) {
     case 0: want("schedule", fq_seat_schedule(&handles[i]), seat_schedules(o)); break;
     case 1: want("hand", fq_seat_hand(&handles[i], kind), seat_hands(o, kind)); break;
     case 2:
@@ -299,6 +343,13 @@ static void seat_call(void) {
     case 5: want("complete", fq_seat_complete(&handles[i]), seat_completes(o)); break;
     case 6: want("busy take", fq_seat_busy_take(&handles[i]), rests(o) ? model_busy_take(napi_of(o), o->who) : other); break;
     case 7: want("busy stop", fq_seat_busy_stop(&handles[i]), busy_polls(o) ? model_busy_stop(napi_of(o), o->who) : other); break;
+    case 8: want_in("schedule prep", "", fq_seat_schedule_prep(&handles[i]), seat_schedules(o), ""); break;
+    case 9: want_in("complete done", "", fq_seat_complete_done(&handles[i]), seat_completes(o), ""); break;
+    case 10:
+        wanted = hands_again(o, &wanted_next);
+        want_in("hand again", "", fq_seat_hand_again(&handles[i], &next), wanted, how(wanted_next));
+        hold("where it was handed", next == wanted_next);
+        break;
     default:
         if (rests(o)) napi_of(o)->threaded = kind & 1;
         want("set threaded", fq_seat_set_threaded(&handles[i], kind & 1), rests(o) ? FQ_OK : other);
@@ -364,11 +415,15 @@ static void interrupt(void) {
     hold("masked exactly where it was granted", is_masked == (wanted == FQ_GRANTED));
 }
 
-/* Hands over what was granted, by the word's threaded bit. */
-static uint32_t hands_again(struct object *o, uint32_t *next) {
-    const uint32_t kind = napi_of(o)->threaded ? FQ_THREAD : FQ_LIST;
-    *next = kind == FQ_THREAD ? FQ_NEXT_AGAIN_THREAD : FQ_NEXT_AGAIN;
-    return seat_hands(o, kind);
+static void request(void) {
+    const uint32_t i = random_seat();
+    uint32_t next = 99, wanted_next = FQ_NEXT_GONE;
+    const uint32_t wanted = seat_schedules(&objects[i]);
+    if (wanted == FQ_GRANTED) hold("the model hands", hands_again(&objects[i], &wanted_next) == FQ_OK);
+    is_masked = false;
+    want("a request", fq_seat_request(&handles[i], &card, &next), wanted);
+    hold("where it was queued", next == wanted_next);
+    hold("masked exactly if it was granted", is_masked == (wanted == FQ_GRANTED));
 }
 
 /* The model's end of a poll, full or not. */
@@ -385,17 +440,26 @@ static uint32_t ends(struct object *o, bool full, uint32_t *next) {
     return said == FQ_RELEASED ? (uint32_t)FQ_OK : said;
 }
 
+/* Whether a seat polls, and from where, and whether a disable is pending. */
+static const char *polling_of(const struct object *o) {
+    if (busy_polls(o)) return napi_of(o)->disable ? ", busy, disabled" : ", busy";
+    if (!polls(o)) return "";
+    if (napi_of(o)->sched_threaded) return napi_of(o)->disable ? ", thread, disabled" : ", thread";
+    return napi_of(o)->disable ? ", list, disabled" : ", list";
+}
+
 static void end(void) {
-    const uint32_t i = random_seat();
+    const uint32_t i = seat_that(may_end);
     const bool full = below(2);
+    const char *state = polling_of(&objects[i]);
     uint32_t next = 99, wanted_next;
     const uint32_t wanted = ends(&objects[i], full, &wanted_next);
-    want("end", fq_seat_end(&handles[i], full, &next), wanted);
+    want_in(full ? "full end" : "end", state, fq_seat_end(&handles[i], full, &next), wanted, how(wanted_next));
     hold("how it ended", next == wanted_next);
 }
 
 static void end_watched(void) {
-    const uint32_t i = random_seat();
+    const uint32_t i = seat_that(may_end);
     const bool full = below(2);
     uint32_t next = 99, wanted_next;
     const uint32_t wanted = ends(&objects[i], full, &wanted_next);
@@ -411,7 +475,7 @@ static void end_watched(void) {
 }
 
 static void end_unmasked(void) {
-    const uint32_t i = random_seat();
+    const uint32_t i = seat_that(may_end);
     struct object *const o = &objects[i];
     const size_t weight = below(67), before = below((uint32_t)weight + 1);
     size_t work = before;
@@ -483,15 +547,16 @@ static void control_call(void) {
     const uint32_t i = one_of(CONTROL, CONTROL), which = below(12);
     struct object *const o = &objects[i];
     const bool threaded = below(2), is_control = o->what == CONTROL;
+    const char *state = !is_control ? "" : is_off(o) ? ", off" : is_on(o) ? ", on" : ", marked";
     if (which < 4) want("enable", fq_control_enable(&handles[i], threaded), is_control ? control_enables(o, threaded) : FQ_BAD_HANDLE);
     else if (which < 5) want("mark", fq_control_mark(&handles[i]), is_control ? control_marks(o) : FQ_BAD_HANDLE);
     else if (which < 8) want("try to take", fq_control_try_take(&handles[i]), is_control ? control_takes(o) : FQ_BAD_HANDLE);
-    else if (which < 11) want("step on", fq_control_step(&handles[i], true, threaded), is_control ? control_enables(o, threaded) : FQ_BAD_HANDLE);
+    else if (which < 11) want_in("step on", state, fq_control_step(&handles[i], true, threaded), is_control ? control_enables(o, threaded) : FQ_BAD_HANDLE, "");
     else {
         uint32_t wanted = is_control ? FQ_OK : FQ_BAD_HANDLE;
         if (is_on(o)) control_marks(o);
         if (is_control && o->shared->is_marked && control_takes(o) != FQ_TAKEN) wanted = FQ_BUSY;
-        want("step off", fq_control_step(&handles[i], false, threaded), wanted);
+        want_in("step off", state, fq_control_step(&handles[i], false, threaded), wanted, "");
     }
 }
 
@@ -563,14 +628,17 @@ static void show_sender(void) {
 
 /* Whether it has been stopped for this long, with nothing completed, by a clock that may go back. */
 static void watch(void) {
-    static struct fq_tx_watchdog unmoved;
+    static struct fq_tx_watchdog none;
     const uint32_t i = one_of(SENDER, SENDER);
     struct sender *const s = objects[i].sender;
     bool stuck = true;
     const uint64_t at = model_minus(now, below(8) ? 0 : below(900)), limit_ms = below(8) ? 500 : 0;
     if (s != NULL && (!s->stopped || !s->was_stopped || s->was_done != s->done)) s->was_stopped = s->stopped, s->was_done = s->done, s->since = at;
-    want("watch", fq_tx_watch(&handles[i], s != NULL ? &s->watchdog : &unmoved, limit_ms, at, &stuck), s != NULL ? FQ_OK : FQ_BAD_HANDLE);
-    hold("stuck", stuck == (s != NULL && s->stopped && model_minus(at, s->since) >= limit_ms));
+    const bool wanted = s != NULL && s->stopped && model_minus(at, s->since) >= limit_ms;
+    const char *state = s == NULL ? "" : !s->stopped ? ", started" : at < s->since ? ", stopped, back" : ", stopped";
+    want_in("watch", state, fq_tx_watch(&handles[i], s != NULL ? &s->watchdog : &none, limit_ms, at, &stuck), s != NULL ? FQ_OK : FQ_BAD_HANDLE, wanted ? ", stuck" : "");
+    hold("stuck", stuck == wanted);
+    hold("a watchdog that stays", !none.private_stopped && none.private_completed == 0 && none.private_since == 0);
     now += below(100);
 }
 
@@ -755,29 +823,45 @@ static void word_call(void) {
 typedef void a_call(void);
 static a_call *const ring_calls[] = {new_ring, put, put, put_all, put_all, poll_ring, poll_ring, split, finish, show_ring, counts, any_handle};
 static a_call *const sender_calls[] = {new_sender, send, send, send, done, done, show_sender, watch, any_handle};
-static a_call *const shared_calls[] = {new_ring, new_shared, put, put_all, seat_call, seat_call, seat_call, seat_call, poll_seat, look, counts, interrupt, end, end_watched,
+static a_call *const shared_calls[] = {only_ring, new_shared, put, put_all, seat_call, seat_call, seat_call, seat_call, poll_seat, look, counts, interrupt, request, end, end_watched,
     end_unmasked, control_call, control_call, any_handle};
 static a_call *const list_calls[] = {new_list, call_of_list, call_of_list, call_of_list, call_of_list, call_of_list, call_of_list, any_handle};
 static a_call *const limit_calls[] = {limit_call};
 static a_call *const instance_calls[] = {instance_call, instance_call, instance_call, word_call};
 static a_call *const any_calls[] = {new_ring, put, put_all, poll_ring, split, finish, show_ring, new_sender, send, done, watch, new_shared, seat_call, seat_call, poll_seat,
-    look, counts, interrupt, end, end_watched, end_unmasked, control_call, new_list, call_of_list, call_of_list, any_handle, limit_call, instance_call};
+    look, counts, interrupt, request, end, end_watched, end_unmasked, control_call, new_list, call_of_list, call_of_list, any_handle, limit_call, instance_call};
 
-#define KIND(name, calls, ...) {name, calls, sizeof (calls) / sizeof (calls)[0], {__VA_ARGS__}}
+static const char *const no_cases[] = {NULL};
+static const char *const sender_cases[] = {"watch, started: FQ_OK", "watch, stopped: FQ_OK", "watch, stopped: FQ_OK, stuck", "watch, stopped, back: FQ_OK", "watch: FQ_BAD_HANDLE", NULL};
+static const char *const shared_cases[] = {
+    "schedule prep: FQ_GRANTED", "schedule prep: FQ_MISSED", "schedule prep: FQ_DISABLED", "schedule prep: FQ_NOT_ALLOWED", "schedule prep: FQ_BAD_HANDLE",
+    "complete done: FQ_RELEASED", "complete done: FQ_AGAIN", "complete done: FQ_HELD", "complete done: FQ_NOT_ALLOWED", "complete done: FQ_BAD_HANDLE",
+    "hand again: FQ_OK, again", "hand again: FQ_OK, to the thread", "hand again: FQ_NOT_ALLOWED", "hand again: FQ_BAD_HANDLE",
+    "full end, list: FQ_OK, repoll", "full end, list, disabled: FQ_OK", "full end, list, disabled: FQ_OK, again", "full end, list, disabled: FQ_OK, to the thread",
+    "full end, thread: FQ_HELD", "full end, thread, disabled: FQ_OK", "full end, thread, disabled: FQ_OK, again", "full end, thread, disabled: FQ_OK, to the thread",
+    "end, list: FQ_OK", "end, list: FQ_OK, again", "end, list: FQ_OK, to the thread", "end, list, disabled: FQ_OK",
+    "end, thread: FQ_OK", "end, thread: FQ_OK, again", "end, thread: FQ_OK, to the thread", "end, thread, disabled: FQ_OK",
+    "full end, busy: FQ_HELD", "full end, busy, disabled: FQ_HELD", "end, busy: FQ_HELD", "end, busy, disabled: FQ_HELD",
+    "full end: FQ_NOT_ALLOWED", "full end: FQ_BAD_HANDLE", "end: FQ_NOT_ALLOWED", "end: FQ_BAD_HANDLE",
+    "step on, off: FQ_OK", "step on, on: FQ_NOT_ALLOWED", "step on, marked: FQ_NOT_ALLOWED", "step on: FQ_BAD_HANDLE",
+    "step off, off: FQ_OK", "step off, on: FQ_OK", "step off, on: FQ_BUSY", "step off, marked: FQ_OK", "step off, marked: FQ_BUSY", "step off: FQ_BAD_HANDLE", NULL};
+
+#define KIND(name, calls, cases, ...) {name, calls, sizeof (calls) / sizeof (calls)[0], cases, {__VA_ARGS__}}
 static const struct kind {
     const char *name;
     a_call *const *calls;
     size_t count;
-    uint32_t answers[24]; /* each of which occurs in a million calls */
+    const char *const *cases; /* each of which is met in a million calls, */
+    uint32_t answers[24];     /* and each of these returned */
 } kinds[] = {
-    KIND("limit", limit_calls, FQ_BAD_BOUNDS, FQ_TOO_LARGE, FQ_TOO_MUCH_IN_FLIGHT, FQ_MORE_THAN_QUEUED),
-    KIND("instance", instance_calls, FQ_GRANTED, FQ_MISSED, FQ_DISABLED, FQ_TAKEN, FQ_NOT_THERE, FQ_RELEASED, FQ_AGAIN, FQ_HELD, FQ_BUSY, FQ_NOT_ALLOWED, FQ_BAD_KIND),
-    KIND("ring", ring_calls, FQ_FULL, FQ_BAD_HANDLE, FQ_IN_USE, FQ_OUT_OF_MEMORY, FQ_BAD_CAPACITY, FQ_BAD_WEIGHT, FQ_NO_ROOM, FQ_NOT_ALLOWED),
-    KIND("transmit", sender_calls, FQ_BAD_BOUNDS, FQ_TOO_LARGE, FQ_TOO_MUCH_IN_FLIGHT, FQ_FULL, FQ_STOPPED, FQ_MORE_THAN_SENT, FQ_BAD_HANDLE, FQ_IN_USE, FQ_OUT_OF_MEMORY, FQ_BAD_CAPACITY),
-    KIND("shared", shared_calls, FQ_GRANTED, FQ_MISSED, FQ_DISABLED, FQ_TAKEN, FQ_NOT_THERE, FQ_RELEASED, FQ_AGAIN, FQ_HELD, FQ_BUSY, FQ_FULL, FQ_NOT_ALLOWED, FQ_BAD_KIND,
+    KIND("limit", limit_calls, no_cases, FQ_BAD_BOUNDS, FQ_TOO_LARGE, FQ_TOO_MUCH_IN_FLIGHT, FQ_MORE_THAN_QUEUED),
+    KIND("instance", instance_calls, no_cases, FQ_GRANTED, FQ_MISSED, FQ_DISABLED, FQ_TAKEN, FQ_NOT_THERE, FQ_RELEASED, FQ_AGAIN, FQ_HELD, FQ_BUSY, FQ_NOT_ALLOWED, FQ_BAD_KIND),
+    KIND("ring", ring_calls, no_cases, FQ_FULL, FQ_BAD_HANDLE, FQ_IN_USE, FQ_OUT_OF_MEMORY, FQ_BAD_CAPACITY, FQ_BAD_WEIGHT, FQ_NO_ROOM, FQ_NOT_ALLOWED),
+    KIND("transmit", sender_calls, sender_cases, FQ_BAD_BOUNDS, FQ_TOO_LARGE, FQ_TOO_MUCH_IN_FLIGHT, FQ_FULL, FQ_STOPPED, FQ_MORE_THAN_SENT, FQ_BAD_HANDLE, FQ_IN_USE, FQ_OUT_OF_MEMORY, FQ_BAD_CAPACITY),
+    KIND("shared", shared_calls, shared_cases, FQ_GRANTED, FQ_MISSED, FQ_DISABLED, FQ_TAKEN, FQ_NOT_THERE, FQ_RELEASED, FQ_AGAIN, FQ_HELD, FQ_BUSY, FQ_FULL, FQ_NOT_ALLOWED, FQ_BAD_KIND,
         FQ_BAD_HANDLE, FQ_IN_USE, FQ_OUT_OF_MEMORY, FQ_BAD_COUNT, FQ_BAD_WEIGHT, FQ_NO_ROOM),
-    KIND("list", list_calls, FQ_NOT_THERE, FQ_BUSY, FQ_FULL, FQ_DONE, FQ_NOT_ALLOWED, FQ_BAD_HANDLE, FQ_IN_USE, FQ_OUT_OF_MEMORY, FQ_BAD_WEIGHT, FQ_BAD_BUDGET, FQ_BAD_NEXT, FQ_BAD_WORK),
-    KIND("any", any_calls, FQ_FULL, FQ_BAD_HANDLE, FQ_IN_USE, FQ_OUT_OF_MEMORY),
+    KIND("list", list_calls, no_cases, FQ_NOT_THERE, FQ_BUSY, FQ_FULL, FQ_DONE, FQ_NOT_ALLOWED, FQ_BAD_HANDLE, FQ_IN_USE, FQ_OUT_OF_MEMORY, FQ_BAD_WEIGHT, FQ_BAD_BUDGET, FQ_BAD_NEXT, FQ_BAD_WORK),
+    KIND("any", any_calls, no_cases, FQ_FULL, FQ_BAD_HANDLE, FQ_IN_USE, FQ_OUT_OF_MEMORY),
 };
 
 int main(int count, char **words) {
@@ -791,6 +875,11 @@ int main(int count, char **words) {
     hold("something is left on the heap", blocks == 0);
     for (const uint32_t *answer = kind->answers; calls >= 1000000 && *answer != 0; answer++)
         if (!seen[*answer]) return printf("never answered: %s\n", fq_status_name(*answer)), 1;
+    for (const char *const *one = kind->cases; calls >= 1000000 && *one != NULL; one++) {
+        size_t i = 0;
+        while (i < mets && strcmp(met[i], *one) != 0) i++;
+        if (i == mets) return printf("never met: %s\n", *one), 1;
+    }
     printf("%lu calls of %s, each answered as it has to be\n", calls, kind->name);
     return 0;
 }

@@ -44,9 +44,9 @@ int main(void) {
     const size_t sizes[] = {sizeof(struct fq_handle), sizeof(struct fq_dql), sizeof(struct fq_dql_made), sizeof(struct fq_napi),
         sizeof(struct fq_packet), sizeof(struct fq_counts), sizeof(struct fq_totals), sizeof(struct fq_ring_shown),
         sizeof(struct fq_tx_shown), sizeof(struct fq_answers), sizeof(struct fq_run_report),
-        sizeof(struct fq_todo), sizeof(struct fq_device_shown)};
+        sizeof(struct fq_todo), sizeof(struct fq_device_shown), sizeof(struct fq_tx_watchdog)};
     const uint32_t count = sizeof sizes / sizeof sizes[0];
-    want(count == FQ_STRUCT_DEVICE_SHOWN + 1, "the structs");
+    want(count == FQ_STRUCT_TX_WATCHDOG + 1 && sizeof(struct fq_tx_watchdog) == 16, "the structs");
     for (uint32_t i = 0; i < 99; i++) want(fq_struct_size(i) == (i < count ? sizes[i] : 0), "a struct's size");
     tells(version, 0, FQ_VERSION);
     for (uint32_t i = 0; i < 300; i++) {

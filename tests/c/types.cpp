@@ -187,6 +187,26 @@ static void cards() {
     static_cast<void>(off);
 }
 
+static void completions() {
+    auto bare = Bare::make(2);
+    want(bare.has_value(), "an instance");
+    auto on = std::move(bare->control).enable(false);
+    auto scheduled = std::move(bare->callers[0]).schedule();
+    want(scheduled.status == FQ_GRANTED, "a request");
+    Caller interrupts = std::get<Granted>(std::move(scheduled.next)).hand(FQ_LIST);
+    Polling polling = taken(std::move(bare->callers[1]), FQ_LIST);
+    want(std::move(interrupts).schedule().status == FQ_MISSED, "a request that is missed");
+    auto tried = std::move(on).mark().try_take();
+    want(std::holds_alternative<Control<Marked>>(tried), "it isn't taken while it is polled");
+    auto done = std::move(polling).complete();
+    want(std::holds_alternative<Granted>(done), "it is granted again");
+    polling = taken(std::get<Granted>(std::move(done)).hand(FQ_LIST), FQ_LIST);
+    done = std::move(polling).complete();
+    want(std::holds_alternative<Caller>(done), "it is released");
+    want(std::get<Caller>(std::move(done)).request().status == FQ_DISABLED, "a disable is pending");
+    want(std::holds_alternative<Control<Off>>(std::get<Control<Marked>>(std::move(tried)).try_take()), "it is taken");
+}
+
 static void busy() {
     auto shared = Shared::make(4, 2);
     want(shared.has_value(), "a shared instance");
@@ -350,6 +370,7 @@ int main() {
     runs();
     rings();
     cards();
+    completions();
     busy();
     moved();
     words();

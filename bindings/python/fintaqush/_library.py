@@ -76,6 +76,10 @@ class TxShown(ctypes.Structure):
     _fields_ = [("queued", u32), ("completed", u32), ("limit", u32), ("avail", ctypes.c_int64), ("stopped", boolean)]
 
 
+class TxWatchdog(ctypes.Structure):
+    _fields_ = [("private_stopped", boolean), ("private_completed", u32), ("private_since", u64)]
+
+
 class Answers(ctypes.Structure):
     _fields_ = [(name, u64) for name in ("granted", "missed", "disabled", "released", "again", "held", "changed")]
 
@@ -112,7 +116,7 @@ class MachineRan(ctypes.Structure):
 
 # The structs whose size the library returns, by their numbers in `enum fq_struct`; then a list of all structs.
 NUMBERS = {Handle: 0, Dql: 1, DqlMade: 2, Napi: 3, Packet: 4, Counts: 5, RingShown: 7, TxShown: 8, Answers: 9, RunReport: 10, Todo: 11,
-           DeviceShown: 12}
+           DeviceShown: 12, TxWatchdog: 13}
 STRUCTS = {*NUMBERS, Settings, Replayed, MachineSettings, MachineRan}
 
 try:
@@ -191,19 +195,22 @@ tx_new = declare("tx_new", tx=Handle, capacity=size, min=u32, max=u32, hold_ms=u
 tx_send = declare("tx_send", tx=Handle, bytes=u32)
 tx_done = declare("tx_done", tx=Handle, count=u32, now_ms=u64)
 tx_state = declare("tx_state", tx=Handle, state=TxShown)
+tx_watch = declare("tx_watch", tx=Handle, watchdog=TxWatchdog, limit_ms=u64, now_ms=u64, stuck=ctypes.POINTER(boolean))
 shared_new = declare("shared_new", ring=Handle, control=Handle, seats=ctypes.POINTER(Handle), count=size)
-seat_schedule = declare("seat_schedule", seat=Handle)
+seat_schedule_prep = declare("seat_schedule_prep", seat=Handle)
 seat_take = declare("seat_take", seat=Handle, kind=u32)
 seat_busy_take = declare("seat_busy_take", seat=Handle)
 seat_set_threaded = declare("seat_set_threaded", seat=Handle, threaded=boolean)
 seat_hand = declare("seat_hand", seat=Handle, kind=u32)
+seat_hand_again = declare("seat_hand_again", seat=Handle, next=ctypes.POINTER(u32))
 seat_poll = declare("seat_poll", seat=Handle, weight=size, out=ctypes.POINTER(Packet), len=size, count=ctypes.POINTER(size))
 seat_requeue = declare("seat_requeue", seat=Handle)
-seat_complete = declare("seat_complete", seat=Handle)
+seat_complete_done = declare("seat_complete_done", seat=Handle)
+seat_end = declare("seat_end", seat=Handle, full=boolean, next=ctypes.POINTER(u32))
 seat_busy_stop = declare("seat_busy_stop", seat=Handle)
 seat_look = declare("seat_look", seat=Handle, word=ctypes.POINTER(u64))
 seat_count = declare("seat_count", seat=Handle, answers=Answers)
-control_enable = declare("control_enable", control=Handle, threaded=boolean)
+control_step = declare("control_step", control=Handle, on=boolean, threaded=boolean)
 control_mark = declare("control_mark", control=Handle)
 control_try_take = declare("control_try_take", control=Handle)
 list_new = declare("list_new", list=Handle)

@@ -193,6 +193,7 @@ class TxRing(_Owned):
 
     def __init__(self, capacity: int, min: int = 0, max: int = 1879048192, hold_ms: int = 1000, now_ms: int = 0) -> None:
         super().__init__(c.tx_new, capacity, min, max, hold_ms, now_ms)
+        self._watchdog = c.TxWatchdog()
 
     def send(self, bytes: int) -> Status:
         """Sends a packet to the device (`netdev_tx_sent_queue`): returns OK; or, if nothing is sent, STOPPED by the limit, or FULL.
@@ -202,6 +203,13 @@ class TxRing(_Owned):
     def done(self, count: int, now_ms: int) -> bool:
         """Completes the oldest packets (`netdev_tx_completed_queue`); returns False, and completes none, if the device holds fewer."""
         return bool(c.tx_done(self._at, count, now_ms) == Status.OK)
+
+    def watch(self, limit_ms: int, now_ms: int) -> bool:
+        """Returns whether it has been stopped, with no byte completed, for limit_ms since the first call that found it so
+        (`dev_watchdog`): call it at each tick of a timer."""
+        stuck = c.boolean()
+        c.tx_watch(self._at, self._watchdog, limit_ms, now_ms, stuck)
+        return stuck.value
 
     @property
     def state(self) -> TxState:

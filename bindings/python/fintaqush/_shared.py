@@ -53,7 +53,7 @@ class Seat(_Part):
 
     def schedule(self) -> Status:
         """Requests a poll (`napi_schedule_prep`): returns GRANTED, and the caller has to queue the instance; MISSED; or DISABLED."""
-        return _decided(c.seat_schedule, self._at)
+        return Status(c.seat_schedule_prep(self._at))
 
     def hand(self, kind: Kind = Kind.LIST) -> None:
         """Queues a granted instance (`____napi_schedule`)."""
@@ -67,12 +67,9 @@ class Seat(_Part):
         if said is not Status.GRANTED:
             return said, Next.GONE
         mask()
-        return said, self._hand_again()
-
-    def _hand_again(self) -> Next:
-        threaded = Word.THREADED in self.word
-        self.hand(Kind.THREAD if threaded else Kind.LIST)
-        return Next.AGAIN_THREAD if threaded else Next.AGAIN
+        next = c.u32()
+        c.seat_hand_again(self._at, next)
+        return said, Next(next.value)
 
     def take(self, kind: Kind = Kind.LIST) -> bool:
         """Takes the instance from the list or as its thread; returns False if it isn't there."""
@@ -91,22 +88,13 @@ class Seat(_Part):
     def complete(self) -> Status:
         """Ends a poll (`napi_complete_done`): returns RELEASED; AGAIN, and the caller has to queue the instance again; HELD for a busy
         poller."""
-        return _decided(c.seat_complete, self._at)
+        return Status(c.seat_complete_done(self._at))
 
     def end(self, full: bool) -> Next | None:
         """Ends a poll as the kernel does (`__napi_poll`), like `fq_seat_end`: returns what to pass to the run, or None if the caller keeps
         polling."""
-        word = self.word
-        if full and not word & (Word.DISABLE | Word.IN_BUSY_POLL):
-            if Word.SCHED_THREADED in word:
-                _ = self.counts  # raises unless the seat polls
-                return None
-            self.requeue()
-            return Next.REPOLL
-        said = self.complete()
-        if said is Status.AGAIN:
-            return self._hand_again()
-        return None if said is Status.HELD else Next.GONE
+        next = c.u32()
+        return None if c.seat_end(self._at, full, next) == Status.HELD else Next(next.value)
 
     def busy_take(self) -> bool:
         """Takes an idle instance to busy poll it (`napi_busy_loop`); returns False if it isn't idle."""
@@ -148,7 +136,7 @@ class Control(_Part):
     def enable(self, threaded: bool = False) -> None:
         """Enables the instance (`napi_enable`). Request a poll once after it (`Seat.request`), or enable by `open`: an earlier request
         isn't polled, and a masked card would wait forever."""
-        _decided(c.control_enable, self._at, threaded)
+        c.control_step(self._at, True, threaded)
 
     def open(self, seat: Seat, threaded: bool = False, mask: Callable[[], object] = lambda: None) -> tuple[Status, Next]:
         """Opens a driver's instance: enables it, and requests a poll once by a seat that owns nothing. Returns what `Seat.request`

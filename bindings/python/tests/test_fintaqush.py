@@ -259,6 +259,12 @@ class TestTx(Refusals):
         self.assertTrue(ring.done(1, 1))
         self.assertEqual((ring.send(100), ring.send(100)), (Status.OK, Status.FULL))
 
+    def test_it_is_watched(self):
+        ring = TxRing(1, 0, 1)
+        self.assertEqual((ring.watch(0, 0), ring.send(60)), (False, Status.OK))
+        self.assertEqual([ring.watch(500, now) for now in (10, 509, 510, 5)], [False, False, True, False])
+        self.assertEqual((ring.done(1, 1000), ring.watch(0, 2000)), (True, False))
+
     def test_what_is_refused(self):
         self.refused(Status.BAD_BOUNDS, TxRing, 2, 2, 1)
         self.refused(Status.BAD_CAPACITY, TxRing, 0)
@@ -296,6 +302,19 @@ class TestShared(Refusals):
         self.assertEqual(interrupts.answers[:3], (1, 1, 0))
         control.enable()
         self.assertEqual((poller.busy_take(), poller.end(False), poller.busy_stop(), poller.end(False)), (True, None, None, Next.GONE))
+
+    def test_completions(self):
+        _, control, (interrupts, poller) = shared(4)
+        control.enable()
+        self.assertEqual(interrupts.schedule(), Status.GRANTED)
+        interrupts.hand()
+        self.assertEqual((poller.take(), interrupts.schedule(), poller.complete()), (True, Status.MISSED, Status.AGAIN))
+        poller.hand()
+        self.refused(Status.NOT_ALLOWED, interrupts.complete)
+        self.refused(Status.NOT_ALLOWED, interrupts.end, True)
+        self.assertEqual((poller.take(), poller.complete()), (True, Status.RELEASED))
+        self.assertEqual((poller.busy_take(), poller.complete(), poller.end(True)), (True, Status.HELD, None))
+        self.assertEqual(poller.answers[3:6], (1, 1, 2))
 
     def test_what_is_refused(self):
         for count in 1, 9:

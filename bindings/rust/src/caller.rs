@@ -74,26 +74,26 @@ impl Caller {
     ///
     /// While a disable is pending no poll is requested, and while the instance is disabled no poll follows: schedule once after
     /// each [`enable`](crate::Control::enable).
-    pub fn schedule(self) -> Sched {
-        let mut caller = self;
-        loop {
-            match caller.try_schedule() {
-                TryPrep::Granted(granted) => return Sched::Granted(granted),
-                TryPrep::Missed(missed) => return Sched::Missed(missed),
-                TryPrep::Disabled(disabled) => return Sched::Disabled(disabled),
-                TryPrep::Changed(changed) => caller = changed,
-            }
+    pub fn schedule(mut self) -> Sched {
+        match self.prep() {
+            Prep::Granted => Sched::Granted(Granted { at: self.at }),
+            Prep::Missed => Sched::Missed(self),
+            Prep::Disabled => Sched::Disabled(self),
+        }
+    }
+
+    fn prep(&mut self) -> Prep {
+        // SAFETY: only this caller has the handle.
+        let said = unsafe { sys::fq_seat_schedule_prep(self.at.raw()) };
+        match Prep::of("seat_schedule_prep", said) {
+            Some(prep) => prep,
+            None => unexpected("seat_schedule_prep", said),
         }
     }
 
     /// Handles an interrupt: requests a poll, and queues the instance if the request is granted.
     pub fn interrupt(&mut self, kind: Kind) -> Prep {
-        // SAFETY: only this caller has the handle.
-        let said = unsafe { sys::fq_seat_interrupt(self.at.raw(), kind.number()) };
-        match Prep::of("seat_interrupt", said) {
-            Some(prep) => prep,
-            None => unexpected("seat_interrupt", said),
-        }
+        self.interrupt_and(kind, || {})
     }
 
     /// Like [`interrupt`](Caller::interrupt), with [`mask`](Card::mask) between the grant and the queueing, where the kernel
@@ -102,20 +102,14 @@ impl Caller {
     ///
     /// If `mask` panics, the instance is never polled again.
     pub fn interrupt_masked(&mut self, kind: Kind, card: &mut impl Card) -> Prep {
-        let prep = loop {
-            // SAFETY: only this caller has the handle.
-            let said = unsafe { sys::fq_seat_schedule(self.at.raw()) };
-            if let Some(prep) = Prep::of("seat_schedule", said) {
-                break prep;
-            }
-        };
+        self.interrupt_and(kind, || card.mask())
+    }
+
+    fn interrupt_and(&mut self, kind: Kind, mask: impl FnOnce()) -> Prep {
+        let prep = self.prep();
         if prep == Prep::Granted {
-            card.mask();
-            // SAFETY: only this caller has the handle.
-            match unsafe { sys::fq_seat_hand(self.at.raw(), kind.number()) } {
-                sys::FQ_OK => {}
-                said => unexpected("seat_hand", said),
-            }
+            mask();
+            hand(&mut self.at, kind);
         }
         prep
     }
@@ -135,13 +129,7 @@ impl Caller {
     }
 
     fn request_and(&mut self, mask: impl FnOnce()) -> (Prep, Next) {
-        let prep = loop {
-            // SAFETY: only this caller has the handle.
-            let said = unsafe { sys::fq_seat_schedule(self.at.raw()) };
-            if let Some(prep) = Prep::of("seat_schedule", said) {
-                break prep;
-            }
-        };
+        let prep = self.prep();
         if prep != Prep::Granted {
             return (prep, Next::Gone);
         }
@@ -226,11 +214,17 @@ impl Granted {
 
     /// Queues the instance on the list or for its thread, whatever the state word says.
     pub fn hand(mut self, kind: Kind) -> Caller {
-        // SAFETY: only this caller has the handle.
-        match unsafe { sys::fq_seat_hand(self.at.raw(), kind.number()) } {
-            sys::FQ_OK => Caller { at: self.at },
-            said => unexpected("seat_hand", said),
-        }
+        hand(&mut self.at, kind);
+        Caller { at: self.at }
+    }
+}
+
+// Queues a granted instance on the list or for its thread.
+fn hand(at: &mut Handle, kind: Kind) {
+    // SAFETY: only this call has the handle.
+    match unsafe { sys::fq_seat_hand(at.raw(), kind.number()) } {
+        sys::FQ_OK => {}
+        said => unexpected("seat_hand", said),
     }
 }
 

@@ -81,13 +81,11 @@ impl Control<Off> {
     /// Enables the instance, and retries until an attempt decides (`napi_enable`). Request a poll once after it, or enable by
     /// [`open`](Control::open): packets that arrived while the instance was disabled are polled only after the next request.
     /// Without one, a masked card with a full ring would wait forever.
-    pub fn enable(self, threaded: bool) -> Control<On> {
-        let mut control = self;
-        loop {
-            match control.try_enable(threaded) {
-                Ok(on) => return on,
-                Err(off) => control = off,
-            }
+    pub fn enable(mut self, threaded: bool) -> Control<On> {
+        // SAFETY: only this controller has the handle.
+        match unsafe { sys::fq_control_step(self.at.raw(), true, threaded) } {
+            sys::FQ_OK => Control::of(self.at),
+            said => unexpected("control_step", said),
         }
     }
 
@@ -118,16 +116,13 @@ impl Control<On> {
     /// Disables the instance (`napi_disable`): marks it, and retries until its owner has released it. Between attempts it
     /// yields the processor. An instance that is on a list has to be taken and completed by a poller; otherwise this never
     /// returns.
-    pub fn disable(self) -> Control<Off> {
-        let mut control = self.mark();
+    pub fn disable(mut self) -> Control<Off> {
         loop {
-            match control.try_take() {
-                TryTake::Taken(off) => return off,
-                TryTake::Busy(marked) => {
-                    control = marked;
-                    thread::yield_now();
-                }
-                TryTake::Changed(marked) => control = marked,
+            // SAFETY: only this controller has the handle.
+            match unsafe { sys::fq_control_step(self.at.raw(), false, false) } {
+                sys::FQ_OK => return Control::of(self.at),
+                sys::FQ_BUSY => thread::yield_now(),
+                said => unexpected("control_step", said),
             }
         }
     }

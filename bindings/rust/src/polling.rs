@@ -126,14 +126,12 @@ impl Polling {
     }
 
     /// Ends the poll, and retries until an attempt decides (`napi_complete_done`).
-    pub fn complete(self) -> Completed {
-        let mut polling = self;
-        loop {
-            match polling.try_complete() {
-                TryDone::Released(caller) => return Completed::Released(caller),
-                TryDone::Again(granted) => return Completed::Again(granted),
-                TryDone::Changed(changed) => polling = changed,
-            }
+    pub fn complete(mut self) -> Completed {
+        // SAFETY: only this poller has the handle.
+        match unsafe { sys::fq_seat_complete_done(self.at.raw()) } {
+            sys::FQ_RELEASED => Completed::Released(Caller { at: self.at }),
+            sys::FQ_AGAIN => Completed::Again(Granted { at: self.at }),
+            said => unexpected("seat_complete_done", said),
         }
     }
 }

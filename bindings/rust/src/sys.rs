@@ -91,6 +91,8 @@ pub const FQ_STRUCT_RUN_REPORT: u32 = 10;
 pub const FQ_STRUCT_TODO: u32 = 11;
 /// The number of `struct fq_device_shown` for [`fq_struct_size`].
 pub const FQ_STRUCT_DEVICE_SHOWN: u32 = 12;
+/// The number of `struct fq_tx_watchdog` for [`fq_struct_size`].
+pub const FQ_STRUCT_TX_WATCHDOG: u32 = 13;
 
 /// `FQ_LIST` of `enum fq_kind`: on a poll list.
 pub const FQ_LIST: u32 = 0;
@@ -544,6 +546,13 @@ extern "C" {
     pub fn fq_tx_send(tx: *mut fq_handle, bytes: u32) -> u32;
     pub fn fq_tx_done(tx: *mut fq_handle, count: u32, now_ms: u64) -> u32;
     pub fn fq_tx_state(tx: *mut fq_handle, state: *mut fq_tx_shown) -> u32;
+    pub fn fq_tx_watch(
+        tx: *mut fq_handle,
+        watchdog: *mut fq_tx_watchdog,
+        limit_ms: u64,
+        now_ms: u64,
+        stuck: *mut bool,
+    ) -> u32;
 
     pub fn fq_shared_new(
         ring: *mut fq_handle,
@@ -555,10 +564,12 @@ extern "C" {
     pub fn fq_seat_count(seat: *mut fq_handle, answers: *mut fq_answers) -> u32;
     pub fn fq_seat_look(seat: *mut fq_handle, word: *mut u64) -> u32;
     pub fn fq_seat_schedule(seat: *mut fq_handle) -> u32;
+    pub fn fq_seat_schedule_prep(seat: *mut fq_handle) -> u32;
     pub fn fq_seat_take(seat: *mut fq_handle, kind: u32) -> u32;
     pub fn fq_seat_busy_take(seat: *mut fq_handle) -> u32;
     pub fn fq_seat_set_threaded(seat: *mut fq_handle, threaded: bool) -> u32;
     pub fn fq_seat_hand(seat: *mut fq_handle, kind: u32) -> u32;
+    pub fn fq_seat_hand_again(seat: *mut fq_handle, next: *mut u32) -> u32;
     pub fn fq_seat_poll(
         seat: *mut fq_handle,
         weight: usize,
@@ -568,10 +579,13 @@ extern "C" {
     ) -> u32;
     pub fn fq_seat_requeue(seat: *mut fq_handle) -> u32;
     pub fn fq_seat_complete(seat: *mut fq_handle) -> u32;
+    pub fn fq_seat_complete_done(seat: *mut fq_handle) -> u32;
+    pub fn fq_seat_end(seat: *mut fq_handle, full: bool, next: *mut u32) -> u32;
     pub fn fq_seat_busy_stop(seat: *mut fq_handle) -> u32;
     pub fn fq_control_enable(control: *mut fq_handle, threaded: bool) -> u32;
     pub fn fq_control_mark(control: *mut fq_handle) -> u32;
     pub fn fq_control_try_take(control: *mut fq_handle) -> u32;
+    pub fn fq_control_step(control: *mut fq_handle, on: bool, threaded: bool) -> u32;
 
     pub fn fq_list_new(list: *mut fq_handle) -> u32;
     pub fn fq_list_push(list: *mut fq_handle, id: u32) -> u32;
@@ -665,154 +679,4 @@ pub unsafe fn fq_word_any(word: *const fq_word) -> bool {
 pub unsafe fn fq_word_take(word: *mut fq_word) -> u64 {
     // SAFETY: as the caller says.
     unsafe { (*word).private_bits.swap(0, Ordering::SeqCst) }
-}
-
-/// Checks a transmit ring at each tick of a timer: whether it has been stopped, with no byte completed, for this long.
-///
-/// # Safety As for [`fq_tx_state`]; the watchdog and the result don't overlap with it.
-pub unsafe fn fq_tx_watch(
-    tx: *mut fq_handle,
-    watchdog: *mut fq_tx_watchdog,
-    limit_ms: u64,
-    now_ms: u64,
-    stuck: *mut bool,
-) -> u32 {
-    let mut state = fq_tx_shown::default();
-    // SAFETY: as the caller says; the state is here.
-    let said = unsafe { fq_tx_state(tx, &mut state) };
-    // SAFETY: as the caller says.
-    let watchdog = unsafe { &mut *watchdog };
-    let is_known = watchdog.private_stopped && watchdog.private_completed == state.completed;
-    if said == FQ_OK && !(state.stopped && is_known) {
-        *watchdog = fq_tx_watchdog {
-            private_stopped: state.stopped,
-            private_completed: state.completed,
-            private_since: now_ms,
-        };
-    }
-    let since = now_ms.saturating_sub(watchdog.private_since);
-    // SAFETY: as the caller says.
-    unsafe { stuck.write(said == FQ_OK && state.stopped && since >= limit_ms) };
-    said
-}
-
-/// Makes one step of a driver's open or stop; returns `FQ_BUSY` if the owner of the instance has to complete it first.
-///
-/// # Safety As for [`fq_control_mark`].
-pub unsafe fn fq_control_step(control: *mut fq_handle, on: bool, threaded: bool) -> u32 {
-    if !on {
-        // SAFETY: as the caller says.
-        match unsafe { fq_control_mark(control) } {
-            FQ_OK | FQ_NOT_ALLOWED => {}
-            said => return said,
-        }
-    }
-    loop {
-        // SAFETY: as the caller says.
-        let said = unsafe {
-            if on {
-                fq_control_enable(control, threaded)
-            } else {
-                fq_control_try_take(control)
-            }
-        };
-        match said {
-            FQ_CHANGED => {}
-            FQ_TAKEN => return FQ_OK,
-            FQ_NOT_ALLOWED if !on => return FQ_OK,
-            said => return said,
-        }
-    }
-}
-
-/// Handles an interrupt: schedules, retries until an attempt decides, and queues the instance if it was granted.
-///
-/// # Safety As for [`fq_seat_schedule`] and [`fq_seat_hand`].
-pub unsafe fn fq_seat_interrupt(seat: *mut fq_handle, kind: u32) -> u32 {
-    if kind > FQ_THREAD {
-        return FQ_BAD_KIND;
-    }
-    loop {
-        // SAFETY: as the caller says.
-        let said = unsafe { fq_seat_schedule(seat) };
-        if said == FQ_GRANTED {
-            // SAFETY: as the caller says.
-            let handed = unsafe { fq_seat_hand(seat, kind) };
-            return if handed == FQ_OK { said } else { handed };
-        }
-        if said != FQ_CHANGED {
-            return said;
-        }
-    }
-}
-
-/// Queues an instance that was granted: for its thread if `FQ_BIT_THREADED` is set, otherwise on the list.
-///
-/// # Safety As for [`fq_seat_look`], whose word is `next` here.
-pub unsafe fn fq_seat_hand_again(seat: *mut fq_handle, next: *mut u32) -> u32 {
-    let mut word = 0;
-    // SAFETY: as the caller says; the word is here.
-    let said = unsafe { fq_seat_look(seat, &mut word) };
-    let (kind, how) = if said == FQ_OK && word & FQ_BIT_THREADED != 0 {
-        (FQ_THREAD, FQ_NEXT_AGAIN_THREAD)
-    } else {
-        (FQ_LIST, FQ_NEXT_AGAIN)
-    };
-    // SAFETY: as the caller says.
-    unsafe {
-        next.write(how);
-        if said == FQ_OK {
-            fq_seat_hand(seat, kind)
-        } else {
-            said
-        }
-    }
-}
-
-/// Ends a poll as the kernel does: after a full poll, if no disable is pending, the instance goes on the list again, or stays
-/// with its thread (`FQ_HELD`); otherwise it is completed, and queued again if a request was missed.
-///
-/// # Safety As for [`fq_seat_look`], whose word is `next` here.
-pub unsafe fn fq_seat_end(seat: *mut fq_handle, full: bool, next: *mut u32) -> u32 {
-    // SAFETY: as the caller says.
-    unsafe { next.write(FQ_NEXT_GONE) };
-    let mut word = 0;
-    // SAFETY: as the caller says; the word is here.
-    let said = unsafe { fq_seat_look(seat, &mut word) };
-    if said != FQ_OK {
-        return said;
-    }
-    if full && word & (FQ_BIT_DISABLE | FQ_BIT_IN_BUSY_POLL) == 0 {
-        // SAFETY: as the caller says.
-        return unsafe { end_full(seat, word & FQ_BIT_SCHED_THREADED != 0, next) };
-    }
-    loop {
-        // SAFETY: as the caller says.
-        match unsafe { fq_seat_complete(seat) } {
-            FQ_CHANGED => {}
-            FQ_RELEASED => return FQ_OK,
-            // SAFETY: as the caller says.
-            FQ_AGAIN => return unsafe { fq_seat_hand_again(seat, next) },
-            said => return said,
-        }
-    }
-}
-
-// SAFETY: the caller ensures it, as for `fq_seat_end`.
-unsafe fn end_full(seat: *mut fq_handle, is_thread: bool, next: *mut u32) -> u32 {
-    if is_thread {
-        let mut counts = fq_counts::default();
-        // SAFETY: as the caller says; the counts, of a seat that polls, are here.
-        return match unsafe { fq_count(seat, &mut counts) } {
-            FQ_OK => FQ_HELD,
-            said => said,
-        };
-    }
-    // SAFETY: as the caller says.
-    let said = unsafe { fq_seat_requeue(seat) };
-    if said == FQ_OK {
-        // SAFETY: as the caller says.
-        unsafe { next.write(FQ_NEXT_REPOLL) };
-    }
-    said
 }

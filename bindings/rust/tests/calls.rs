@@ -846,7 +846,8 @@ fn the_structs_have_the_sizes_that_the_library_tells() {
     assert_eq!(told(FQ_STRUCT_RUN_REPORT), size_of::<fq_run_report>());
     assert_eq!(told(FQ_STRUCT_TODO), size_of::<fq_todo>());
     assert_eq!(told(FQ_STRUCT_DEVICE_SHOWN), size_of::<fq_device_shown>());
-    assert_eq!(told(FQ_STRUCT_DEVICE_SHOWN + 1), 0);
+    assert_eq!(told(FQ_STRUCT_TX_WATCHDOG), size_of::<fq_tx_watchdog>());
+    assert_eq!(told(FQ_STRUCT_TX_WATCHDOG + 1), 0);
 }
 
 // A card with edge-triggered interrupts: packets that arrive while it is masked raise none.

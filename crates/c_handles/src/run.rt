@@ -5,7 +5,7 @@ ghost use Rattle.poll_runs.specs.Driven.{and_poll};
 ghost use Rattle.poll_runs.specs.declared.bench.Next.{Next};
 ghost use Rattle.c_handles.specs.Status.{OK, DONE, NOT_ALLOWED};
 ghost use Rattle.c_handles.specs.Lists.{held_by_run};
-ghost use Rattle.c_handles.specs.Runs.{next_in, asked_id, list_run, list_has, run_has, without, is_doubled, Runs, IsThrough, IsBetweenPolls, HasSettings, SameSettingsIn, IsRunOf, push_status, remove_status, begin_status, polled_status};
+ghost use Rattle.c_handles.specs.Runs.{next_in, asked_id, list_run, list_has, run_has, without, is_doubled, Runs, IsThrough, IsBetweenPolls, HasSettings, SameSettingsIn, IsRunOf, has_spent_in, list_after_end, push_status, remove_status, begin_status, polled_status};
 
 use crate::lister::{FqRunReport, ListObject};
 use crate::status;
@@ -220,6 +220,9 @@ impl ListObject {
             → IsRunOf budget window start polls self.new.list report.new }
         ensures early { (start : _) (polls : List Poll) → result ≡ OK → Runs start polls self.old
             → (report.new.polls ≡ length polls) × (report.new.work ≡ work_of polls) }
+        ensures squeezed { result ≡ OK → report.new.squeezed ≡ has_spent_in (list_run self.old) }
+        ensures back { result ≡ OK
+            → self.new.list ≡ list_after_end (list_run self.old) self.old.list }
         ensures bounds { (budget weight window : _) → result ≡ OK
             → HasSettings budget weight window (list_run self.old)
             → (report.new.polls ≤ window) × (report.new.work < budget + weight) }

@@ -1,6 +1,6 @@
 //! A whole run of the machine, from arrivals in the caller's memory to a report in the caller's memory.
 
-ghost use Rattle.std.specs.Prelude.{◌≡◌, ◌≢◌, ◌<◌, ◌⊎◌, ◌↔◌, ℕ, List, IfOk, IfErr, length, take};
+ghost use Rattle.std.specs.Prelude.{◌≡◌, ◌≢◌, ◌<◌, ◌⊎◌, ◌↔◌, ℕ, List, IfOk, IfErr, length, take, drop};
 ghost use Rattle.machine_report.specs.Answer.{IsReportOf, IsArrivalsFault};
 ghost use Rattle.machine_report.specs.Fault.{IsMachineOutside, IsMachineOutOfMemory};
 ghost use Rattle.machine_c.specs.Faults.{machine_c_status};
@@ -89,6 +89,7 @@ fn put_report(text: &[u8], report: &mut [u8], ran: &mut FqMachineRan) -> u32
     ensures ok { result ≡ MACHINE_OK → take ran.new.length report.new ≡ text.now }
     ensures no_room { result ≢ MACHINE_OK
         → (result ≡ MACHINE_NO_ROOM) × (length report.old < length text.now) }
+    ensures rest { drop (length text.now) report.new ≡ drop (length text.now) report.old }
     ensures length { ran.new ≡ record ran.old { length = length text.now } }
     ensures kept { result ≢ MACHINE_OK → report.new ≡ report.old }
 {
@@ -155,6 +156,8 @@ pub extern "C" fn fq_machine(
     // The text that is written is the report of the arrivals with these settings, and an error that is reported is theirs.
     ensures written { result ≡ MACHINE_OK
         → IsMachineReport settings.now arrivals.now (take ran.new.length report.new) }
+    ensures rest { result ≡ MACHINE_OK
+        → drop ran.new.length report.new ≡ drop ran.new.length report.old }
     ensures no_room { result ≡ MACHINE_NO_ROOM → (text : List ℕ)
         × IsMachineReport settings.now arrivals.now text
         × (ran.new.length ≡ length text) × (length report.old < length text) }

@@ -16,4 +16,5 @@ size_in which =
     else (if which == 10 then 12
     else (if which == 11 then 48
     else (if which == 12 then 32
-    else 0))))))))))))
+    else (if which == 13 then 16
+    else 0)))))))))))))

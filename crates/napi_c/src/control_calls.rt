@@ -1,8 +1,13 @@
 //! The calls of the controller of a shared instance.
+ghost use Rattle.std.specs.Prelude.{◌≡◌, true, false};
 ghost use Rattle.c_handles.specs.declared.power.ControlCall.TheVariants as control_call;
-ghost use Rattle.c_handles.specs.Handles.{ControlMakes, ControlMakesIn};
+ghost use Rattle.c_handles.specs.Freeing.{is_control_off};
+ghost use Rattle.c_handles.specs.Handles.{ControlDoes, ControlDoesIn, ControlMakes, ControlMakesIn, IsControllerWith, LeadsToController};
+ghost use Rattle.c_handles.specs.Status.{OK};
+ghost use Rattle.napi_c.specs.Rules.{ControlSteps, IsSwitched, ControlStops};
 
-use c_handles::{ControlCall, FqHandle, Object, status};
+use crate::attempts::repeat;
+use c_handles::{ControlCall, ControlState, Controller, FqHandle, Object, status};
 
 fn step_in(at: &mut Object, call: ControlCall) -> u32
     ensures { ControlMakesIn call at.old result at.new }
@@ -45,4 +50,65 @@ pub extern "C" fn fq_control_try_take(handle: &mut FqHandle) -> u32
     ensures { ControlMakes control_call.TryTake handle.old result handle.new }
 {
     on_control(handle, ControlCall::TryTake)
+}
+
+fn is_off(control: &Controller) -> bool
+    ensures { result ≡ is_control_off control.now.power }
+{
+    matches!(control.power, ControlState::Off(_))
+}
+
+// Marks the instance for a disable, unless that is done already, and tries to take it.
+fn stop(control: &mut Controller) -> u32
+    ensures makes { ControlStops control.old result control.new }
+    ensures off { result ≡ OK → IsSwitched false control.new.power }
+{
+    if is_off(control) {
+        return status::OK;
+    }
+    control.step(ControlCall::Mark);
+    match repeat(control, ControlCall::TryTake) {
+        status::TAKEN => status::OK,
+        other => other,
+    }
+}
+
+// Enables the instance.
+fn start(control: &mut Controller, threaded: bool) -> u32
+    ensures makes { ControlSteps true threaded control.old result control.new }
+    ensures on { result ≡ OK → IsSwitched true control.new.power }
+{
+    repeat(control, ControlCall::Enable(threaded))
+}
+
+fn switch_in(at: &mut Object, on: bool, threaded: bool) -> u32
+    ensures makes { ControlDoesIn (ControlSteps on threaded) at.old result at.new }
+    ensures switched { result ≡ OK → IsControllerWith (λ c. IsSwitched on c.power) at.new }
+{
+    match at {
+        Object::Controller(control) => {
+            if on {
+                start(control, threaded)
+            } else {
+                stop(control)
+            }
+        }
+        _ => status::BAD_HANDLE,
+    }
+}
+
+/// Makes one step of a driver's open (`on`: `napi_enable`) or stop (`napi_disable`), whose attempts are repeated while another
+/// thread interferes. Returns OK: the instance is enabled, or it is off, as it may have been before; BUSY: a disable is pending,
+/// and the instance's owner has to complete it before the next step; NOT_ALLOWED to open an instance that isn't off; CHANGED
+/// only after 2^64 attempts.
+#[unsafe(no_mangle)]
+pub extern "C" fn fq_control_step(handle: &mut FqHandle, on: bool, threaded: bool) -> u32
+    ensures makes { ControlDoes (ControlSteps on threaded) handle.old result handle.new }
+    ensures switched { result ≡ OK
+        → LeadsToController (λ c. IsSwitched on c.power) handle.new.held.body }
+{
+    if !handle.is_set() {
+        return status::BAD_HANDLE;
+    }
+    switch_in(handle.held.as_mut(), on, threaded)
 }

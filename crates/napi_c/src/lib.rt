@@ -2,6 +2,7 @@
 //! the statuses of `enum fq_status` without their prefix `FQ_`. A seat is a caller of a shared instance (`fq_seat_..`).
 #![tactic(auto)]
 
+mod attempts;
 mod control_calls;
 mod counts;
 mod driver;
@@ -12,6 +13,7 @@ mod list;
 mod messages;
 mod names;
 mod ring;
+mod rules;
 mod seat_calls;
 mod serial;
 mod serial_calls;
@@ -20,3 +22,4 @@ mod serial_end;
 mod shared;
 mod sizes;
 mod transmit;
+mod watch;

@@ -5,6 +5,7 @@ ghost use Rattle.napi_c.specs.Sizes.{size_in};
 use crate::counts::{FqCounts, FqTotals};
 use crate::limit::{FqDql, FqDqlNew};
 use crate::serial::FqNapi;
+use crate::watch::FqTxWatchdog;
 use c_handles::{FqAnswers, FqDeviceShown, FqHandle, FqRingShown, FqRunReport, FqTodo};
 use rx_ring::Packet;
 use std::mem::size_of;
@@ -29,6 +30,7 @@ pub extern "C" fn fq_struct_size(which: u32) -> usize
         10 => size_of::<FqRunReport>(),
         11 => size_of::<FqTodo>(),
         12 => size_of::<FqDeviceShown>(),
+        13 => size_of::<FqTxWatchdog>(),
         _ => 0,
     }
 }

@@ -1,6 +1,6 @@
 //! A whole replay on one thread, from a trace in the caller's memory to a report in the caller's memory.
 
-ghost use Rattle.std.specs.Prelude.{◌≡◌, ◌≢◌, ◌<◌, ◌≤◌, ◌⊎◌, ◌↔◌, ℕ, List, Ok, Err, IfOk, IfErr, length, take};
+ghost use Rattle.std.specs.Prelude.{◌≡◌, ◌≢◌, ◌<◌, ◌≤◌, ◌⊎◌, ◌↔◌, ℕ, List, Ok, Err, IfOk, IfErr, length, take, drop};
 ghost use Rattle.replay_text.specs.Outside.{IsOutside};
 ghost use Rattle.replay_rows.specs.Answer.{replay_of};
 ghost use Rattle.replay_c.specs.Status.{REPLAY_OK, REPLAY_OUT_OF_MEMORY, REPLAY_BAD_WEIGHT, REPLAY_NO_ROOM, REPLAY_BAD_BUDGET, REPLAY_BAD_TRACE};
@@ -71,6 +71,7 @@ fn put_report(text: &[u8], report: &mut [u8], replayed: &mut FqReplayed) -> u32
     ensures ok { result ≡ REPLAY_OK → take replayed.new.length report.new ≡ text.now }
     ensures no_room { result ≢ REPLAY_OK → (result ≡ REPLAY_NO_ROOM)
         × (length report.old < length text.now) }
+    ensures rest { drop (length text.now) report.new ≡ drop (length text.now) report.old }
     ensures length { replayed.new.length ≡ length text.now }
     ensures kept { result ≢ REPLAY_OK → report.new ≡ report.old }
     ensures faultless { (replayed.new.fault ≡ replayed.old.fault)
@@ -116,6 +117,8 @@ pub extern "C" fn fq_replay(
     // trace.
     ensures written { result ≡ REPLAY_OK
         → IsReplayReport settings.now trace.now (take replayed.new.length report.new) }
+    ensures rest { result ≡ REPLAY_OK
+        → drop replayed.new.length report.new ≡ drop replayed.new.length report.old }
     ensures no_room { result ≡ REPLAY_NO_ROOM
         → (text : List ℕ) × IsReplayReport settings.now trace.now text
         × (replayed.new.length ≡ length text) × (length report.old < length text) }

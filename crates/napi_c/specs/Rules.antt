@@ -1,0 +1,124 @@
+-- The kernel's rules for a shared instance that take several calls, each defined by the single attempts of `Handles`: attempts that
+-- are repeated until no other thread interferes, the queueing of a granted instance, the end of a poll, and a driver's open and stop.
+use Rattle.std.specs.Prelude.{◌≡◌, ◌≢◌, ◌==◌, if◌then◌else◌, ℕ, zero, suc, Bool, true, false, Some}
+use Rattle.napi_model.specs.declared.state.{Seen.Seen}
+use Rattle.c_handles.specs.declared.{seat.{CallerObject.CallerObject, Controller.Controller}, hold.CallerState.CallerState}
+use Rattle.c_handles.specs.{declared.power.ControlState.ControlState, Handles.{SeatStep, ControlStep}, SeatCalls.SeatLooks}
+use Rattle.c_handles.specs.Freeing.{is_control_off}
+use Rattle.c_handles.specs.Status.{OK, TAKEN, RELEASED, AGAIN, HELD, CHANGED, NOT_ALLOWED}
+use Rattle.napi_c.specs.Serial.{again_kind, next_again, stays_scheduled, NEXT_GONE, NEXT_REPOLL}
+use Rattle.c_handles.specs.declared.hold.CallerState.TheVariants as hold
+use Rattle.c_handles.specs.declared.hold.SeatCall.TheVariants as seat_call
+use Rattle.c_handles.specs.declared.power.ControlState.TheVariants as power
+use Rattle.c_handles.specs.declared.power.ControlCall.TheVariants as control_call
+
+-- ---- repeated attempts
+
+-- so many attempts lead from `a` to `b`, and each of them failed, because another thread changed the instance
+unfoldable pub Fails : {A : Type 0} → (A → ℕ → A → Type 0) → ℕ → A → A → Type 0
+Fails attempt zero a b = b ≡ a
+Fails {A} attempt (suc count) a b = (between : A) × Fails attempt count a between × attempt between CHANGED b
+
+-- 2^64 - 1
+abbrev pub most_failures : ℕ
+most_failures = 18446744073709551615
+
+-- An attempt is repeated until one doesn't fail, and `n` is the status of the last one. Only after `most_failures` may that fail too.
+pub record Repeats {A : Type 0} (attempt : A → ℕ → A → Type 0) (before : A) (n : ℕ) (after : A) : Type 0 where
+  pub failures : ℕ
+  pub between : A
+  pub failed : Fails attempt failures before between
+  pub last : attempt between n after
+  pub gives_up : n ≡ CHANGED → failures ≡ most_failures
+
+-- ---- `____napi_schedule`
+
+-- a look at the state word shows this, and counts as no result
+abbrev pub SeatLooked : CallerObject → Seen → CallerObject → Type 0
+SeatLooked s seen t = SeatLooks s.hold (Some seen) t.hold × (t.answers ≡ s.answers)
+
+-- The caller looks, and queues the instance: for its thread if THREADED is set, on the list otherwise. `next` says which.
+pub record Queues (s : CallerObject) (next : ℕ) (t : CallerObject) : Type 0 where
+  pub seen : Seen
+  pub looked : CallerObject
+  pub looks : SeatLooked s seen looked
+  pub queues : SeatStep (seat_call.Hand (again_kind seen.flags)) looked OK t
+  pub says : next ≡ next_again seen.flags
+
+-- a caller that was granted the instance queues it; any other is refused
+abbrev pub QueuesIn : CallerState → CallerObject → ℕ → ℕ → CallerObject → Type 0
+QueuesIn (hold.Granted g) s n next t = (n ≡ OK) × Queues s next t
+QueuesIn other s n next t = (n ≡ NOT_ALLOWED) × (next ≡ NEXT_GONE) × (t ≡ s)
+
+abbrev pub SeatQueues : ℕ → CallerObject → ℕ → CallerObject → Type 0
+SeatQueues next s n t = QueuesIn s.hold s n next t
+
+-- ---- `__napi_poll`
+
+-- what follows a completion that returned this status: an instance that was granted again is queued
+pub record AfterComplete (said : ℕ) (s : CallerObject) (n next : ℕ) (t : CallerObject) : Type 0 where
+  pub released : said ≡ RELEASED → (n ≡ OK) × (next ≡ NEXT_GONE) × (t ≡ s)
+  pub again : said ≡ AGAIN → (n ≡ OK) × Queues s next t
+  pub other : said ≢ RELEASED → said ≢ AGAIN → (n ≡ said) × (next ≡ NEXT_GONE) × (t ≡ s)
+
+-- `napi_complete_done`, repeated, and what follows it
+pub record SeatCompletes (s : CallerObject) (n next : ℕ) (t : CallerObject) : Type 0 where
+  pub said : ℕ
+  pub completed : CallerObject
+  pub completes : Repeats (SeatStep seat_call.Complete) s said completed
+  pub ends : AfterComplete said completed n next t
+
+-- After a full poll the caller looks. If a disable is pending it completes; a thread's poll goes on; any other puts the instance on
+-- the list again.
+pub record SeatEndsFull (s : CallerObject) (n next : ℕ) (t : CallerObject) : Type 0 where
+  pub seen : Seen
+  pub looked : CallerObject
+  pub looks : SeatLooked s seen looked
+  pub completed : stays_scheduled true seen.flags ≡ false → SeatCompletes looked n next t
+  pub thread : stays_scheduled true seen.flags ≡ true → seen.flags.sched_threaded ≡ true
+      → (n ≡ HELD) × (next ≡ NEXT_GONE) × (t ≡ looked)
+  pub list : stays_scheduled true seen.flags ≡ true → seen.flags.sched_threaded ≡ false
+      → (n ≡ OK) × (next ≡ NEXT_REPOLL) × SeatStep seat_call.Requeue looked OK t
+
+-- a poll that returned the whole weight, and isn't a busy poll
+abbrev pub is_full_poll : Bool → CallerState → Bool
+is_full_poll full (hold.Polls w) = full
+is_full_poll full _ = false
+
+abbrev pub SeatEndsBy : Bool → CallerObject → ℕ → ℕ → CallerObject → Type 0
+SeatEndsBy true = SeatEndsFull
+SeatEndsBy false = SeatCompletes
+
+-- the end of a poll, full or not. `next` says what a run has to know of it.
+abbrev pub SeatEnds : Bool → ℕ → CallerObject → ℕ → CallerObject → Type 0
+SeatEnds full next s n t = SeatEndsBy (is_full_poll full s.hold) s n next t
+
+-- ---- `napi_enable` and `napi_disable`
+
+-- the mark of a disable, unless it is made already, and then attempts to take the instance
+pub record ControlDisables (c : Controller) (n : ℕ) (d : Controller) : Type 0 where
+  pub said : ℕ
+  pub marked : Controller
+  pub marks : ControlStep control_call.Mark c said marked
+  pub last : ℕ
+  pub takes : Repeats (ControlStep control_call.TryTake) marked last d
+  pub status : n ≡ (if last == TAKEN then OK else last)
+
+-- an instance that is off stays off
+abbrev pub ControlStopsBy : Bool → Controller → ℕ → Controller → Type 0
+ControlStopsBy true c n d = (n ≡ OK) × (d ≡ c)
+ControlStopsBy false c n d = ControlDisables c n d
+
+abbrev pub ControlStops : Controller → ℕ → Controller → Type 0
+ControlStops c n d = ControlStopsBy (is_control_off c.power) c n d
+
+-- one step of a driver's open (`on`) or stop
+abbrev pub ControlSteps : Bool → Bool → Controller → ℕ → Controller → Type 0
+ControlSteps true threaded c n d = Repeats (ControlStep (control_call.Enable threaded)) c n d
+ControlSteps false threaded c n d = ControlStops c n d
+
+-- the controller of an instance that is on, or off
+abbrev pub IsSwitched : Bool → ControlState → Type 0
+IsSwitched true (power.On on) = Unit
+IsSwitched false (power.Off off) = Unit
+IsSwitched _ _ = ⊥
