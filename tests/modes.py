@@ -1,6 +1,6 @@
 #!/usr/bin/env python3
 """modes.py PROGRAM SERIAL WORKERS: compares the three modes of the replay with one another, and measures the processor time of
-runs that wait, WORKERS (bench_workers) among them. The last line is `N passed, M failed`.
+runs that wait, WORKERS (bench_workers) among them, and of one that is made to spin. The last line is `N passed, M failed`.
 
 Serial mode is the reference for shared mode, and for SERIAL, which has only serial mode: on the runs of runs.txt, and on random
 traces of both versions with several settings. For a trace that is cut off anywhere, the rules of docs/FORMATS.md, implemented
@@ -9,6 +9,7 @@ import os
 import re
 import subprocess
 import sys
+import tempfile
 import time
 
 from runs import runs
@@ -174,11 +175,17 @@ def version_2():
             judge("%s, %s mode" % (name, mode), status == 0 and out.decode().startswith(wanted), (out + err).decode())
 
 
-def on_one_processor(program, words, feed):
+def keep_one_processor():
+    """Lets the process use one processor, by a policy under which a thread that is woken doesn't preempt the running one: so a thread
+    that spins until another one has run takes a whole slice each time."""
+    os.sched_setaffinity(0, {min(os.sched_getaffinity(0))})
+    os.sched_setscheduler(0, os.SCHED_BATCH, os.sched_param(0))
+
+
+def on_one_processor(program, words, feed, **variables):
     """The status of a run that has one processor, and what it takes of it, in seconds."""
-    one = min(os.sched_getaffinity(0))
     run = subprocess.Popen([program] + words, stdin=subprocess.PIPE, stdout=subprocess.DEVNULL, stderr=subprocess.DEVNULL,
-                           preexec_fn=lambda: os.sched_setaffinity(0, {one}))
+                           preexec_fn=keep_one_processor, env={**os.environ, **variables})
     with run.stdin as trace:
         feed(trace)
     _, status, usage = os.wait4(run.pid, 0)
@@ -201,6 +208,14 @@ def has_no_trace(_trace):
     pass
 
 
+def spins():
+    """A disable that doesn't yield the processor is seen: with a yield that does nothing the same run takes far over a second."""
+    with tempfile.TemporaryDirectory() as room:
+        subprocess.run(["cc", "-shared", "-fPIC", "-x", "c", "-", "-o", room + "/yield.so"], input=b"int sched_yield(void) { return 0; }", check=True)
+        status, seconds = on_one_processor(PROGRAM, ["--mode", "threads"], disables_often, LD_PRELOAD=room + "/yield.so")
+    judge("disables without a yield", status == 0 and seconds > 1, "status %d, %.2f s" % (status, seconds))
+
+
 def idle():
     """No run spins while it waits: it takes less than a second, which is a hundred times what it needs. The replays wait for a pipe that
     stays open for 3 seconds; the pollers of WORKERS for packets, while a gate holds a device for as long; and a disable for a poll by
@@ -215,6 +230,7 @@ def idle():
 
 cut_traces()
 idle()
+spins()
 worked_runs()
 version_2()
 random_traces(150)
