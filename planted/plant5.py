@@ -3,7 +3,7 @@ body in each function at once: PLANT_TIER=1 (the default is 12) public functions
 without one, 3 functions with one; the first
 FROM bodies of each function are left out. Bodies: /work/runs/planted5/CRATE (first), /work/runs/planted/CRATE, CRATE.multi. What was judged
 already (a line in /work/runs/judged/CRATE.txt, whose body and file are the same) isn't judged again. PLANT_FILES, PLANT_NOT: regular expressions of
-file paths. Takes a slot around each check only, and stops at the time in /work/runs/deadline.
+file paths; PLANT_NAMES: one that bodies' whole names match. Takes a slot around each check only, and stops at the time in /work/runs/deadline.
 Prints per body REFUSED, STILL PROVED, VOID (the prover says only that a proof names what is gone) or NOT COMPILED, and the sums."""
 import hashlib, os, re, subprocess, sys, tempfile, time
 sys.path.insert(0, os.path.join(os.getcwd(), "scripts")); sys.path.insert(0, "/work/runs")
@@ -15,6 +15,7 @@ crate, most = crates()[sys.argv[1]], int(sys.argv[2])
 first = int(sys.argv[3]) if len(sys.argv) > 3 else 0
 WIDTH = int(os.environ.get("PLANT_WIDTH", "16"))
 tiers = os.environ.get("PLANT_TIER", "12")
+names = os.environ.get("PLANT_NAMES", "")
 files, not_files = os.environ.get("PLANT_FILES", "."), os.environ.get("PLANT_NOT", "^$")
 KEPT, SAID = "/work/runs/judged", "/work/runs/said"
 os.makedirs(KEPT, exist_ok=True); os.makedirs(SAID, exist_ok=True)
@@ -82,7 +83,7 @@ def main():
         if e.apply(texts) is None:
             continue
         f = function_of(e, texts)
-        if not f or not re.search(files, f.path) or re.search(not_files, f.path):
+        if not f or names and not re.fullmatch(names, e.name) or not re.search(files, f.path) or re.search(not_files, f.path):
             continue
         at = (f.path, f.first)
         if str(tier_of(f, at in edited)) not in tiers or key(e, f) in seen:
@@ -147,9 +148,11 @@ def main():
             now.name = name_of(f)
             line = now.refusal(said)
             v = next((v for k, v in verdict.items() if ("::" + k).endswith("::" + now.name)), "?")
+            if not line and "did not prove" in v:
+                line = v
             if line:
                 tell("REFUSED", e, f, re.sub(r"\s+", " ", line)[:200])
-            elif v.startswith(("proved", "no proof: it calls")):
+            elif v.startswith("proved"):  # of one that calls another planted one, `search` has tried nothing
                 tell("STILL PROVED", e, f, v)
             else:
                 tell("VOID", e, f, v[:200])
