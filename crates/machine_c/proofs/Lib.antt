@@ -1,2 +1,3 @@
 mod FlagFacts
+mod MessageFacts
 mod OutsideFacts

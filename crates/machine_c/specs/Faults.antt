@@ -1,5 +1,5 @@
 -- The errors of the machine, as the numbers that C gets.
-use Rattle.std.specs.Prelude.{ℕ}
+use Rattle.std.specs.Prelude.{ℕ, ◌-◌, List, ◌++◌, length, replicate}
 use Rattle.machine_report.specs.declared.fault.MachineFault.{MachineFault}
 use Rattle.machine_report.specs.declared.fault.MachineFault.TheVariants.{BadFields, BadNumber, OutOfRange, Falls, ReadFailed}
 use Rattle.machine_report.specs.declared.fault.MachineFault.TheVariants.{OutOfMemory, OutputFailed}
@@ -19,3 +19,7 @@ machine_fault_row (BadNumber row) = row
 machine_fault_row (OutOfRange row) = row
 machine_fault_row (Falls row) = row
 machine_fault_row _ = 0
+
+-- the 64 bytes of a message: its text, with zeros after it
+abbrev pub with_zeros : List ℕ → List ℕ
+with_zeros text = text ++ replicate (64 - length text) 0

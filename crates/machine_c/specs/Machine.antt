@@ -1,9 +1,9 @@
 -- The arguments and results of a run of the machine for C.
 use Rattle.std.specs.Prelude.{◌≡◌, ◌⊎◌, ℕ, List}
 use Rattle.machine_model.specs.declared.settings.MachineSettings.{MachineSettings}
-use Rattle.machine_report.specs.{Answer.{IsReportOf, IsArrivalsFault}, Fault.{IsMachineOutside, machine_fault_number}}
+use Rattle.machine_report.specs.{Answer.{IsReportOf, IsArrivalsFault}, Fault.{IsMachineOutside, machine_fault_line, machine_fault_number}}
 use Rattle.machine_report.specs.declared.fault.MachineFault.{MachineFault}
-use Rattle.machine_c.specs.{Faults.{machine_c_status, machine_fault_row}, Settings.AsksMachine, Status.MACHINE_OUT_OF_MEMORY}
+use Rattle.machine_c.specs.{Faults.{machine_c_status, machine_fault_row, with_zeros}, Settings.AsksMachine, Status.MACHINE_OUT_OF_MEMORY}
 use Rattle.machine_c.specs.declared.{machine.FqMachineRan.FqMachineRan, settings.FqMachineSettings.FqMachineSettings}
 
 -- both structs have this library's sizes
@@ -23,8 +23,9 @@ abbrev pub MachineLacksMemory : FqMachineSettings → List ℕ → Type 0
 MachineLacksMemory asked bytes = (fault : MachineFault) × (machine_c_status fault ≡ MACHINE_OUT_OF_MEMORY)
     × (IsMachineOutside fault ⊎ IsMachineFault asked bytes fault)
 
--- an error is reported by its number and its row; there is no report then
+-- an error is reported by its number, its row and its message; there is no report then
 pub record Tells (fault : MachineFault) (ran : FqMachineRan) : Type 0 where
   pub number : ran.fault ≡ machine_fault_number fault
   pub row : ran.row ≡ machine_fault_row fault
   pub length : ran.length ≡ 0
+  pub message : ran.message ≡ with_zeros (machine_fault_line fault)

@@ -1,9 +1,9 @@
 //! A whole run of the machine, from arrivals in the caller's memory to a report in the caller's memory.
 
-ghost use Rattle.std.specs.Prelude.{◌≡◌, ◌≢◌, ◌<◌, ◌⊎◌, ◌↔◌, ℕ, List, IfOk, IfErr, length, take, drop};
+ghost use Rattle.std.specs.Prelude.{◌≡◌, ◌≢◌, ◌<◌, ◌⊎◌, ◌↔◌, ◌++◌, ℕ, [], List, IfOk, IfErr, codes, string_bytes, length, take, drop};
 ghost use Rattle.machine_report.specs.Answer.{IsReportOf, IsArrivalsFault};
-ghost use Rattle.machine_report.specs.Fault.{IsMachineOutside, IsMachineOutOfMemory};
-ghost use Rattle.machine_c.specs.Faults.{machine_c_status};
+ghost use Rattle.machine_report.specs.Fault.{IsMachineOutside, IsMachineOutOfMemory, machine_fault_line};
+ghost use Rattle.machine_c.specs.Faults.{machine_c_status, with_zeros};
 ghost use Rattle.machine_c.specs.Machine.{HasSizes, IsMachineReport, IsMachineFault, MachineLacksMemory, Tells};
 ghost use Rattle.machine_c.specs.Settings.{AsksMachine, IsSettingOut};
 ghost use Rattle.machine_c.specs.Status.{MACHINE_OK, MACHINE_OUT_OF_MEMORY, MACHINE_NO_ROOM, MACHINE_BAD_SIZE, MACHINE_BAD_SETTING, MACHINE_BAD_ARRIVALS};
@@ -43,6 +43,7 @@ impl FqMachineRan {
         ensures size { result.size ≡ 96 }
         ensures none { (result.length ≡ 0) × (result.row ≡ 0) × (result.fault ≡ 0)
             × (result.setting ≡ 0) }
+        ensures message { result.message ≡ with_zeros [] }
     {
         FqMachineRan {
             size: FqMachineRan::SIZE,
@@ -103,7 +104,8 @@ fn put_report(text: &[u8], report: &mut [u8], ran: &mut FqMachineRan) -> u32
 
 // Copies a message to an array of zeros, if there is room for it and a terminating 0.
 fn put_message(text: &[u8], message: &mut [u8])
-    ensures { length text.now < length message.old → take (length text.now) message.new ≡ text.now }
+    ensures text { length text.now < length message.old → take (length text.now) message.new ≡ text.now }
+    ensures rest { drop (length text.now) message.new ≡ drop (length text.now) message.old }
 {
     if text.len() < message.len() {
         message[..text.len()].copy_from_slice(text);
@@ -112,6 +114,7 @@ fn put_message(text: &[u8], message: &mut [u8])
 
 // Returns the message of an error, with its line feed.
 fn message_of(alloc: Global, fault: &MachineFault) -> Result<String, MachineFault>
+    ensures line { IfOk result (λ line. string_bytes line ≡ machine_fault_line fault.now ++ codes "\n") }
     ensures memory { IfErr result IsMachineOutOfMemory }
 {
     Ok(fault_line(alloc, fault)?)
@@ -135,7 +138,8 @@ fn report_fault(alloc: Global, fault: &MachineFault, ran: &mut FqMachineRan) -> 
             *ran = FqMachineRan::none();
             ran.fault = u32::from(fault.number());
             ran.row = machine_fault_row(fault);
-            put_message(line.as_str().trim_end().as_bytes(), &mut ran.message);
+            let line = line.as_str().as_bytes();
+            put_message(&line[..line.len() - 1], &mut ran.message);
             status::BAD_ARRIVALS
         }
         Err(_) => status::OUT_OF_MEMORY,
@@ -179,6 +183,8 @@ pub extern "C" fn fq_machine(
         → ran.new.setting ≡ 0 }
     ensures no_report { result ≢ MACHINE_BAD_SIZE → result ≢ MACHINE_OK
         → result ≢ MACHINE_NO_ROOM → ran.new.length ≡ 0 }
+    ensures no_message { result ≢ MACHINE_BAD_SIZE → result ≢ MACHINE_BAD_ARRIVALS
+        → ran.new.message ≡ with_zeros [] }
 {
     if settings.size != FqMachineSettings::SIZE || ran.size != FqMachineRan::SIZE {
         return status::BAD_SIZE;
