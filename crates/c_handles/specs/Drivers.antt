@@ -5,7 +5,7 @@ use Rattle.napi_model.specs.declared.event.Prep.{Prep, TheVariants.{Granted, Mis
 use Rattle.napi_model.specs.Step.{schedule_reply}
 use Rattle.driver_core.specs.{Device.{after_interrupt, is_stopping, after_open, after_stop, MayStop}, Steps.{stage_is_scheduled, napi_of}}
 use Rattle.driver_core.specs.Driver.{poll_counts_of, device_of, driver_devices, driver_limits, said_number_of, polled_device, stage_of}
-use Rattle.driver_core.specs.Driver.{AreClosed, IsDue, AwaitsNothing, IsIdle, IsNumberedWhat, IsReport, PutsDevice, Reports}
+use Rattle.driver_core.specs.Driver.{AreClosed, IsDue, AwaitsNothing, IsIdle, IsNumberedWhat, IsReport, IsUncounted, PutsDevice, Reports}
 use Rattle.driver_core.specs.declared.{driver.Driver.Driver, device.Stage.{Stage, TheVariants.Closed}}
 use Rattle.driver_core.specs.declared.todo.Refused.{Refused, TheVariants.{NotDue, TooMany}}
 use Rattle.driver_core.specs.declared.todo.What.{What, TheVariants.{Mask, Unmask, Look, Fetch, Ended, Sleep}}
@@ -24,6 +24,7 @@ new_status devices budget weight window =
 pub record IsNewDriver (devices budget weight window : ℕ) (d : Driver) : Type 0 where
   pub closed : AreClosed devices d
   pub idle : IsIdle d
+  pub counts : IsUncounted d
   pub limits : ((driver_limits d).budget ≡ budget) × ((driver_limits d).weight ≡ weight) × ((driver_limits d).window ≡ window)
 
 -- ---- what the driver asks for (`struct fq_todo`, `enum fq_what`)

@@ -26,6 +26,10 @@ stage_of driver id = (device_of driver id).stage
 abbrev pub poll_counts_of : Driver → ℕ → PollCounts
 poll_counts_of driver id = slice_index_or driver.counts.items id no_counts
 
+-- no poll is counted
+abbrev pub IsUncounted : Driver → Type 0
+IsUncounted driver = (id : ℕ) → poll_counts_of driver id ≡ no_counts
+
 -- the devices that are on the poll list and not in a run yet, in order
 abbrev pub list_of : Driver → List ℕ
 list_of driver = driver.list

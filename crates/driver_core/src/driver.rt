@@ -56,7 +56,7 @@ impl Driver {
     ghost use Rattle.driver_core.specs.Counts.{count_one_poll};
     ghost use Rattle.driver_core.specs.Device.{chore_at, after_interrupt, stage_is_listed, after_open, after_stop, MayStop};
     ghost use Rattle.driver_core.specs.Steps.{napi_of};
-    ghost use Rattle.driver_core.specs.Driver.{poll_counts_of, device_of, driver_devices, said_number_of, polled_device, poll_of, said_of, stage_of, is_running, driver_limits, list_of, AreClosed, AsksNext, Ends, DoesChore, IsDue, IsDriverReport, AwaitsNothing, IsIdle, IsNumberedTodo, IsReport, IsRunning, IsStep, PutsDevice, Reports};
+    ghost use Rattle.driver_core.specs.Driver.{poll_counts_of, device_of, driver_devices, said_number_of, polled_device, poll_of, said_of, stage_of, is_running, driver_limits, list_of, AreClosed, AsksNext, Ends, DoesChore, IsDue, IsDriverReport, AwaitsNothing, IsIdle, IsNumberedTodo, IsReport, IsRunning, IsStep, IsUncounted, PutsDevice, Reports};
 
     /// Creates a driver of this many devices, at most 64, all closed.
     pub fn new(alloc: Global, devices: u32, limits: Limits) -> Result<Driver, AllocError>
@@ -64,6 +64,7 @@ impl Driver {
         ensures devices { IfOk result (AreClosed devices) }
         ensures idle { IfOk result (λ driver. IsIdle driver) }
         ensures limits { IfOk result (λ driver. driver_limits driver ≡ limits) }
+        ensures counts { IfOk result (λ driver. IsUncounted driver) }
     {
         let closed = Devices::new(alloc, devices)?;
         let counts = new_counts(alloc, devices as usize)?;

@@ -82,3 +82,33 @@ fn each_act_and_each_start_is_asked_once(rt: HostRuntime) -> Result<(), Fail> {
     }
     Ok(())
 }
+
+/// Returns false at act 2 of device 1, and counts how often it is asked for that act.
+#[derive(Drop)]
+struct CountsShut {
+    asked: AtomicU32,
+}
+
+impl Gate for CountsShut {
+    fn pass(&self, worker: u32, act: u32) -> bool {
+        if (worker, act) == (1, 2) {
+            self.asked.fetch_add(1, Ordering::SeqCst);
+            return false;
+        }
+        true
+    }
+}
+
+// a gate that returns false isn't asked again
+#[test]
+fn a_shut_gate_is_asked_once(rt: HostRuntime) -> Result<(), Fail> {
+    let text = text_of(rt.alloc(), &[(1, "0,1,open,50\n"), (3, "2,1,rx,100\n")])?;
+    let settings = settings_of(1, 300, 64, 1024)?;
+    let gate = CountsShut { asked: zero() };
+    let mut report = Vec::new(rt.alloc());
+    let text = text.as_bytes();
+    let done = replay_threads(&rt, rt.alloc(), text, &mut report, &settings, &gate);
+    assert!(rt; done.is_err());
+    assert_eq!(rt; gate.asked.load(Ordering::SeqCst), 1);
+    Ok(())
+}
