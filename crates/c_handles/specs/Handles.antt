@@ -6,7 +6,7 @@ use Rattle.{rx_ring.specs.declared.packet.Packet.Packet, c_handles.specs.declare
 use Rattle.driver_core.specs.declared.driver.Driver.{Driver}
 use Rattle.c_handles.specs.declared.{lister.ListObject.ListObject, body.Object.Object, handle.FqHandle.FqHandle}
 use Rattle.c_handles.specs.declared.{hold.{CallerState.CallerState, SeatCall.SeatCall}}
-use Rattle.c_handles.specs.{declared.power.ControlCall.ControlCall, Answers.count_answer, Status.{OK, BAD_HANDLE}, SeatCalls.Refused}
+use Rattle.c_handles.specs.{declared.power.ControlCall.ControlCall, Answers.count_answer, Status.{OK, NOT_ALLOWED, BAD_HANDLE}}
 use Rattle.c_handles.specs.SeatCalls.{SeatAnswers, SeatLooks, SeatPolls, ControlAnswers}
 use Rattle.c_handles.specs.declared.body.Object.TheVariants as body
 
@@ -51,7 +51,8 @@ SeatGivesIn weight given = SeatDoesIn (λ s n t. SeatPolls weight given s.hold n
 
 -- A look shows this word. Of the two words, the first is the caller's variable before the call, and the second after it.
 abbrev pub ShowsWord : ℕ → ℕ → CallerState → ℕ → CallerState → Type 0
-ShowsWord before after h n k = ((n ≡ OK) × ((x : Seen) × SeatLooks h (Some x) k × (after ≡ word_of x))) ⊎ (Refused h n k × (after ≡ before))
+ShowsWord before after h n k = ((n ≡ OK) × ((x : Seen) × SeatLooks h (Some x) k × (after ≡ word_of x)))
+    ⊎ ((n ≡ NOT_ALLOWED) × SeatLooks h None k × (after ≡ before))
 
 abbrev pub SeatShowsIn : ℕ → ℕ → Object → ℕ → Object → Type 0
 SeatShowsIn before after = SeatDoesIn (λ s n t. ShowsWord before after s.hold n t.hold × (t.answers ≡ s.answers))
