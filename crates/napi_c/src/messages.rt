@@ -1,5 +1,6 @@
 //! The messages of the statuses, for people.
 ghost use Rattle.std.specs.Prelude.{◌≡◌, ◌≤◌, length};
+ghost use Rattle.napi_c.specs.Texts.{WritesText};
 
 use crate::names::write;
 
@@ -7,6 +8,7 @@ use crate::names::write;
 /// and a terminating 0, the array is unchanged.
 #[unsafe(no_mangle)]
 pub extern "C" fn fq_status_message(status: u32, to: &mut [u8]) -> usize
+    ensures written { WritesText result to.old to.new }
     ensures kept { length to.new ≤ result → to.new ≡ to.old }
 {
     write(message_of(status), to)

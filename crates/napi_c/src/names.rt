@@ -1,9 +1,11 @@
 //! The version, and the names of statuses and errors, for callers that can't use the inline functions of C's header.
-ghost use Rattle.std.specs.Prelude.{◌≡◌, ◌≤◌, length};
+ghost use Rattle.std.specs.Prelude.{◌≡◌, ◌≤◌, codes, length};
+ghost use Rattle.napi_c.specs.Texts.{written, WritesText};
 
 /// Writes a text and a terminating 0, if there is room for both, and returns the text's length.
 pub fn write(text: &[u8], to: &mut [u8]) -> usize
     ensures length { result ≡ length text.now }
+    ensures written { to.new ≡ written text.now to.old }
     ensures kept { length to.new ≤ result → to.new ≡ to.old }
 {
     if text.len() < to.len() {
@@ -17,6 +19,8 @@ pub fn write(text: &[u8], to: &mut [u8]) -> usize
 /// is unchanged.
 #[unsafe(no_mangle)]
 pub extern "C" fn fq_version(to: &mut [u8]) -> usize
+    ensures length { result ≡ 5 }
+    ensures written { to.new ≡ written (codes "1.1.0") to.old }
     ensures kept { length to.new ≤ result → to.new ≡ to.old }
 {
     write(b"1.1.0", to)
@@ -25,6 +29,7 @@ pub extern "C" fn fq_version(to: &mut [u8]) -> usize
 /// Writes the name of a status in the same way; "?" for an unknown number.
 #[unsafe(no_mangle)]
 pub extern "C" fn fq_status_text(status: u32, to: &mut [u8]) -> usize
+    ensures written { WritesText result to.old to.new }
     ensures kept { length to.new ≤ result → to.new ≡ to.old }
 {
     write(status_name(status), to)
@@ -33,6 +38,7 @@ pub extern "C" fn fq_status_text(status: u32, to: &mut [u8]) -> usize
 /// Writes the name of a trace's error in the same way; "?" for an unknown number.
 #[unsafe(no_mangle)]
 pub extern "C" fn fq_fault_text(fault: u32, to: &mut [u8]) -> usize
+    ensures written { WritesText result to.old to.new }
     ensures kept { length to.new ≤ result → to.new ≡ to.old }
 {
     write(fault_name(fault), to)
