@@ -1,5 +1,6 @@
 -- The message of each error of arrivals has less than 64 bytes, so it fits into a result with a zero after it.
-use Rattle.std.proofs.Common.{◌≡◌, ◌<◌, ◌≤◌, ◌^◌, ◌-◌, ℕ, List, ◌++◌, length, take, drop, replicate, codes, sym, ap, arith, length-append, ◌∙◌}
+use Rattle.std.proofs.Common.{◌≡◌, ◌<◌, ◌≤◌, ◌^◌, ◌-◌, ℕ, List, ◌++◌}
+use Rattle.std.proofs.Common.{length, take, drop, replicate, codes, sym, ap, arith, length-append, ◌∙◌}
 use Rattle.std.specs.Fmt.{decimal}
 use Rattle.std.proofs.lemmas.Fmt.{length-decimal-le}
 use Rattle.std.proofs.lemmas.List.{take-append-drop, drop-replicate, take-append-le, take_all}

@@ -104,7 +104,8 @@ fn put_report(text: &[u8], report: &mut [u8], ran: &mut FqMachineRan) -> u32
 
 // Copies a message to an array of zeros, if there is room for it and a terminating 0.
 fn put_message(text: &[u8], message: &mut [u8])
-    ensures text { length text.now < length message.old → take (length text.now) message.new ≡ text.now }
+    ensures text { length text.now < length message.old
+        → take (length text.now) message.new ≡ text.now }
     ensures rest { drop (length text.now) message.new ≡ drop (length text.now) message.old }
 {
     if text.len() < message.len() {
@@ -114,7 +115,8 @@ fn put_message(text: &[u8], message: &mut [u8])
 
 // Returns the message of an error, with its line feed.
 fn message_of(alloc: Global, fault: &MachineFault) -> Result<String, MachineFault>
-    ensures line { IfOk result (λ line. string_bytes line ≡ machine_fault_line fault.now ++ codes "\n") }
+    ensures line { IfOk result
+        (λ line. string_bytes line ≡ machine_fault_line fault.now ++ codes "\n") }
     ensures memory { IfErr result IsMachineOutOfMemory }
 {
     Ok(fault_line(alloc, fault)?)
