@@ -16,8 +16,8 @@ returns-in-Ok-clause-reported c = λ _.
     let small : machine_fault_row c.args.fault.now < 2 ^ 64 = search rules in
     let room : length text < length zeros = omega (arith, fits c.args.fault.now small, ap length are, length-replicate {A = ℕ} 64 0) in
     let front : take (length text) message ≡ text =
-        subst (λ (t : List ℕ). length t < length zeros → take (length t) message ≡ t) whole c.put_message.ensures.text room in
+    subst (λ (t : List ℕ). length t < length zeros → take (length t) message ≡ t) whole c.put_message.ensures.text room in
     let rest : drop (length text) message ≡ drop (length text) zeros =
-        subst (λ (t : List ℕ). drop (length t) message ≡ drop (length t) zeros) whole c.put_message.ensures.rest in
+    subst (λ (t : List ℕ). drop (length t) message ≡ drop (length t) zeros) whole c.put_message.ensures.rest in
     let holds = copied text message front (rest ∙ ap (λ (l : List ℕ). drop (length text) l) are) in
     (search rules, record { number = search rules; row = search rules; length = search rules; message = holds }, search rules)
