@@ -13,7 +13,7 @@ from plantlib import function_of, load
 from slot import take
 crate, most = crates()[sys.argv[1]], int(sys.argv[2])
 first = int(sys.argv[3]) if len(sys.argv) > 3 else 0
-WIDTH = int(os.environ.get("PLANT_WIDTH", "16"))
+WIDTH = int(os.environ.get("PLANT_WIDTH", "24" if sys.argv[1] in ("napi_c", "c_handles") else "16"))
 tiers = os.environ.get("PLANT_TIER", "12")
 names = os.environ.get("PLANT_NAMES", "")
 files, not_files = os.environ.get("PLANT_FILES", "."), os.environ.get("PLANT_NOT", "^$")
@@ -28,17 +28,18 @@ def key(e, f):
     return hashlib.sha256("\n".join(lines[f.first - 1: f.last + 60]).encode()).hexdigest()[:16]
 
 
-def judged():
+def judged(well=False):
+    """Returns the keys of what was judged, or of what got a verdict."""
     path = f"{KEPT}/{crate.name}.txt"
-    return {line.split("|")[1].strip() for line in open(path)} if os.path.exists(path) else set()
+    return {it.split("|")[1].strip() for it in open(path) if not well or it.startswith(("REFUSED", "STILL"))} if os.path.exists(path) else set()
 
 
 def is_over():
-    return time.strftime("%H%M", time.gmtime()) >= open("/work/runs/deadline").read().strip()
+    return time.time() >= float(open("/work/runs/deadline").read())
 
 
 # The prover's names for functions of impls over several lines, or with type arguments that are parameters.
-NAMES = {"InterruptHandler::is_idle": "InterruptWorkerTask::is_idle", "InterruptHandler::run": "InterruptWorkerTask::run",
+NAMES = {"Gate::pass": "RefGate::pass", "InterruptHandler::is_idle": "InterruptWorkerTask::is_idle", "InterruptHandler::run": "InterruptWorkerTask::run",
          "InterruptHandler::stop": "InterruptWorkerTask::stop", "Poller+ListPoller::add": "Poller+R+G+ListPoller+R::add",
          "Poller+ListPoller::take": "Poller+R+G+ListPoller+R::take"}
 
@@ -63,6 +64,7 @@ def check(after, names):
 
 sums = {}
 known = judged()
+judged_well = judged(True)
 
 
 def tell(word, e, f, more=""):
@@ -73,9 +75,10 @@ def tell(word, e, f, more=""):
 
 
 def main():
-    held = take()
-    build([it.name for it in crate.all[:-1]])
-    held.close()
+    if not os.environ.get("PLANT_LIST"):
+        held = take()
+        build([it.name for it in crate.all[:-1]])
+        held.close()
     edited = {(f.path, f.first) for e in load(crate, f"{crate.folder}/must-fail") if e.apply(texts) and (f := e.function(texts))}
     by, seen = {}, set()
     base = f"/work/runs/planted/{crate.name}"
@@ -96,14 +99,46 @@ def main():
     for its in by.values():
         its.sort(key=lambda it: (it[0].name in before, not least.search(it[0].name)))
     rows = {at: [it for it in its[first:] if key(*it) not in known] for at, its in by.items()}
+    done = {at: sum(key(*it) in judged_well for it in its) for at, its in by.items()}
+    rows = {at: its[:max(0, most - done[at])] for at, its in rows.items()}
     order = sorted(rows, key=lambda at: (tier_of(by[at][0][1], at in edited), at))
     pending = []
+    if os.environ.get("PLANT_LIST"):
+        allof = {}
+        for path in texts:
+            if path.startswith("src/"):
+                for it in HEAD.finditer(texts[path]):
+                    try:
+                        f = Function(path, texts[path], it.end() + 1)
+                    except Exception:
+                        continue
+                    allof[(f.path, f.first)] = f
+        few = []
+        left = 0
+        for at, f in sorted(allof.items()):
+            if str(tier_of(f, at in edited)) not in tiers:
+                continue
+            n, done = len(by.get(at, [])), sum(key(*it) in judged_well for it in by.get(at, []))
+            fresh = sum(key(*it) not in known for it in by.get(at, []))
+            left += min(fresh, max(0, most - done))
+            if done + fresh < most:
+                few.append(f"{f.path}:{f.name}({done}+{fresh})")
+        print(f"{crate.name}: {len(by)} functions with bodies, {sum(min(len(b), most) for b in by.values())} in the first {most}, left {left}; fewer than {most}: {', '.join(few)}")
+        return
     for i in range(most):
         now = [rows[at][i] for at in order if len(rows[at]) > i]
         count = max(1, -(-len(now) // WIDTH))
         pending += [(i, now[j::count]) for j in range(count) if now[j::count]]
     print(f"== {crate.name}: {sum(map(len, by.values()))} bodies in {len(by)} functions; {sum(len(b) for _, b in pending)} to judge in {len(pending)} checks", flush=True)
-    while pending:
+    again, tries = [], 0
+    while pending or again:
+        if not pending:  # callers of planted functions: once more without these, and at last alone
+            tries += 1
+            group, rest = [], []
+            for it in again:
+                at = (it[1].path, it[1].first)
+                (rest if any((f.path, f.first) == at for _, f in group) else group).append(it)
+            pending, again = ([(9, group)] if tries < 4 else [(9, [it]) for it in group]), rest
         if is_over():
             print("OUT OF TIME", sum(len(b) for _, b in pending), "bodies left", flush=True)
             break
@@ -129,9 +164,14 @@ def main():
                 for e, f in r.edits:
                     if f.path == path and (p := planted(f, r.texts)).first <= int(line) <= p.last and (e, f) not in bad:
                         bad.append((e, f))
-            for e, f in bad:
+            for e, f in list(bad):
                 why = [line for line in re.findall(r"^(?:\./)?src/\S+?:\d+:\d+: error.*", said, re.M)]
                 tell("NOT COMPILED", e, f, next((w for w in why if f.path in w), "")[:220])
+            unknown = re.findall(r"has no function `(\S+?)`", said)
+            for e, f in r.edits:
+                if name_of(f) in unknown and (e, f) not in bad:
+                    bad.append((e, f))
+                    tell("NOT JUDGED", e, f, "the prover has it by another name")
             rest = [it for it in r.edits if it not in bad]
             if bad and rest:
                 pending.insert(0, (number, rest))
@@ -154,6 +194,8 @@ def main():
                 tell("REFUSED", e, f, re.sub(r"\s+", " ", line)[:200])
             elif v.startswith("proved"):  # of one that calls another planted one, `search` has tried nothing
                 tell("STILL PROVED", e, f, v)
+            elif len(r.edits) > 1 and re.search("it calls .* not proved", v):  # its callee was planted too
+                again.append((e, f))
             else:
                 tell("VOID", e, f, v[:200])
         print(f"-- {time.strftime('%H:%M', time.gmtime())} round {number}: {len(r.edits)} bodies, {took:.0f} s", flush=True)

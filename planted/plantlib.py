@@ -31,9 +31,14 @@ def function_of(e, texts):
             f = Function(path, text, first)
         except (ValueError, AttributeError):
             return None
-        if not f.in_body or last > f.end + 1:
+        if not f.in_body or last > f.end + 1 + len(head_indent(text, f)):
             return None
         found.append(f)
     if len({(f.path, f.first) for f in found}) != 1:
         return None
     return found[0]
+
+
+def head_indent(text, f):
+    """Returns the indentation of the function's last line."""
+    return " " * (len(text[f.end + 1:]) - len(text[f.end + 1:].lstrip(" ")))
