@@ -10,7 +10,6 @@ mod ends;
 mod free;
 mod limit;
 mod list;
-mod messages;
 mod names;
 mod ring;
 mod rules;
