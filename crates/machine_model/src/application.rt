@@ -53,7 +53,7 @@ impl Model for Application {
 }
 
 impl Application {
-    ghost use Rattle.std.specs.Prelude.{◌≡◌, ◌==◌, IfOk, OnOk, length, slice_get, drop};
+    ghost use Rattle.std.specs.Prelude.{◌≡◌, ◌==◌, IfOk, OnErr, OnOk, length, slice_get, drop};
     ghost use Rattle.circular_buffer.specs.Buffer.{buffer};
     ghost use Rattle.machine_model.specs.Waits.{summary_of};
     ghost use Rattle.machine_model.specs.Application.{fed, goes_on, has_place, is_awake, is_use_over, opened_application, used, went_on, woken_by};
@@ -100,7 +100,8 @@ impl Application {
     /// Ends the use of the packet that arrived at `came`. Fails if the allocation for counting its wait fails; then nothing is
     /// counted.
     pub(crate) fn use_packet(&mut self, now: u64, came: u64) -> Result<(), AllocError>
-        ensures { OnOk result (self.new ≡ used now came self.old) }
+        ensures used { OnOk result (self.new ≡ used now came self.old) }
+        ensures kept { OnErr result (self.new ≡ self.old) }
     {
         self.waits.count(now.saturating_sub(came))?;
         Ok(())

@@ -1,6 +1,6 @@
 //! A receive queue of a card, with its NAPI instance and its counts.
 
-ghost use Rattle.std.specs.Prelude.{◌≡◌, ◌≤◌, Some, IfOk, OnOk};
+ghost use Rattle.std.specs.Prelude.{◌≡◌, ◌≤◌, Some, IfOk, OnErr, OnOk};
 ghost use Rattle.machine_model.specs.Machine.{queue_report};
 ghost use Rattle.machine_model.specs.Device.{after_packet, asks, queue_completed, queue_delivered, expired, has_room, interrupted, is_fired, is_masked, next_packet, notified, new_queue, queue_polled, raised_again, timer_of, without_next};
 
@@ -236,6 +236,7 @@ impl ReceiveQueue {
     /// Delivers a packet that arrived at `came`. Fails if the allocation for counting its wait fails; then nothing is counted.
     pub(crate) fn deliver(&mut self, now: u64, came: u64) -> Result<(), AllocError>
         ensures device { OnOk result (self.new ≡ queue_delivered now came self.old) }
+        ensures kept { OnErr result (self.new ≡ self.old) }
         ensures phase { self.new.phase ≡ self.old.phase }
     {
         self.waits.count(now.saturating_sub(came))?;

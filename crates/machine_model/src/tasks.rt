@@ -33,7 +33,7 @@ impl Model for RunQueue {
 }
 
 impl RunQueue {
-    ghost use Rattle.std.specs.Prelude.{◌≡◌, ◌∷◌, ◌++◌, [], OnOk, slice_get};
+    ghost use Rattle.std.specs.Prelude.{◌≡◌, ◌∷◌, ◌++◌, [], OnErr, OnOk, slice_get};
     ghost use Rattle.machine_model.specs.declared.tasks.RunnableTask.TheVariants.{Thread};
     ghost use Rattle.machine_model.specs.Tasks.{after_first, runnable, with_application};
 
@@ -49,7 +49,8 @@ impl RunQueue {
 
     /// Appends the thread of a queue. Fails if the allocation fails; then the tasks are unchanged.
     pub(crate) fn push_thread(&mut self, number: u32) -> Result<(), AllocError>
-        ensures { OnOk result (self.new ≡ self.old ++ Thread number ∷ []) }
+        ensures appended { OnOk result (self.new ≡ self.old ++ Thread number ∷ []) }
+        ensures kept { OnErr result (self.new ≡ self.old) }
     {
         self.queue.push_back(RunnableTask::Thread(number))?;
         Ok(())
@@ -57,7 +58,8 @@ impl RunQueue {
 
     /// Puts the thread of a queue first. Fails if the allocation fails; then the tasks are unchanged.
     pub(crate) fn push_first(&mut self, number: u32) -> Result<(), AllocError>
-        ensures { OnOk result (self.new ≡ Thread number ∷ self.old) }
+        ensures first { OnOk result (self.new ≡ Thread number ∷ self.old) }
+        ensures kept { OnErr result (self.new ≡ self.old) }
     {
         self.queue.push_front(RunnableTask::Thread(number))?;
         Ok(())
@@ -66,7 +68,8 @@ impl RunQueue {
     /// Appends the application, unless it is in the list. Fails if the allocation fails; then the tasks are unchanged.
     #[tactic(auto, unfolding(crate::specs::Tasks::with_application))]
     pub(crate) fn push_application(&mut self) -> Result<(), AllocError>
-        ensures { OnOk result (self.new ≡ with_application self.old) }
+        ensures appended { OnOk result (self.new ≡ with_application self.old) }
+        ensures kept { OnErr result (self.new ≡ self.old) }
     {
         if !self.has_application {
             self.queue.push_back(RunnableTask::Application)?;

@@ -1,6 +1,6 @@
 //! The waits of packets, counted in buckets.
 
-ghost use Rattle.std.specs.Prelude.{◌≡◌, ◌≤◌, ◌<◌, IfOk, OnOk, length, ◌-◌, ◌^◌};
+ghost use Rattle.std.specs.Prelude.{◌≡◌, ◌≤◌, ◌<◌, IfOk, OnErr, OnOk, length, ◌-◌, ◌^◌};
 ghost use Rattle.machine_model.specs.Waits.{bucket_of, counted, first_with, least_of, no_waits, summary_of, up_to, wait_at};
 
 use std::alloc::{AllocError, Global};
@@ -82,12 +82,13 @@ fn least_of(bucket: usize) -> u64
     ((bucket - 512 * rest) as u64) << rest
 }
 
-// Extends the buckets by empty ones, up to this one.
+// Extends the buckets by empty ones, up to this one. If the allocation fails, they stay as they are.
 fn extend(buckets: &mut Vec<u64>, bucket: usize) -> Result<(), AllocError>
     requires bucket { bucket < 28672 }
     requires few { length buckets.old.items ≤ 28672 }
     ensures buckets { OnOk result (buckets.new.items ≡ up_to bucket buckets.old.items) }
     ensures within { OnOk result (bucket < length buckets.new.items) }
+    ensures kept { OnErr result (buckets.new.items ≡ buckets.old.items) }
     ensures few { length buckets.new.items ≤ 28672 }
 {
     if buckets.len() <= bucket {
@@ -142,7 +143,8 @@ impl Waits {
     /// Counts one more wait. Fails if the allocation of the buckets up to its own fails; then the wait isn't counted.
     #[tactic(auto, unfolding(crate::specs::Waits::counted))]
     pub fn count(&mut self, wait: u64) -> Result<(), AllocError>
-        ensures { OnOk result (self.new ≡ counted wait self.old) }
+        ensures counted { OnOk result (self.new ≡ counted wait self.old) }
+        ensures kept { OnErr result (self.new ≡ self.old) }
     {
         let bucket = bucket_of(wait);
         extend(&mut self.buckets, bucket)?;
