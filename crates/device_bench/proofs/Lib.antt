@@ -1,6 +1,0 @@
-pub mod BenchFacts
-pub mod DeviceFacts
-pub mod EndingFacts
-pub mod SideFacts
-pub mod Waiting
-pub mod InstanceFacts

@@ -1,7 +1,0 @@
-use Rattle.device_bench.proofs.InstanceFacts.{does-poll}
-use Rattle.device_bench.proofs.device.BenchDeviceBusyInstance.busy_poll.Goals as goal
-
-pub returns-clause-does : goal.returns-clause-does
-returns-clause-does g c =
-    let e = c.receive.ensures in
-    does-poll c.args.weight c.args.self.now _ _ _ e.device e.work e.bytes

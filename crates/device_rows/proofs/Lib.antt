@@ -1,9 +1,0 @@
-pub mod Accepted
-pub mod BlockFacts
-pub mod DecidingFacts
-pub mod NumeralFacts
-pub mod PlainFacts
-pub mod RecordsFacts
-pub mod RowsFacts
-pub mod ShortFacts
-pub mod SwitchFacts

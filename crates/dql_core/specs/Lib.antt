@@ -1,6 +1,0 @@
-pub mod Accepted
-pub mod Bounds
-pub mod Counter
-pub mod Dql
-pub mod Fault
-pub mod Limit

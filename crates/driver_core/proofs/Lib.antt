@@ -1,4 +1,0 @@
-pub mod ChoreFacts
-pub mod QueueFacts
-pub mod WorldFacts
-pub mod StepFacts

@@ -1,2 +1,0 @@
-mod FlagFacts
-mod OutsideFacts

@@ -1,7 +1,0 @@
-use Rattle.{std.specs.Prelude.{List, flat_map}, napi_model.specs.declared.event.Call.TheVariants.BusyTake}
-use Rattle.napi_calls.specs.{Made.{Made, Lost, looks}, Packets.Quiet}
-use Rattle.napi_calls.proofs.types.Caller.busy.Given as goal
-
-abbrev pub invariant-loop : goal.invariant-loop
-invariant-loop g l =
-    Quiet l.fn.self.pass l.caller.pass × ((ts : List (Lost BusyTake)) × Made l.fn.self.pass (flat_map looks ts) l.caller.pass)

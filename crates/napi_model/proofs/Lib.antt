@@ -1,5 +1,0 @@
-pub mod SeenCases
-pub mod Words
-pub mod Histories
-pub mod Owners
-pub mod Tells

@@ -1,5 +1,0 @@
-use Rattle.napi_model.proofs.Owners.{others_leave_disable}
-use Rattle.napi_model.proofs.laws.others_leave_disable.Goals as goal
-
-pub returns : goal.returns
-returns c = others_leave_disable

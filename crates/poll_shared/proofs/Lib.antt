@@ -1,2 +1,0 @@
-pub mod TriesFacts
-pub mod SeatFacts

@@ -1,2 +1,0 @@
-pub mod PlayFacts
-pub mod RunFacts

@@ -1,9 +1,0 @@
-pub mod After
-pub mod Answer
-pub mod Played
-pub mod Refused
-pub mod Replay
-pub mod ReplayState
-pub mod Report
-pub mod Run
-pub mod Transmits

@@ -1,6 +1,0 @@
-#!/bin/sh
-# scripts/build.sh NAME ..: proves and builds these crates, and those below them, if that isn't done yet or a source has changed
-# since. Standard error shows the progress. It can be interrupted and started again: what was proved is kept. Exit status: 0
-# they are built; 64 there is no such crate; 69 there is no `rt`; 70 the build failed; 73 the checkout can't be written to; 130
-# or 143 interrupted.
-exec python3 -ISB "$(dirname "$(readlink -f "$0")")/build.py" "$@"
