@@ -1,7 +1,7 @@
 -- The numbers that calls return, with their names in `include/fintaqush.h` and their messages.
 use Rattle.std.specs.Prelude.{ℕ, ◌==◌, if◌then◌else◌, List, [], ◌∷◌, codes}
 
--- statuses of calls that did something, or found that nothing was to be done (`enum fq_status`)
+-- the statuses below 100: success, errors of a queue limit, and results (`enum fq_status`)
 abbrev pub results : List (ℕ × (List ℕ × List ℕ))
 results =
     (0, (codes "FQ_OK", codes "done"))
@@ -26,7 +26,7 @@ results =
     ∷ (30, (codes "FQ_NOT_DUE", codes "this is not due, and nothing has changed"))
     ∷ []
 
--- statuses of calls that were refused (`enum fq_status`)
+-- the statuses from 100 on: errors (`enum fq_status`)
 abbrev pub refusals : List (ℕ × (List ℕ × List ℕ))
 refusals =
     (100, (codes "FQ_NOT_ALLOWED", codes "the state of the object does not allow this call"))
@@ -70,7 +70,7 @@ abbrev pub entry_of : {A : Type 0} → ℕ → List (ℕ × A) → A → A
 entry_of number [] other = other
 entry_of number (row ∷ rows) other = if number == row.0 then row.1 else entry_of number rows other
 
--- the name and the message of a refusal
+-- the name and the message of a status from 100 on; "?" for an unknown number
 abbrev pub refusal_texts : ℕ → List ℕ × List ℕ
 refusal_texts status = entry_of status refusals (codes "?", codes "?")
 

@@ -86,7 +86,7 @@ fn status_name(status: u32) -> &'static [u8]
     }
 }
 
-// Returns the name of a refusal.
+// Returns the name of a status from 100 on.
 fn refusal_name(status: u32) -> &'static [u8]
     ensures { result.now ≡ (refusal_texts status).0 }
 {
@@ -141,7 +141,7 @@ fn status_message(status: u32) -> &'static [u8]
     }
 }
 
-// Returns the message of a refusal.
+// Returns the message of a status from 100 on.
 fn refusal_message(status: u32) -> &'static [u8]
     ensures { result.now ≡ (refusal_texts status).1 }
 {
