@@ -3,10 +3,10 @@
 //!
 //! A [`StateTable`] has the word and the slot. A thread makes its steps with a [`Pass`], which has a caller's number and, only
 //! in contracts, the list of events that it has seen; it contains the seat by which it makes atomic steps (see `atomic_table`).
-//! A read of the word is a step too, called a look. Each step is one atomic load, or, and, addition or compare-exchange of the
-//! word (`napi_schedule_prep`, `napi_complete_done` and others in `net/core/dev.c` of Linux 6.6, `napi->state`); no step locks,
-//! loops or allocates. `specs/Rule.antt` has the rule that every step preserves, and `specs/Events.antt` the contract of every
-//! step.
+//! A read of the word is a step too, called a look. Each step is one atomic load, or, and, addition, subtraction or
+//! compare-exchange of the word (`napi_schedule_prep`, `napi_complete_done` and others in `net/core/dev.c` of Linux 6.6,
+//! `napi->state`); no step locks, loops or allocates. `specs/Rule.antt` has the rule that every step preserves, and
+//! `specs/Events.antt` the contract of every step.
 #![tactic(auto)]
 
 mod atoms;
