@@ -246,6 +246,7 @@ for page in "${kept[@]}"; do
     linked "$page"
 done | sort -u | while IFS= read -r file; do
     install -D -m 644 -- "$file" "$new/$file" || stop 73 "$file can't be copied"
+    case $file in docs/steps/*) relink < "$file" > "$new/$file" ;; esac
 done
 chmod -R u=rwX,go=rX "$new"
 [ ! -d "$site" ] || rmdir -- "$site"

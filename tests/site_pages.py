@@ -35,8 +35,8 @@ def site(script, pages):
         if ended.returncode != 0:
             yield f"status {ended.returncode}: {ended.stderr}"
             return
-        # Those of docs/steps are no pages of the site's making, and doxygen and cargo make theirs.
-        texts = {path: path.read_text() for path in made.rglob("*.html") if path.parent.name != "steps" and not OTHERS.search(str(path))}
+        # doxygen and cargo make their own pages
+        texts = {path: path.read_text() for path in made.rglob("*.html") if not OTHERS.search(str(path))}
         missing = [name for name in MANUALS if made / "docs/man" / f"{name.name}.html" not in texts]
         yield from (f"there is no page of {name}" for name in missing)
         yield from references(made, texts)

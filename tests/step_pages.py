@@ -1,18 +1,9 @@
-"""step_pages.py KEPT MADE: whether a page of docs/steps in the repository shows the rows and states of one that tools/steps
-made now. Its sentences may differ."""
-import json
-import re
+"""step_pages.py KEPT MADE: whether a page of docs/steps in the repository is the one that tools/steps made now: its rows, states, sentences and
+links."""
 import sys
-
-
-def states(path):
-    """The rows of a page, and what it shows of each, without the sentences."""
-    with open(path, encoding="utf-8") as file:
-        page = json.loads(re.search(r"^const page = (.*);$", file.read(), re.M)[1])
-    return page["steps"] + [{key: value for key, value in step.items() if key != "said"} for side in page["sides"] for step in side["steps"]]
-
+from pathlib import Path
 
 if __name__ == "__main__":
-    kept, made = sys.argv[1:]
-    if states(kept) != states(made) or len(states(kept)) < 2:
-        sys.exit(f"step_pages.py: {made} shows other states than the page that is kept: make it again by its command in docs/NAPI.md")
+    kept, made = (Path(name).read_text(encoding="utf-8") for name in sys.argv[1:])
+    if kept != made or "const page = {" not in kept:
+        sys.exit(f"step_pages.py: {sys.argv[2]} differs from the page that is kept: make it again by its command in docs/NAPI.md")

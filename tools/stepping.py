@@ -53,11 +53,14 @@ class Step:
             where = "at the tail of the poll list" if self.device in self.after["list"] else "on its thread"
             self.say(f"The interrupt requests a poll, which is granted: SCHED is set, and the instance is scheduled {where}.",
                      "napi_schedule_prep, ____napi_schedule")
+        elif self.more("missed") and self.own["state"] == "off":
+            self.say("The interrupt requests a poll, but the device is disabled, so SCHED is set: MISSED is set too, and no poll follows. That takes"
+                     " another request after the enable.", "napi_schedule_prep")
         elif self.more("missed"):
             self.say("The interrupt requests a poll, but the instance is scheduled already: MISSED is set, which causes one more poll.",
                      "napi_schedule_prep")
         elif self.more("disabled"):
-            self.say("The interrupt requests a poll, which is refused because DISABLE is set.", "napi_schedule_prep")
+            self.say("The interrupt requests a poll, which is refused because DISABLE is set. Nothing changes.", "napi_schedule_prep")
 
     def tx(self):
         now, was = self.own["tx"], self.was(self.device).get("tx", QUEUE)
@@ -78,7 +81,8 @@ class Step:
         if now["limit"] != was["limit"]:
             self.say(f"The limit goes from {was['limit']} to {now['limit']} bytes.", "dql_completed")
         if was["stopped"] and not now["stopped"]:
-            self.say("The queue is within its limit again, and is woken.", "netif_tx_wake_queue")
+            self.say("The queue is within its limit again, so it is started, and scheduled to send what waits.",
+                     "netdev_tx_completed_queue, netif_schedule_queue")
 
     def disable(self):
         self.say(f"Device {self.device} is to be disabled: DISABLE is set.", "napi_disable")
@@ -97,7 +101,10 @@ class Step:
         """Describes a softirq, kthread or busy row."""
         run = self.after["run"]
         name, rule = POLLERS[self.event][0].format(self.device), POLLERS[self.event][1]
-        if not run["polls"]:
+        if not run["polls"] and self.event == "busy":
+            reason = {"off": "disabled", "pending": "about to be disabled"}.get(self.was(self.device)["state"], "scheduled already")
+            self.say(f"{name} can't take its instance, which is {reason}. It spins until its loop ends, and polls nothing.", rule)
+        elif not run["polls"]:
             self.say(f"{name} finds nothing to poll.", rule)
         else:
             self.say(f"{name} makes {count_of(run['polls'], 'poll')} and takes {count_of(run['work'], 'packet')}.", rule)
@@ -108,12 +115,15 @@ class Step:
 
     def polled(self, device):
         """Describes what a row that polls did to a device."""
+        left = self.after["devices"][device]["left"]
         if self.more("polled", device):
-            self.say(f"{count_of(self.more('polled', device), 'packet').capitalize()} of device {device}; {self.after['devices'][device]['left']} still wait.",
-                     "napi_poll")
+            self.say(f"{count_of(self.more('polled', device), 'packet').capitalize()} of device {device}; {left} left in its ring.", "napi_poll")
         if self.more("again", device):
             self.say(f"A request for device {device} had been missed: MISSED is cleared, and it is polled once more.", "napi_complete_done")
-        if self.more("released", device):
+        if self.more("released", device) and left:
+            self.say(f"A disable of device {device} is pending, so it isn't polled again for the packets that wait: SCHED is cleared.",
+                     "__napi_poll, napi_disable_pending")
+        elif self.more("released", device):
             self.say(f"Device {device} has no more packets: SCHED is cleared, and its instance is idle.", "napi_complete_done")
         if device in self.after["list"] and self.more("polled", device):
             self.say(f"Device {device} is on the poll list, for the next run.", "napi_poll")

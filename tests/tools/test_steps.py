@@ -115,9 +115,32 @@ class Steps(InFolder):
                                        ["MISSED is set", "napi_schedule_prep"], ["full", "dropped"], ["1 poll and takes 1 packet", "squeezed", "time_squeeze"],
                                        ["1 poll and takes 1 packet", "next run"], ["DISABLE is set", "pending"], ["refused", "DISABLE"],
                                        ["100 bytes are in flight; the limit is 0", "queue is stopped"],
-                                       ["The limit goes from 0 to 100", "dql_completed", "woken"], ["is refused"])):
+                                       ["The limit goes from 0 to 100", "dql_completed", "is started", "netif_schedule_queue"], ["is refused"])):
             for word in words:
                 self.assertIn(word, text)
+
+    def test_links_lead_to_pages_that_explain_the_terms(self):
+        """A page outside of the checkout has no link into it, because it may go anywhere; those in docs/steps have."""
+        found = re.findall(r'href="([^"]*)"', self.steps(TOP / "examples/two-packets.csv"))
+        self.assertEqual(found, ["https://docs.kernel.org/networking/napi.html"])
+        for page in sorted((TOP / "docs/steps").glob("*.html")):
+            *own, last = re.findall(r'href="([^"]*)"', page.read_text())
+            self.assertEqual((own, last), (["../NAPI.md", "../RULES.md"], *found))
+            self.assertTrue(all((page.parent / name).is_file() for name in own))
+
+    def test_no_poll_is_promised_that_does_not_come(self):
+        """By hand, with a weight of 1, from the kernel's texts: napi_schedule_prep returns false if DISABLE is set, and sets MISSED if SCHED is, as
+        that of a disabled instance is (napi_disable); __napi_busy_loop goes to `count` until loop_end if it can't take the instance; __napi_poll
+        completes after a full weight if napi_disable_pending, and a missed request is polled first."""
+        said = self.said(["0,1,open,4", "1,1,rx,60", "1,1,rx,60", "1,1,busy,2", "2,1,disable,0", "2,1,busy,2", "2,1,rx,60", "3,0,softirq,0", "4,1,rx,60",
+                          "4,1,busy,2", "5,1,enable,0"], "--weight", "1", header="moment,device,event,value,2\n")
+        texts = ["".join(f"{sentence} {rule} " for sentence, rule in step) for step in said]
+        for row, wanted, unwanted in ((3, "one more poll", "no poll"), (4, "scheduled already. It spins until its loop ends", "nothing to poll"),
+                                      (6, "about to be disabled. It spins", "nothing to poll"), (7, "refused because DISABLE is set", "MISSED"),
+                                      (8, "isn't polled again for the packets that wait", "no more packets"), (9, "MISSED is set too, and no poll follows", "one more poll"),
+                                      (10, "which is disabled. It spins", "nothing to poll")):
+            self.assertIn(wanted, texts[row - 1])
+            self.assertNotIn(unwanted, texts[row - 1])
 
     # Three devices with 3, 1 and 2 packets in their rings; all requests after a device's first one are missed.
     QUEUED = ["0,1,open,8", "0,2,open,8", "0,3,open,8", "1,1,rx,60", "1,2,rx,60", "1,1,rx,60", "1,3,rx,60", "1,1,rx,60", "1,3,rx,60"]
