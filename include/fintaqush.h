@@ -752,13 +752,13 @@ struct fq_machine_settings {
     uint32_t socket;            /* packets that a processor's socket holds, 1 to 65536 (SO_RCVBUF) */
     uint32_t backlog;           /* flag: queues are processors' backlogs, as with RPS (process_backlog) */
     uint32_t budget;            /* packets that a run polls before it is squeezed, 0 to 65535 (net.core.netdev_budget); 0: an interrupt for each packet */
-    uint32_t weight;            /* packets that one poll takes at most, 1 to 64; of a backlog net.core.dev_weight */
+    uint32_t weight;            /* packets that one poll takes at most, 1 to 64; of a backlog net.core.dev_weight times dev_weight_rx_bias */
     uint32_t window;            /* polls that a run makes before it is squeezed, 1 to 65535; Linux has no such limit */
     uint32_t time_limit;        /* the time after which a run is squeezed, from 1 (net.core.netdev_budget_usecs, which is in us) */
     uint32_t rx_nsecs;          /* how long a card delays its interrupt (ethtool -C rx-usecs, which is in us) */
     uint32_t rx_frames;         /* packets at which the interrupt comes before that time, 0 to 65535; 0: none (ethtool -C rx-frames) */
-    uint32_t defer_hard_irqs;   /* how often a queue stays masked after a poll without packets, 0 to 65535 (napi_defer_hard_irqs) */
-    uint32_t gro_flush_timeout; /* the time until such a queue is polled again (gro_flush_timeout) */
+    uint32_t defer_hard_irqs;   /* polls without packets, one after each timeout, of which the last one unmasks, 0 to 65535 (napi_defer_hard_irqs) */
+    uint32_t gro_flush_timeout; /* the time until a queue that stays masked is polled again; 0: none does (gro_flush_timeout) */
     uint32_t threaded;          /* flag: each queue is polled by its own thread (/sys/class/net/DEV/threaded) */
     uint32_t apart;             /* flag: the application has a processor of its own (taskset) */
     uint32_t app_wake;          /* the time to wake the application on its own processor */

@@ -24,7 +24,8 @@ USERS = ("bench_", "example_", "test_", "uses_")
 # Words in code that come from elsewhere: from the kernel, a file format, an instruction set; and names that stand for a file.
 OUTSIDE = {"__do_softirq", "time_after", "softnet_stat", "virtio_net", "sysexits", "btr", "mb", "MACHINES", "enqueue_to_backlog",
            "rps_trigger_softirq", "nstat", "UdpRcvbufErrors", "no_std", "num_queued", "num_completed",
-           "dql_check_stall", "stall_thrs", "irq_suspend_timeout", "EPIOCSPARAMS", "napi_busy_loop_rcu", "NAPI_STATE_THREADED_BUSY_POLL", "_locked", "libfintaqush1"}
+           "virtqueue_napi_complete", "mlx5e_trigger_napi_sched", "mlx5e_trigger_napi_icosq", "ethernet", "skb_flow_limit", "__qdisc_run",
+           "napi_weight", "rx_weight", "MAX_SOFTIRQ_TIME", "handle_softirqs", "dql_check_stall", "stall_thrs", "irq_suspend_timeout", "EPIOCSPARAMS", "napi_busy_loop_rcu", "NAPI_STATE_THREADED_BUSY_POLL", "_locked", "libfintaqush1"}
 # The crates that may have unsafe code: those that export C functions.
 EXPORTING = {"c_handles", "napi_c", "replay_c", "machine_c"}
 SENT = "unsafe impl<A> Send for Trail<A> {}"  # the one other line of unsafe code
@@ -223,6 +224,20 @@ def crate_picture(picture):
         yield "it has no arrow"
 
 
+def of_theorem(page):
+    """The first rows of the definitions to read are the files that the theorem cites, and the page has their number and their lines."""
+    told = subprocess.run([sys.executable, "-B", "scripts/theorem.py"], cwd=TOP, capture_output=True, text=True, check=True).stdout
+    wanted = {name: int(lines) for lines, name in re.findall(r"^ *(\d+) (crates/\S+)$", told, re.M)}
+    rows, numbers = re.findall(r"^\| (`crates/[^|]*\.antt`) \|", page.read_text(), re.M), "one two three four five six seven eight nine ten".split()
+    said = re.search(r"The first (\w+) rows are all that the theorem cites.*: (\d+) lines in (\d+) files", page.read_text())
+    if not said or (int(said[2]), int(said[3])) != (sum(wanted.values()), len(wanted)):
+        yield f"the theorem cites {sum(wanted.values())} lines in {len(wanted)} files, and the page says {said and said[0]}"
+        return
+    first = re.findall(r"`([^`]+)`", " ".join(rows[: numbers.index(said[1]) + 1]))
+    yield from (f"its first {said[1]} rows lack {name}, which the theorem cites" for name in sorted(set(wanted) - set(first)))
+    yield from (f"its first {said[1]} rows have {name}, which the theorem doesn't cite" for name in sorted(set(first) - set(wanted)))
+
+
 def assurance(page):
     """What docs/ASSURANCE.md says about the sources: the numbers of lines of definitions to read and of edits, within a tenth; that there is
     no axiom, unsafe code only in what exports C functions, and no atomic operation but sequentially consistent ones."""
@@ -234,6 +249,7 @@ def assurance(page):
             yield f"{names_told} has {count} lines, and not {lines}"
     if len(rows) < 10:
         yield f"it lists {len(rows)} definitions with their lines"
+    yield from of_theorem(page)
     edits = len(listed("crates/*/must-fail/*.edit"))
     for name in ("docs/ASSURANCE.md", "docs/DECISIONS.md"):
         for count in re.findall(r"\b[Ss]ome (\d+) edits", (TOP / name).read_text()) or ["0"]:

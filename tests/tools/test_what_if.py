@@ -111,7 +111,7 @@ class WhatIf(InFolder):
         self.assertEqual(self.said("--budget", "2,300", "--band", "0"), "")
         self.arrivals.write_text(HEADER + "".join(f"{1000 * place},1,60\n" for place in range(400)))
         told = self.said("--budget", "16,300", "--band", "0")
-        self.assertEqual(told, "what-if: with one queue on each processor net.core.netdev_budget changes no latency and no drops, only how many runs are "
+        self.assertEqual(told, "what-if: in the model, with one queue on each processor, net.core.netdev_budget changes no latency and no drops, only how many runs are "
                          "squeezed\n")
         small, usual = self.rows("--budget", "16,300", "--band", "0")
         for name in ("squeezed", "budget"):
@@ -195,7 +195,7 @@ class WhatIf(InFolder):
         self.assertIn("1 and 2 are equal within the costs' doubt of 20 %: their order by the median wait to the end of use changes", told)
         self.arrivals.write_text(HEADER + "".join(f"{1000 * place},1,60\n" for place in range(400)))
         told = self.table("--budget", "16,300", "--band", "0")
-        self.assertIn("with one queue on each processor net.core.netdev_budget changes no latency and no drops, only how many runs are squeezed", told)
+        self.assertIn("in the model, with one queue on each processor, net.core.netdev_budget changes no latency and no drops, only how many runs are squeezed", told)
         self.assertIn("no setting here changes the 99th percentile of waits to the end of use", told)
 
     def lost_at(self, load, *words):

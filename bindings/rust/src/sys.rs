@@ -431,9 +431,9 @@ pub struct fq_machine_settings {
     pub rx_nsecs: u32,
     /// Packets at which the interrupt comes before that time, 0 to 65535.
     pub rx_frames: u32,
-    /// How often a queue stays masked after a poll, 0 to 65535 (`napi_defer_hard_irqs`).
+    /// Polls without packets, one after each timeout, of which the last unmasks the queue, 0 to 65535 (`napi_defer_hard_irqs`).
     pub defer_hard_irqs: u32,
-    /// The time until such a queue is polled again (`gro_flush_timeout`).
+    /// The time until a queue that stays masked is polled again (`gro_flush_timeout`).
     pub gro_flush_timeout: u32,
     /// Flag: each queue is polled by its own thread.
     pub threaded: u32,

@@ -27,7 +27,7 @@ pub struct MachineSettings {
     /// Queues of each device, 1 to 64, each with its own instance (`ethtool -L`, RSS). If it is 1, a device and its queue have
     /// the same number.
     pub queues: u32,
-    /// Packets that a queue's ring holds, 1 to 65536 (`ethtool -G`; with `backlog`, `net.core.netdev_max_backlog`).
+    /// Packets that a queue's ring holds, 1 to 65536 (`ethtool -G`; with `backlog`, `net.core.netdev_max_backlog` plus 1).
     pub ring: u32,
     /// Packets that a processor's socket holds, 1 to 65536 (SO_RCVBUF, in packets).
     pub socket: u32,
@@ -37,7 +37,8 @@ pub struct MachineSettings {
     /// Packets that a run polls before it is squeezed, 0 to 65535 (`net.core.netdev_budget`, `net_rx_action`). With 0 there is no
     /// polling, and each interrupt delivers a packet.
     pub budget: u32,
-    /// Packets that one poll takes at most, 1 to 64 (`NAPI_POLL_WEIGHT`; with `backlog`, `net.core.dev_weight`).
+    /// Packets that one poll takes at most, 1 to 64 (`NAPI_POLL_WEIGHT`; with `backlog`, `net.core.dev_weight` times
+    /// `dev_weight_rx_bias`).
     pub weight: u32,
     /// Polls that a run makes before it is squeezed, 1 to 65535. The kernel has no such limit.
     pub window: u32,

@@ -10,7 +10,7 @@ results =
     ∷ (3, (codes "FQ_TOO_MUCH_IN_FLIGHT", codes "more than 1073741823 bytes would be in flight"))
     ∷ (4, (codes "FQ_MORE_THAN_QUEUED", codes "more bytes are completed than are in flight"))
     ∷ (16, (codes "FQ_GRANTED", codes "the caller owns the instance, and has to queue it"))
-    ∷ (17, (codes "FQ_MISSED", codes "a poll is already requested, and one more follows"))
+    ∷ (17, (codes "FQ_MISSED", codes "already scheduled: one more poll follows, unless the instance is disabled"))
     ∷ (18, (codes "FQ_DISABLED", codes "a disable is pending, and no poll was requested"))
     ∷ (19, (codes "FQ_TAKEN", codes "the caller owns the instance"))
     ∷ (20, (codes "FQ_NOT_THERE", codes "the instance is not queued there, or the number is not on the list"))

@@ -123,7 +123,7 @@ fn status_message(status: u32) -> &'static [u8]
         3 => b"more than 1073741823 bytes would be in flight",
         4 => b"more bytes are completed than are in flight",
         16 => b"the caller owns the instance, and has to queue it",
-        17 => b"a poll is already requested, and one more follows",
+        17 => b"already scheduled: one more poll follows, unless the instance is disabled",
         18 => b"a disable is pending, and no poll was requested",
         19 => b"the caller owns the instance",
         20 => b"the instance is not queued there, or the number is not on the list",

@@ -7,13 +7,15 @@ use crate::{Kind, Seen};
 pub enum Prep {
     /// The caller owns the instance, and has to queue it.
     Granted,
-    /// A poll is requested or in progress already; another one follows it.
+    /// A poll is requested or in progress already, and another one follows it; or the controller owns the instance, and none
+    /// follows.
     Missed,
     /// A disable is pending; nothing changed.
     Disabled,
 }
 
-/// The reply to a completion. `napi_complete_done` returns true exactly for `Released`.
+/// The reply to a completion. `napi_complete_done` returns true for `Released`, and false for the others. With deferred interrupts
+/// (`napi_defer_hard_irqs`), which aren't part of this model, it also releases the instance and returns false.
 #[derive(Clone, Copy, PartialEq, Eq, Debug)]
 pub enum Done {
     /// No caller owns the instance any more.

@@ -64,7 +64,8 @@ impl SerialNapi {
 
     /// Requests a poll (`napi_schedule_prep`). If DISABLE is set, it returns `Disabled` and changes nothing. Otherwise, if
     /// SCHED is clear, it returns `Granted` and sets SCHED, and the caller has to [`hand`](SerialNapi::hand) the instance over.
-    /// If SCHED is set, it returns `Missed` and sets MISSED, so the poller polls once more.
+    /// If SCHED is set, it returns `Missed` and sets MISSED, so the poller polls once more; no poll follows if the instance is
+    /// disabled.
     pub fn schedule(&mut self, who: u32) -> Prep
         ensures step { SerialSteps self.old who (operation.Schedule result) self.new }
         ensures reply { result ≡ schedule_reply (state_of self.old) }

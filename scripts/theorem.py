@@ -1,0 +1,45 @@
+"""The definitions that the theorem of docs/ASSURANCE.md cites: the files that define what "The headline" of crates/napi_calls/README.md names or
+what the types of its values use, and all files that these import, with their lines. Prints a file in each line, and the sum last.
+"""
+import pathlib
+import re
+
+import reference
+
+TOP = reference.TOP
+
+
+def imports(path):
+    """Yields the files of definitions in this repository that a file uses."""
+    for tree in re.findall(r"^(?:ghost )?use ([^;\n]*);?$", path.read_text(), re.M):
+        for names in reference.paths_of(tree):
+            file = TOP / "crates" / "/".join(names[1:3]) / f"{names[3]}.antt" if names[0] == "Rattle" and len(names) > 3 else None
+            if file and names[2] == "specs" and file.exists():
+                yield file
+
+
+def roots():
+    """Yields the files that define what the headline names, and those that the types of its values use."""
+    crate = TOP / "crates/napi_calls"
+    named = set(re.findall(r"`(\w+)`", (crate / "README.md").read_text().split("## The headline")[1].split("\n## ")[0]))
+    for name, modules in reference.definitions("napi_calls").items():
+        yield from (crate / f"specs/{module}.antt" for module in modules if name in named)
+    yield from imports(crate / "src/types.rt")
+
+
+def cited():
+    """Returns the lines of each file that the theorem cites, by the file."""
+    found, more = {}, list(roots())
+    while more:
+        path = more.pop()
+        if path not in found:
+            found[path] = len(path.read_text().splitlines())
+            more += imports(path)
+    return dict(sorted(found.items()))
+
+
+if __name__ == "__main__":
+    counts = cited()
+    for file, lines in counts.items():
+        print(f"{lines:5} {file.relative_to(TOP)}")
+    print(f"{sum(counts.values()):5} in {len(counts)} files")
