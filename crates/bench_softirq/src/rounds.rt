@@ -7,8 +7,8 @@ use rx_ring::Packet;
 use std::alloc::Global;
 use std::time::{Clock, Instant};
 
-// The kernel's defaults (`net.core.netdev_budget`, `NAPI_POLL_WEIGHT`), and a number of polls in place of its time limit of 2
-// ms.
+// The kernel's defaults (`net.core.netdev_budget`, `NAPI_POLL_WEIGHT`), and a number of polls in place of its time
+// limit, `net.core.netdev_budget_usecs`.
 const BUDGET: u32 = 300;
 
 const WEIGHT: u32 = 64;

@@ -19,8 +19,8 @@ pub enum LimitEvent {
 /// Why a call on a limit failed. A call that fails changes nothing.
 ///
 /// Where the kernel's `dql_queued` and `dql_completed` stop the machine by `BUG_ON`, these calls fail with
-/// [`TooLarge`](DqlFault::TooLarge) and [`MoreThanQueued`](DqlFault::MoreThanQueued). Since Linux 6.10 `dql_queued` only warns, and
-/// ignores the object.
+/// [`TooLarge`](DqlFault::TooLarge) and [`MoreThanQueued`](DqlFault::MoreThanQueued). Since Linux 6.10
+/// `dql_queued` only warns, and ignores the object.
 #[derive(Clone, Copy, Debug, PartialEq, Eq, Error)]
 pub enum DqlFault {
     /// Number 1: the least limit is greater than the greatest, or the greatest is over [`MAX_LIMIT`](crate::MAX_LIMIT).

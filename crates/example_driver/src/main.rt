@@ -14,7 +14,7 @@ use anyhow::Result;
 use poll_engine::{PlainList, PollList, run_softirq};
 
 /// The settings of a run (`net.core.netdev_budget`, `NAPI_POLL_WEIGHT`, and a number of polls in place of the kernel's time
-/// limit of 2 ms).
+/// limit, `net.core.netdev_budget_usecs`).
 const BUDGET: u32 = 128;
 
 const WEIGHT: u32 = 64;

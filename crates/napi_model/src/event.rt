@@ -14,8 +14,8 @@ pub enum Prep {
     Disabled,
 }
 
-/// The reply to a completion. `napi_complete_done` returns true for `Released`, and false for the others. With deferred interrupts
-/// (`napi_defer_hard_irqs`), which aren't part of this model, it also releases the instance and returns false.
+/// The reply to a completion. `napi_complete_done` returns true for `Released`, and false for the others. With deferred
+/// interrupts (`napi_defer_hard_irqs`), which aren't part of this model, it also releases the instance and returns false.
 #[derive(Clone, Copy, PartialEq, Eq, Debug)]
 pub enum Done {
     /// No caller owns the instance any more.
