@@ -590,7 +590,7 @@ FQ_CHECKED enum fq_status fq_run_end(struct fq_handle *FQ_RESTRICT list, struct 
  * this call:
  *
  *     struct fq_todo todo = FQ_TODO_INIT;
- *     while (fq_driver_step(&driver, &todo), todo.what != FQ_TODO_SLEEP) {
+ *     while (report_interrupts(), fq_driver_step(&driver, &todo), todo.what != FQ_TODO_SLEEP) {
  *         switch (todo.what) {
  *         case FQ_TODO_MASK: mask(todo.device); break;
  *         case FQ_TODO_UNMASK: unmask(todo.device); break;
@@ -598,7 +598,10 @@ FQ_CHECKED enum fq_status fq_run_end(struct fq_handle *FQ_RESTRICT list, struct 
  *         case FQ_TODO_FETCH: todo.packets = fetch(todo.device, todo.most); break;
  *         }
  *     }
- *     (now wait for the next interrupt, report it by fq_driver_interrupt, and begin again)
+ *     (now wait for the next interrupt, and begin again)
+ *
+ * where report_interrupts reports each interrupt that came since by fq_driver_interrupt. It is called before each step, because a device
+ * that always has packets keeps the driver from sleeping: devices whose interrupts are reported only after a sleep would never be polled.
  *
  * A driver that isn't a loop, for example one of callbacks, asks by fq_driver_next and reports by fq_driver_done.
  *

@@ -761,7 +761,8 @@ public:
     // Opens a closed device, and stops an open one (fq_driver_open, fq_driver_stop): FQ_OK, FQ_NOT_DUE or FQ_BAD_DEVICE.
     Status open(std::uint32_t device) { return Status(fq_driver_open(at_.raw(), device)); }
     Status stop(std::uint32_t device) { return Status(fq_driver_stop(at_.raw(), device)); }
-    // Reports an interrupt of a card: FQ_GRANTED, FQ_MISSED, FQ_DISABLED or FQ_BAD_DEVICE.
+    // Reports an interrupt of a card: FQ_GRANTED, FQ_MISSED, FQ_DISABLED or FQ_BAD_DEVICE. Report those that came before each step or
+    // act: a device that always has packets keeps the driver from sleeping.
     Status interrupt(std::uint32_t device) { return Status(fq_driver_interrupt(at_.raw(), device)); }
 
     // Returns what has to be done now. An action that isn't reported is returned again.

@@ -113,7 +113,7 @@ check 'each number has its name' each_has_a_name
 as_short_as_the_pages_say() {
     local driver simulator
     driver=$(wc -l < "$examples/edge.c") simulator=$(wc -l < "$examples/simulator.cpp")
-    [ "$driver" -le 60 ] && [ "$simulator" -le 60 ] && grep -q "edge.c. is a whole driver in $driver lines" "$top/docs/GUIDE.md" &&
+    [ "$driver" -le 65 ] && [ "$simulator" -le 60 ] && grep -q "edge.c. is a whole driver in $driver lines" "$top/docs/GUIDE.md" &&
         grep -q "edge.c. is such a driver in $driver lines" "$top/docs/C.md" && grep -q "The whole simulator has $simulator lines" "$top/docs/GUIDE.md" &&
         grep -q "one with a clock in $simulator lines" "$top/docs/C.md"
 }

@@ -1,13 +1,14 @@
 /* A driver over model cards whose interrupts are edges: a packet that arrives while its card is masked causes none. Packets, interrupts
  * (also late ones, and some without a packet), opens, stops, steps, and reports (also late ones, twice, and of what the driver never
  * asked for) come in random order. Whenever the driver says to sleep, and no interrupt is on its way, each open card is empty and unmasked, and each
- * closed one masked. With each of three mistakes of the caller some order hangs. usage: orders ORDERS SEED */
+ * closed one masked. With each of three mistakes of the caller some order hangs. A device that always has packets doesn't keep another one from
+ * being polled, if interrupts are reported before each step. usage: orders ORDERS SEED */
 #include <fintaqush.h>
 #include <stdio.h>
 #include <stdlib.h>
 
 enum mistake { NONE, NO_LOOK, LATE_MASK, NO_INTERRUPT, MISTAKES };
-enum { DEVICES = 3, STEPS = 300, SETTLED = 4000 };
+enum { DEVICES = 3, STEPS = 300, SETTLED = 4000, ENDLESS = 100000 };
 static struct card {
     unsigned waiting, taken;
     bool masked, raised, late; /* late: a mask that was reported, and isn't made yet */
@@ -149,12 +150,36 @@ static bool some_hangs(enum mistake which, unsigned long orders) {
     return hung;
 }
 
+/* Device 0 has packets all the time; when it was fetched ten times, device 1 gets one. Returns how often device 0 is fetched until device 1
+ * is, or ENDLESS, if interrupts are reported before each step or only when the driver sleeps. */
+static unsigned fetches_until_other(bool before_each_step) {
+    struct fq_todo todo = FQ_TODO_INIT;
+    unsigned fetches = 0;
+    mistake = NONE;
+    must(fq_driver_new(&driver, 2, 300, 64, 1024) == FQ_OK, "a new driver");
+    for (uint32_t i = 0; i < 2; i++) {
+        cards[i] = (struct card){.masked = true};
+        must(fq_driver_open(&driver, i) == FQ_OK, "an open");
+    }
+    while (fetches < ENDLESS + 10 && !(todo.what == FQ_TODO_FETCH && todo.device == 1)) {
+        cards[0].waiting = 1000;
+        if (fetches == 10 && cards[1].waiting == 0) packet(&cards[1]);
+        if (cards[1].raised && (before_each_step || todo.what == FQ_TODO_SLEEP)) interrupt(1);
+        step(&todo);
+        fetches += todo.what == FQ_TODO_FETCH && todo.device == 0;
+    }
+    must(fq_free(&driver) == FQ_OK, "the end");
+    return fetches - 10;
+}
+
 int main(int count, char **words) {
     if (count != 3) return 64;
     const unsigned long orders = strtoul(words[1], NULL, 10);
     state = strtoull(words[2], NULL, 10) * 2 + 1;
     must(!some_hangs(NONE, orders), "hangs");
     for (enum mistake which = NO_LOOK; which < MISTAKES; which++) must(some_hangs(which, orders), "doesn't hang");
+    must(fetches_until_other(true) <= 2, "a device starves");
+    must(fetches_until_other(false) == ENDLESS, "a late report starves no device");
     puts("no order hangs, and each mistake does");
     return 0;
 }

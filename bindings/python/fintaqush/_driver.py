@@ -77,7 +77,8 @@ class Driver(_Owned):
         return bool(c.driver_stop(self._at, device) == Status.OK)
 
     def interrupt(self, device: int) -> Status:
-        """Reports an interrupt of a card (`napi_schedule`), at any time: GRANTED, MISSED or DISABLED. BAD_DEVICE."""
+        """Reports an interrupt of a card (`napi_schedule`), at any time: GRANTED, MISSED or DISABLED. BAD_DEVICE. Report those that came before
+        each act: a device that always has packets keeps the driver from sleeping."""
         return Status(c.driver_interrupt(self._at, device))
 
     def next(self) -> Todo:

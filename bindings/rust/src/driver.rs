@@ -200,7 +200,8 @@ impl Driver {
         Fault::unless_made(unsafe { sys::fq_driver_stop(self.at.raw(), device) })
     }
 
-    /// Reports an interrupt of a card (`napi_schedule`), at any time. Fails with [`BAD_DEVICE`](Fault::BAD_DEVICE).
+    /// Reports an interrupt of a card (`napi_schedule`), at any time. Report those that came before each step or act: a device
+    /// that always has packets keeps the driver from sleeping. Fails with [`BAD_DEVICE`](Fault::BAD_DEVICE).
     pub fn interrupt(&mut self, device: u32) -> Result<Prep, Fault> {
         // SAFETY: only this driver has the handle.
         match unsafe { sys::fq_driver_interrupt(self.at.raw(), device) } {
