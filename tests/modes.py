@@ -4,7 +4,7 @@ runs that wait, WORKERS (bench_workers) among them, and of one that is made to s
 
 Serial mode is the reference for shared mode, and for SERIAL, which has only serial mode: on the runs of runs.txt, and on random
 traces of both versions with several settings. For a trace that is cut off anywhere, the rules of docs/FORMATS.md, implemented
-here again, say whether it has an error, and which."""
+here again, say whether it has an error, and which. And a trace is read in each way in which its records may be written."""
 import os
 import re
 import subprocess
@@ -38,6 +38,28 @@ NAMED_CUTS = [
     (ONE_PACKET + "2,0,softirq,", "trace fault 3 BadNumber row 3"),
     ("moment,dev", "trace fault 1 BadHeader row 0"),
     (ONE_PACKET + "2,0,softi,0\n", "trace fault 4 BadEvent row 3"),
+]
+
+# One trace, written in each way that docs/FORMATS.md allows.
+WRITTEN = [
+    b"moment,device,event,value\n0,1,open,4\n1,1,rx,100\n2,0,softirq,0\n",
+    b"moment,device,event,value\n0,1,open,4\n1,1,rx,100\n2,0,softirq,0",
+    b"moment,device,event,value\r0,1,open,4\r1,1,rx,100\r2,0,softirq,0\r",
+    b"moment,device,event,value\r\n0,1,open,4\r\n1,1,rx,100\r\n2,0,softirq,0\r\n",
+    b"\xef\xbb\xbfmoment,device,event,value\n0,1,open,4\n1,1,rx,100\n2,0,softirq,0\n",
+    b"\n\nmoment,device,event,value\n\n\r\n0,1,open,4\n1,1,rx,100\n\n2,0,softirq,0\n\n",
+    b'"moment",device,"event",value\n"0",1,open,004\n1,"01","rx",100\n2,0,softirq,"0"\n',
+]
+# Rows that aren't records, with their errors. A doubled quote, a comma and a line feed between quotes are part of the field; a quote
+# that is never closed extends to the end; a second byte-order mark is part of the first field; an event has the letters of ASCII.
+ODD_ROWS = [
+    (b'0,1,"rx""",5\n', "4 BadEvent"), (b'0,1,"r,x",5\n', "4 BadEvent"), (b'0,1,"rx\n",5\n', "4 BadEvent"),
+    (b'"""0",1,rx,5\n', "3 BadNumber"), (b'0,1,"open,4\n1,1,rx,5\n', "2 BadFields"), (b"\xef\xbb\xbf0,1,open,4\n", "3 BadNumber"),
+    ("0,1,\uff4fpen,4\n".encode(), "4 BadEvent"), (b"0,1,\xff,4\n", "4 BadEvent"), (b"0,1,open,\xff\n", "3 BadNumber"),
+]
+NO_HEADERS = [
+    b"\n\r\n", b"\xef\xbb\xbf", b"moment,device,event\n", b"moment,device,event,value,\n", b"Moment,device,event,value\n",
+    b"moment,device,event,value \n", b"0,1,open,4\n", b"\xef\xbb\xbf\xef\xbb\xbfmoment,device,event,value\n",
 ]
 
 passed = failed = 0
@@ -113,6 +135,18 @@ def cut_traces():
         judge("cut traces, %s mode" % mode, not wrong, "cut behind byte %s" % wrong[:8])
         for text, line in NAMED_CUTS:
             judge("%r, %s mode" % (text[-12:], mode), play(text.encode(), ["--mode", mode]) == (2, b"", (line + "\n").encode()))
+
+
+def ways_of_writing():
+    """Each way of writing a trace has the report of the first; each odd row, and each text without a header, has its error."""
+    report = play(WRITTEN[0], [])
+    for text in WRITTEN[1:]:
+        judge("%r" % text, play(text, []) == report and report[0] == 0)
+    for row, fault in ODD_ROWS:
+        line = b"trace fault %s row 1\n" % fault.encode()
+        judge("%r" % row, play(b"moment,device,event,value\n" + row, []) == (2, b"", line))
+    for text in NO_HEADERS:
+        judge("%r" % text, play(text, []) == (2, b"", b"trace fault 1 BadHeader row 0\n"))
 
 
 def without_pollers(words):
@@ -233,6 +267,7 @@ idle()
 spins()
 worked_runs()
 version_2()
+ways_of_writing()
 random_traces(150)
 print("%d passed, %d failed" % (passed, failed))
 sys.exit(1 if failed else 0)

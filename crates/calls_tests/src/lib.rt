@@ -9,8 +9,6 @@ mod busy;
 #[cfg(test)]
 mod by_turns;
 #[cfg(test)]
-mod calls;
-#[cfg(test)]
 mod contention;
 #[cfg(test)]
 mod dealing;

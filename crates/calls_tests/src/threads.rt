@@ -1,12 +1,12 @@
 //! Two interrupt handlers, a poller and the controller, each in its own thread.
 
 ghost use Rattle.std.specs.Prelude.{◌≡◌};
-ghost use Rattle.napi_word.specs.Passes.{SameTable};
-ghost use Rattle.napi_calls.specs.Instance.{IsNewSeat, IsSeatOf, callers_of};
-ghost use Rattle.calls_tests.specs.CallCounts.{Calls, HasCalled, HoldCalls, is_schedule, is_take};
+ghost use Rattle.napi_calls.specs.Instance.{IsSeatOf, callers_of};
 
 use crate::bed::enabled;
-use napi_calls::{Caller, Completed, Control, DropBomb, Napi, Off, On, Polling, Sched};
+use napi_calls::{
+    Caller, Completed, Control, DropBomb, Napi, Off, On, Polling, Sched, next_caller,
+};
 use napi_model::Kind;
 use rx_ring::{Batch, Packet, RxCtx, RxIn, ring};
 use std::alloc::Global;
@@ -32,21 +32,18 @@ struct Seated {
 
 fn seat_three(rt: &impl Abort, alloc: Global, ctx: RxCtx) -> Seated
     ensures count { callers_of result.napi ≡ 3 }
-    ensures first { IsNewSeat result.napi 0 result.first.pass }
-    ensures second { IsNewSeat result.napi 1 result.second.pass }
-    ensures poller { IsNewSeat result.napi 2 result.poller.pass }
-    ensures control { IsNewSeat result.napi 3 result.control.pass }
+    ensures first { IsSeatOf result.napi result.first.pass }
+    ensures second { IsSeatOf result.napi result.second.pass }
+    ensures poller { IsSeatOf result.napi result.poller.pass }
+    ensures control { IsSeatOf result.napi result.control.pass }
 {
     let made = Napi::new(alloc, ctx, 3);
     let Ok((napi, mut callers, control)) = made else {
         panic!(rt; "no instance")
     };
-    let popped = callers.pop();
-    let Some(poller) = popped else { unreachable!() };
-    let popped = callers.pop();
-    let Some(second) = popped else { unreachable!() };
-    let popped = callers.pop();
-    let Some(first) = popped else { unreachable!() };
+    let poller = next_caller(&napi, &mut callers);
+    let second = next_caller(&napi, &mut callers);
+    let first = next_caller(&napi, &mut callers);
     callers.destroy_empty();
     Seated {
         napi,
@@ -60,7 +57,7 @@ fn seat_three(rt: &impl Abort, alloc: Global, ctx: RxCtx) -> Seated
 // Requests a poll, and queues the instance on the list if it is granted.
 fn ask(rt: &impl Wait, napi: &Napi, caller: Caller) -> Caller
     requires { IsSeatOf napi.now caller.pass }
-    ensures { Calls is_schedule 1 caller.pass result.pass }
+    ensures { IsSeatOf napi.now result.pass }
 {
     match caller.schedule(rt, napi) {
         Sched::Granted(granted) => granted.hand(napi, Kind::List),
@@ -79,7 +76,7 @@ fn interrupt(
     done: &AtomicU64,
 ) -> Caller
     requires { IsSeatOf napi.now caller.pass }
-    ensures { Calls is_schedule 1000 caller.pass result.pass }
+    ensures { IsSeatOf napi.now result.pass }
 {
     let mut caller = caller;
     for number in 0..SCHEDULES {
@@ -95,11 +92,10 @@ fn interrupt(
     caller
 }
 
-// What a poller did: its caller, how many packets arrived in order, and how often it tried to take the instance.
+// What a poller did: its caller, and how many packets arrived in order.
 struct PolledPackets {
     caller: Caller,
     in_turn: u64,
-    takes: u64,
 }
 
 // Returns how many packets arrived in order, after this batch.
@@ -120,7 +116,7 @@ fn turn(
     in_turn: &mut u64,
 ) -> (Caller, bool)
     requires { IsSeatOf napi.now caller.pass }
-    ensures { Calls is_take 1 caller.pass result.0.pass }
+    ensures { IsSeatOf napi.now result.0.pass }
 {
     match caller.take(napi, Kind::List) {
         Err(caller) => (caller, false),
@@ -133,39 +129,30 @@ fn turn(
 }
 
 // Polls until all other threads are done and the instance isn't on the list.
-#[tactic(auto, using(crate::proofs::Counting::then))]
 fn poll_all(rt: &impl Wait, napi: &Napi, caller: Caller, done: &AtomicU64) -> PolledPackets
     requires { IsSeatOf napi.now caller.pass }
-    ensures { Calls is_take result.takes caller.pass result.caller.pass }
+    ensures { IsSeatOf napi.now result.caller.pass }
 {
     let mut caller = caller;
     let mut in_turn = 0u64;
     let mut batch = Batch::new();
-    for takes in 0..TURNS {
+    for _ in 0..TURNS {
         let last = done.load(Ordering::SeqCst) == 3;
         let (rest, is_there) = turn(rt, napi, caller, &mut batch, &mut in_turn);
         caller = rest;
         if last && !is_there {
-            return PolledPackets {
-                caller,
-                in_turn,
-                takes: takes + 1,
-            };
+            return PolledPackets { caller, in_turn };
         }
         if !is_there {
             thread::yield_now();
         }
     }
-    PolledPackets {
-        caller,
-        in_turn,
-        takes: TURNS,
-    }
+    PolledPackets { caller, in_turn }
 }
 
 fn end_poll(rt: &impl Wait, napi: &Napi, polling: Polling, work: usize) -> Caller
     requires { IsSeatOf napi.now polling.pass }
-    ensures { Calls is_take 0 polling.pass result.pass }
+    ensures { IsSeatOf napi.now result.pass }
 {
     if work == 64 {
         return polling.requeue(napi);
@@ -211,9 +198,9 @@ fn play<R: Threads + Wait + Copy + Drop + Send>(
     requires second { IsSeatOf napi.now callers.1.pass }
     requires poller { IsSeatOf napi.now callers.2.pass }
     requires control { IsSeatOf napi.now control.pass }
-    ensures first { Calls is_schedule 1000 callers.0.pass result.0.pass }
-    ensures second { Calls is_schedule 1000 callers.1.pass result.1.pass }
-    ensures poller { Calls is_take result.2.takes callers.2.pass result.2.caller.pass }
+    ensures first { IsSeatOf napi.now result.0.pass }
+    ensures second { IsSeatOf napi.now result.1.pass }
+    ensures poller { IsSeatOf napi.now result.2.caller.pass }
     ensures control { IsSeatOf napi.now result.3.pass }
 {
     let (first, second, poller) = callers;
@@ -228,35 +215,33 @@ fn play<R: Threads + Wait + Copy + Drop + Send>(
         &rt,
         move || -> (Caller, Caller)
             requires { IsSeatOf napi.now first.value.pass × IsSeatOf napi.now second.value.pass }
-            ensures { Calls is_schedule 1000 first.value.pass result.0.pass
-                × Calls is_schedule 1000 second.value.pass result.1.pass }
+            ensures { IsSeatOf napi.now result.0.pass × IsSeatOf napi.now result.1.pass }
         {
             thread::join(
                 &rt,
                 move || -> Caller
                     requires { IsSeatOf napi.now first.value.pass }
-                    ensures { Calls is_schedule 1000 first.value.pass result.pass }
+                    ensures { IsSeatOf napi.now result.pass }
                 { interrupt(&rt, napi, first.open(), Some(input), half, end) },
                 move || -> Caller
                     requires { IsSeatOf napi.now second.value.pass }
-                    ensures { Calls is_schedule 1000 second.value.pass result.pass }
+                    ensures { IsSeatOf napi.now result.pass }
                 { interrupt(&rt, napi, second.open(), None, half, end) },
             )
         },
         move || -> (PolledPackets, Control<On>)
             requires { IsSeatOf napi.now poller.value.pass × IsSeatOf napi.now control.value.pass }
-            ensures { Calls is_take result.0.takes poller.value.pass result.0.caller.pass
-                × SameTable control.value.pass result.1.pass }
+            ensures { IsSeatOf napi.now result.0.caller.pass × IsSeatOf napi.now result.1.pass }
         {
             thread::join(
                 &rt,
                 move || -> PolledPackets
                     requires { IsSeatOf napi.now poller.value.pass }
-                    ensures { Calls is_take result.takes poller.value.pass result.caller.pass }
+                    ensures { IsSeatOf napi.now result.caller.pass }
                 { poll_all(&rt, napi, poller.open(), end) },
                 move || -> Control<On>
                     requires { IsSeatOf napi.now control.value.pass }
-                    ensures { SameTable control.value.pass result.pass }
+                    ensures { IsSeatOf napi.now result.pass }
                 { switch(&rt, napi, control.open(), half, end) },
             )
         },
@@ -264,21 +249,19 @@ fn play<R: Threads + Wait + Copy + Drop + Send>(
     (first, second, poller, control)
 }
 
-// Closes the instance: its history contains each caller's calls.
+// Closes the instance.
 fn closed(
     rt: &impl Abort,
     alloc: Global,
     napi: Napi,
     callers: (Caller, Caller, Caller),
-    takes: u64,
     control: Control<Off>,
 ) -> RxCtx
     requires count { callers_of napi ≡ 3 }
-    requires first { HasCalled napi 0 is_schedule 1000 callers.0.pass }
-    requires second { HasCalled napi 1 is_schedule 1000 callers.1.pass }
-    requires poller { HasCalled napi 2 is_take takes callers.2.pass }
+    requires first { IsSeatOf napi callers.0.pass }
+    requires second { IsSeatOf napi callers.1.pass }
+    requires poller { IsSeatOf napi callers.2.pass }
     requires control { IsSeatOf napi control.pass }
-    ensures { HoldCalls takes }
 {
     let (first, second, poller) = callers;
     let made = Vec::with_capacity(alloc, 3);
@@ -308,13 +291,12 @@ fn two_interrupts_and_a_poller(rt: HostRuntime) -> Result<(), Fail> {
     let PolledPackets {
         caller: poller,
         in_turn,
-        takes,
     } = polled;
     let control = control.disable(&rt, &napi);
     let counts = control.counts();
     assert_eq!(rt; counts.packets, in_turn);
     let callers = (first, second, poller);
-    let mut ctx = closed(&rt, rt.alloc(), napi, callers, takes, control);
+    let mut ctx = closed(&rt, rt.alloc(), napi, callers, control);
     let mut batch = Batch::new();
     let mut next = in_turn;
     for _ in 0..20 {

@@ -1,25 +1,8 @@
-//! Tests of devices that are attached twice, and of devices with all numbers.
+//! A test of devices with all numbers: there is memory for each. The program `memory_tests` tests failing allocations.
 
-use crate::sides::counts_of;
 use device_model::{ReplayBench, SerialBench, SharedBench};
 use std::alloc::{AllocError, Global};
 use std::test::Fail;
-
-// attaching a device again changes nothing; the program `memory_tests` tests failing allocations
-#[test]
-fn attached_again(rt: HostRuntime) -> Result<(), Fail> {
-    let mut bench = SerialBench::new(rt.alloc())?;
-    bench.attach(rt.alloc(), 1, 256, 0)?;
-    bench.arrive(1, 100);
-    let before = counts_of(&bench, 1);
-    assert!(rt; !bench.is_attached(2));
-    bench.attach(rt.alloc(), 2, 4, 0)?;
-    assert!(rt; bench.is_attached(2));
-    bench.attach(rt.alloc(), 1, 4, 0)?;
-    assert_eq!(rt; counts_of(&bench, 1), before);
-    assert_eq!(rt; bench.attached(), 2);
-    Ok(())
-}
 
 // Attaches devices with all numbers, with rings of capacity 333 and more.
 fn attach_each<B: ReplayBench>(alloc: Global, bench: &mut B) -> Result<(), AllocError> {

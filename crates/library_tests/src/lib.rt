@@ -1,5 +1,5 @@
-//! Tests of the library crates below `napi_calls`, made like the code of their users: examples worked by hand, calls that fail,
-//! and threads. The crate has only tests, so that the crates below it are proved once.
+//! Tests of the library crates below `napi_calls`, of what no contract says: memory, texts of errors, threads, and what a poll
+//! finds. The crate has only tests, so that the crates below it are proved once.
 #![tactic(auto)]
 
 #[cfg(test)]
@@ -8,10 +8,6 @@ mod limits;
 mod model;
 #[cfg(test)]
 mod receive;
-#[cfg(test)]
-mod steps;
-#[cfg(test)]
-mod surveys;
 #[cfg(test)]
 mod transmit;
 #[cfg(test)]

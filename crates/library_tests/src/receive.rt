@@ -1,11 +1,9 @@
-//! Tests of a ring: examples worked by hand, and what no contract says: that later puts find room, that polls find what was
-//! put, and that both work from two threads.
+//! Tests of a ring, of what no contract says: that later puts find room, that polls find what was put, and that both work from
+//! two threads.
 
-ghost use Rattle.std.specs.Prelude.{◌≡◌, ◌≤◌, ◌<◌, length, min, take, IsOk};
-ghost use Rattle.rx_ring.specs.ReceiveRing.{NAPI_POLL_WEIGHT, held_of};
-ghost use Rattle.rx_ring.specs.Ends.{IsOneRing, SameIn, SameCtx, capacity_of, ring_of};
+ghost use Rattle.rx_ring.specs.Ends.{SameIn, SameCtx};
 
-use rx_ring::{Batch, Packet, RingFault, RxCounts, RxCtx, RxIn, Totals, beside, finish, ring};
+use rx_ring::{Batch, Packet, RingFault, RxCtx, RxIn, Totals, beside, finish, ring};
 use std::alloc::Global;
 use std::process::Abort;
 use std::sync::Wait;
@@ -19,62 +17,6 @@ const SIZES: [usize; 11] = [
 
 fn packet(number: u64, bytes: u32) -> Packet {
     Packet { number, bytes }
-}
-
-// A poll right after `beside` is exact, as the contracts of both calls imply.
-fn poll_beside(input: &mut RxIn, ctx: &mut RxCtx, weight: usize, batch: &mut Batch) -> usize
-    requires ring { IsOneRing input.old ctx.old }
-    requires weight { (1 ≤ weight) × (weight ≤ NAPI_POLL_WEIGHT) }
-    ensures ring { IsOneRing input.new ctx.new }
-    ensures exact { batch.new.items ≡ take weight (held_of (ring_of input.old ctx.old)) }
-    ensures work { result ≡ min weight (length (held_of (ring_of input.old ctx.old))) }
-{
-    beside(input, ctx);
-    ctx.poll(weight, batch)
-}
-
-// A put right after `beside` succeeds if the ring has room.
-fn put_beside(input: &mut RxIn, ctx: &mut RxCtx, packet: Packet) -> Result<(), Packet>
-    requires ring { IsOneRing input.old ctx.old }
-    ensures ring { IsOneRing input.new ctx.new }
-    ensures room { length (held_of (ring_of input.old ctx.old)) < capacity_of input.old
-        → IsOk result }
-{
-    beside(input, ctx);
-    input.put(packet)
-}
-
-#[test]
-fn receive_ring_of_two(rt: HostRuntime) -> Result<(), Fail> {
-    let (mut input, mut ctx) = ring(rt.alloc(), 2)?;
-    let mut batch = Batch::new();
-    beside(&mut input, &mut ctx);
-    assert_eq!(rt; input.put(packet(1, 10)), Ok(()));
-    beside(&mut input, &mut ctx);
-    assert_eq!(rt; input.put(packet(2, 20)), Ok(()));
-    beside(&mut input, &mut ctx);
-    assert_eq!(rt; input.put(packet(3, 30)), Err(packet(3, 30)));
-    assert_eq!(rt; poll_beside(&mut input, &mut ctx, 64, &mut batch), 2);
-    assert_eq!(rt; batch.as_slice(), [packet(1, 10), packet(2, 20)].as_slice());
-    let counts = RxCounts {
-        polls: 1,
-        packets: 2,
-        bytes: 30,
-    };
-    assert_eq!(rt; ctx.counts(), counts);
-    assert_eq!(rt; put_beside(&mut input, &mut ctx, packet(4, 40)), Ok(()));
-    let totals = Totals {
-        put: 3,
-        polled: 2,
-        left: 1,
-        bytes: 70,
-    };
-    assert_eq!(rt; finish(input, ctx), totals);
-    assert_eq!(rt;
-        ring(rt.alloc(), 65_537).err(),
-        Some(RingFault::BadCapacity)
-    );
-    Ok(())
 }
 
 // Makes a ring of this capacity, and fills it.
@@ -129,27 +71,6 @@ fn put_after_beside_waits_for_the_next_poll(rt: HostRuntime) -> Result<(), Fail>
     assert_eq!(rt; batch.as_slice(), [packet(2, 20)].as_slice());
     assert_eq!(rt; ctx.poll(64, &mut batch), 0);
     assert!(rt; batch.is_empty());
-    Ok(())
-}
-
-// A poll into an array writes its first places, also if the packets pass the end of the ring, and leaves the others.
-#[test]
-fn polls_into_an_array(rt: HostRuntime) -> Result<(), Fail> {
-    let (mut input, mut ctx) = ring(rt.alloc(), 3)?;
-    let mut packets = [packet(9, 90); 3];
-    assert_eq!(rt; ctx.poll_into(3, &mut packets), 0);
-    assert_eq!(rt; input.put(packet(1, 10)), Ok(()));
-    assert_eq!(rt; ctx.poll_into(2, &mut packets), 1);
-    assert_eq!(rt;
-        packets.as_slice(),
-        [packet(1, 10), packet(9, 90), packet(9, 90)].as_slice()
-    );
-    let burst = [packet(2, 20), packet(3, 30), packet(4, 40)];
-    assert_eq!(rt; input.put_all(&burst), 3);
-    assert_eq!(rt; ctx.poll_into(3, &mut packets), 3);
-    assert_eq!(rt; packets.as_slice(), burst.as_slice());
-    assert_eq!(rt; ctx.counts().packets, 4);
-    assert_eq!(rt; ctx.counts().bytes, 100);
     Ok(())
 }
 

@@ -10,16 +10,11 @@ use napi_calls::Napi;
 use poll_engine::{
     ActList, OpenGate, PollList, SoftList, Station, have_distinct_numbers, run_workers, shared_list,
 };
-use rx_ring::{Packet, ring};
+use rx_ring::ring;
 use std::alloc::{AllocError, Global};
 use std::sync::Wait;
 use std::test::Fail;
 use std::thread::Threads;
-
-const PACKET: Packet = Packet {
-    number: 1,
-    bytes: 60,
-};
 
 // an instance with 2 to 8 callers can be made, and closed again
 #[test]
@@ -51,21 +46,6 @@ fn lists_of_each_count(rt: HostRuntime) -> Result<(), Fail> {
         let mut soft = SoftList::new();
         list.splice(&mut soft);
         assert_eq!(rt; soft.ids().len(), pushers as usize);
-    }
-    Ok(())
-}
-
-// a ring of a small, an odd and the greatest capacity takes exactly that many packets
-#[test]
-fn rings_of_odd_capacities(rt: HostRuntime) -> Result<(), Fail> {
-    for capacity in [
-        1usize, 2, 3, 5, 63, 65, 999, 1000, 1001, 4095, 65_535, 65_536,
-    ] {
-        let (mut input, _ctx) = ring(rt.alloc(), capacity)?;
-        for _ in 0..capacity {
-            assert!(rt; input.put(PACKET).is_ok());
-        }
-        assert_eq!(rt; input.put(PACKET), Err(PACKET));
     }
     Ok(())
 }

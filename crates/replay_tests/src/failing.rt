@@ -15,13 +15,13 @@ use std::test::Fail;
 use std::thread::Threads;
 use test_ends::{FailingReader, FailingWriter, ONE_PACKET, ONE_PACKET_REPORT, ONE_PACKET_THREADS};
 
-pub(crate) const MODES: [(ReplayMode, &str); 3] = [
+const MODES: [(ReplayMode, &str); 3] = [
     (ReplayMode::Serial, ONE_PACKET_REPORT),
     (ReplayMode::Shared, ONE_PACKET_REPORT),
     (ReplayMode::Threads, ONE_PACKET_THREADS),
 ];
 
-pub(crate) fn replay_in<P: Threads + Wait + Sync, R: Read + Drop, W: Write>(
+fn replay_in<P: Threads + Wait + Sync, R: Read + Drop, W: Write>(
     rt: &P,
     alloc: Global,
     mode: ReplayMode,
@@ -100,27 +100,6 @@ fn failing_writes(rt: HostRuntime) {
                 assert_eq!(rt; writer.taken.as_slice(), wanted.as_bytes());
             }
         }
-    }
-}
-
-// after an error of the trace nothing is written, or the writer would fail
-#[test]
-fn faulty_traces(rt: HostRuntime) {
-    for (mode, _) in MODES {
-        let mut writer = FailingWriter::new(rt.alloc(), 0);
-        let text = "moment,device,event,value\n0,1,open,4\n1,1,enable,0\n";
-        let answer = replay_in(
-            &rt,
-            rt.alloc(),
-            mode,
-            text.as_bytes(),
-            &mut writer,
-            &ReplaySettings::default(),
-        );
-        assert_eq!(rt;
-            answer,
-            Err(ReplayFault::Trace(TraceFault::WrongState { row: 2 }))
-        );
     }
 }
 

@@ -5,9 +5,6 @@ use std::alloc::Global;
 use std::io;
 use std::io::{ErrorKind, Read, Write};
 
-/// The first record of a trace.
-pub const HEADER: &str = "moment,device,event,value\n";
-
 /// One packet, polled by a softirq.
 pub const ONE_PACKET: &str = "moment,device,event,value\n0,1,open,4\n1,1,rx,100\n2,0,softirq,0\n";
 

@@ -1,8 +1,8 @@
-//! How often a run asks its gate: exactly once before each act, and once as each poller starts.
+//! How often a run asks its gate: exactly once before each act, once as each poller starts, and not at all before that.
 
 use crate::threads::{settings_of, text_of};
 use poll_engine::Gate;
-use replay::replay_threads;
+use replay::{ReplayFault, replay_threads};
 use std::sync::atomic::{AtomicU32, Ordering};
 use std::test::Fail;
 
@@ -83,6 +83,24 @@ fn each_act_and_each_start_is_asked_once(rt: HostRuntime) -> Result<(), Fail> {
     Ok(())
 }
 
+// a ring that is too small is found before any gate is asked
+#[test]
+fn a_ring_is_too_small_before_any_gate(rt: HostRuntime) -> Result<(), Fail> {
+    let text = text_of(rt.alloc(), &[(1, "0,1,open,1\n"), (2, "1,1,rx,100\n")])?;
+    let settings = settings_of(1, 300, 64, 1024)?;
+    let gate = CountsEach::new();
+    let mut report = Vec::new(rt.alloc());
+    let text = text.as_bytes();
+    let done = replay_threads(&rt, rt.alloc(), text, &mut report, &settings, &gate);
+    let small = ReplayFault::RingTooSmall {
+        device: 1,
+        needs: 2,
+    };
+    assert_eq!(rt; done.err(), Some(small));
+    assert_eq!(rt; (asked(&gate.first), asked(&gate.starts)), ([0; 6], [0; 4]));
+    Ok(())
+}
+
 /// Returns false at act 2 of device 1, and counts how often it is asked for that act.
 #[derive(Drop)]
 struct CountsShut {
@@ -108,7 +126,8 @@ fn a_shut_gate_is_asked_once(rt: HostRuntime) -> Result<(), Fail> {
     let mut report = Vec::new(rt.alloc());
     let text = text.as_bytes();
     let done = replay_threads(&rt, rt.alloc(), text, &mut report, &settings, &gate);
-    assert!(rt; done.is_err());
+    assert_eq!(rt; done.err(), Some(ReplayFault::GateShut));
+    assert!(rt; report.is_empty());
     assert_eq!(rt; gate.asked.load(Ordering::SeqCst), 1);
     Ok(())
 }

@@ -1,14 +1,11 @@
-//! Tests with gates that are called at each act, and with a gate that must not be called.
+//! A test with a gate at which two devices meet at each of their acts.
 
 use crate::threads::{settings_of, text_of};
 use poll_engine::Gate;
-use replay::{ReplayFault, ReplaySettings, replay_threads};
-use std::alloc::Global;
-use std::sync::Wait;
-use std::sync::atomic::{AtomicU32, AtomicU64, Ordering};
+use replay::replay_threads;
+use std::sync::atomic::{AtomicU64, Ordering};
 use std::test::Fail;
 use std::thread;
-use std::thread::Threads;
 
 const ACTS: u32 = 50;
 
@@ -77,55 +74,6 @@ fn devices_meet_at_each_of_50_acts(rt: HostRuntime) -> Result<(), Fail> {
         for came in &gate.came {
             assert_eq!(rt; came.load(Ordering::SeqCst), (1u64 << ACTS) - 1);
         }
-    }
-    Ok(())
-}
-
-/// A gate that always returns false, and counts how often it is called.
-#[derive(Drop)]
-struct CountsAsked {
-    asked: AtomicU32,
-}
-
-impl Gate for CountsAsked {
-    fn pass(&self, _worker: u32, _act: u32) -> bool {
-        self.asked.fetch_add(1, Ordering::SeqCst);
-        false
-    }
-}
-
-// Returns the error of a replay of these rows with such a gate, and whether the gate was called. Nothing is written.
-fn shut_out<P: Threads + Wait + Sync>(
-    rt: &P,
-    alloc: Global,
-    rows: &[(u32, &str)],
-) -> Result<(Option<ReplayFault>, bool), Fail> {
-    let text = text_of(alloc, rows)?;
-    let gate = CountsAsked {
-        asked: AtomicU32::new(0),
-    };
-    let mut report = Vec::new(alloc);
-    let settings = ReplaySettings::default();
-    let answer = replay_threads(rt, alloc, text.as_bytes(), &mut report, &settings, &gate);
-    if !report.is_empty() {
-        return Err("a report is written".into());
-    }
-    Ok((answer.err(), gate.asked.load(Ordering::SeqCst) != 0))
-}
-
-// the error of a ring that is too small names the device with the lowest number, and comes before any gate is called
-#[test]
-fn a_ring_is_too_small_before_any_gate(rt: HostRuntime) -> Result<(), Fail> {
-    let opened = (1, "0,2,open,4\n0,1,open,1\n0,3,open,1\n");
-    let small = |device, needs| Some(ReplayFault::RingTooSmall { device, needs });
-    for (times, row, told) in [
-        (2, "1,1,rx,100\n1,3,rx,100\n", (small(1, 2), false)),
-        (3, "1,3,rx,100\n1,2,rx,100\n", (small(3, 3), false)),
-        (5, "1,2,rx,100\n", (small(2, 5), false)),
-        (4, "1,2,rx,100\n", (Some(ReplayFault::GateShut), true)),
-    ] {
-        let found = shut_out(&rt, rt.alloc(), &[opened, (times, row)])?;
-        assert_eq!(rt; found, told, "{times} times {row:?}");
     }
     Ok(())
 }

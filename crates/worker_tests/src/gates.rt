@@ -6,8 +6,7 @@ ghost use Rattle.poll_engine.specs.Opens.{IsStation};
 ghost use Rattle.poll_engine.specs.Numbers.{have_distinct_numbers, numbers_of};
 
 use poll_engine::{
-    Act, ActList, Device, Finished, Gate, OpenGate, Station, WorkFault, have_distinct_numbers,
-    run_workers,
+    Act, ActList, Device, Finished, Gate, OpenGate, Station, WorkFault, run_workers,
 };
 use rx_ring::Packet;
 use std::alloc::{AllocError, Global};
@@ -200,28 +199,6 @@ fn two(alloc: Global, packets: u64, thread: bool) -> Result<Vec<Station<ActList>
     with(stations, 1, 1000, thread, first)
 }
 
-// Returns the acts: 500 packets, a disable, an enable, and 500 packets more.
-fn twice_500(alloc: Global) -> Result<Vec<Act>, AllocError> {
-    let mut acts = Vec::new(alloc);
-    receive(&mut acts, 500)?;
-    acts.push(Act::Disable)?;
-    acts.push(Act::Enable)?;
-    receive(&mut acts, 500)?;
-    Ok(acts)
-}
-
-fn run_twice_500<R: Threads + Wait + Sync>(
-    rt: &R,
-    alloc: Global,
-    pollers: u32,
-) -> Result<Vec<Finished<ActList>>, Fail>
-    requires { (1 ≤ pollers) × (pollers ≤ 8) }
-{
-    let stations = with(Vec::new(alloc), 2, 1000, false, twice_500(alloc)?)?;
-    let stations = with(stations, 1, 1000, false, twice_500(alloc)?)?;
-    Ok(run(rt, alloc, stations, pollers, &OpenGate)?)
-}
-
 // Checks the totals of each device's ring: the packets put, those polled plus those left, and the bytes of all.
 fn add_totals(rt: &impl Abort, done: &[Finished<ActList>], packets: u64) {
     for finished in done {
@@ -230,26 +207,6 @@ fn add_totals(rt: &impl Abort, done: &[Finished<ActList>], packets: u64) {
         assert_eq!(rt; totals.polled.saturating_add(totals.left), packets);
         assert_eq!(rt; totals.bytes, packets.saturating_mul(100));
     }
-}
-
-#[test]
-fn nothing_is_run_without_stations(rt: HostRuntime) -> Result<(), Fail> {
-    let none: Vec<Station<ActList>> = Vec::new(rt.alloc());
-    let done = run(&rt, rt.alloc(), none, 8, &OpenGate)?;
-    assert_eq!(rt; done.len(), 0);
-    Ok(())
-}
-
-#[test]
-fn each_packet_is_polled_or_left(rt: HostRuntime) -> Result<(), Fail> {
-    let one = run_twice_500(&rt, rt.alloc(), 1)?;
-    let two = run_twice_500(&rt, rt.alloc(), 2)?;
-    let eight = run_twice_500(&rt, rt.alloc(), 8)?;
-    for done in [one, two, eight] {
-        assert!(rt; done.iter().map(|finished| finished.number).eq([2u32, 1]));
-        add_totals(&rt, done.as_slice(), 1000);
-    }
-    Ok(())
 }
 
 // the last disable of a worker waits for the polls that its packets requested
@@ -293,16 +250,6 @@ fn a_gate_shuts_the_run(rt: HostRuntime) -> Result<(), Fail> {
         let done = run(&rt, rt.alloc(), stations, 1, &ShutAt { worker, act });
         assert!(rt; matches!(done, Err(WorkFault::GateShut)));
     }
-    Ok(())
-}
-
-// a second station with the same number is found
-#[test]
-fn numbers_are_told_apart(rt: HostRuntime) -> Result<(), Fail> {
-    let stations = two(rt.alloc(), 0, false)?;
-    assert!(rt; have_distinct_numbers(&stations));
-    let stations = with(stations, 2, 1000, false, Vec::new(rt.alloc()))?;
-    assert!(rt; !have_distinct_numbers(&stations));
     Ok(())
 }
 

@@ -13,6 +13,4 @@ mod pacing;
 #[cfg(test)]
 mod shut;
 #[cfg(test)]
-mod side_by_side;
-#[cfg(test)]
 mod threads;

@@ -1,5 +1,5 @@
-use Rattle.calls_tests.specs.CallCounts.{Calls, is_schedule}
+use Rattle.napi_calls.specs.Instance.{IsSeatOf}
 use Rattle.calls_tests.proofs.threads.interrupt.Given as goal
 
 abbrev pub invariant-loop-number : goal.invariant-loop-number
-invariant-loop-number g l = Calls is_schedule l.number l.fn.caller.pass l.caller.pass
+invariant-loop-number g l = IsSeatOf l.napi l.caller.pass

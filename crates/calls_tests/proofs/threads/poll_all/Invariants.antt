@@ -1,5 +1,5 @@
-use Rattle.calls_tests.specs.CallCounts.{Calls, is_take}
+use Rattle.napi_calls.specs.Instance.{IsSeatOf}
 use Rattle.calls_tests.proofs.threads.poll_all.Given as goal
 
-abbrev pub invariant-loop-takes : goal.invariant-loop-takes
-invariant-loop-takes g l = Calls is_take l.takes l.fn.caller.pass l.caller.pass
+abbrev pub invariant-loop : goal.invariant-loop
+invariant-loop g l = IsSeatOf l.napi l.caller.pass

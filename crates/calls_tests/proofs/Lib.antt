@@ -1,2 +1,0 @@
-pub mod Expecting
-mod Counting

@@ -1,2 +1,0 @@
-pub mod OwnLists
-pub mod CallCounts

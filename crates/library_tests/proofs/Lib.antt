@@ -1,2 +1,0 @@
-mod StepFacts
-mod Popped
