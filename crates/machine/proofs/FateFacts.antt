@@ -335,7 +335,7 @@ happens-hold s n (Expires timer) p goes plain =
     life-happens (hold-life s n (holds n p.devices p.work)) (Expires timer) p goes refl refl (λ is. cc is)
 
 pub holds-order : (s : MachineSettings) (n : ℕ) (events : List MachineEvent)
-    → came true n s events ≡ delivered_packets n s events ++ holds n (behind s events).devices (behind s events).work
+    → came n s events ≡ delivered_packets n s events ++ holds n (behind s events).devices (behind s events).work
 unfolding behind came delivered_packets next_delivery step queued
 holds-order s n [] = refl
 holds-order s n (packet moment m ∷ earlier) =

@@ -3,15 +3,10 @@ pub mod WalkFacts
 pub mod WorkFacts
 pub mod EndFacts
 pub mod FateFacts
-pub mod TallyFacts
 pub mod SocketFacts
 pub mod TimerFacts
 pub mod TimeFacts
-pub mod ApplicationFacts
-pub mod ApartFacts
-pub mod OtherFacts
 pub mod StandFacts
-pub mod EmptyFacts
 pub mod TendFacts
 pub mod LeftFacts
 pub mod BoundFacts

@@ -11,10 +11,10 @@ use Rattle.machine.specs.Fates.{resting, use_by, use_waits, used_by}
 use Rattle.machine.specs.Fates as fate
 use Rattle.machine_model.specs.declared.processor.{Work.{TheVariants.{Use}}, Rest.Rest}
 use Rattle.machine_model.specs.declared.processor.{Upcoming.{Upcoming, TheVariants.{Never, Expires}}, ProcessorCounts.ProcessorCounts}
-use Rattle.machine_model.specs.{Devices.QueueViews, Waits.{WaitsView, saturated, no_waits}}
+use Rattle.machine_model.specs.{Devices.QueueViews, Waits.{WaitsView, counted, saturated, no_waits}}
 use Rattle.machine_model.specs.Application.{ApplicationView, fed, has_place, put, refuses, used}
 use Rattle.machine_model.specs.Processor.{ProcessorView, ends_current, happens, is_busy, step, upcoming}
-use Rattle.machine.proofs.{EndFacts.{Fed, feeds}, TallyFacts.counting-more}
+use Rattle.machine.proofs.{EndFacts.{Fed, feeds}}
 use Rattle.machine.proofs.WorkFacts.{Goes, Life, devices_arrived, expired_at, goes-on, life-arrives, life-happens, life-takes}
 use Rattle.machine.proofs.WorkFacts.{work-ended}
 use Rattle.machine_model.specs.declared.processor.Upcoming.TheVariants as upcomings
@@ -108,6 +108,11 @@ moved-none now a used b h1 h2 h3 = grind (arith, common_steps)
 moved-gives : (s : MachineSettings) (now m came : ℕ) (a : ApplicationView) → s.apart ≡ false
     → Moved now a (Some (m, came)) [] (fed now came s a)
 moved-gives s now m came a h1 = grind (arith, common_steps, fed-here)
+
+counting-more : (xs : List ℕ) (wait : ℕ) (w : WaitsView) → counting (xs ++ wait ∷ []) w ≡ counted wait (counting xs w)
+unfolding counting
+counting-more [] wait w = refl
+counting-more (x ∷ xs) wait w = counting-more xs wait (counted x w)
 
 moved-uses : (now came : ℕ) (a : ApplicationView) → Moved now a None (came ∷ []) (used now came a)
 moved-uses now came a = grind (arith, common_steps, counting-more)

@@ -14,7 +14,7 @@ use Rattle.machine_model.specs.Kept.{is_scheduled, polled_by, scheduled_at}
 use Rattle.machine_model.specs.Processor.{ProcessorView, is_polling, step, upcoming}
 use Rattle.machine_model.proofs.PendingFacts.{phase-next}
 use Rattle.machine.proofs.TableFacts.{IfThere, at-apart, at-either, at-keeps, at-kept, at-same, map_at}
-use Rattle.machine.proofs.{EndFacts.{Ends, Looks, ends}, EmptyFacts.calm-full}
+use Rattle.machine.proofs.{EndFacts.{Ends, Looks, ends}}
 use Rattle.machine.proofs.WorkFacts.{Goes, Life, devices_arrived, expired_at, goes-on, life-arrives, life-happens, same-polling}
 use Rattle.machine.proofs.FateFacts.{IsPlain, at-arrives, look-none, made_at, next-none-at, packet-queued, plain-of, queued}
 use Rattle.machine.proofs.FateFacts.{queued-delivered, queued-expired, queued-polled}
@@ -95,6 +95,11 @@ sched-quiet phase is quiet = grind (arith, common_steps)
 full-is : (given weight : ℕ) → given ≤ weight → nat_lt given weight ≡ false → (given == weight) ≡ true
 full-is given weight most not-less = eq-eqb given weight (omega (arith, most, ltb-false given weight not-less))
 
+-- a poll that used its whole weight doesn't change the phase
+full-polled : (s : MachineSettings) (now given : ℕ) (d : QueueView) → (given == s.weight) ≡ true → (queue_polled now given s d).phase ≡ d.phase
+unfolding queue_polled
+full-polled s now given d h1 = grind (arith, common_steps)
+
 looks-tend : (s : MachineSettings) (n m given now : ℕ) (ds : QueueViews) → given ≤ s.weight
     → ((k : ℕ) → s.backlog ≡ false → taken_in (at k ds) ≡ [])
     → ((m == n) ≡ true → scheduled_at (at n ds) ≡ 1) → Tend (at n ds) → Looks (λ es w. Tend (at n es)) s now m given ds
@@ -106,8 +111,8 @@ looks-tend s n m given now ds most plain scheduled t = record {
       (λ here held. also (at n es) (look-none s.backlog m n ds (plain n) none
       ∙ (next-none-at s.backlog (at n ds) (plain n) (at-same (λ o. next_packet_at s.backlog o ≡ None) m n ds here none)).0)) next;
   full = λ not-less.
-      tend-kept (queue_polled now given s) m n ds (λ d quiet. sym ((calm-full s now given (full-is given s.weight most not-less)).phase d)
-      ∙ quiet)
+      tend-kept (queue_polled now given s) m n ds
+      (λ d quiet. sym (full-polled s now given d (full-is given s.weight most not-less)) ∙ quiet)
       (queued-polled now given s) t;
 }
   where

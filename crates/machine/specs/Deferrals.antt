@@ -7,28 +7,6 @@ use Rattle.machine_model.specs.{Devices.next_packet_at, Processor.{Advances, Pro
 use Rattle.machine_model.specs.declared.processor.{Upcoming.{Upcoming, TheVariants.{Ends, Expires}}, Work.Work}
 use Rattle.machine_model.specs.declared.processor.Work.TheVariants.{Nothing, Packet, Poll}
 
--- the count of empty polls when work ends: an empty poll of the queue adds one; the delivery of one of its packets sets it to 0
-abbrev pub emptied_by : ℕ → Work → ProcessorView → ℕ → ℕ
-emptied_by n (Poll number) p count =
-    if number == n && not (is_some (next_packet_at p.settings.backlog (at number p.devices))) then count + 1 else count
-emptied_by n (Packet hand) p count = if hand.device == n then 0 else count
-emptied_by n _ p count = count
-
-abbrev pub emptied : ℕ → Upcoming → ProcessorView → ℕ → ℕ
-emptied n Ends p count = emptied_by n p.work p count
-emptied n _ p count = count
-
--- how many polls of a queue were empty since its last packet arrived or was delivered
-unfoldable pub empty_polls : ℕ → MachineSettings → List MachineEvent → ℕ
-empty_polls n s [] = 0
-empty_polls n s (packet moment number ∷ earlier) =
-    if number == n && finds_room n (behind s earlier) then 0 else empty_polls n s earlier
-empty_polls n s (next ∷ earlier) = let p = behind s earlier in emptied n (upcoming p) p (empty_polls n s earlier)
-
--- Law: after the last packet of a queue, at most `defer-hard-irqs` of its polls are empty, or one if that is 0.
-abbrev pub EmptyPollsAreFew : Type 0
-EmptyPollsAreFew = (s : MachineSettings) (n : ℕ) (events : List MachineEvent) → empty_polls n s events ≤ max 1 s.defer_hard_irqs
-
 -- Law: with no further packets, the events on a processor end.
 abbrev pub EveryRunEnds : Type 0
 EveryRunEnds = (s : MachineSettings) (until : ℕ) (events : List MachineEvent) → (q : ProcessorView) × Advances until (behind s events) q

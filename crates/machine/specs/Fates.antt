@@ -24,14 +24,12 @@ taken_in (Some d) = d.taken
 abbrev pub finds_room : ℕ → ProcessorView → Bool
 finds_room n p = has_room_at (at n (with_device p.settings.ring n p.devices))
 
--- the packets of a queue that found room when they arrived (true), or that found none (false)
-unfoldable pub came : Bool → ℕ → MachineSettings → List MachineEvent → List ℕ
-came room n s [] = []
-came room n s (next ∷ earlier) = came room n s earlier
-came true n s (packet moment number ∷ earlier) =
-    came true n s earlier ++ (if number == n && finds_room n (behind s earlier) then moment ∷ [] else [])
-came false n s (packet moment number ∷ earlier) =
-    came false n s earlier ++ (if number == n && not (finds_room n (behind s earlier)) then moment ∷ [] else [])
+-- the packets of a queue that found room when they arrived; the others were dropped
+unfoldable pub came : ℕ → MachineSettings → List MachineEvent → List ℕ
+came n s [] = []
+came n s (next ∷ earlier) = came n s earlier
+came n s (packet moment number ∷ earlier) =
+    came n s earlier ++ (if number == n && finds_room n (behind s earlier) then moment ∷ [] else [])
 
 -- the queue and the packet that work delivers when it ends: the packet that a poll processed; without polling, the oldest one
 -- in the ring
@@ -69,9 +67,9 @@ hand_of n _ = []
 abbrev pub DeliversInOrder : Type 0
 DeliversInOrder = (s : MachineSettings) (n : ℕ) (events : List MachineEvent)
     → let p = behind s events in
-    came true n s events ≡ delivered_packets n s events ++ (hand_of n p.work ++ (taken_in (at n p.devices) ++ queue_ring (at n p.devices)))
+    came n s events ≡ delivered_packets n s events ++ (hand_of n p.work ++ (taken_in (at n p.devices) ++ queue_ring (at n p.devices)))
 
--- ---- the counts of a queue
+-- ---- the waits of a queue
 
 -- counts with these waits added, one by one
 unfoldable pub counting : List ℕ → WaitsView → WaitsView
@@ -84,25 +82,6 @@ packet_waits n s [] = []
 packet_waits n s (packet moment number ∷ earlier) = packet_waits n s earlier
 packet_waits n s (next ∷ earlier) = let p = behind s earlier in packet_waits n s earlier
     ++ map (λ came. p.ends - came) (packet_for n (next_delivery p))
-
--- the counts of a queue; zeros for a queue that doesn't exist
-abbrev pub queue_counts_in : Option QueueView → QueueCounts
-queue_counts_in None = NONE
-queue_counts_in (Some d) = d.counts
-
-abbrev pub waits_in : Option QueueView → WaitsView
-waits_in None = no_waits
-waits_in (Some d) = d.waits
-
-pub record CountsFates (n : ℕ) (s : MachineSettings) (events : List MachineEvent) (device : Option QueueView) : Type 0 where
-  pub arrived : (queue_counts_in device).arrived ≡ saturated (length (came true n s events) + length (came false n s events))
-  pub dropped : (queue_counts_in device).dropped ≡ saturated (length (came false n s events))
-  pub polled : (queue_counts_in device).polled ≡ saturated (length (delivered_packets n s events))
-  pub counted : waits_in device ≡ counting (packet_waits n s events) no_waits
-
--- Law: the counts of a queue, and its waits, are those of these packets.
-abbrev pub TellsOfDevice : Type 0
-TellsOfDevice = (s : MachineSettings) (n : ℕ) (events : List MachineEvent) → CountsFates n s events (at n (behind s events).devices)
 
 -- ---- at the socket of an application on the same processor
 

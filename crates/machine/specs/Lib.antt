@@ -1,7 +1,6 @@
 pub mod Lives
 pub mod Fates
 pub mod Times
-pub mod Applications
 pub mod Deferrals
 pub mod Reports
 pub use Rattle.machine_model.specs.Usual

@@ -1,9 +1,8 @@
 //! Laws of whole runs, for all settings and all arrivals: each is the contract of a function that does nothing.
 #![tactic(auto, using(crate::proofs::AllLaws::laws))]
 
-ghost use Rattle.machine.specs.Applications.{ApplicationEnds, ApplicationIsFed, ApplicationServes, ReceivingIsApart};
-ghost use Rattle.machine.specs.Deferrals.{DeferralIsBounded, EmptyPollsAreFew, EveryRunEnds, TimersAreNear};
-ghost use Rattle.machine.specs.Fates.{DeliversInOrder, NothingIsLeft, TellsOfDevice, TellsOfUse, UsesInOrder};
+ghost use Rattle.machine.specs.Deferrals.{DeferralIsBounded, EveryRunEnds, TimersAreNear};
+ghost use Rattle.machine.specs.Fates.{DeliversInOrder, NothingIsLeft, TellsOfUse, UsesInOrder};
 ghost use Rattle.machine.specs.Lives.{ArrivesAsOne, EachLives, RunsAsOne};
 ghost use Rattle.machine.specs.Reports.{ReportsLives};
 ghost use Rattle.machine.specs.Times.{ClocksNeverFall, NoWaitIsLess, WorksWithin};
@@ -43,11 +42,6 @@ pub fn delivers_in_order()
     ensures { DeliversInOrder }
 {}
 
-/// The counts of a queue, and its waits, are those of its packets.
-pub fn tells_of_device()
-    ensures { TellsOfDevice }
-{}
-
 /// A packet that found room in the socket is used once and in order, or it is still there.
 pub fn uses_in_order()
     ensures { UsesInOrder }
@@ -61,32 +55,6 @@ pub fn tells_of_use()
 /// When nothing is left to happen, no packet is left: each was delivered or dropped, and then used or dropped.
 pub fn nothing_is_left()
     ensures { NothingIsLeft }
-{}
-
-/// An application on its own processor depends only on the packets that are delivered to it.
-pub fn application_is_fed()
-    ensures { ApplicationIsFed }
-{}
-
-/// An application on its own processor uses each packet that found room once and in order. Uses don't overlap, its idle time
-/// isn't negative, it sleeps only while the socket is empty, and it is woken at most once for each packet that it uses.
-pub fn application_serves()
-    ensures { ApplicationServes }
-{}
-
-/// After the end of the run the application sleeps, and all packets that found room were used.
-pub fn application_ends()
-    ensures { ApplicationEnds }
-{}
-
-/// With any other application on its own processor, the rest of the receiving processor stays the same.
-pub fn receiving_is_apart()
-    ensures { ReceivingIsApart }
-{}
-
-/// After the last packet of a queue, at most `defer-hard-irqs` of its polls are empty, or one if that is 0.
-pub fn empty_polls_are_few()
-    ensures { EmptyPollsAreFew }
 {}
 
 /// With no further packets, the events on a processor end.

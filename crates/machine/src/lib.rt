@@ -7,18 +7,16 @@
 //! `machine_report` the arrivals, the report and the errors. The program `napi_machine` makes these calls.
 //!
 //! `laws.rt` has what is proved about whole runs. `specs/` has the statements of these laws: `Lives` defines the life of a
-//! processor, `Fates` the fate of packets, `Times` times and work, `Applications` an application on its own processor,
-//! `Deferrals` deferred interrupts, and `Reports` says that they hold for what a report shows. `specs/Lib.antt` also re-exports
-//! what other contracts cite.
+//! processor, `Fates` the fate of packets, `Times` times and work, `Deferrals` deferred interrupts, and `Reports` says that they
+//! hold for what a report shows. `specs/Lib.antt` also re-exports what other contracts cite.
 #![tactic(auto)]
 
 mod laws;
 
 pub use laws::{
-    application_ends, application_is_fed, application_serves, arrives_as_one, clocks_never_fall,
-    deferral_is_bounded, delivers_in_order, each_lives, empty_polls_are_few, every_run_ends,
-    no_wait_is_less, nothing_is_left, receiving_is_apart, reports_live, runs_as_one,
-    tells_of_device, tells_of_use, timers_are_near, uses_in_order, works_within,
+    arrives_as_one, clocks_never_fall, deferral_is_bounded, delivers_in_order, each_lives,
+    every_run_ends, no_wait_is_less, nothing_is_left, reports_live, runs_as_one, tells_of_use,
+    timers_are_near, uses_in_order, works_within,
 };
 pub use machine_model::{
     ApplicationReport, Machine, MachineSettings, ProcessorCounts, ProcessorReport, QueueCounts,
