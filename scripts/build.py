@@ -101,6 +101,7 @@ def end_by(call):
     for it in (signal.SIGINT, signal.SIGTERM, signal.SIGHUP):
         if signal.getsignal(it) != signal.SIG_IGN:
             signal.signal(it, interrupt)
+    signal.pthread_sigmask(signal.SIG_UNBLOCK, {signal.SIGINT})  # blocked while Python starts, which would print a traceback
     try:
         status = call(sys.argv[1:])
     except (Stop, OSError) as end:
@@ -345,5 +346,9 @@ def build(names, beside=lambda: None):
     return 0
 
 
-if __name__ == "__main__":
+def main():
     end_by(build)
+
+
+if __name__ == "__main__":
+    main()

@@ -54,7 +54,7 @@ library_files=("$libdir"/{libfintaqush.a,"libfintaqush.so.$version","libfintaqus
 mapfile -t call_pages < <(python3 -EsSB "$top/scripts/header.py" --names) # a page for each group of calls, and one for each call, which leads there
 library_files+=("${call_pages[@]/#/share/man/man3/}")
 home=lib/fintaqush # where what `fintaqush` runs lies, as in a checkout
-parts=(fintaqush scripts/{build,replay,subcommands,words}.py docs/usage.txt examples/{linux-veth-bursts,busy-poll}.csv examples/veth-backlog.rec)
+parts=(fintaqush scripts/{build,replay,start,subcommands,words}.py docs/usage.txt examples/{linux-veth-bursts,busy-poll}.csv examples/veth-backlog.rec)
 for file in "$top"/tools/*; do
     [ ! -f "$file" ] || parts+=("tools/${file##*/}")
 done
@@ -62,7 +62,7 @@ mapfile -t subcommands < <("$top/fintaqush" --names)
 [ "$prefix" = /usr ] && zsh=vendor-completions || zsh=site-functions # where Debian's zsh looks
 completions=(share/bash-completion/completions/fintaqush "share/zsh/$zsh/_fintaqush" share/fish/vendor_completions.d/fintaqush.fish)
 python=("$top"/bindings/python/fintaqush/{*.py,py.typed})
-command_files=("${programs[@]/#/bin/}" "${programs[@]/#/$home/programs/}" bin/fintaqush "${parts[@]/#/$home/}" "${completions[@]}" \
+command_files=("${programs[@]/#/bin/}" "${programs[@]/#/$home/programs/}" bin/fintaqush "${parts[@]/#/$home/}" "$home/version" "${completions[@]}" \
     share/man/man1/fintaqush.1)
 for name in "${programs[@]}" "${subcommands[@]/#/fintaqush-}"; do
     command_files+=("share/man/man1/$name.1")
@@ -206,6 +206,8 @@ if [ -z "$is_library" ]; then
     for file in "${parts[@]}"; do
         put "$(stat -c %a "$top/$file")" "$top/$file" "$home/$file"
     done
+    echo "$version" > "$scratch/version"
+    put 644 "$scratch/version" "$home/version"
     ln -sf "../$home/fintaqush" "$to/bin/fintaqush"
     for name in '' "${subcommands[@]}"; do
         # shellcheck disable=SC2086 # none, or a subcommand

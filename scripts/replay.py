@@ -13,6 +13,7 @@ import shlex
 import subprocess
 import threading
 
+import start
 from build import INSTALLED, TOP, Stop, build, child, clear, crates, end_by, kit, read, say, write
 from words import RANGES, judge, quoted
 
@@ -61,12 +62,10 @@ def shown(name):
 
 
 def version():
-    home = os.path.dirname(os.path.dirname(TOP)) if INSTALLED else TOP
-    number = re.search(r'^#define FQ_VERSION "(.*)"$', read(f"{home}/include/fintaqush.h"), re.M)[1]
     sources, of_kit = (subprocess.run(["/usr/bin/env", *it], capture_output=True, text=True, check=False).stdout.strip()
                        for it in (("git", "-C", TOP, "describe", "--always", "--dirty"), ("rt", "version")))
     serial, every = ("proved and built" if crates()[name].is_built() else "not built here yet" for name in ("napi_serial", "napi_replay"))
-    return (f"replay of Fintaqush {number}\nit replays traces of version 1 and 2 by the NAPI polling of Linux 6.6\n"
+    return (f"replay of Fintaqush {start.version()}\nit replays traces of version 1 and 2 by the NAPI polling of Linux 6.6\n"
             f"sources: {sources or 'no git history here'}\n"
             f"program of serial mode: {serial}\nprogram of every mode: {every}\nkit: {of_kit or 'no rt on PATH'}\n")
 
@@ -283,4 +282,5 @@ class Call:
         return f" line {at + 1}, {quoted(line, 60)}: {why}"
 
 
-end_by(lambda given: Call(given).answer())
+def main():
+    end_by(lambda given: Call(given).answer())

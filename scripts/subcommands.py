@@ -4,7 +4,6 @@ import os
 import signal
 import sys
 
-OLDEST = (3, 9)
 TOP = os.path.dirname(os.path.dirname(os.path.realpath(__file__)))
 # By task: each subcommand, its file in tools/, and what it does.
 GROUPS = (
@@ -97,10 +96,11 @@ def become(file, words):
 
 
 def main(given):
-    if sys.version_info < OLDEST:
-        end(1, "it needs Python %d.%d or later, and python3 is %d.%d" % (OLDEST + tuple(sys.version_info[:2])))
-    if signal.getsignal(signal.SIGINT) is signal.default_int_handler:
-        signal.signal(signal.SIGINT, signal.SIG_DFL)
+    sys.path.append(os.path.join(TOP, "scripts"))
+    from start import lacking
+    if lacking():
+        end(1, lacking())
+    signal.pthread_sigmask(signal.SIG_BLOCK, {signal.SIGINT})  # until the tool handles it: Python, as it starts, would print a traceback
     name, words = (given or [""])[0], given[1:]
     if name == "help" and words:
         name, words = words[0], ["--help"]

@@ -148,9 +148,11 @@ def threads_of(name):
 
 
 def pairs_in(netns):
-    """Returns the ends of veth pairs in a network namespace, as `ip` describes them."""
+    """Returns the ends of veth pairs in a network namespace, as `ip` describes them. If the kernel has no veth devices, because the module isn't
+    loaded, `ip` prints an empty object for each device of any kind."""
     with contextlib.suppress(ValueError):
-        return json.loads(output_of(["ip", *(["-n", netns] if netns else []), "-j", "link", "show", "type", "veth"]) or "[]")
+        links = json.loads(output_of(["ip", *(["-n", netns] if netns else []), "-j", "link", "show", "type", "veth"]) or "[]")
+        return [link for link in links if "ifname" in link and "ifindex" in link]
     return []
 
 

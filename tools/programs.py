@@ -102,7 +102,7 @@ def replay():
     """Executes the launcher, which parses its options itself."""
     if sys.argv[1:] in (["--manual"], ["--options"]):
         return replay_parser().parse_args()
-    launcher = [f"{TOP}/replay"] if os.path.exists(f"{TOP}/replay") else [sys.executable, "-EsSB", f"{TOP}/scripts/replay.py"]
+    launcher = [f"{TOP}/replay"] if os.path.exists(f"{TOP}/replay") else [sys.executable, "-EsSB", f"{TOP}/scripts/start.py", "replay"]
     return os.execv(launcher[0], [*launcher, *sys.argv[1:]])
 
 

@@ -11,10 +11,17 @@ import sys
 
 if signal.getsignal(signal.SIGINT) is signal.default_int_handler:  # unless it is ignored
     signal.signal(signal.SIGINT, signal.SIG_DFL)
-
-from raising import MOST_ROWS, Pending, Raising, TooManyRows
+signal.pthread_sigmask(signal.SIG_UNBLOCK, {signal.SIGINT})  # scripts/subcommands.py blocked it
 
 TOP = os.path.dirname(os.path.dirname(os.path.realpath(__file__)))
+sys.path.append(f"{TOP}/scripts")
+from start import lacking, version
+
+if lacking():  # any Python 3 can parse this file and the tools
+    sys.exit(f"{os.path.basename(sys.argv[0])}: {lacking()}")
+
+from raising import MOST_ROWS, Pending, QuotedInPart, Raising, TooManyRows
+
 # The checkout; or the prefix of an installation, whose tools are in PREFIX/lib/fintaqush/tools.
 HOME = TOP if os.path.isdir(f"{TOP}/crates") else os.path.dirname(os.path.dirname(TOP))
 MOST_DEVICES = 16
@@ -140,7 +147,7 @@ def say(tool, text):
 
 def why(error):
     """Returns an error as one line. An unexpected exception is included, with its place in the code."""
-    if isinstance(error, Refusal):
+    if isinstance(error, (Refusal, QuotedInPart)):
         return str(error)
     if isinstance(error, MemoryError) or isinstance(error, (ImportError, RuntimeError)) and ("failed to map" in str(error)
                                                                                              or "new thread" in str(error)):
@@ -311,7 +318,7 @@ def check_input(path):
 def bytes_in(file):
     """Returns the contents of an open file, read in pieces, because Python allocates what it is asked for. Fails if it is too large for a trace."""
     steps, size = [], 0
-    while step := file.read(1 << 20):
+    for step in iter(lambda: file.read(1 << 20), b""):
         steps.append(step)
         size += len(step)
         if size > MOST_BYTES:
@@ -323,11 +330,13 @@ def lines_in(file, most, of):
     """Yields the lines of an open file; a line that is too long fails."""
     number = 0
     with Progress("reading", lambda: share_of(file)):
-        while line := file.readline(most):
+        line = file.readline(most)
+        while line:
             number += 1
             if len(line) == most:
                 raise Refusal(f"line {number}: longer than any line of {of}")
             yield line
+            line = file.readline(most)
 
 
 def read_bytes(path):
@@ -343,12 +352,6 @@ def read_bytes(path):
 def is_number(text, most=2**64 - 1):
     """Returns whether a text is a whole number up to `most`. Python rejects those of over 4300 digits."""
     return text.isascii() and text.isdigit() and len(text) <= 20 and int(text) <= most
-
-
-def version():
-    """Returns the version in the C header."""
-    with open(f"{HOME}/include/fintaqush.h", encoding="utf-8") as header:
-        return next(line.split('"')[1] for line in header if line.startswith("#define FQ_VERSION "))
 
 
 def be_quiet(*_):
@@ -493,7 +496,6 @@ def played(made, words, text):
 
 def why_refused(words):
     """Returns the launcher's message on options that the replay rejected, without the launcher's own options."""
-    sys.path.append(f"{TOP}/scripts")
     from words import judge
     return judge(words).split(": they are --")[0]
 
@@ -529,7 +531,7 @@ def raise_runs(text, made, words, restarts=None):
             return raising.whole()
     except Pending as pending:
         raise Refusal(f"{PENDING}{pending.row}") from None
-    except TooManyRows as error:
+    except (TooManyRows, QuotedInPart) as error:
         raise Refusal(str(error)) from None
 
 
@@ -553,6 +555,7 @@ def trace_text(rows, version=1):
     rows = iter(rows)
     lines = [next(header for header, number in HEADERS.items() if number == version)]
     lines += [",".join(map(str, row)) for row in islice(rows, MOST_ROWS)]
-    if more := sum(1 for _ in rows):
+    more = sum(1 for _ in rows)
+    if more:
         raise Refusal(f"{MOST_ROWS + more} rows, and a trace has at most {MOST_ROWS}: take some of them, or a shorter time")
     return "".join(f"{line}\n" for line in lines)

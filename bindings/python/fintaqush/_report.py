@@ -72,7 +72,8 @@ def replay(trace: bytes, budget: int = 300, weight: int = 64, window: int = 1024
 
 def raise_runs(trace: bytes, budget: int = 300, weight: int = 64, window: int = 1024, restarts: int | None = None) -> bytes:
     """Adds to a trace the runs that the kernel would make with these settings (fintaqush raise), at most `restarts` after a row, and
-    returns its bytes. Errors are those of `replay`, and ValueError if there would be more than 100000 rows."""
+    returns its bytes. Errors are those of `replay`, and ValueError if there would be more than 100000 rows, or if
+    a field is quoted in part."""
     settings = _settings(trace, budget, weight, window)
 
     def play(rows: bytes) -> str:
