@@ -59,10 +59,16 @@ def predicted(made, arrivals, settings):
     return values_of(out.decode("ascii", "replace"))
 
 
-def error_of(name, measured, value, packets):
-    """Returns the error of a prediction in %. Few drops are compared with the number of packets, because a ratio of small numbers says nothing."""
+def base_of(name, measured, packets):
+    """Returns the number by which a difference is divided: the measured value; for few drops, timers and squeezed runs a hundredth of the packets, at
+    least 10, because a ratio of small numbers says nothing."""
     least = max(FEW / 10, packets / FEW) if name in ("dropped", "timers", "squeezed") else 1
-    return 100 * (value - measured) / max(measured, least)
+    return max(measured, least)
+
+
+def error_of(name, measured, value, packets):
+    """Returns the error of a prediction in %."""
+    return 100 * (value - measured) / base_of(name, measured, packets)
 
 
 def compared(measured, values):

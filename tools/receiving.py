@@ -168,9 +168,11 @@ class Receiving:
         place = -self.waiting_before(came)
         pairs = []
         for ended, work in zip(self.ended, self.work):
-            pairs += [(came[place + number], ended - cost * (work - 1 - number)) for number in range(max(0, -place), min(work, len(came) - place))]
+            pairs += [(came[place + number], ended, work - 1 - number) for number in range(max(0, -place), min(work, len(came) - place))]
             place += work
-        return [(time, max(time, end)) for time, end in pairs] if place <= len(came) and agree(pairs) else []
+        # whether they match doesn't depend on the cost, which may be too high for some polls
+        matches = place <= len(came) and agree([(time, ended) for time, ended, _ in pairs])
+        return [(time, max(time, ended - cost * after)) for time, ended, after in pairs] if matches else []
 
     def used(self):
         """Returns for each used packet its sending time and the beginning of the next read; nothing if reads and packets don't match."""
