@@ -29,7 +29,7 @@ def records_of(text: bytes) -> tuple[str, list[list[str]]]:
     """Returns the header and the rows of a trace that the replay accepts, each as its four fields. No field of such a trace has a comma or
     a newline in it, and a quote only around the whole field; otherwise raises QuotedInPart."""
     lines = [line for line in text.decode("utf-8-sig").replace("\r", "\n").split("\n") if line]
-    records = [[field[1:-1] if len(field) > 1 and field[0] == field[-1] == '"' else field for field in line.split(",")] for line in lines]
+    records = [[field.strip('"') for field in line.split(",")] for line in lines]
     row = next((row for row, record in enumerate(records) if '"' in "".join(record)), None)
     if row is not None:
         raise QuotedInPart(f"row {row} has a field that is quoted in part: take the quotes out of the trace")

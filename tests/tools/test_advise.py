@@ -4,6 +4,7 @@ import contextlib
 import json
 import os
 import re
+import runpy
 import shutil
 import subprocess
 import sys
@@ -165,6 +166,22 @@ class Advise(InFolder):
         self.assertNotIn("advice:", done.stdout)
         self.assertRegex(done.stderr, r"^advise: .*x\.rec: the prediction of the recorded setting is poor, so there is no advice\n$")
 
+    def test_a_fit_without_the_wait_of_its_goal(self):
+        """Of three packets one is sent 1 ms late, by its event: which packet was in which poll isn't known, so there is no wait to compare."""
+        lines = quiet().text().splitlines(True)
+        sent = [place for place, line in enumerate(lines) if "net_dev_xmit" in line]
+        for place in sent[::3]:
+            found = re.search(r" (\d+)\.(\d{9}): net_dev_xmit", lines[place])
+            time = int(found[1]) * 10**9 + int(found[2]) + 1_000_000
+            lines[place] = lines[place].replace(found[0], f" {time // 10**9}.{time % 10**9:09}: net_dev_xmit")
+        text = file_of("".join(sorted(lines, key=lambda line: re.search(r" (\d+\.\d{9}): ", line)[1])))
+        for words in (["--goal", "p99"], ["--goal", "p50"], ["--goal", "cpu", "--p99-below", "1000"]):
+            done = self.advised(text, *words, status=1)
+            self.assertIn("the fit is unknown: no wait was measured, because which packet was in which poll isn't known\n", done.stdout)
+            self.assertNotIn("advice:", done.stdout)
+            self.assertRegex(done.stderr, "^advise: .*x.rec: no wait was measured, .*, so there is no advice for this goal; --goal cpu and --goal drops need no wait\n$")
+        self.assertNotIn("the fit is unknown", self.advised(text, "--goal", "cpu", status=1).stdout)  # of which polls are compared
+
     def test_other_tasks(self):
         """Tasks that ran on the processor are reported, except those that poll, send or use packets; next to real-time tasks only real-time ones count."""
         made = quiet()
@@ -284,6 +301,12 @@ class Seen(unittest.TestCase):
         made.softirq_round([4], is_early=True)
         self.assertEqual(self.seen(made.text()).delivered(), [])
 
+    def test_a_cost_that_is_too_high(self):
+        """Packets and polls match whatever a packet is said to cost; a delivery isn't before the arrival."""
+        seen = self.seen(quiet(count=8, works=(50,)).text())
+        waits = [end - begin for begin, end in seen.delivered(10_000)]
+        self.assertEqual((len(waits), min(waits)), (400, 0))
+
     def test_packets_that_the_sender_makes_visible_late(self):
         """A softirq on the sender's own processor begins only when the sender lets it."""
         made = Made(**COSTS)
@@ -311,8 +334,14 @@ class Seen(unittest.TestCase):
         self.assertEqual(predicting.grade_of(rows(3) + rows(500, "used_p99")), "good")
 
     def test_few_drops(self):
-        """Three drops predicted for none, of 1000 packets, are 30 % of a hundredth of them."""
+        """Three drops predicted for none, of 1000 packets, are 30 % of a hundredth of them. The line has the difference and what it was divided by."""
         self.assertEqual((predicting.error_of("dropped", 0, 3, 1000), predicting.error_of("dropped", 200, 210, 1000)), (30, 5))
+        advise = runpy.run_path(str(TOP / "tools/advise"))
+        line, = advise["check_lines"]([("dropped", 3, 1, predicting.error_of("dropped", 3, 1, 500))], 500)
+        self.assertRegex(line, r"^  dropped +3 +1 +-2   judged as -20\.0 % of 10, because a ratio of few says nothing$")
+        line, = advise["check_lines"]([("dropped", 200, 210, 5.0)], 1000)
+        self.assertRegex(line, r"^  dropped +200 +210 +\+5\.0 %$")
+        self.assertEqual([each["of"] for each in advise["objects_in"]([("dropped", 3, 1, -20.0), ("polls", 50, 51, 2.0)], 500)], [10, 50])
 
 
 @unittest.skipUnless(os.geteuid() == 0 and shutil.which("ip"), "root")

@@ -1,6 +1,7 @@
 """Tests of the command `fintaqush`: how it finds its subcommands, its errors, its completions, and its tour."""
 
 import ast
+import glob
 import os
 import pty
 import re
@@ -87,20 +88,6 @@ class Fintaqush(InFolder):
         done = call("machine", "none", folder=self.folder)
         self.assertEqual((done.stderr, done.returncode), ("fintaqush machine: none: there is no such file\n", 1))
 
-    def test_an_older_python_ends_by_a_line(self):
-        """An older Python has to parse the file, so its syntax must be old."""
-        ast.parse(SOURCE.read_text(), feature_version=(3, 7))
-        self.assertNotRegex(SOURCE.read_text(), r"""\bf["']""")
-        fake = f"import runpy, sys; sys.version_info = (3, 8, 20, 'final', 0); sys.argv[1:] = ['plot']; runpy.run_path('{SOURCE}', run_name='__main__')"
-        done = subprocess.run([sys.executable, "-c", fake], capture_output=True, text=True, check=False)
-        self.assertEqual((done.stderr, done.returncode), ("fintaqush: it needs Python 3.9 or later, and python3 is 3.8\n", 1))
-        few = self.folder / "few"
-        few.mkdir()
-        for tool in ("sh", "env", "readlink", "dirname"):
-            (few / tool).symlink_to(shutil.which(tool))
-        done = call("plot", PATH=str(few))
-        self.assertEqual((done.stderr, done.returncode), ("fintaqush: there is no python3 on PATH; it needs Python 3.9 or later\n", 1))
-
     def test_outputs_and_inputs_that_are_none(self):
         for words in (["--help"], ["plot", "--help"], ["--version"], ["completion", "bash"]):
             name = "fintaqush" if words[0].startswith("-") else f"fintaqush {words[0]}"
@@ -142,6 +129,92 @@ class Fintaqush(InFolder):
         self.assertEqual(re.findall(r"^ +(\d+) +(yes|no) ", done.stdout, re.M), [(str(size), apart) for size in (6, 12, 48) for apart in ("no", "yes")])
         done = call("try", "--out", "fintaqush-try.html", folder=self.folder)
         self.assertEqual((done.stderr, done.returncode), ("fintaqush try: fintaqush-try.html exists and isn't overwritten\n", 1))
+
+
+class Starts(InFolder):
+    """What starts Python: the command, the launcher and the build, and the tools themselves."""
+
+    STARTS = {"fintaqush": ["plot"], "replay": [], "scripts/build.sh": ["napi_serial"]}
+
+    def few(self, python):
+        """Returns a PATH with little else than this Python."""
+        few = self.folder / "few"
+        few.mkdir(exist_ok=True)
+        for tool, path in [(tool, shutil.which(tool)) for tool in ("sh", "env", "readlink", "dirname")] + [("python3", python)] * bool(python):
+            (few / tool).unlink(missing_ok=True)
+            (few / tool).symlink_to(path)
+        return str(few)
+
+    def test_no_python(self):
+        done = call("plot", PATH=self.few(None))
+        self.assertEqual((done.stderr, done.returncode), ("fintaqush: there is no python3 on PATH; it needs Python 3.9 or later\n", 1))
+        for name in ("replay", "scripts/build.sh"):
+            done = call(command=TOP / name, PATH=self.few(None))
+            self.assertEqual((done.stderr.endswith(": there is no python3 on PATH\n"), done.returncode), (True, 69), done.stderr)
+
+    def test_an_older_python_ends_by_a_line(self):
+        """An older Python has to parse the file that compares the versions, and the files that lead there."""
+        tools = [path for path in (TOP / "tools").iterdir() if path.is_file() and os.access(path, os.X_OK)]
+        for path in (TOP / "scripts/start.py", SOURCE, TOP / "tools/toolbox.py", *tools):
+            ast.parse(path.read_text(), feature_version=(3, 6))
+        for path in (TOP / "scripts/start.py", SOURCE):
+            self.assertNotRegex(path.read_text(), r"""\bf["']|from __future__""")
+        fake = "import runpy, sys; sys.version_info = (3, 8, 20, 'final', 0); sys.argv = {!r}; runpy.run_path({!r}, run_name='__main__')"
+        for words, file, status in ((["fintaqush", "plot"], SOURCE, 1), (["start", "replay"], TOP / "scripts/start.py", 69),
+                                    (["start", "build"], TOP / "scripts/start.py", 69), *((["plot"], path, 1) for path in tools)):
+            done = subprocess.run([sys.executable, "-c", f"import sys; sys.path.insert(0, {str(TOP / 'tools')!r}); " + fake.format(words, str(file))],
+                                  capture_output=True, text=True, check=False, env={**os.environ, "PYTHONDONTWRITEBYTECODE": "1"})
+            self.assertEqual((done.stderr.partition(": ")[2], done.returncode), ("it needs Python 3.9 or later, and python3 is 3.8\n", status), file)
+
+    def test_pythons_of_this_machine_that_are_older(self):
+        """Real ones, where pyenv has some; the one above is made up."""
+        for python in glob.glob(os.path.expanduser("~/.pyenv/versions/3.[678].*/bin/python3")):
+            number = re.search(r"/(3\.\d)\.", python)[1]
+            for name, words in self.STARTS.items():
+                done = call(*words, command=TOP / name, PATH=self.few(python))
+                self.assertEqual(done.stderr.partition(": ")[2], f"it needs Python 3.9 or later, and python3 is {number}\n", (name, python))
+            for tool in ("plot", "from-ftrace", "costs", "record"):
+                done = subprocess.run([python, "-BES", TOP / "tools" / tool], capture_output=True, text=True, check=False)
+                self.assertEqual((done.stderr, done.returncode), (f"{tool}: it needs Python 3.9 or later, and python3 is {number}\n", 1))
+
+    def test_no_environment(self):
+        """Without PATH a shell finds python3 in its own folders, and Python doesn't know its own name."""
+        for words in (["--version"], ["plot", "--help"], ["raise", BURSTS, "--program", REPLAY], ["replay", "--help"], ["completion", "bash"]):
+            done = subprocess.run(["env", "-i", COMMAND, *words], capture_output=True, text=True, check=False)
+            self.assertEqual((done.stderr.count("\n") <= 1, done.returncode), (True, 0), done.stderr)
+            self.assertEqual(done.stdout, call(*words).stdout)
+        done = subprocess.run(["env", "-i", TOP / "replay", "--help"], capture_output=True, text=True, check=False)
+        self.assertEqual((done.stderr, done.returncode), ("", 0))
+
+    def test_little_memory(self):
+        """One line, whatever Python needs itself."""
+        for kib in (8000, 12000, 14000, 16384, 24000, 32767, 33000, 40000):
+            for words in (["series", BURSTS], ["machine", BURSTS], ["raise", BURSTS], ["--version"]):
+                done = subprocess.run(["sh", "-c", f'ulimit -v {kib}; exec "$0" "$@"', COMMAND, *words], capture_output=True, text=True, check=False,
+                                      env={**os.environ, **{name: "/bin/false" for name in PROGRAMS}})
+                if words != ["--version"] or kib < 32768:
+                    self.assertEqual((done.stdout, done.stderr.count("\n") <= 1), ("", True), (kib, words, done.stderr))
+                self.assertNotIn("Traceback", done.stderr)
+                if kib < 32768:
+                    self.assertEqual((done.stderr, done.returncode),
+                                     (f"fintaqush: there isn't enough memory: it needs 32 MiB, and ulimit -v is {kib} KiB\n", 1))
+
+    def test_a_signal_while_python_starts(self):
+        """Ctrl-C at any time from the beginning on: no traceback, and the end that it has later."""
+        os.mkfifo(self.folder / "fifo")
+        starts = {COMMAND: ["json", "fifo"], TOP / "replay": ["--mode", "serial", "fifo"]}
+        keeps = os.open(self.folder / "fifo", os.O_RDWR)  # so that no open of it waits
+        for command, words in starts.items():
+            for place in range(40):
+                process = subprocess.Popen([command, *words], stdout=subprocess.PIPE, stderr=subprocess.PIPE, cwd=self.folder, text=True,
+                                           env={**os.environ, **PROGRAMS}, preexec_fn=lambda: signal.signal(signal.SIGINT, signal.SIG_DFL))
+                time.sleep(place * 0.004)
+                process.send_signal(signal.SIGINT)
+                _, said = process.communicate(timeout=100)
+                self.assertIn(process.returncode, (-signal.SIGINT, 130), (command, place, said))
+                self.assertTrue(said == "" or said.splitlines()[-1].endswith("interrupted") or "interrupted; " in said, (command, place, said))
+                self.assertNotIn("Traceback", said)
+        os.close(keeps)
 
 
 class Completion(InFolder):

@@ -82,6 +82,18 @@ class Raise(InFolder):
         self.assertEqual(self.raised(text, "--weight", "1", "--budget", "1"),
                          ["0,01,open,8", "1,1,rx,60", "1,1,rx,60", "2,0,softirq,0", *["2,0,softirq,0"] * 2])
 
+    def test_a_field_that_is_quoted_in_part(self):
+        """The replay accepts `"so"ftirq` and `"3"0`: the text after a closing quote belongs to the field. What adds runs doesn't, and says so."""
+        for old, new, row in (("2,0,softirq", '2,0,"so"ftirq', 5), ("3,0,", '"3"0,0,', 6), ("moment,", '"mo"ment,', 0)):
+            path, page, out = self.write("x.csv", self.BURST.replace(old, new, 1)), self.folder / "page.html", self.folder / "rows"
+            self.replay(path.read_text())
+            for words in (["raise", path], ["steps", path, "--out", page], ["steps", path, "--raise", "--out", page],
+                          ["compare-runs", path, "--raise", "--budget", "1", "--"], ["sweep", path, "--raise", "--budget", "1", "--out", out]):
+                done = run(*words)
+                out.unlink(missing_ok=True)
+                self.assertEqual((done.returncode, done.stdout, self.names()), (1, "", ["x.csv"]), (words, done.stderr))
+                self.assertIn(f"row {row} has a field that is quoted in part: take the quotes out of the trace\n", done.stderr)
+
     def test_a_disable_that_waits_for_the_runs(self):
         """In the given rows the enable row meets a pending disable; with the added runs it doesn't."""
         two = HEADER + "0,1,open,8\n0,2,open,8\n0,1,rx,60\n0,2,rx,60\n1,2,disable,0\n2,0,softirq,0\n3,2,enable,0\n"

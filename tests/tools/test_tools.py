@@ -105,7 +105,7 @@ CPU:1 [7 EVENTS DROPPED]
         self.assertEqual(work, ["polls 1 work 1"])
         self.assertEqual(notes, [
             "line 1 of the recording: the kernel lost 12 events", "device 1 is vb1", "device 2 is va1",
-            "row 4: polls in it of devices that are in no pair: 1",
+            "row 4: polls in it of devices that are in no pair: 1, of 5 packets",
             "no row: packets that weren't sent: va1, rc=16, 1",
             "no row: packets and polls of a device that is in no pair: eth0, 1",
             "no row: polls whose softirq began before the recording, or in none: vb1, 2"])
@@ -212,6 +212,59 @@ CPU:1 [7 EVENTS DROPPED]
         done = run("compare-recording", TOP / "examples/linux-veth-small-budget", "--budget", "64")
         self.assertEqual((done.returncode, done.stdout), (0, "544 rows, 15647 packets; the kernel 15647; 544 rows agree, 0 differ, "
                                                           "0 others are accounted for by notes: as the kernel\n"))
+
+    def test_a_file_that_is_falsified(self):
+        """Each row of .work that isn't noted, by one packet more; and a noted row by more than its note explains, which is six packets."""
+        run("from-ftrace", HERE / "soft-gso-23.txt", self.folder / "made", *PAIRS)
+        work = (self.folder / "made.work").read_text().splitlines()
+        polls = [number for number, row in enumerate((self.folder / "made.csv").read_text().splitlines()) if ",softirq," in row]
+        for place, line in enumerate(work):
+            kernel = int(line.split()[3])
+            for other in (kernel + 1, kernel - 7, 0, 1000):
+                if other in (kernel, -1) or other < 0:
+                    continue
+                self.write("made.work", "".join(f"{each}\n" for each in [*work[:place], f"polls 1 work {other}", *work[place + 1 :]]))
+                done = run("compare-recording", self.folder / "made")
+                self.assertEqual(done.returncode, 1, (polls[place], other, done.stdout))
+                self.assertIn(": other than the kernel", done.stdout.splitlines()[-1])
+        self.write("made.work", "".join(f"polls 1 work {int(line.split()[3]) + 1}\n" for line in work))
+        self.assertIn("9 rows, 190 packets; the kernel 199; 0 rows agree", run("compare-recording", self.folder / "made").stdout)
+
+    def test_an_end_that_the_backlog_polls(self):
+        """The receiver answers each packet, and NAPI doesn't poll the sender's end: the answers are in no row. Without that they would wait in the
+        trace, and the run that takes the last packet would take them too."""
+        lines = []
+        for burst in range(20):
+            begin = 1000 * burst
+            lines += [f"a-1  [000] b....  5.{begin + place:06}: net_dev_xmit: dev=va1 skbaddr=0 len=60 rc=0" for place in range(3)]
+            lines += [f"a-1  [000] ..s1.  5.{begin + 100:06}: softirq_entry: vec=3 [action=NET_RX]",
+                      f"a-1  [000] b....  5.{begin + 101:06}: net_dev_xmit: dev=va1 skbaddr=0 len=60 rc=0" if burst == 0 else "",
+                      f"a-1  [000] ..s1.  5.{begin + 110:06}: napi_poll: napi poll on napi struct 0 for device vb1 work {4 if burst == 1 else 3} budget 64"]
+            lines += [f"b-2  [000] b....  5.{begin + 200 + place:06}: net_dev_xmit: dev=vb1 skbaddr=0 len=60 rc=0" for place in range(3)]
+            lines += [f"a-1  [000] ..s1.  5.{begin + 300:06}: softirq_entry: vec=3 [action=NET_RX]",
+                      f"a-1  [000] ..s1.  5.{begin + 310:06}: napi_poll: napi poll on napi struct 0 for device (no_device) work 3 budget 64"]
+        rows, work, notes = self.convert("\n".join(each for each in lines if each) + "\n", "--pair", "va1:vb1")
+        self.assertEqual((sum(",1,rx," in row for row in rows), sum(",2,rx," in row for row in rows), len(work)), (61, 0, 20))
+        self.assertIn("no row: packets to an end that no NAPI poll in it has, so its processor's backlog: va1, 60", notes)
+        done = run("compare-recording", self.folder / "made")
+        self.assertEqual((done.returncode, done.stdout.splitlines()[-1]), (0, "20 rows, 61 packets; the kernel 61; 18 rows agree, 0 differ, 2 others are "
+                                                                              "accounted for by notes: as the kernel"))
+
+    def test_a_packet_that_is_polled_before_its_event(self):
+        """The event of a packet follows its sending: the kernel polled it, and the trace has it after the row."""
+        rows, work, notes = self.convert("""   a-1  [000] b....  5.000000: net_dev_xmit: dev=va1 skbaddr=0 len=60 rc=0
+   b-1  [001] ..s1.  5.000005: softirq_entry: vec=3 [action=NET_RX]
+   b-1  [001] ..s1.  5.000006: napi_poll: napi poll on napi struct 0 for device vb1 work 2 budget 64
+   a-1  [000] b....  5.000007: net_dev_xmit: dev=va1 skbaddr=0 len=60 rc=0
+   a-1  [000] b....  5.000008: net_dev_xmit: dev=va1 skbaddr=0 len=60 rc=0
+   b-1  [001] ..s1.  5.000015: softirq_entry: vec=3 [action=NET_RX]
+   b-1  [001] ..s1.  5.000016: napi_poll: napi poll on napi struct 0 for device vb1 work 1 budget 64
+""", "--pair", "va1:vb1")
+        self.assertEqual((len(rows), work), (7, ["polls 1 work 2", "polls 1 work 1"]))
+        self.assertIn("row 4: packets that it polled and that were sent after it or before the recording, by their events: 1", notes)
+        done = run("compare-recording", self.folder / "made")
+        self.assertIn("row 4: work 1, the kernel 2: noted\nrow 7: work 2, the kernel 1: carries on the difference of row 4, which is noted\n", done.stdout)
+        self.assertEqual(done.returncode, 0)
 
     def test_a_replay_that_is_other_than_the_kernel(self):
         """One packet comes before each of 30 runs, and the kernel polled two, 30 times; ten of those lines are printed, and a line counts the rest."""

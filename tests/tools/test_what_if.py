@@ -139,6 +139,17 @@ class WhatIf(InFolder):
                          [(1, 0.5, 64, None, str(self.arrivals)), (2, 0.5, 64, None, str(self.arrivals))])
         self.assertEqual((told[0]["arrived"], isinstance(told[0]["use_percent"], float)), (300, True))
 
+    def test_json_in_a_file(self):
+        words = ["what-if", self.arrivals, "--budget", "2,300", "--json", "--band", "0"]
+        told, out = run(*words).stdout, self.folder / "q.json"
+        done = run(*words, "--out", out)
+        self.assertEqual((done.returncode, done.stdout, out.read_text(), len(told.splitlines())), (0, "", told, 2), done.stderr)
+        done = run(*words, "--out", out)
+        self.assertEqual((done.returncode, out.read_text()), (1, told))
+        self.assertIn("exists and isn't overwritten", done.stderr)
+        for more in (["--resume"], ["--part", "1/2"]):
+            self.assertEqual(run(*words, "--out", self.folder / "other", *more).returncode, 2)
+
     def test_json_keys_are_identifiers(self):
         """Also with generated traffic and a searched load; each object has the format's version."""
         for words in ([self.arrivals], [self.arrivals, "--until", "drops", "--ring", "8"], ["--traffic", "--rate 1000", "--seeds", "2"]):
