@@ -264,6 +264,26 @@ has_files() {
     done
 }
 
+# alone PACKAGE: unpacks a package into a root of its own, with those of ours that it depends on and nothing else, and prints the root.
+alone() {
+    local package
+    mkdir -p "$scratch/alone/$1"
+    for package in "$1" $(dpkg-deb -f "$scratch/$1"_*.deb Depends | grep -o 'libfintaqush[^ ,]*'); do
+        dpkg-deb -x "$scratch/$package"_*.deb "$scratch/alone/$1" || return
+    done
+    echo "$scratch/alone/$1"
+}
+
+# linked_alone: an example is built and runs with the files of libfintaqush-dev and of what it depends on.
+linked_alone() (
+    root=$(alone libfintaqush-dev)
+    libraries=$(dirname "$(find "$root" -name libfintaqush.so)")
+    export PKG_CONFIG_SYSROOT_DIR=$root PKG_CONFIG_LIBDIR=$libraries/pkgconfig
+    # shellcheck disable=SC2046 # the flags of pkg-config
+    cc -pthread "$root/usr/share/doc/libfintaqush-dev/examples/c/threads.c" $(pkg-config --cflags --libs fintaqush) -o threads &&
+        LD_LIBRARY_PATH=$libraries ./threads | diff - "$top/examples/c/threads.stdout"
+)
+
 if has dpkg-deb 'the Debian packages'; then
     architecture=$(dpkg --print-architecture)
     major=${version%%.*}
@@ -289,6 +309,18 @@ if has dpkg-deb 'the Debian packages'; then
     check 'the subcommands of the package' there subcommands_work "$scratch/root/usr/bin"
     check 'its subcommands that are programs' there programs_work "$scratch/root/usr/bin"
     FINTAQUSH_LIB=$(dirname "$(find "$scratch/root/usr/lib" -name "libfintaqush.so.$major")") check 'the package for Python of it' there python_replays "$scratch/root/usr"
+    root=$(alone fintaqush)
+    for name in $("$top/fintaqush" --names); do
+        check "fintaqush $name of the package alone" there subcommand_starts "$root/usr/bin" "$name"
+    done
+    check 'the version of the package alone' [ "$("$root/usr/bin/fintaqush" --version)" = "fintaqush of Fintaqush $version" ]
+    check 'the subcommands of the package alone' there subcommands_work "$root/usr/bin"
+    check 'its subcommands that are programs, alone' there programs_work "$root/usr/bin"
+    root=$(alone python3-fintaqush)
+    FINTAQUSH_LIB=$(dirname "$(find "$root/usr/lib" -name "libfintaqush.so.$major")") check 'the package for Python alone' there python_replays "$root/usr"
+    if has pkg-config 'programs by the package libfintaqush-dev alone'; then
+        check 'programs by the package libfintaqush-dev alone' there linked_alone
+    fi
     check 'their files are whole' sh -c '[ -z "$(dpkg --root="$1" --verify)" ]' sh "$scratch/root"
     check 'they are removed' by_dpkg -r fintaqush python3-fintaqush libfintaqush-dev "libfintaqush$major"
     check 'nothing of them is left' is_empty_of_files "$scratch/root/usr"
