@@ -89,6 +89,68 @@ class Refused(InFolder):
             self.assertEqual((done.returncode, done.stderr), (1, f"record: {why}\n"))
 
 
+class NothingThere(InFolder):
+    """What the commands and files say where there is nothing: as printed by iproute2 6.1, ethtool 6.1 and Linux 6.18."""
+
+    def setUp(self):
+        super().setUp()
+        sys.path.insert(0, str(TOP / "tools"))
+        import observed
+        self.observed, path = observed, os.environ["PATH"]
+        os.environ["PATH"] = f"{self.folder}:{path}"
+        self.addCleanup(os.environ.__setitem__, "PATH", path)
+
+    def stand_in(self, name, script):
+        path = self.write(name, f"#!/bin/sh\n{script}\n")
+        path.chmod(0o755)
+
+    def test_ip(self):
+        """`ip -j link show type` of a kind that the kernel doesn't know prints an empty object for each device."""
+        for said in ("echo '[{},{},{},{}]'", "echo '[]'", ":", "exit 1", "echo 'Error: argument \"-j\" is wrong' >&2; exit 255"):
+            self.stand_in("ip", said)
+            self.assertEqual((self.observed.pairs_in(""), self.observed.pairs_in("x"), self.observed.peer_of("eth0", "")), ([], [], ""), said)
+        # a veth whose peer is in a namespace without a name
+        self.stand_in("ip", """case "$*" in *list-id*) : ;; *) echo '[{},{"ifindex":3,"ifname":"vb1","link_index":2,"link_netnsid":0}]' ;; esac""")
+        self.assertEqual(self.observed.peer_of("vb1", ""), "")
+
+    def test_ethtool(self):
+        for said in ("echo 'netlink error: Operation not supported' >&2; exit 1", ":", "echo 'Cannot get driver information: Operation not supported' >&2; exit 71"):
+            self.stand_in("ethtool", said)
+            self.assertEqual((list(self.observed.driver_of("eth0", "")), list(self.observed.by_ethtool("eth0", ""))), ([], []))
+        self.stand_in("ethtool", "printf 'Ring parameters for eth0:\\nPre-set maximums:\\nRX:\\t\\tn/a\\nCurrent hardware settings:\\nRX:\\t\\tn/a\\n'")
+        self.assertEqual([pair for pair in self.observed.by_ethtool("eth0", "") if "ring" in pair[0]], [])
+
+    @unittest.skipUnless(IS_ROOT, "root")
+    def test_tracefs(self):
+        """A kernel without tracing has no folder for it; in a container the folder is empty, and nothing can be mounted."""
+        for front, why in (("mount -t tmpfs nodev /sys/kernel", "this kernel has no tracing: boot one with CONFIG_FTRACE"),
+                           ("mount -t tmpfs nodev /sys/kernel && mkdir /sys/kernel/tracing && exec setpriv --bounding-set=-sys_admin", "tracefs can't be mounted")):
+            run_it = " && exec " if "exec" not in front else " "
+            done = subprocess.run(["unshare", "-m", "sh", "-c", f'{front}{run_it}"$0" "$@"', sys.executable, "-BES", TOP / "tools/record", "1", "--device", "lo",
+                                   "--out", "x"], capture_output=True, text=True, check=False, cwd=self.folder)
+            self.assertEqual((done.returncode, done.stdout, self.names()), (1, "", []), done.stderr)
+            self.assertIn(why, done.stderr.splitlines()[-1])
+
+    def test_a_whole_recording(self):
+        """Without a sender, on a machine whose kernel has no veth devices."""
+        if not HAS_TRACING:
+            self.skipTest("tracing")
+        self.stand_in("ip", "echo '[{},{},{},{}]'")
+        done = run("record", "1", "--device", "lo", "--out", self.folder / "x.rec", path=f"{self.folder}:{os.environ['PATH']}")
+        self.assertEqual(done.returncode, 0, done.stderr)
+
+
+class Advice(unittest.TestCase):
+    def test_a_buffer_that_was_too_small(self):
+        """32 MB for half a second of five take ten times as much, or a tenth of the time."""
+        sys.path.insert(0, str(TOP / "tools"))
+        advice = runpy.run_path(str(TOP / "tools/record"))["advice_on_buffer"]
+        words = SimpleNamespace(seconds=5, buffer=32)
+        self.assertEqual(advice(words, 0.5, 1000), "record again with --buffer 320")
+        self.assertEqual(advice(words, 0.5, 100), "5 s would need --buffer 320, and this machine has memory for 100: record for 1 s with --buffer 100, or "
+                                                  "fewer processors (--processors), or less traffic")
+
+
 class Waits(unittest.TestCase):
     """How long it records, with made-up sizes of the fullest buffer at each check."""
 
@@ -283,6 +345,15 @@ class Recorded(InFolder):
         said = process.communicate(timeout=60)[1].decode()
         self.assertRegex(said, r"^record: the kernel lost \d+ events, so the recording isn't written: record for a shorter time, or with a larger --buffer\n$")
         self.assertEqual((process.returncode, self.names(), (self.folder / "made").read_text()), (1, ["made"], "old\n"))
+
+    def test_a_buffer_that_is_too_small(self):
+        """It ends early: the file is written, the exit status is 1, and the last line says which buffer holds the whole time."""
+        process = self.start("--buffer", "1", seconds="60")
+        self.send(400, 40, 40, 0.01)
+        said = process.communicate(timeout=100)[1].decode()
+        self.assertRegex(said.splitlines()[-1], r"^record: a buffer of 1 MB was nearly full after [\d.]+ of 60 s, so the recording ended early: (record again with|60 s)")
+        self.assertEqual((process.returncode, self.names()), (1, ["made"]))
+        self.assertEqual(self.head()[0]["buffer"], "1")
 
     def test_a_machine_without_an_even_counter(self):
         """CLOCK_MONOTONIC is used instead, and times have six digits."""
