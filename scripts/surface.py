@@ -15,8 +15,14 @@ def passed_on(crate):
     text, found = (CRATES / crate / "src/lib.rt").read_text(), {}
     for place, names in re.findall(r"^pub use (?:crate::)?(\w+)::((?:\w|::|[{},\s])+);", text, re.M):
         of = place if (CRATES / place / "src").is_dir() else crate
-        found[of] = [*found.get(of, []), *re.findall(r"\b\w+\b(?!::)", names)]
+        found[of] = [*found.get(of, []), *re.findall(r"\b\w+\b(?!::)", re.sub(r" as \w+", "", names))]
     return found.items()
+
+
+def exported(crate):
+    """Returns the name that this crate gives an item which it re-exports under another name, by the item's own name."""
+    uses = re.findall(r"^pub use ([^;]*);", (CRATES / crate / "src/lib.rt").read_text(), re.M)
+    return dict(re.findall(r"\b(\w+) as (\w+)", " ".join(uses)))
 
 
 def parts(lines):
@@ -107,14 +113,18 @@ def aliased(crate, name):
 
 def surface(facade):
     """Yields the parts of a facade: each is a crate, the alias under which the facade re-exports its one type (None if there is none), and
-    its items."""
-    shown = set()
+    its items, with the names that the facade gives them."""
+    shown, other = set(), exported(facade)
+
+    def as_exported(found):
+        return ((path, [re.sub(r"\w+", lambda it: other.get(it[0], it[0]), line) for line in lines]) for path, lines in found)
+
     for crate, names in passed_on(facade):
-        yield crate, None, items(crate, names)
+        yield crate, None, as_exported(items(crate, names))
         for name in names:
             if (of := aliased(crate, name)) and of not in shown:
                 shown.add(of)
-                yield of[0], (name, of[1]), items(of[0], [of[1]])
+                yield of[0], (name, of[1]), as_exported(items(of[0], [of[1]]))
 
 
 def show(facade):

@@ -33,11 +33,16 @@ def clauses_of(path):
 
 def functions(crates):
     """All functions of these crates by name, each with the clauses of all functions with that name."""
-    found = {}
+    found, others = {}, []
     for crate in crates:
         for path in pathlib.Path("crates", crate, "src").rglob("*.rt"):
             for name, names in clauses_of(path):
                 found.setdefault(name, []).append(names)
+        # a facade can re-export a type under another name
+        for path in pathlib.Path("crates", crate, "src").glob("lib.rt"):
+            others += re.findall(r"\b(\w+) as (\w+)", " ".join(re.findall(r"^pub use ([^;]*);", path.read_text(), re.M)))
+    for own, name in [(f"{own}::", f"{name}::") for own, name in others]:
+        found.update({call.replace(own, name): names for call, names in found.items() if call.startswith(own)})
     return {name: set().union(*sets) for name, sets in found.items()}
 
 

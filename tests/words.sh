@@ -1,6 +1,6 @@
 #!/usr/bin/env bash
 # tests/words.sh: runs the built programs with the options and the inputs of runs.txt, and compares their output and exit
-# status; then with real inputs and outputs that fail, and an argument that isn't UTF-8. napi_serial has to behave like
+# status; then with real inputs and outputs that fail, and an argument or a program's name that isn't UTF-8. napi_serial has to behave like
 # napi_replay, and rejects options that name another mode. ends.py tries the exit status of all four programs with outputs that
 # are closed or full. Each run that differs is printed. The last line is `N passed, M failed`. It asks ./replay and
 # scripts/build.sh for the programs, which build them only if neither the gate nor an earlier call did.
@@ -101,6 +101,15 @@ done < "$tests/runs.txt"
 printf 'moment,device,event,value\n' > "$folder/in"
 want 64 'usage fault 64'
 answer 'a word that is no text' "$folder/in" "$folder/out" $'--budget=\xff'
+# A program's own name isn't an argument, and may have any bytes.
+for program in napi_replay napi_serial napi_series napi_machine; do
+    ln -sf "$(realpath "$crates/$program/out/$program")" "$folder/"$'\xe9'
+    "$crates/$program/out/$program" < "$folder/in" > "$folder/wanted.out" 2> "$folder/wanted.err"
+    echo $? > "$folder/wanted.status"
+    "$folder/"$'\xe9' < "$folder/in" > "$folder/out" 2> "$folder/err"
+    echo $? > "$folder/status"
+    judge "a name that is no text, $program"
+done
 want 4 'output fault 15 OutputFailed'
 answer 'a full output' "$folder/in" /dev/full
 

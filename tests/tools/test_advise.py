@@ -86,11 +86,11 @@ class Advise(InFolder):
         return told
 
     def test_the_recorded_setting(self):
-        """A burst's packet k waits 3300 + 1700 + 2600 + 410 k ns: the last of 15 13750. Of all packets half wait for at most the 8th place: 10880."""
+        """A burst's packet k waits 3300 + 1700 + 2600 + 410 k ns: the last of 15 13750. Half of all packets are at the first 5 places: 9650."""
         told = self.object(file_of(quiet()))
         values = {row["name"]: (row["measured"], row["predicted"]) for row in told["check"]}
         self.assertEqual((values["polls"], values["runs"], values["dropped"]), ((80, 80), (80, 80), (0, 0)))
-        # The machine's report has ten binary digits. Of 800 packets, 40 of each of the first 5 places twice, 400 are in the first 7 or 8.
+        # The machine's report has ten binary digits. Of 800 packets, 400 are at the first 5 places, 80 at each.
         self.assertEqual((values["delivered_p99"], values["delivered_p50"]), ((13750, 13744), (9650, 9648)))
         self.assertEqual((told["fit"], told["processor"], told["options"]["apart"], told["options"]["packet"]), ("good", 3, 1, 410))
 

@@ -19,8 +19,6 @@ mod pausing;
 #[cfg(test)]
 mod refusals;
 #[cfg(test)]
-mod switching;
-#[cfg(test)]
 mod threads;
 #[cfg(test)]
 mod turns;

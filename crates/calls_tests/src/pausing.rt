@@ -5,7 +5,6 @@ ghost use Rattle.std.specs.Option.{ForSome};
 ghost use Rattle.napi_calls.specs.Instance.{IsSeatOf};
 
 use crate::bed::{Bed, enabled, granted, handed, make_bed, taken};
-use crate::switching::keep_setting;
 use napi_calls::{Between, Caller, Control, DropBomb, Napi, On, Polling, TryDone};
 use napi_model::Kind;
 use std::process::Abort;
@@ -17,6 +16,8 @@ use std::thread;
 const PAUSES: u64 = 3;
 
 const ROUNDS: u64 = 5000;
+
+const SETTINGS: u64 = 10_000_000;
 
 // A poller that completes its poll in the third pause of a disable.
 struct CompletesInPause<'a> {
@@ -87,6 +88,20 @@ fn a_disable_pauses_after_each_busy_attempt(rt: HostRuntime) -> Result<(), Fail>
     control.abandon();
     napi.abandon();
     Ok(())
+}
+
+// Sets and clears THREADED until `over` is set.
+fn keep_setting(napi: &Napi, caller: Caller, over: &AtomicBool) -> Caller
+    requires { IsSeatOf napi.now caller.pass }
+{
+    let mut caller = caller;
+    for k in 0..SETTINGS {
+        if over.load(Ordering::SeqCst) {
+            break;
+        }
+        caller.set_threaded(napi, k % 2 == 0);
+    }
+    caller
 }
 
 // Counts its runs.

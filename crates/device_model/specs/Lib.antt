@@ -8,7 +8,7 @@ pub use Rattle.device_rows.specs.Row as Rows
 pub use Rattle.device_rows.specs.Source
 pub use Rattle.device_rows.specs.Switch
 pub use Rattle.device_rows.specs.Trace as Traces
-pub use Rattle.device_rows.specs.declared.event.RowEvent
+pub use Rattle.device_rows.specs.declared.event.RowEvent as Event
 pub use Rattle.device_rows.specs.declared.fault.TraceFault
 pub use Rattle.device_rows.specs.declared.row.Row
 pub use Rattle.device_rows.specs.declared.trace.Trace

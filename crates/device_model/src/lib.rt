@@ -10,7 +10,7 @@
 
 pub use device_bench::{DeviceCounts, DeviceState, ReplayBench, SerialBench};
 pub use device_rows::{
-    Row, RowEvent, Trace, TraceFault, first_fault_stands, first_records_decide, read_trace,
+    Row, RowEvent as Event, Trace, TraceFault, first_fault_stands, first_records_decide, read_trace,
 };
 pub use device_script::{ScriptDevice, opening_of};
 pub use device_shared::{ClosedSide, SharedBench};

@@ -3,7 +3,7 @@
 use anyhow::{Result, ensure};
 use device_model::{ScriptDevice, Trace, TraceFault, opening_of, read_trace};
 use poll_engine::Device;
-use replay::{ReplayFault, ReplayMode, WordFault, fault_line, parse_words};
+use replay::{Mode, ReplayFault, WordFault, fault_line, parse_words};
 use std::alloc::{AllocError, Global};
 
 // Rows of two devices.
@@ -73,7 +73,7 @@ pub(crate) fn words_are_read(alloc: Global) -> Result<bool> {
             parse_words(alloc, words.as_slice())?
         }
     };
-    ensure!(mode == ReplayMode::Threads, "another mode");
+    ensure!(mode == Mode::Threads, "another mode");
     Ok(refused)
 }
 

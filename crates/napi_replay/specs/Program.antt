@@ -3,6 +3,7 @@ use Rattle.std.specs.Prelude.{◌≡◌, ℕ, List, Option, Some, Result, option
 use Rattle.replay_threads.specs.Answer.{RanBy, threads_of}
 use Rattle.replay_threads.specs.Answer.{IsThreadsOutside as IsOutsideThreads}
 use Rattle.replay_threads.specs.SharedRun.{RanShared}
+use Rattle.replay_threads.specs.declared.polled.Polled.{Polled}
 use Rattle.replay_text.specs.Outside.{IsOutside}
 use Rattle.replay_text.specs.Program.{AnswersBy}
 use Rattle.replay_rows.specs.Answer.{replay_of}
@@ -38,7 +39,7 @@ AnswersReplay asked bytes = AnswersBy (IsOutsideIn asked.0) (answer_in asked.0 a
 abbrev pub RanIn : Type 0 → ReplayMode → ReplaySettings → Option (List ℕ) → Type 0
 RanIn R Serial s input = Unit
 RanIn R Shared s input = RanShared s input
-RanIn R Threads s input = RanBy R (λ by. Unit {0}) s input
+RanIn R Threads s input = (told : List Polled) × RanBy R (λ by. Unit {0}) s input told
 
 -- the rows were processed in the mode and with the settings that the arguments ask for
 abbrev pub Ran : Type 0 → List Text → Option (List ℕ) → Type 0

@@ -40,10 +40,7 @@ fn replay_in<H: Threads + Wait + Sync, R: Read + Drop, W: Write>(
     let (mode, settings) = *asked;
     match mode {
         ReplayMode::Serial => replay_serial(alloc, input, output, &settings),
-        ReplayMode::Shared => match replay_shared(rt, alloc, input, output, &settings) {
-            Ok(_) => Ok(()),
-            Err(fault) => Err(fault),
-        },
+        ReplayMode::Shared => replay_shared(rt, alloc, input, output, &settings),
         ReplayMode::Threads => match replay_threads(
             rt, alloc, input, output, &settings, &OpenGate,
         ) {

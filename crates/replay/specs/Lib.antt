@@ -3,8 +3,8 @@ pub use Rattle.device_rows.specs.Trace
 pub use Rattle.replay_args.specs.Defaults
 pub use Rattle.replay_args.specs.Refusals
 pub use Rattle.replay_args.specs.Args
-pub use Rattle.replay_args.specs.declared.mode.ReplayMode
-pub use Rattle.replay_args.specs.declared.settings.ReplaySettings
+pub use Rattle.replay_args.specs.declared.mode.ReplayMode as Mode
+pub use Rattle.replay_args.specs.declared.settings.ReplaySettings as Settings
 pub use Rattle.replay_args.specs.declared.args.WordFault
 pub use Rattle.replay_text.specs.Fault
 pub use Rattle.replay_text.specs.Outside
@@ -16,4 +16,5 @@ pub use Rattle.replay_rows.specs.Report
 pub use Rattle.replay_threads.specs.Answer as ThreadsAnswer
 pub use Rattle.replay_threads.specs.ThreadsReport
 pub use Rattle.replay_threads.specs.SharedRun
+pub use Rattle.replay_threads.specs.declared.polled.Polled
 pub use Rattle.replay_threads.specs.Stations as ThreadsStations

@@ -7,7 +7,9 @@
 //! re-exports what contracts cite. The program `napi_replay` makes these calls.
 #![tactic(auto)]
 
-pub use replay_args::{ReplayMode, ReplaySettings, WordFault, parse_words, word_line, word_status};
+pub use replay_args::{
+    ReplayMode as Mode, ReplaySettings as Settings, WordFault, parse_words, word_line, word_status,
+};
 pub use replay_rows::replay_serial;
 pub use replay_text::{ReplayFault, fault_line, status};
-pub use replay_threads::{ClosedSide, replay_shared, replay_threads};
+pub use replay_threads::{Polled, replay_shared, replay_threads};

@@ -3,8 +3,7 @@
 use device_model::TraceFault;
 use poll_engine::OpenGate;
 use replay::{
-    ReplayFault, ReplayMode, ReplaySettings, fault_line, replay_serial, replay_shared,
-    replay_threads, status,
+    Mode, ReplayFault, Settings, fault_line, replay_serial, replay_shared, replay_threads, status,
 };
 use replay_text::{ProgramFault, end_by};
 use std::alloc::Global;
@@ -15,28 +14,24 @@ use std::test::Fail;
 use std::thread::Threads;
 use test_ends::{FailingReader, FailingWriter, ONE_PACKET, ONE_PACKET_REPORT, ONE_PACKET_THREADS};
 
-const MODES: [(ReplayMode, &str); 3] = [
-    (ReplayMode::Serial, ONE_PACKET_REPORT),
-    (ReplayMode::Shared, ONE_PACKET_REPORT),
-    (ReplayMode::Threads, ONE_PACKET_THREADS),
+const MODES: [(Mode, &str); 3] = [
+    (Mode::Serial, ONE_PACKET_REPORT),
+    (Mode::Shared, ONE_PACKET_REPORT),
+    (Mode::Threads, ONE_PACKET_THREADS),
 ];
 
 fn replay_in<P: Threads + Wait + Sync, R: Read + Drop, W: Write>(
     rt: &P,
     alloc: Global,
-    mode: ReplayMode,
+    mode: Mode,
     reader: R,
     writer: &mut W,
-    settings: &ReplaySettings,
+    settings: &Settings,
 ) -> Result<(), ReplayFault> {
     match mode {
-        ReplayMode::Serial => replay_serial(alloc, reader, writer, settings),
-        ReplayMode::Shared => {
-            let ends = replay_shared(rt, alloc, reader, writer, settings)?;
-            drop(ends);
-            Ok(())
-        }
-        ReplayMode::Threads => {
+        Mode::Serial => replay_serial(alloc, reader, writer, settings),
+        Mode::Shared => replay_shared(rt, alloc, reader, writer, settings),
+        Mode::Threads => {
             let polled = replay_threads(rt, alloc, reader, writer, settings, &OpenGate)?;
             drop(polled);
             Ok(())
@@ -58,7 +53,7 @@ fn failing_reads(rt: HostRuntime) {
                 mode,
                 reader,
                 &mut report,
-                &ReplaySettings::default(),
+                &Settings::default(),
             );
             if before < reads {
                 assert_eq!(rt;
@@ -87,7 +82,7 @@ fn failing_writes(rt: HostRuntime) {
                 mode,
                 ONE_PACKET.as_bytes(),
                 &mut writer,
-                &ReplaySettings::default(),
+                &Settings::default(),
             );
             if before < writes {
                 assert_eq!(rt;

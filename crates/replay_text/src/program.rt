@@ -15,7 +15,7 @@ use crate::fault::ReplayFault;
 use crate::lines::write_out;
 use replay_args::{WordFault, word_line, word_status};
 use std::alloc::{AllocError, Global};
-use std::env;
+use std::env::{self, Env, FillError};
 use std::io::{ErrorKind, Read, Write};
 use std::process::ExitCode;
 
@@ -85,11 +85,29 @@ pub trait Program {
             (R.remaining input) (W.contents output.old) (W.contents output.new)) };
 }
 
+// The arguments after the program's name. `env::args` fails if one argument isn't UTF-8, and the name, as in a folder with
+// a name in Latin-1, need not be.
+#[derive(Drop)]
+struct AfterName<'a>(&'a HostRuntime);
+
+impl Env for AfterName<'_> {
+    fn arg(&self, i: usize, buf: &mut [u8]) -> Result<usize, FillError> {
+        self.0.arg(i.saturating_add(1), buf)
+    }
+
+    fn var(&self, name: &str, buf: &mut [u8]) -> Result<usize, FillError> {
+        self.0.var(name, buf)
+    }
+
+    fn var_at(&self, i: usize, buf: &mut [u8]) -> Result<usize, FillError> {
+        self.0.var_at(i, buf)
+    }
+}
+
 // Returns the arguments after the program's name. Fails with `Usage` if one of them isn't UTF-8.
 fn words_of(rt: &HostRuntime) -> Result<Vec<String>, WordFault> {
-    match env::args(rt) {
+    match env::args(&(AfterName(rt), rt.alloc())) {
         Ok(words) => words
-            .skip(1)
             .collect(rt.alloc())
             .map_err(|_| WordFault::OutOfMemory),
         Err(error) if error.kind() == ErrorKind::OutOfMemory => Err(WordFault::OutOfMemory),

@@ -16,8 +16,8 @@ use Rattle.replay_args.specs.declared.settings.ReplaySettings.{ReplaySettings}
 use Rattle.replay_text.specs.declared.fault.ReplayFault.{ReplayFault, TheVariants.{OutputFailed, RingTooSmall}}
 use Rattle.replay_threads.specs.{ThreadsReport.{arrived, bytes, threads_device_lines, is_opened, opened_devices}}
 use Rattle.replay_threads.specs.{Stations.{AreRunBy, IsStationEnd, IsStationOf}}
-use Rattle.replay_threads.specs.{Stations.{end_lines, is_small, small_fault}}
-use Rattle.replay_threads.specs.{Answer.{IsThreadsOutside, IsReportedAs, overflows}}
+use Rattle.replay_threads.specs.{Stations.{end_lines, is_small, polled_of, small_fault}}
+use Rattle.replay_threads.specs.{Answer.{IsPolledDevice, IsReportedAs, IsThreadsOutside, overflows}}
 use Rattle.poll_tasks.specs.declared.fault.WorkFault.TheVariants as work
 
 -- ---- the ranges of a row's numbers, if it is accepted
@@ -219,3 +219,15 @@ all-lines rows [] [] h = (refl, refl)
 all-lines rows [] (e ∷ es) h = absurd h
 all-lines rows (d ∷ ds) [] h = absurd h
 all-lines rows (d ∷ ds) (e ∷ es) h = grind (arith, common_steps, lines-of, all-lines rows ds es h.1)
+
+-- ---- the counts of the polls
+
+pub all-polled : (rows : List Row) (devices : List ℕ) (ends : List (Finished Script)) → AllZip (IsStationEnd rows) devices ends
+    → AllZip (IsPolledDevice rows) devices (map polled_of ends)
+all-polled rows [] [] h = tt
+all-polled rows [] (e ∷ es) h = absurd h
+all-polled rows (d ∷ ds) [] h = absurd h
+all-polled rows (d ∷ ds) (e ∷ es) h = (
+  record { same_device = h.0.its_number; sum = h.0.sum ∙ h.0.its_put },
+  all-polled rows ds es h.1,
+)

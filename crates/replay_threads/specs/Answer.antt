@@ -1,10 +1,11 @@
 -- The result of a replay of a text with threads: the report of its rows in threads mode, or its first error.
-use Rattle.std.specs.{Prelude.{◌≡◌, ℕ, List, Bool, Option, Some, None, Result, Ok, Err, nat_lt, option_map}, List.find}
+use Rattle.std.specs.{Prelude.{◌≡◌, ℕ, ◌+◌, List, Bool, Option, Some, None, Result, Ok, Err, map, nat_lt, option_map}, List.{AllZip, find}}
 use Rattle.poll_interrupts.specs.declared.station.Finished.{Finished}
 use Rattle.replay_args.specs.declared.settings.ReplaySettings.{ReplaySettings}
 use Rattle.device_rows.specs.{Trace.{records_of, trace_of}, declared.{TraceFault.TraceFault, row.Row.Row}}
 use Rattle.{poll_tasks.specs.Refusals.IsRefused}
-use Rattle.{replay_threads.specs.{ThreadsReport.{arrived, opened_devices, threads_report}, Stations.AreRunBy}}
+use Rattle.replay_threads.specs.{ThreadsReport.{arrived, opened_devices, threads_report}, Stations.{AreRunBy, IsStationEnd, polled_of}}
+use Rattle.replay_threads.specs.declared.polled.Polled.{Polled}
 use Rattle.poll_tasks.specs.declared.fault.WorkFault.{WorkFault}
 use Rattle.device_script.specs.{ScriptShown.Script, Script.opening_of}
 use Rattle.replay_text.specs.Outside.{IsReplayOutOfMemory, IsOutside as IsSerialOutside}
@@ -47,12 +48,18 @@ IsReportedAs work.OutOfMemory told = IsReplayOutOfMemory told
 IsReportedAs work.GateShut told = told ≡ GateShut
 IsReportedAs work.SpawnFailed told = told ≡ SpawnFailed
 
--- these devices were run and polled by the rows of the bytes read, by as many pollers as the settings say, with their numbers
-abbrev pub IsRunBy : Type 0 → (ℕ → Type 0) → ReplaySettings → Option (List ℕ) → List (Finished Script) → Type 0
-IsRunBy R asked settings input ends =
-    (bytes : List ℕ) → input ≡ Some bytes
-    → (rows : List Row) × (trace_of (records_of bytes) ≡ Ok rows) × AreRunBy R asked settings rows ends
+-- the packets of a device that were polled, and those left, are the packets that arrived there
+pub record IsPolledDevice (rows : List Row) (device : ℕ) (polled : Polled) : Type 0 where
+  pub same_device : polled.device ≡ device
+  pub sum : polled.polled + polled.left ≡ arrived device rows
 
--- the same for devices that aren't returned
-abbrev pub RanBy : Type 0 → (ℕ → Type 0) → ReplaySettings → Option (List ℕ) → Type 0
-RanBy R asked settings input = (ends : List (Finished Script)) × IsRunBy R asked settings input ends
+-- Devices with these counts ended as the rows say, each with the one history of its closed instance. They were polled by as many
+-- pollers as the settings say, with their numbers.
+abbrev pub IsRunBy : Type 0 → (ℕ → Type 0) → ReplaySettings → List Row → List Polled → Type 0
+IsRunBy R asked settings rows told = (ends : List (Finished Script))
+    × AllZip (IsStationEnd rows) (opened_devices rows) ends × AreRunBy R asked settings rows ends × (told ≡ map polled_of ends)
+
+-- the same for the rows of the bytes read
+abbrev pub RanBy : Type 0 → (ℕ → Type 0) → ReplaySettings → Option (List ℕ) → List Polled → Type 0
+RanBy R asked settings input told =
+    (bytes : List ℕ) → input ≡ Some bytes → (rows : List Row) × (trace_of (records_of bytes) ≡ Ok rows) × IsRunBy R asked settings rows told

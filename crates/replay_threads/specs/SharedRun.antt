@@ -9,6 +9,6 @@ use Rattle.{replay_args.specs.declared.settings.ReplaySettings.ReplaySettings}
 abbrev pub IsSharedRun : ReplaySettings → Option (List ℕ) → DeviceTable ClosedSide → Type 0
 IsSharedRun s input ends = (devices : BenchDevices) × Plays s input devices × AllEnded IsSideClosed devices ends
 
--- the same for instances that aren't returned
+-- the same for instances that were closed and dropped
 abbrev pub RanShared : ReplaySettings → Option (List ℕ) → Type 0
 RanShared s input = (ends : DeviceTable ClosedSide) × IsSharedRun s input ends

@@ -2,7 +2,7 @@
 use Rattle.{poll_interrupts.specs.{Runs.HasRun, declared.station.{Finished.Finished, Station.Station}}}
 use Rattle.{replay_text.specs.Lines.with_newline}
 use Rattle.{replay_text.specs.declared.fault.ReplayFault.{ReplayFault, TheVariants.RingTooSmall}, device_rows.specs.declared.row.Row.Row}
-use Rattle.replay_threads.specs.{ThreadsReport.{arrived, arrived_line, bytes, opened_devices, side_lines}}
+use Rattle.replay_threads.specs.{ThreadsReport.{arrived, arrived_line, bytes, opened_devices, side_lines}, declared.polled.Polled.Polled}
 use Rattle.std.specs.{List.{AllZip, find}, Prelude.{◌≡◌, ℕ, ◌+◌, ◌++◌, Bool, List, Option, Some, length, nat_lt, option_map}}
 use Rattle.{replay_args.specs.declared.settings.ReplaySettings.ReplaySettings, poll_workers.specs.Courses.{ArePolled, limits_of}}
 use Rattle.device_script.specs.{ScriptShown.{Script, acts, script_after, answer, side_of}}
@@ -48,3 +48,7 @@ is_small station = nat_lt station.capacity (length (rx_of station.device.rows))
 
 abbrev pub small_fault : List (Station Script) → Option ReplayFault
 small_fault stations = option_map (λ station. RingTooSmall station.number (length (rx_of station.device.rows))) (find is_small stations)
+
+-- the counts of its polls
+abbrev pub polled_of : Finished Script → Polled
+polled_of end = record { device = end.number; polled = end.totals.polled; left = end.totals.left }

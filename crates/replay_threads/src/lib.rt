@@ -8,11 +8,12 @@
 //! report. docs/FORMATS.md has the format.
 #![tactic(auto)]
 
+mod polled;
 mod report;
 mod shared;
 mod stations;
 mod threads;
 
-pub use device_shared::ClosedSide;
+pub use polled::Polled;
 pub use shared::replay_shared;
 pub use threads::replay_threads;

@@ -1,4 +1,4 @@
-//! The text of the report, and the counts of the polls, which the report doesn't show.
+//! The text of the report.
 
 ghost use Rattle.std.specs.Prelude.{◌≡◌, ◌++◌, IfOk, List, OnOk, flat_map, length, string_bytes, vec_items};
 ghost use Rattle.std.specs.List.{AllZip};

@@ -1,8 +1,9 @@
 //! A user of each of the eleven facades, with a file for each. Its own contracts are proved from what the facade promises. A
-//! file names only its facade and `std`.
+//! file names only its facade and `std`; `names` has the public names of eight facades, each used once.
 #![tactic(auto)]
 
 pub mod driver_loop;
+pub mod names;
 pub mod one_thread;
 pub mod polling;
 pub mod prediction;

@@ -3,12 +3,12 @@
 ghost use Rattle.std.specs.Prelude.{◌≡◌, filter, length};
 ghost use Rattle.device_model.specs.Script.{is_rx};
 
-use device_model::{Row, RowEvent, Trace};
+use device_model::{Event, Row, Trace};
 
 fn is_arrival(row: &Row) -> bool
     ensures { result ≡ is_rx row.now.event }
 {
-    matches!(row.event, RowEvent::Rx)
+    matches!(row.event, Event::Rx)
 }
 
 /// Returns how many packets arrive in a trace.

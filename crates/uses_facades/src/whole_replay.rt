@@ -7,7 +7,7 @@ ghost use Rattle.replay.specs.Fault.{replay_fault_status};
 ghost use Rattle.replay.specs.ReplayFault.{ReplayFault};
 ghost use Rattle.replay.specs.Written.{Writes};
 
-use replay::{ReplaySettings, replay_serial, status};
+use replay::{Settings, replay_serial, status};
 use std::alloc::Global;
 use std::io::{Read, Write};
 
@@ -16,7 +16,7 @@ pub fn replay<R: Read + Drop, W: Write>(
     alloc: Global,
     reader: R,
     writer: &mut W,
-    settings: &ReplaySettings,
+    settings: &Settings,
 ) -> Result<(), u8>
     ensures written { OnOk result (Writes (λ bytes text. replay_of settings.now bytes ≡ Ok text)
         (R.remaining reader) (W.contents writer.old) (W.contents writer.new)) }

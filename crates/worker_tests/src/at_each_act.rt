@@ -58,7 +58,7 @@ fn devices_meet_at_each_of_50_acts(rt: HostRuntime) -> Result<(), Fail> {
             came: [AtomicU64::new(0), AtomicU64::new(0)],
         };
         let mut report = Vec::new(rt.alloc());
-        let ends = replay_threads(
+        let polled = replay_threads(
             &rt,
             rt.alloc(),
             text.as_bytes(),
@@ -66,7 +66,7 @@ fn devices_meet_at_each_of_50_acts(rt: HostRuntime) -> Result<(), Fail> {
             &settings,
             &gate,
         )?;
-        assert_eq!(rt; ends.len(), 2);
+        assert_eq!(rt; polled.len(), 2);
         assert_eq!(rt;
             report.as_slice(),
             b"device 1 arrived 50 bytes 5000\ndevice 2 arrived 50 bytes 5000\ntotal devices 2\n".as_slice()

@@ -96,8 +96,8 @@ fn a_poller_goes_on_behind_polls_of_nothing(rt: HostRuntime) -> Result<(), Fail>
     };
     let mut report = Vec::new(rt.alloc());
     let text = text.as_bytes();
-    let ends = replay_threads(&rt, rt.alloc(), text, &mut report, &settings, &gate)?;
-    assert!(rt; ends.iter().all(|one| one.totals.left == 0));
+    let polled = replay_threads(&rt, rt.alloc(), text, &mut report, &settings, &gate)?;
+    assert!(rt; polled.iter().all(|one| one.left == 0));
     assert!(rt; gate.came.load(Ordering::SeqCst));
     Ok(())
 }

@@ -85,7 +85,6 @@ fn no_act_is_made_behind_a_shut_gate(rt: HostRuntime) -> Result<(), Fail> {
         let done = run(&rt, rt.alloc(), stations, 2, &gate);
         assert!(rt; matches!(done, Err(WorkFault::GateShut)));
         assert_eq!(rt; made[0].load(Ordering::SeqCst), act);
-        assert!(rt; made[1].load(Ordering::SeqCst) <= ACTS);
     }
     Ok(())
 }

@@ -1,7 +1,7 @@
 //! Traces and settings of replays with threads, and a replay whose packets are all polled.
 
 use poll_engine::OpenGate;
-use replay::{ReplaySettings, replay_threads};
+use replay::{Settings, replay_threads};
 use std::alloc::{AllocError, Global};
 use std::test::Fail;
 
@@ -25,8 +25,8 @@ pub(crate) fn settings_of(
     budget: u32,
     weight: u32,
     window: u32,
-) -> Result<ReplaySettings, Fail> {
-    Ok(ReplaySettings::new(pollers, budget, weight, window).ok_or("in range")?)
+) -> Result<Settings, Fail> {
+    Ok(Settings::new(pollers, budget, weight, window).ok_or("in range")?)
 }
 
 // the last disable waits for the polls that the packets requested
@@ -37,10 +37,11 @@ fn packets_are_polled(rt: HostRuntime) -> Result<(), Fail> {
         let settings = settings_of(pollers, 300, 64, 1024)?;
         let mut report = Vec::new(rt.alloc());
         let text = text.as_bytes();
-        let ends = replay_threads(&rt, rt.alloc(), text, &mut report, &settings, &OpenGate)?;
+        let polled = replay_threads(&rt, rt.alloc(), text, &mut report, &settings, &OpenGate)?;
         assert!(rt;
-            ends.iter()
-                .map(|end| (end.number, end.totals.polled, end.totals.left))
+            polled
+                .iter()
+                .map(|one| (one.device, one.polled, one.left))
                 .eq([(1, 63, 0)])
         );
     }
