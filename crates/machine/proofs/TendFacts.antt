@@ -96,7 +96,8 @@ full-is : (given weight : ℕ) → given ≤ weight → nat_lt given weight ≡ 
 full-is given weight most not-less = eq-eqb given weight (omega (arith, most, ltb-false given weight not-less))
 
 -- a poll that used its whole weight doesn't change the phase
-full-polled : (s : MachineSettings) (now given : ℕ) (d : QueueView) → (given == s.weight) ≡ true → (queue_polled now given s d).phase ≡ d.phase
+full-polled : (s : MachineSettings) (now given : ℕ) (d : QueueView) → (given == s.weight) ≡ true
+    → (queue_polled now given s d).phase ≡ d.phase
 unfolding queue_polled
 full-polled s now given d h1 = grind (arith, common_steps)
 
