@@ -1,31 +1,77 @@
 //! The command line.
 
-ghost use Rattle.std.specs.Prelude.{◌≡◌, ◌≤◌, None, Some, Err, IfOk, IfSome, map, option_map, string_bytes};
-ghost use Rattle.napi_series.specs.Program.{AskForSeries};
-ghost use Rattle.napi_series.specs.Args.{every_of};
-ghost use Rattle.replay_args.specs.Refusals.{IsArgsOutOfMemory};
-ghost use Rattle.replay_args.specs.declared.args.WordFault.TheVariants.{OutOfMemory, Usage};
-
 use crate::settings::SeriesSettings;
-use replay_args::{WordFault, number_of, parse_serial_words};
+use replay_args::{WordFault, number_of, number_within, parse_serial_words};
 use std::alloc::Global;
 
-// Returns the number of rows per line, and the remaining arguments.
-fn split_every(words: &[String]) -> Option<(u32, &[String])>
-    ensures split { option_map (λ s. (s.0, map string_bytes s.1.now)) result
-        ≡ every_of (map string_bytes words.now) }
-    ensures range { IfSome result (λ s. 1 ≤ s.0) }
-{
+// The options before those of the replay, so far.
+#[derive(Clone, Copy)]
+struct Given {
+    every: Option<u32>,
+    restarts: Option<u32>,
+    polls: bool,
+    rows: bool,
+}
+
+// More runs than a trace has room for: runs are added until the list is empty.
+const UNTIL_EMPTY: u32 = 100000;
+
+// Returns the text after this prefix.
+fn after_prefix<'a>(word: &'a str, prefix: &str) -> Option<&'a str> {
+    word.strip_prefix(prefix)
+}
+
+// Returns the most runs that are added after a row, if the argument is `--raise`, or `--raise=N`.
+fn restarts_of(word: &str) -> Option<u32> {
+    if word == "--raise" {
+        return Some(UNTIL_EMPTY);
+    }
+    let number = after_prefix(word, "--raise=")?;
+    number_within(number, 5, 0, 99999)
+}
+
+// Adds the options at the front of the arguments, and returns the remaining arguments.
+fn split_options<'a>(given: Given, words: &'a [String]) -> Option<(Given, &'a [String])> {
     match words {
         [first, number, rest @ ..] if first.as_str() == "--every" => {
-            Some((number_of(number.as_str(), 99999)?, rest))
+            if given.every.is_some() {
+                return None;
+            }
+            let every = Some(number_of(number.as_str(), 99999)?);
+            split_options(Given { every, ..given }, rest)
         }
-        _ => Some((1, words)),
+        [first, rest @ ..] if first.as_str() == "--polls" => {
+            if given.polls {
+                return None;
+            }
+            split_options(
+                Given {
+                    polls: true,
+                    ..given
+                },
+                rest,
+            )
+        }
+        [first, rest @ ..] if first.as_str() == "--rows" => {
+            if given.rows {
+                return None;
+            }
+            split_options(Given { rows: true, ..given }, rest)
+        }
+        [first, rest @ ..] if first.as_str().starts_with("--raise") => {
+            if given.restarts.is_some() {
+                return None;
+            }
+            let restarts = Some(restarts_of(first.as_str())?);
+            split_options(Given { restarts, ..given }, rest)
+        }
+        _ => Some((given, words)),
     }
 }
 
-/// Returns the number of rows per line, 1 to 99999, and the settings of the replay. `--every` and its number come before the
-/// other arguments, which are those of `napi_replay`. The mode is serial, because that processes the rows in order.
+/// Returns the settings of the series, and those of the replay. The options `--every N`, `--raise`, `--raise=N`, `--polls` and
+/// `--rows` come before the other arguments, which are those of `napi_replay`. The mode is serial, because that processes the
+/// rows in order.
 ///
 /// # Errors
 ///
@@ -33,14 +79,25 @@ fn split_every(words: &[String]) -> Option<(u32, &[String])>
 pub(crate) fn parse_series_words(
     alloc: Global,
     words: &[String],
-) -> Result<SeriesSettings, WordFault>
-    ensures asked { IfOk result (λ asked. AskForSeries (map string_bytes words.now) (Some asked)) }
-    ensures usage { result ≡ Err Usage → AskForSeries (map string_bytes words.now) None }
-    ensures memory { result ≡ Err OutOfMemory → IsArgsOutOfMemory }
-{
-    let Some((every, rest)) = split_every(words) else {
+) -> Result<SeriesSettings, WordFault> {
+    let none = Given {
+        every: None,
+        restarts: None,
+        polls: false,
+        rows: false,
+    };
+    let Some((given, rest)) = split_options(none, words) else {
         return Err(WordFault::Usage);
     };
+    if given.rows && (given.polls || given.every.is_some()) {
+        return Err(WordFault::Usage);
+    }
     let replay = parse_serial_words(alloc, rest)?;
-    Ok(SeriesSettings { every, replay })
+    Ok(SeriesSettings {
+        every: given.every.unwrap_or(1),
+        restarts: given.restarts,
+        polls: given.polls,
+        rows: given.rows,
+        replay,
+    })
 }

@@ -4,6 +4,7 @@ ghost use Rattle.std.specs.Prelude.{◌≡◌, ◌≤◌, [], IfOk, length};
 ghost use Rattle.poll_runs.specs.Ranges.{IsRounds};
 
 use crate::line::PollRecord;
+use crate::run_log::{RunLog, run_logged};
 use device_bench::ReplayBench;
 use device_rows::{Row, RowEvent};
 use napi_model::Kind;
@@ -105,6 +106,19 @@ impl<B: ReplayBench> Replay<B> {
             settings.weight,
             settings.window,
         );
+        self.lines.push(PollRecord::Softirq { row, run })?;
+        Ok(())
+    }
+
+    // Like `run`, and logs the polls.
+    fn run_with(
+        &mut self,
+        settings: &ReplaySettings,
+        row: u32,
+        log: &mut RunLog,
+    ) -> Result<(), AllocError> {
+        log.begin(self.list.ids(), settings.window)?;
+        let run = run_logged(&mut self.list, &mut self.bench, settings, &mut log.polls);
         self.lines.push(PollRecord::Softirq { row, run })?;
         Ok(())
     }
@@ -222,6 +236,25 @@ impl<B: ReplayBench> Replay<B> {
             (length self.new.lines.items ≤ length self.old.lines.items + 1) }
     {
         self.play_event(alloc, settings, number, row)?;
+        self.bench.settle();
+        Ok(())
+    }
+
+    /// Like [`play`](Replay::play), and logs the polls of a softirq row.
+    pub(crate) fn play_logged(
+        &mut self,
+        alloc: Global,
+        settings: &ReplaySettings,
+        number: u32,
+        row: &Row,
+        log: &mut RunLog,
+    ) -> Result<(), ReplayFault>
+    {
+        log.clear();
+        if row.event != RowEvent::Softirq {
+            return self.play(alloc, settings, number, row);
+        }
+        self.run_with(settings, number, log)?;
         self.bench.settle();
         Ok(())
     }

@@ -2,6 +2,7 @@
 
 use crate::line::PollRecord;
 use crate::replay::{Replay, room_for_lines};
+use crate::run_log::{RunLog, RunPoll};
 use device_bench::{DeviceCounts, ReplayBench, SerialBench};
 use device_rows::Row;
 use replay_args::ReplaySettings;
@@ -12,6 +13,7 @@ use std::alloc::{AllocError, Global};
 #[derive(Drop)]
 pub struct SerialReplay {
     replay: Replay<SerialBench>,
+    log: RunLog,
 }
 
 impl SerialReplay {
@@ -30,6 +32,7 @@ impl SerialReplay {
     {
         Ok(SerialReplay {
             replay: Replay::new(SerialBench::new(alloc)?, room_for_lines(alloc, rows)?),
+            log: RunLog::new(alloc),
         })
     }
 
@@ -52,7 +55,7 @@ impl SerialReplay {
             ⊎ (after_all_rows settings.now rows.now ≡ Err fault)) }
     {
         self.replay
-            .play(alloc, settings, index as u32 + 1, &rows[index])?;
+            .play_logged(alloc, settings, index as u32 + 1, &rows[index], &mut self.log)?;
         Ok(())
     }
 
@@ -93,5 +96,15 @@ impl SerialReplay {
             Some(line) if line.row() == number => Some(*line),
             _ => None,
         }
+    }
+
+    /// The polls of the last row processed, in order, if it is a softirq row; otherwise there are none.
+    pub fn polls(&self) -> &[RunPoll] {
+        self.log.polls.as_slice()
+    }
+
+    /// The numbers on the poll list before the last row processed, if that is a softirq row; otherwise there are none.
+    pub fn list_before(&self) -> &[u32] {
+        self.log.list.as_slice()
     }
 }
