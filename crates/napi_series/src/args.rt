@@ -1,77 +1,142 @@
 //! The command line.
 
-use crate::settings::SeriesSettings;
+ghost use Rattle.std.specs.Prelude.{◌≡◌, ◌≤◌, None, Some, Err, IfOk, IfSome, false, map, option_map, string_bytes};
+ghost use Rattle.napi_series.specs.Args.{is_allowed, options_of, restarts_of};
+ghost use Rattle.napi_series.specs.Program.{AskForSeries};
+ghost use Rattle.replay_args.specs.Refusals.{IsArgsOutOfMemory};
+ghost use Rattle.replay_args.specs.declared.args.WordFault.TheVariants.{OutOfMemory, Usage};
+
+use crate::settings::{SeriesOptions, SeriesSettings};
 use replay_args::{WordFault, number_of, number_within, parse_serial_words};
 use std::alloc::Global;
-
-// The options before those of the replay, so far.
-#[derive(Clone, Copy)]
-struct Given {
-    every: Option<u32>,
-    restarts: Option<u32>,
-    polls: bool,
-    rows: bool,
-}
 
 // More runs than a trace has room for: runs are added until the list is empty.
 const UNTIL_EMPTY: u32 = 100000;
 
-// Returns the text after this prefix.
-fn after_prefix<'a>(word: &'a str, prefix: &str) -> Option<&'a str> {
-    word.strip_prefix(prefix)
+impl SeriesOptions {
+    ghost use Rattle.std.specs.Prelude.{◌≡◌, ◌≤◌};
+    ghost use Rattle.napi_series.specs.Args.{with_every, with_polls, with_restarts, with_rows};
+
+    // Each of these returns the options with one more, or `None` if it was given before.
+    fn with_every(self, every: u32) -> Option<SeriesOptions>
+        requires { 1 ≤ every }
+        ensures { result ≡ with_every self every }
+    {
+        if self.every.is_some() {
+            return None;
+        }
+        Some(SeriesOptions {
+            every: Some(every),
+            restarts: self.restarts,
+            polls: self.polls,
+            rows: self.rows,
+        })
+    }
+
+    fn with_restarts(self, restarts: u32) -> Option<SeriesOptions>
+        ensures { result ≡ with_restarts self restarts }
+    {
+        if self.restarts.is_some() {
+            return None;
+        }
+        Some(SeriesOptions {
+            every: self.every,
+            restarts: Some(restarts),
+            polls: self.polls,
+            rows: self.rows,
+        })
+    }
+
+    fn with_polls(self) -> Option<SeriesOptions>
+        ensures { result ≡ with_polls self }
+    {
+        if self.polls {
+            return None;
+        }
+        Some(SeriesOptions {
+            every: self.every,
+            restarts: self.restarts,
+            polls: true,
+            rows: self.rows,
+        })
+    }
+
+    fn with_rows(self) -> Option<SeriesOptions>
+        ensures { result ≡ with_rows self }
+    {
+        if self.rows {
+            return None;
+        }
+        Some(SeriesOptions {
+            every: self.every,
+            restarts: self.restarts,
+            polls: self.polls,
+            rows: true,
+        })
+    }
+
+    // Returns whether the options go together: with `--rows` there are no lines.
+    fn is_allowed(&self) -> bool
+        ensures { result ≡ is_allowed self.now }
+    {
+        !(self.rows && (self.polls || self.every.is_some()))
+    }
 }
 
-// Returns the most runs that are added after a row, if the argument is `--raise`, or `--raise=N`.
-fn restarts_of(word: &str) -> Option<u32> {
+// Returns the most runs that are added after a row, if the argument is `--raise` or `--raise=N`.
+fn restarts_of(word: &str) -> Option<u32>
+    ensures { result ≡ restarts_of word.now }
+{
     if word == "--raise" {
         return Some(UNTIL_EMPTY);
     }
-    let number = after_prefix(word, "--raise=")?;
-    number_within(number, 5, 0, 99999)
-}
-
-// Adds the options at the front of the arguments, and returns the remaining arguments.
-fn split_options<'a>(given: Given, words: &'a [String]) -> Option<(Given, &'a [String])> {
-    match words {
-        [first, number, rest @ ..] if first.as_str() == "--every" => {
-            if given.every.is_some() {
-                return None;
+    match word.split_once('=') {
+        Some((name, number)) => {
+            if name == "--raise" {
+                number_within(number, 5, 0, 99999)
+            } else {
+                None
             }
-            let every = Some(number_of(number.as_str(), 99999)?);
-            split_options(Given { every, ..given }, rest)
         }
-        [first, rest @ ..] if first.as_str() == "--polls" => {
-            if given.polls {
-                return None;
-            }
-            split_options(
-                Given {
-                    polls: true,
-                    ..given
-                },
-                rest,
-            )
-        }
-        [first, rest @ ..] if first.as_str() == "--rows" => {
-            if given.rows {
-                return None;
-            }
-            split_options(Given { rows: true, ..given }, rest)
-        }
-        [first, rest @ ..] if first.as_str().starts_with("--raise") => {
-            if given.restarts.is_some() {
-                return None;
-            }
-            let restarts = Some(restarts_of(first.as_str())?);
-            split_options(Given { restarts, ..given }, rest)
-        }
-        _ => Some((given, words)),
+        None => None,
     }
 }
 
-/// Returns the settings of the series, and those of the replay. The options `--every N`, `--raise`, `--raise=N`, `--polls` and
-/// `--rows` come before the other arguments, which are those of `napi_replay`. The mode is serial, because that processes the
-/// rows in order.
+// Returns the options at the front of the arguments, in addition to these, and the remaining arguments. `awaits` says whether
+// the next argument is the number of `--every`.
+#[tactic(auto, unfolding(crate::specs::Args::options_of))]
+fn split_options(
+    awaits: bool,
+    options: SeriesOptions,
+    words: &[String],
+) -> Option<(SeriesOptions, &[String])>
+    ensures { option_map (λ s. (s.0, map string_bytes s.1.now)) result
+        ≡ options_of awaits options (map string_bytes words.now) }
+{
+    let [word, rest @ ..] = words else {
+        return if awaits { None } else { Some((options, words)) };
+    };
+    if awaits {
+        let every = number_of(word.as_str(), 99999)?;
+        return split_options(false, options.with_every(every)?, rest);
+    }
+    if word.as_str() == "--every" {
+        return split_options(true, options, rest);
+    }
+    if word.as_str() == "--polls" {
+        return split_options(false, options.with_polls()?, rest);
+    }
+    if word.as_str() == "--rows" {
+        return split_options(false, options.with_rows()?, rest);
+    }
+    match restarts_of(word.as_str()) {
+        Some(restarts) => split_options(false, options.with_restarts(restarts)?, rest),
+        None => Some((options, words)),
+    }
+}
+
+/// Returns the settings of the series. Its options, `--every N`, `--raise` or `--raise=N`, `--polls` and `--rows`, come before
+/// the other arguments, which are those of `napi_replay`. The mode is serial, because that processes the rows in order.
 ///
 /// # Errors
 ///
@@ -79,25 +144,23 @@ fn split_options<'a>(given: Given, words: &'a [String]) -> Option<(Given, &'a [S
 pub(crate) fn parse_series_words(
     alloc: Global,
     words: &[String],
-) -> Result<SeriesSettings, WordFault> {
-    let none = Given {
+) -> Result<SeriesSettings, WordFault>
+    ensures asked { IfOk result (λ asked. AskForSeries (map string_bytes words.now) (Some asked)) }
+    ensures usage { result ≡ Err Usage → AskForSeries (map string_bytes words.now) None }
+    ensures memory { result ≡ Err OutOfMemory → IsArgsOutOfMemory }
+{
+    let none = SeriesOptions {
         every: None,
         restarts: None,
         polls: false,
         rows: false,
     };
-    let Some((given, rest)) = split_options(none, words) else {
+    let Some((options, rest)) = split_options(false, none, words) else {
         return Err(WordFault::Usage);
     };
-    if given.rows && (given.polls || given.every.is_some()) {
+    if !options.is_allowed() {
         return Err(WordFault::Usage);
     }
     let replay = parse_serial_words(alloc, rest)?;
-    Ok(SeriesSettings {
-        every: given.every.unwrap_or(1),
-        restarts: given.restarts,
-        polls: given.polls,
-        rows: given.rows,
-        replay,
-    })
+    Ok(SeriesSettings { options, replay })
 }

@@ -1,6 +1,6 @@
 //! The text of a line of the series.
 
-ghost use Rattle.std.specs.Prelude.{◌≡◌, ◌+◌, ◌++◌, ℕ, List, OnOk, string_bytes};
+ghost use Rattle.std.specs.Prelude.{◌≡◌, ◌≤◌, ◌++◌, List, OnOk, length, string_bytes};
 ghost use Rattle.device_rows.specs.declared.row.Row.{Row};
 ghost use Rattle.replay_rows.specs.After.{IsAfter};
 ghost use Rattle.replay_rows.specs.Report.{lines_below};
@@ -118,25 +118,57 @@ pub(crate) fn add_poll(
 }
 
 // Appends how many packets a device processed by this many polls, if there was one.
-fn add_gave(text: &mut String, device: u32, polls: u32, work: u64) -> Result<(), AllocError> {
+fn add_gave(text: &mut String, device: u32, polls: u32, work: u64) -> Result<(), AllocError>
+    ensures { OnOk result
+        (string_bytes text.new ≡ string_bytes text.old ++ gave device polls work) }
+{
     if polls != 0 {
-        write!(text, " {device}:{work}")?;
+        write!(text, " {}:{}", device, work)?;
     }
     Ok(())
 }
 
-// Appends how many packets each device processed in a run, by its polls.
-fn add_run_gave(text: &mut String, polls: &[RunPoll]) -> Result<(), AllocError> {
-    for device in 0..TABLE_LEN {
-        let mut count = 0;
-        let mut work = 0;
-        for poll in polls {
-            if poll.device == device && poll.once.next != Next::Absent {
-                count += 1;
-                work += u64::from(poll.once.work);
-            }
+fn is_absent(next: Next) -> bool
+    ensures { result ≡ is_absent next }
+{
+    match next {
+        Next::Absent => true,
+        Next::Gone | Next::Again(_) | Next::Repoll => false,
+    }
+}
+
+// Returns whether a poll found this device on the list.
+fn is_poll_of(device: u32, poll: &RunPoll) -> bool
+    ensures { result ≡ is_poll_of device poll.now }
+{
+    poll.device == device && !is_absent(poll.once.next)
+}
+
+// Appends how many packets a device processed in a run.
+fn add_run_gave(text: &mut String, polls: &[RunPoll], device: u32) -> Result<(), AllocError>
+    requires { length polls.now ≤ 65535 }
+    ensures { OnOk result
+        (string_bytes text.new ≡ string_bytes text.old ++ run_gave polls.now device) }
+{
+    let mut count = 0;
+    let mut work = 0;
+    for poll in polls {
+        if is_poll_of(device, poll) {
+            count += 1;
+            work += u64::from(poll.once.work);
         }
-        add_gave(text, device, count, work)?;
+    }
+    add_gave(text, device, count, work)
+}
+
+// Appends how many packets each device processed in a run.
+fn add_all_gave(text: &mut String, polls: &[RunPoll]) -> Result<(), AllocError>
+    requires { length polls.now ≤ 65535 }
+    ensures { OnOk result
+        (string_bytes text.new ≡ string_bytes text.old ++ lines_below (run_gave polls.now) 17) }
+{
+    for device in 0..TABLE_LEN {
+        add_run_gave(text, polls, device)?;
     }
     Ok(())
 }
@@ -146,9 +178,13 @@ fn add_row_gave(
     text: &mut String,
     polled: Option<PollRecord>,
     polls: &[RunPoll],
-) -> Result<(), AllocError> {
+) -> Result<(), AllocError>
+    requires { length polls.now ≤ 65535 }
+    ensures { OnOk result
+        (string_bytes text.new ≡ string_bytes text.old ++ row_gave polled polls.now) }
+{
     match polled {
-        Some(PollRecord::Softirq { .. }) => add_run_gave(text, polls),
+        Some(PollRecord::Softirq { .. }) => add_all_gave(text, polls),
         Some(PollRecord::Kthread { device, report, .. }) => {
             add_gave(text, device, report.polls, u64::from(report.work))
         }
@@ -159,14 +195,17 @@ fn add_row_gave(
     }
 }
 
-/// Appends the poll list after a row, and how many packets each device processed that the row polled.
+/// Appends the poll list after the row with this number, and how many packets each device processed that the row polled.
 pub(crate) fn add_list(
     text: &mut String,
     replay: &SerialReplay,
-    polled: Option<PollRecord>,
-) -> Result<(), AllocError> {
+    number: u32,
+) -> Result<(), AllocError>
+    ensures { (s : ReplaySettings) (rows : List Row) → IsAfter s rows number replay.now
+        → OnOk result (string_bytes text.new ≡ string_bytes text.old ++ list_fields s rows number) }
+{
     text.push_str(",")?;
     add_numbers(text, replay.list())?;
     text.push_str(",")?;
-    add_row_gave(text, polled, replay.polls())
+    add_row_gave(text, replay.polled(number), replay.polls())
 }

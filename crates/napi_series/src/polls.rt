@@ -1,41 +1,70 @@
 //! The lines of a run's polls.
 
+ghost use Rattle.std.specs.Prelude.{◌≡◌, ◌+◌, ◌++◌, ◌∷◌, [], ℕ, List, IfOk, OnOk, length, string_bytes};
+ghost use Rattle.device_rows.specs.declared.row.Row.{Row};
+ghost use Rattle.napi_series.specs.Series.{ending, list_left, once_end, once_fields, polls_part};
+ghost use Rattle.napi_series.specs.RunList.{Follows};
+ghost use Rattle.replay_args.specs.declared.settings.ReplaySettings.{ReplaySettings};
+ghost use Rattle.replay_rows.specs.After.{IsAfter};
+ghost use Rattle.replay_rows.specs.Report.{spaced};
+ghost use Rattle.replay_rows.specs.declared.run_log.RunPoll.{RunPoll};
+
 use crate::line::{add_device, add_queue, add_word};
 use device_rows::Row;
-use poll_runs::{Next, Once};
 use napi_model::Kind;
+use poll_runs::Next;
 use replay_rows::{RunPoll, SerialReplay, add_numbers};
 use std::alloc::{AllocError, Global};
 
-// The poll list in the course of a run: all that was on it or got on it, and the numbers that are to be polled again.
+/// The poll list in the course of a run: what was on it at first and what polls queued, and the numbers of the repolls.
 #[derive(Drop)]
-struct RunList {
+pub(crate) struct RunList {
     queue: Vec<u32>,
     repolls: Vec<u32>,
 }
 
 impl RunList {
-    // Adds a number that was polled, by how its poll ended.
-    fn hand_on(&mut self, device: u32, next: Next) -> Result<(), AllocError> {
-        match next {
-            Next::Again(Kind::List) => self.queue.push(device)?,
-            Next::Repoll => self.repolls.push(device)?,
-            _ => {}
+    // Returns the list before a run.
+    fn new(alloc: Global, list: &[u32]) -> Result<RunList, AllocError>
+        ensures { IfOk result (λ run. Follows list.now [] run) }
+    {
+        let queue = list.to_vec(alloc)?;
+        Ok(RunList {
+            queue,
+            repolls: Vec::new(alloc),
+        })
+    }
+
+    // Adds a poll.
+    fn hand_on(&mut self, poll: &RunPoll) -> Result<(), AllocError>
+        ensures { OnOk result ((list : List ℕ) (polls : List RunPoll) → Follows list polls self.old
+            → Follows list (polls ++ poll.now ∷ []) self.new) }
+    {
+        match poll.once.next {
+            Next::Again(Kind::List) => self.queue.push(poll.device)?,
+            Next::Repoll => self.repolls.push(poll.device)?,
+            Next::Again(Kind::Thread) | Next::Gone | Next::Absent => {}
         }
         Ok(())
     }
 
     // Appends the list as it is if the run ends after this many polls.
-    fn add(&self, text: &mut String, polls: usize) -> Result<(), AllocError> {
-        if polls < self.queue.len() {
-            add_numbers(text, &self.queue[polls..])?;
+    fn add(&self, text: &mut String, count: usize) -> Result<(), AllocError>
+        ensures { (list : List ℕ) (polls : List RunPoll) → Follows list polls self.now
+            → count ≡ length polls → OnOk result
+            (string_bytes text.new ≡ string_bytes text.old ++ spaced (list_left list polls)) }
+    {
+        if count < self.queue.len() {
+            add_numbers(text, &self.queue[count..])?;
         }
         add_numbers(text, self.repolls.as_slice())
     }
 }
 
-// How a poll ended.
-fn ending(next: Next) -> &'static str {
+// Returns the name of how a poll ended.
+fn ending(next: Next) -> &'static str
+    ensures { result.now ≡ ending next }
+{
     match next {
         Next::Absent => "absent",
         Next::Gone => "complete",
@@ -44,19 +73,23 @@ fn ending(next: Next) -> &'static str {
     }
 }
 
-// Appends the fields of a poll before the list: those of its device after it, the poll, and the packets.
-fn add_fields(
+// Appends the fields of poll `count` of a row before the list: those of its device after it, and those of the poll.
+fn add_once(
     text: &mut String,
+    number: u32,
     row: &Row,
-    number: (u32, usize),
-    poll: &RunPoll,
+    count: usize,
     used: bool,
-) -> Result<(), AllocError> {
+    poll: &RunPoll,
+) -> Result<(), AllocError>
+    ensures { OnOk result (string_bytes text.new
+        ≡ string_bytes text.old ++ once_fields number count row.now used poll.now) }
+{
     write!(
         text,
         "{}.{},{},{}",
-        number.0,
-        number.1,
+        number,
+        count,
         row.moment,
         poll.device
     )?;
@@ -66,30 +99,39 @@ fn add_fields(
     add_word(text, poll.counts)
 }
 
-fn add_end(text: &mut String, device: u32, once: Once) -> Result<(), AllocError> {
-    writeln!(text, ", {}:{},{}", device, once.work, ending(once.next))?;
+// Appends the packets of a poll, and how it ended.
+fn add_once_end(text: &mut String, poll: &RunPoll) -> Result<(), AllocError>
+    ensures { OnOk result (string_bytes text.new ≡ string_bytes text.old ++ once_end poll.now) }
+{
+    writeln!(
+        text,
+        ", {}:{},{}",
+        poll.device,
+        poll.once.work,
+        ending(poll.once.next)
+    )?;
     Ok(())
 }
 
-/// Appends a line for each poll of a row.
+/// Appends a line for each poll of the row with this number, if it is a run.
 pub(crate) fn add_polls(
     alloc: Global,
     text: &mut String,
     number: u32,
     row: &Row,
     replay: &SerialReplay,
-) -> Result<(), AllocError> {
-    let mut list = RunList {
-        queue: replay.list_before().to_vec(alloc)?,
-        repolls: Vec::new(alloc),
-    };
-    for (before, poll) in replay.polls().iter().enumerate() {
-        list.hand_on(poll.device, poll.once.next)?;
-        let used = replay.uses_transmit(poll.device);
-        add_fields(text, row, (number, before + 1), poll, used)?;
+) -> Result<(), AllocError>
+    ensures { (s : ReplaySettings) (rows : List Row) → IsAfter s rows number replay.now
+        → OnOk result
+        (string_bytes text.new ≡ string_bytes text.old ++ polls_part s rows number row.now) }
+{
+    let mut list = RunList::new(alloc, replay.list_before())?;
+    for (k, poll) in replay.polls().iter().enumerate() {
+        list.hand_on(poll)?;
+        add_once(text, number, row, k + 1, replay.uses_transmit(poll.device), poll)?;
         text.push_str(",")?;
-        list.add(text, before + 1)?;
-        add_end(text, poll.device, poll.once)?;
+        list.add(text, k + 1)?;
+        add_once_end(text, poll)?;
     }
     Ok(())
 }

@@ -2,7 +2,7 @@
 
 use crate::line::PollRecord;
 use crate::replay::{Replay, room_for_lines};
-use crate::run_log::{RunLog, RunPoll};
+use crate::run_log::{RunLog, RunPoll, counts_of};
 use device_bench::{DeviceCounts, ReplayBench, SerialBench};
 use device_rows::Row;
 use replay_args::ReplaySettings;
@@ -23,6 +23,7 @@ impl SerialReplay {
     ghost use Rattle.replay_args.specs.declared.settings.ReplaySettings.{ReplaySettings};
     ghost use Rattle.replay_rows.specs.After.{IsAfter, counts_after, is_used_after, list_after, polled_after};
     ghost use Rattle.replay_rows.specs.Replay.{after_all_rows};
+    ghost use Rattle.replay_rows.specs.RunLog.{list_before, polls_of_row};
     ghost use Rattle.replay_text.specs.Outside.{IsReplayOutOfMemory};
 
     /// Returns a replay before its first row, with room for the lines of these rows.
@@ -64,10 +65,7 @@ impl SerialReplay {
         ensures { (s : ReplaySettings) (rows : List Row) (n : ℕ) → IsAfter s rows n self.now
             → result ≡ counts_after s rows n device }
     {
-        if !self.replay.bench.is_attached(device) {
-            return None;
-        }
-        Some(self.replay.bench.counts(device))
+        counts_of(&self.replay.bench, device)
     }
 
     /// Returns whether the report of the rows so far shows the device's transmit side, which it does after the device's first
@@ -99,12 +97,19 @@ impl SerialReplay {
     }
 
     /// The polls of the last row processed, in order, if it is a softirq row; otherwise there are none.
-    pub fn polls(&self) -> &[RunPoll] {
+    pub fn polls(&self) -> &[RunPoll]
+        ensures few { length result.now ≤ 65535 }
+        ensures polls { (s : ReplaySettings) (rows : List Row) (n : ℕ) → IsAfter s rows n self.now
+            → result.now ≡ polls_of_row s rows n }
+    {
         self.log.polls.as_slice()
     }
 
     /// The numbers on the poll list before the last row processed, if that is a softirq row; otherwise there are none.
-    pub fn list_before(&self) -> &[u32] {
+    pub fn list_before(&self) -> &[u32]
+        ensures { (s : ReplaySettings) (rows : List Row) (n : ℕ) → IsAfter s rows n self.now
+            → result.now ≡ list_before s rows n }
+    {
         self.log.list.as_slice()
     }
 }
