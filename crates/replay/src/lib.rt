@@ -8,6 +8,6 @@
 #![tactic(auto)]
 
 pub use replay_args::{ReplayMode, ReplaySettings, WordFault, parse_words, word_line, word_status};
-pub use replay_rows::replay_serial;
+pub use replay_rows::{raise_rows, raise_trace, raised_is_trace, replay_serial};
 pub use replay_text::{ReplayFault, fault_line, status};
 pub use replay_threads::{ClosedSide, replay_shared, replay_threads};
