@@ -41,11 +41,12 @@ impl RunList {
             → Follows list (polls ++ poll.now ∷ []) self.new) }
     {
         match poll.once.next {
-            Next::Again(Kind::List) => self.queue.push(poll.device)?,
-            Next::Repoll => self.repolls.push(poll.device)?,
-            Next::Again(Kind::Thread) | Next::Gone | Next::Absent => {}
+            Next::Again(Kind::List) => Ok(self.queue.push(poll.device)?),
+            Next::Repoll => Ok(self.repolls.push(poll.device)?),
+            Next::Again(Kind::Thread) => Ok(()),
+            Next::Gone => Ok(()),
+            Next::Absent => Ok(()),
         }
-        Ok(())
     }
 
     // Appends the list as it is if the run ends after this many polls.

@@ -1,7 +1,7 @@
 -- The rows with the added runs are rows of a trace that can be played.
 use Rattle.std.proofs.Common.{◌≡◌, ◌∙◌, ℕ, zero, suc, ◌+◌, ◌<◌, ◌≤◌, Bool, true, false, Ok, Err, List, [], ◌∷◌, ◌++◌, length, drop, get_or}
-use Rattle.std.proofs.{Common.{ap, arith, length-append, refl, subst, sym}, lemmas.Bool.ltb-true, Math.Seq.drop-cons}
-use Rattle.std.specs.Prelude.{Result, None, if◌then◌else◌, nat_lt, not, ◌&&◌, ◌==◌}
+use Rattle.std.proofs.{Common.{ap, arith, inl, inr, length-append, refl, subst, sym}, lemmas.Bool.ltb-true, Math.Seq.drop-cons}
+use Rattle.std.specs.Prelude.{Result, ◌⊎◌, None, if◌then◌else◌, nat_lt, not, ◌&&◌, ◌==◌}
 use Rattle.device_rows.specs.{Row.{device_fits, value_fits}, Switch.{refusal, switch_of}, Trace.{AcceptedAfter, IsAccepted}}
 use Rattle.device_rows.specs.declared.{event.RowEvent.RowEvent, fault.TraceFault.TheVariants.TooManyRows, row.Row.Row}
 use Rattle.device_rows.specs.declared.event.RowEvent.TheVariants.{Opened, Rx, Tx, Finish, Softirq, Kthread, Disable, Enable, Threaded, Busy}
@@ -10,7 +10,8 @@ use Rattle.device_rows.proofs.{Accepted.accepted-push, SwitchFacts.{switch_of-ap
 use Rattle.replay_rows.specs.Raised.{Raised, RaisedIsTrace, ◌>>=◌, and_again, and_row, and_rows, is_last_run, is_run_at, no_rows, raised}
 use Rattle.replay_rows.specs.{Raised.{rows_in, with_row}, Replay.{after_all_rows, after_row, is_early}, ReplayState.ReplayState}
 use Rattle.replay_rows.{specs.Softirq.is_softirq, proofs.PlayFacts.played-push}
-use Rattle.replay_text.specs.declared.fault.ReplayFault.{ReplayFault, TheVariants.{Pending, Trace}}
+use Rattle.replay_text.specs.declared.fault.ReplayFault.{ReplayFault, TheVariants.{OutputFailed, Pending, Trace}}
+use Rattle.replay_text.specs.Outside.{IsReplayOutOfMemory}
 use Rattle.replay_args.specs.declared.settings.ReplaySettings.{ReplaySettings}
 
 pub softirq-is : (e : RowEvent) → is_softirq e ≡ true → e ≡ Softirq
@@ -213,3 +214,74 @@ pub loop-fault : (s : ReplaySettings) (restarts : ℕ) (rows : List Row) (i : �
 loop-fault s restarts rows i d r fault below before e =
     let whole : and_rows s restarts rows no_rows ≡ Err fault = sym before ∙ loop-row s restarts rows i d r below ∙ rw e refl in
     ap rows_in whole
+
+-- ---- errors: none of them is a failed output
+
+row-unwritten : (s : ReplaySettings) (row : Row) (r : Raised) (fault : ReplayFault) → and_row s row r ≡ Err fault → fault ≡ OutputFailed → ⊥
+unfolding and_row
+row-unwritten s row r fault e failed = by (nat_lt (length r.rows) 100000) (is_early row.event row.device r.state) e
+  where
+    by : (room early : Bool)
+        → (if room then (if early then Err (Pending (length r.rows + 1))
+        else Ok (record { rows = r.rows ++ row ∷ []; state = after_row s (length r.rows + 1) row r.state }))
+        else Err (Trace TooManyRows)) ≡ Err fault
+        → ⊥
+    by true false e = cc e
+    by true true e = let is : fault ≡ Pending (length r.rows + 1) = cc e in cc (sym is ∙ failed)
+    by false early e = let is : fault ≡ Trace TooManyRows = cc e in cc (sym is ∙ failed)
+
+added-unwritten : (s : ReplaySettings) (left : ℕ) (row : Row) (r : Raised) (fault : ReplayFault) → and_again s left row r ≡ Err fault
+    → fault ≡ OutputFailed → ⊥
+unfolding and_again
+added-unwritten s zero row r fault e failed = cc e
+added-unwritten s (suc left) row r fault e failed = by (length r.state.list == 0) e
+  where
+    then_on : (x : Result Raised ReplayFault) → and_row s row r ≡ x → (x >>= and_again s left row) ≡ Err fault → ⊥
+    then_on (Err other) one e =
+        let same : other ≡ fault = cc e in
+        row-unwritten s row r other one (same ∙ failed)
+    then_on (Ok next) one e = added-unwritten s left row next fault e failed
+    by : (b : Bool) → (if b then Ok r else and_row s row r >>= and_again s left row) ≡ Err fault → ⊥
+    by true e = cc e
+    by false e = then_on (and_row s row r) refl e
+
+with-unwritten : (s : ReplaySettings) (restarts : ℕ) (row : Row) (rows : List Row) (r : Raised) (fault : ReplayFault)
+    → with_row s restarts row rows r ≡ Err fault → fault ≡ OutputFailed → ⊥
+with-unwritten s restarts row rows r fault e failed = then_on (and_row s row r) refl e
+  where
+    then_on : (x : Result Raised ReplayFault) → and_row s row r ≡ x
+        → (x >>= (λ one. if is_last_run row rows then and_again s restarts row one else Ok one)) ≡ Err fault → ⊥
+    then_on (Err other) one e =
+        let same : other ≡ fault = cc e in
+        row-unwritten s row r other one (same ∙ failed)
+    then_on (Ok next) one e = by (is_last_run row rows) e
+      where
+        by : (b : Bool) → (if b then and_again s restarts row next else Ok next) ≡ Err fault → ⊥
+        by true e = added-unwritten s restarts row next fault e failed
+        by false e = cc e
+
+rows-unwritten : (s : ReplaySettings) (restarts : ℕ) (rows : List Row) (r : Raised) (fault : ReplayFault)
+    → and_rows s restarts rows r ≡ Err fault → fault ≡ OutputFailed → ⊥
+unfolding and_rows
+rows-unwritten s restarts [] r fault e failed = cc e
+rows-unwritten s restarts (row ∷ rows) r fault e failed = then_on (with_row s restarts row rows r) refl e
+  where
+    then_on : (x : Result Raised ReplayFault) → with_row s restarts row rows r ≡ x → (x >>= and_rows s restarts rows) ≡ Err fault → ⊥
+    then_on (Err other) one e =
+        let same : other ≡ fault = cc e in
+        with-unwritten s restarts row rows r other one (same ∙ failed)
+    then_on (Ok next) one e = rows-unwritten s restarts rows next fault e failed
+
+pub memory-unwritten : (fault : ReplayFault) → IsReplayOutOfMemory fault → fault ≡ OutputFailed → ⊥
+memory-unwritten fault memory failed = cc (sym memory.0 ∙ failed)
+
+pub raised-unwritten : (s : ReplaySettings) (restarts : ℕ) (rows : List Row) (fault : ReplayFault)
+    → IsReplayOutOfMemory fault ⊎ (raised s restarts rows ≡ Err fault) → fault ≡ OutputFailed → ⊥
+raised-unwritten s restarts rows fault (inl memory) failed = memory-unwritten fault memory failed
+raised-unwritten s restarts rows fault (inr e) failed = by (and_rows s restarts rows no_rows) refl e
+  where
+    by : (x : Result Raised ReplayFault) → and_rows s restarts rows no_rows ≡ x → rows_in x ≡ Err fault → ⊥
+    by (Ok r) is e = cc e
+    by (Err other) is e =
+        let same : other ≡ fault = cc e in
+        rows-unwritten s restarts rows no_rows other is (same ∙ failed)
