@@ -1,3 +1,4 @@
-pub mod Program
-pub mod Series
 pub mod Args
+pub mod Program
+pub mod RunList
+pub mod Series

@@ -7,10 +7,10 @@ use Rattle.replay_text.specs.{Outside.IsOutside, Program.AnswersBy, declared.fau
 use Rattle.replay_args.specs.Args.{Text, replay_args_of}
 use Rattle.replay_args.specs.declared.mode.ReplayMode.TheVariants.{Serial}
 
--- the arguments ask for a line every N rows, and for these settings; for None if they are an error
+-- the arguments ask for these settings; for None if they are an error
 abbrev pub AskForSeries : List Text → Option SeriesSettings → Type 0
-AskForSeries words asked = series_asked_for words ≡ option_map (λ s. (s.every, replay_args_of (Serial, s.replay))) asked
+AskForSeries words asked = series_asked_for words ≡ option_map (λ s. (s.options, replay_args_of (Serial, s.replay))) asked
 
 -- the series of these bytes, or their error; otherwise the reader, an allocation or the writer failed
 abbrev pub AnswersSeries : SeriesSettings → List ℕ → Result (List ℕ) ReplayFault → Type 0
-AnswersSeries s bytes = AnswersBy IsOutside (series_by s.replay s.every bytes)
+AnswersSeries s bytes = AnswersBy IsOutside (series_by s bytes)

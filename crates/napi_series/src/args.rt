@@ -1,31 +1,142 @@
 //! The command line.
 
-ghost use Rattle.std.specs.Prelude.{◌≡◌, ◌≤◌, None, Some, Err, IfOk, IfSome, map, option_map, string_bytes};
+ghost use Rattle.std.specs.Prelude.{◌≡◌, ◌≤◌, None, Some, Err, IfOk, IfSome, false, map, option_map, string_bytes};
+ghost use Rattle.napi_series.specs.Args.{is_allowed, options_of, restarts_of};
 ghost use Rattle.napi_series.specs.Program.{AskForSeries};
-ghost use Rattle.napi_series.specs.Args.{every_of};
 ghost use Rattle.replay_args.specs.Refusals.{IsArgsOutOfMemory};
 ghost use Rattle.replay_args.specs.declared.args.WordFault.TheVariants.{OutOfMemory, Usage};
 
-use crate::settings::SeriesSettings;
-use replay_args::{WordFault, number_of, parse_serial_words};
+use crate::settings::{SeriesOptions, SeriesSettings};
+use replay_args::{WordFault, number_of, number_within, parse_serial_words};
 use std::alloc::Global;
 
-// Returns the number of rows per line, and the remaining arguments.
-fn split_every(words: &[String]) -> Option<(u32, &[String])>
-    ensures split { option_map (λ s. (s.0, map string_bytes s.1.now)) result
-        ≡ every_of (map string_bytes words.now) }
-    ensures range { IfSome result (λ s. 1 ≤ s.0) }
-{
-    match words {
-        [first, number, rest @ ..] if first.as_str() == "--every" => {
-            Some((number_of(number.as_str(), 99999)?, rest))
+// More runs than a trace has room for: runs are added until the list is empty.
+const UNTIL_EMPTY: u32 = 100000;
+
+impl SeriesOptions {
+    ghost use Rattle.std.specs.Prelude.{◌≡◌, ◌≤◌};
+    ghost use Rattle.napi_series.specs.Args.{with_every, with_polls, with_restarts, with_rows};
+
+    // Each of these returns the options with one more, or `None` if it was given before.
+    fn with_every(self, every: u32) -> Option<SeriesOptions>
+        requires { 1 ≤ every }
+        ensures { result ≡ with_every self every }
+    {
+        if self.every.is_some() {
+            return None;
         }
-        _ => Some((1, words)),
+        Some(SeriesOptions {
+            every: Some(every),
+            restarts: self.restarts,
+            polls: self.polls,
+            rows: self.rows,
+        })
+    }
+
+    fn with_restarts(self, restarts: u32) -> Option<SeriesOptions>
+        ensures { result ≡ with_restarts self restarts }
+    {
+        if self.restarts.is_some() {
+            return None;
+        }
+        Some(SeriesOptions {
+            every: self.every,
+            restarts: Some(restarts),
+            polls: self.polls,
+            rows: self.rows,
+        })
+    }
+
+    fn with_polls(self) -> Option<SeriesOptions>
+        ensures { result ≡ with_polls self }
+    {
+        if self.polls {
+            return None;
+        }
+        Some(SeriesOptions {
+            every: self.every,
+            restarts: self.restarts,
+            polls: true,
+            rows: self.rows,
+        })
+    }
+
+    fn with_rows(self) -> Option<SeriesOptions>
+        ensures { result ≡ with_rows self }
+    {
+        if self.rows {
+            return None;
+        }
+        Some(SeriesOptions {
+            every: self.every,
+            restarts: self.restarts,
+            polls: self.polls,
+            rows: true,
+        })
+    }
+
+    // Returns whether the options go together: with `--rows` there are no lines.
+    fn is_allowed(&self) -> bool
+        ensures { result ≡ is_allowed self.now }
+    {
+        !(self.rows && (self.polls || self.every.is_some()))
     }
 }
 
-/// Returns the number of rows per line, 1 to 99999, and the settings of the replay. `--every` and its number come before the
-/// other arguments, which are those of `napi_replay`. The mode is serial, because that processes the rows in order.
+// Returns the most runs that are added after a row, if the argument is `--raise` or `--raise=N`.
+fn restarts_of(word: &str) -> Option<u32>
+    ensures { result ≡ restarts_of word.now }
+{
+    if word == "--raise" {
+        return Some(UNTIL_EMPTY);
+    }
+    match word.split_once('=') {
+        Some((name, number)) => {
+            if name == "--raise" {
+                number_within(number, 5, 0, 99999)
+            } else {
+                None
+            }
+        }
+        None => None,
+    }
+}
+
+// Returns the options at the front of the arguments, in addition to these, and the remaining arguments. `awaits` says whether
+// the next argument is the number of `--every`.
+#[tactic(auto, unfolding(crate::specs::Args::options_of))]
+fn split_options(
+    awaits: bool,
+    options: SeriesOptions,
+    words: &[String],
+) -> Option<(SeriesOptions, &[String])>
+    ensures { option_map (λ s. (s.0, map string_bytes s.1.now)) result
+        ≡ options_of awaits options (map string_bytes words.now) }
+{
+    let [word, rest @ ..] = words else {
+        return if awaits { None } else { Some((options, words)) };
+    };
+    if awaits {
+        let every = number_of(word.as_str(), 99999)?;
+        return split_options(false, options.with_every(every)?, rest);
+    }
+    if word.as_str() == "--every" {
+        return split_options(true, options, rest);
+    }
+    if word.as_str() == "--polls" {
+        return split_options(false, options.with_polls()?, rest);
+    }
+    if word.as_str() == "--rows" {
+        return split_options(false, options.with_rows()?, rest);
+    }
+    match restarts_of(word.as_str()) {
+        Some(restarts) => split_options(false, options.with_restarts(restarts)?, rest),
+        None => Some((options, words)),
+    }
+}
+
+/// Returns the settings of the series. Its options, `--every N`, `--raise` or `--raise=N`, `--polls` and `--rows`, come before
+/// the other arguments, which are those of `napi_replay`. The mode is serial, because that processes the rows in order.
 ///
 /// # Errors
 ///
@@ -38,9 +149,18 @@ pub(crate) fn parse_series_words(
     ensures usage { result ≡ Err Usage → AskForSeries (map string_bytes words.now) None }
     ensures memory { result ≡ Err OutOfMemory → IsArgsOutOfMemory }
 {
-    let Some((every, rest)) = split_every(words) else {
+    let none = SeriesOptions {
+        every: None,
+        restarts: None,
+        polls: false,
+        rows: false,
+    };
+    let Some((options, rest)) = split_options(false, none, words) else {
         return Err(WordFault::Usage);
     };
+    if !options.is_allowed() {
+        return Err(WordFault::Usage);
+    }
     let replay = parse_serial_words(alloc, rest)?;
-    Ok(SeriesSettings { every, replay })
+    Ok(SeriesSettings { options, replay })
 }

@@ -1,16 +1,17 @@
 //! The text of a line of the series.
 
-ghost use Rattle.std.specs.Prelude.{◌≡◌, ◌+◌, ◌++◌, ℕ, List, OnOk, string_bytes};
+ghost use Rattle.std.specs.Prelude.{◌≡◌, ◌≤◌, ◌++◌, List, OnOk, length, string_bytes};
 ghost use Rattle.device_rows.specs.declared.row.Row.{Row};
 ghost use Rattle.replay_rows.specs.After.{IsAfter};
 ghost use Rattle.replay_rows.specs.Report.{lines_below};
 ghost use Rattle.replay_args.specs.declared.settings.ReplaySettings.{ReplaySettings};
-ghost use Rattle.napi_series.specs.Series.{device_fields, gave, gave_in, list_fields, queue_fields, row_fields, run_fields, poll_fields, word_field};
+ghost use Rattle.napi_series.specs.Series.{device_fields, queue_fields, row_fields, run_fields, poll_fields, word_field};
 
 use device_bench::DeviceCounts;
 use device_places::TABLE_LEN;
 use device_rows::Row;
-use replay_rows::{PollRecord, SerialReplay, add_numbers, state_word};
+use poll_runs::Next;
+use replay_rows::{PollRecord, RunPoll, SerialReplay, add_numbers, state_word};
 use std::alloc::AllocError;
 
 fn add_row(text: &mut String, number: u32, row: &Row) -> Result<(), AllocError>
@@ -21,7 +22,7 @@ fn add_row(text: &mut String, number: u32, row: &Row) -> Result<(), AllocError>
     Ok(())
 }
 
-fn add_device(text: &mut String, counts: Option<DeviceCounts>) -> Result<(), AllocError>
+pub(crate) fn add_device(text: &mut String, counts: Option<DeviceCounts>) -> Result<(), AllocError>
     ensures { OnOk result (string_bytes text.new ≡ string_bytes text.old ++ device_fields counts) }
 {
     match counts {
@@ -39,7 +40,11 @@ fn add_device(text: &mut String, counts: Option<DeviceCounts>) -> Result<(), All
     Ok(())
 }
 
-fn add_queue(text: &mut String, used: bool, counts: Option<DeviceCounts>) -> Result<(), AllocError>
+pub(crate) fn add_queue(
+    text: &mut String,
+    used: bool,
+    counts: Option<DeviceCounts>,
+) -> Result<(), AllocError>
     ensures { OnOk result
         (string_bytes text.new ≡ string_bytes text.old ++ queue_fields used counts) }
 {
@@ -82,7 +87,7 @@ fn add_run(text: &mut String, polled: Option<PollRecord>) -> Result<(), AllocErr
     Ok(())
 }
 
-fn add_word(text: &mut String, counts: Option<DeviceCounts>) -> Result<(), AllocError>
+pub(crate) fn add_word(text: &mut String, counts: Option<DeviceCounts>) -> Result<(), AllocError>
     ensures { OnOk result (string_bytes text.new ≡ string_bytes text.old ++ word_field counts) }
 {
     match counts {
@@ -112,54 +117,95 @@ pub(crate) fn add_poll(
     add_word(text, counts)
 }
 
-// Appends how many packets a device processed in a row, if the row polled it.
-fn add_gave(
-    text: &mut String,
-    device: u32,
-    before: Option<DeviceCounts>,
-    after: Option<DeviceCounts>,
-) -> Result<(), AllocError>
+// Appends how many packets a device processed by this many polls, if there was one.
+fn add_gave(text: &mut String, device: u32, polls: u32, work: u64) -> Result<(), AllocError>
     ensures { OnOk result
-        (string_bytes text.new ≡ string_bytes text.old ++ gave device before after) }
+        (string_bytes text.new ≡ string_bytes text.old ++ gave device polls work) }
 {
-    if let (Some(before), Some(after)) = (before, after) {
-        if before.polls != after.polls {
-            let given = after.polled.saturating_sub(before.polled);
-            write!(text, " {}:{}", device, given)?;
+    if polls != 0 {
+        write!(text, " {}:{}", device, work)?;
+    }
+    Ok(())
+}
+
+fn is_absent(next: Next) -> bool
+    ensures { result ≡ is_absent next }
+{
+    match next {
+        Next::Absent => true,
+        Next::Gone | Next::Again(_) | Next::Repoll => false,
+    }
+}
+
+// Returns whether a poll found this device on the list.
+fn is_poll_of(device: u32, poll: &RunPoll) -> bool
+    ensures { result ≡ is_poll_of device poll.now }
+{
+    poll.device == device && !is_absent(poll.once.next)
+}
+
+// Appends how many packets a device processed in a run.
+fn add_run_gave(text: &mut String, polls: &[RunPoll], device: u32) -> Result<(), AllocError>
+    requires { length polls.now ≤ 65535 }
+    ensures { OnOk result
+        (string_bytes text.new ≡ string_bytes text.old ++ run_gave polls.now device) }
+{
+    let mut count = 0;
+    let mut work = 0;
+    for poll in polls {
+        if is_poll_of(device, poll) {
+            count += 1;
+            work += u64::from(poll.once.work);
         }
     }
-    Ok(())
+    add_gave(text, device, count, work)
 }
 
-// Appends how many packets each device processed in a row, from a replay before the row and one after it.
-fn add_given(
-    text: &mut String,
-    before: &SerialReplay,
-    after: &SerialReplay,
-) -> Result<(), AllocError>
-    ensures { (s : ReplaySettings) (rows : List Row) (n : ℕ) → IsAfter s rows n before.now
-        → IsAfter s rows (n + 1) after.now → OnOk result (string_bytes text.new
-        ≡ string_bytes text.old ++ lines_below (gave_in s rows n) 17) }
+// Appends how many packets each device processed in a run.
+fn add_all_gave(text: &mut String, polls: &[RunPoll]) -> Result<(), AllocError>
+    requires { length polls.now ≤ 65535 }
+    ensures { OnOk result
+        (string_bytes text.new ≡ string_bytes text.old ++ lines_below (run_gave polls.now) 17) }
 {
     for device in 0..TABLE_LEN {
-        add_gave(text, device, before.counts(device), after.counts(device))?;
+        add_run_gave(text, polls, device)?;
     }
     Ok(())
 }
 
-/// Appends the poll list after a row, and how many packets each device processed that the row polled, from a replay before the
-/// row and one after it.
+// Appends how many packets each device processed that the row polled.
+fn add_row_gave(
+    text: &mut String,
+    polled: Option<PollRecord>,
+    polls: &[RunPoll],
+) -> Result<(), AllocError>
+    requires { length polls.now ≤ 65535 }
+    ensures { OnOk result
+        (string_bytes text.new ≡ string_bytes text.old ++ row_gave polled polls.now) }
+{
+    match polled {
+        Some(PollRecord::Softirq { .. }) => add_all_gave(text, polls),
+        Some(PollRecord::Kthread { device, report, .. }) => {
+            add_gave(text, device, report.polls, u64::from(report.work))
+        }
+        Some(PollRecord::Busy { device, report, .. }) => {
+            add_gave(text, device, report.polls, u64::from(report.work))
+        }
+        None => Ok(()),
+    }
+}
+
+/// Appends the poll list after the row with this number, and how many packets each device processed that the row polled.
 pub(crate) fn add_list(
     text: &mut String,
-    before: &SerialReplay,
-    after: &SerialReplay,
+    replay: &SerialReplay,
+    number: u32,
 ) -> Result<(), AllocError>
-    ensures { (s : ReplaySettings) (rows : List Row) (n : ℕ) → IsAfter s rows n before.now
-        → IsAfter s rows (n + 1) after.now → OnOk result (string_bytes text.new
-        ≡ string_bytes text.old ++ list_fields s rows n) }
+    ensures { (s : ReplaySettings) (rows : List Row) → IsAfter s rows number replay.now
+        → OnOk result (string_bytes text.new ≡ string_bytes text.old ++ list_fields s rows number) }
 {
     text.push_str(",")?;
-    add_numbers(text, after.list())?;
+    add_numbers(text, replay.list())?;
     text.push_str(",")?;
-    add_given(text, before, after)
+    add_row_gave(text, replay.polled(number), replay.polls())
 }

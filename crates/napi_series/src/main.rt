@@ -7,6 +7,7 @@
 
 mod args;
 mod line;
+mod polls;
 mod program;
 mod series;
 mod settings;

@@ -43,7 +43,7 @@ impl Program for SeriesProgram {
         input: R,
         output: &mut W,
     ) -> Result<(), ReplayFault> {
-        write_series(alloc, input, output, &settings.replay, settings.every)
+        write_series(alloc, input, output, settings)
     }
 }
 

@@ -12,7 +12,10 @@ pub use Rattle.replay_text.specs.Stops
 pub use Rattle.replay_text.specs.Written
 pub use Rattle.replay_text.specs.declared.fault.ReplayFault
 pub use Rattle.replay_rows.specs.Answer
+pub use Rattle.replay_rows.specs.Raised
+pub use Rattle.replay_rows.specs.RaisedTrace
 pub use Rattle.replay_rows.specs.Report
+pub use Rattle.replay_rows.specs.TraceText
 pub use Rattle.replay_threads.specs.Answer as ThreadsAnswer
 pub use Rattle.replay_threads.specs.ThreadsReport
 pub use Rattle.replay_threads.specs.SharedRun

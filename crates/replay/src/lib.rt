@@ -10,6 +10,6 @@
 pub use replay_args::{
     ReplayMode as Mode, ReplaySettings as Settings, WordFault, parse_words, word_line, word_status,
 };
-pub use replay_rows::replay_serial;
+pub use replay_rows::{raise_rows, raise_trace, raised_is_trace, replay_serial};
 pub use replay_text::{ReplayFault, fault_line, status};
 pub use replay_threads::{Polled, replay_shared, replay_threads};

@@ -1,16 +1,18 @@
-//! A whole replay on one thread, from a trace in the caller's memory to a report in the caller's memory.
+//! A whole replay on one thread, from a trace in the caller's memory to a report in the caller's memory; and a trace with the runs
+//! that the kernel adds.
 
-ghost use Rattle.std.specs.Prelude.{◌≡◌, ◌≢◌, ◌<◌, ◌≤◌, ◌⊎◌, ◌↔◌, ℕ, List, Ok, Err, IfOk, IfErr, length, take, drop};
+ghost use Rattle.std.specs.Prelude.{◌≡◌, ◌≢◌, ◌<◌, ◌⊎◌, Ok, Err, IfOk, IfErr, Some, length, take, drop};
 ghost use Rattle.replay_text.specs.Outside.{IsOutside};
 ghost use Rattle.replay_rows.specs.Answer.{replay_of};
-ghost use Rattle.replay_c.specs.Status.{REPLAY_OK, REPLAY_OUT_OF_MEMORY, REPLAY_BAD_WEIGHT, REPLAY_NO_ROOM, REPLAY_BAD_BUDGET, REPLAY_BAD_TRACE};
+ghost use Rattle.replay_rows.specs.RaisedTrace.{raised_trace};
+ghost use Rattle.replay_c.specs.Status.{REPLAY_OK, REPLAY_NO_ROOM, REPLAY_BAD_TRACE};
 ghost use Rattle.replay_c.specs.Faults.{fault_status};
-ghost use Rattle.replay_c.specs.Replay.{AreSettingsOf, HasWeight, HasBudget, IsReplayReport, IsReplayFault, Lacks, LacksMemory, ReportsFault};
+ghost use Rattle.replay_c.specs.Replay.{Answers, AreSettingsOf, HasWeight, HasBudget, Lacks, ReportsFault, computed_by};
 
 use crate::fault::{fault_status, row_of};
 use crate::status;
 use replay_args::ReplaySettings;
-use replay_rows::replay_serial;
+use replay_rows::{raise_trace, replay_serial};
 use replay_text::ReplayFault;
 use std::alloc::Global;
 
@@ -66,6 +68,43 @@ fn report_of(alloc: Global, settings: &ReplaySettings, trace: &[u8]) -> Result<V
     }
 }
 
+// Returns a trace with the runs that the kernel adds.
+fn raised_of(
+    alloc: Global,
+    settings: &ReplaySettings,
+    restarts: Option<u32>,
+    trace: &[u8],
+) -> Result<Vec<u8>, ReplayFault>
+    ensures raised { IfOk result
+        (λ text. raised_trace settings.now restarts trace.now ≡ Ok text.items) }
+    ensures fault { IfErr result
+        (λ fault. IsOutside fault ⊎ (raised_trace settings.now restarts trace.now ≡ Err fault)) }
+{
+    let mut text = Vec::new(alloc);
+    match raise_trace(alloc, trace, &mut text, settings, restarts) {
+        Ok(()) => Ok(text),
+        Err(fault) => Err(fault),
+    }
+}
+
+// Returns the report of a trace; or with a number of restarts, the trace with the runs that the kernel adds.
+fn text_of(
+    alloc: Global,
+    settings: &ReplaySettings,
+    restarts: Option<u32>,
+    trace: &[u8],
+) -> Result<Vec<u8>, ReplayFault>
+    ensures text { IfOk result
+        (λ text. computed_by restarts settings.now trace.now ≡ Ok text.items) }
+    ensures fault { IfErr result (λ fault. IsOutside fault
+        ⊎ (computed_by restarts settings.now trace.now ≡ Err fault)) }
+{
+    match restarts {
+        None => report_of(alloc, settings, trace),
+        Some(_) => raised_of(alloc, settings, restarts, trace),
+    }
+}
+
 // Copies a report to the caller's array, if that has room for all of it.
 fn put_report(text: &[u8], report: &mut [u8], replayed: &mut FqReplayed) -> u32
     ensures ok { result ≡ REPLAY_OK → take replayed.new.length report.new ≡ text.now }
@@ -102,6 +141,32 @@ fn report_fault(fault: &ReplayFault, replayed: &mut FqReplayed) -> u32
     status
 }
 
+// Computes the report of a trace, or the trace with added runs, and writes it to the caller's array.
+fn answer(
+    alloc: Global,
+    settings: &FqSettings,
+    restarts: Option<u32>,
+    trace: &[u8],
+    to: &mut [u8],
+    replayed: &mut FqReplayed,
+) -> u32
+    ensures { Answers (computed_by restarts) settings.now trace.now to.old to.new replayed.new
+        result }
+{
+    *replayed = FqReplayed {
+        length: 0,
+        fault: 0,
+        row: 0,
+    };
+    match asked_by(settings) {
+        Ok(asked) => match text_of(alloc, &asked, restarts, trace) {
+            Ok(text) => put_report(text.as_slice(), to, replayed),
+            Err(fault) => report_fault(&fault, replayed),
+        },
+        Err(status) => status,
+    }
+}
+
 /// Like `replay_serial`, from the bytes of a trace to an array: the report is the first `length` bytes of the array. Returns
 /// OK; NO_ROOM, and writes nothing; BAD_WEIGHT or BAD_BUDGET (also for the window); BAD_TRACE, with the numbers of its error;
 /// or OUT_OF_MEMORY.
@@ -113,43 +178,24 @@ pub extern "C" fn fq_replay(
     report: &mut [u8],
     replayed: &mut FqReplayed,
 ) -> u32
-    // The text that is written is the report of the trace with these settings, and an error that is reported is that of the
-    // trace.
-    ensures written { result ≡ REPLAY_OK
-        → IsReplayReport settings.now trace.now (take replayed.new.length report.new) }
-    ensures rest { result ≡ REPLAY_OK
-        → drop replayed.new.length report.new ≡ drop replayed.new.length report.old }
-    ensures no_room { result ≡ REPLAY_NO_ROOM
-        → (text : List ℕ) × IsReplayReport settings.now trace.now text
-        × (replayed.new.length ≡ length text) × (length report.old < length text) }
-    ensures fault { result ≡ REPLAY_BAD_TRACE → (fault : ReplayFault)
-        × IsReplayFault settings.now trace.now fault × ReportsFault fault replayed.new }
-    ensures memory { result ≢ REPLAY_OK → result ≢ REPLAY_NO_ROOM → result ≢ REPLAY_BAD_TRACE
-        → result ≢ REPLAY_BAD_WEIGHT
-        → result ≢ REPLAY_BAD_BUDGET → (result ≡ REPLAY_OUT_OF_MEMORY)
-        × LacksMemory settings.now trace.now }
-
-    // Settings are rejected exactly if they are out of their ranges. After that, and after every other error, nothing is
-    // written.
-    ensures weight { (result ≡ REPLAY_BAD_WEIGHT) ↔ ¬ HasWeight settings.now }
-    ensures budget { (result ≡ REPLAY_BAD_BUDGET)
-        ↔ (HasWeight settings.now × ¬ HasBudget settings.now) }
-    ensures kept { result ≢ REPLAY_OK → report.new ≡ report.old }
-    // The other results describe the report or the error; if there is none, they are 0.
-    ensures faultless { result ≢ REPLAY_BAD_TRACE
-        → (replayed.new.fault ≡ 0) × (replayed.new.row ≡ 0) }
-    ensures no_report { result ≢ REPLAY_OK → result ≢ REPLAY_NO_ROOM → replayed.new.length ≡ 0 }
+    ensures { Answers replay_of settings.now trace.now report.old report.new replayed.new result }
 {
-    *replayed = FqReplayed {
-        length: 0,
-        fault: 0,
-        row: 0,
-    };
-    match asked_by(settings) {
-        Ok(asked) => match report_of(alloc, &asked, trace) {
-            Ok(text) => put_report(text.as_slice(), report, replayed),
-            Err(fault) => report_fault(&fault, replayed),
-        },
-        Err(status) => status,
-    }
+    answer(alloc, settings, None, trace, report, replayed)
+}
+
+/// Like `raise_trace`, from the bytes of a trace to an array: the trace with added runs, at most `restarts` after each softirq
+/// row, is the first `length` bytes of the array. Returns what `fq_replay` returns.
+#[unsafe(no_mangle)]
+pub extern "C" fn fq_raise(
+    alloc: Global,
+    settings: &FqSettings,
+    restarts: u32,
+    trace: &[u8],
+    raised: &mut [u8],
+    replayed: &mut FqReplayed,
+) -> u32
+    ensures { Answers (λ s bytes. raised_trace s (Some restarts) bytes) settings.now trace.now
+        raised.old raised.new replayed.new result }
+{
+    answer(alloc, settings, Some(restarts), trace, raised, replayed)
 }

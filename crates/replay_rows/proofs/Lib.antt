@@ -1,2 +1,4 @@
 pub mod PlayFacts
+pub mod RaisedFacts
 pub mod RunFacts
+pub mod RunLogFacts

@@ -27,6 +27,13 @@ after_rows-append s n m (x ∷ xs) ys w e =
     by true h = refl
     by false h = h
 
+-- these rows and one more that isn't an early enable
+pub played-push : (s : ReplaySettings) (rows : List Row) (row : Row) (w : ReplayState) → after_all_rows s rows ≡ Ok w
+    → is_early row.event row.device w ≡ false → after_all_rows s (rows ++ row ∷ []) ≡ Ok (after_row s (length rows + 1) row w)
+unfolding then_rows
+played-push s rows row w before on_time =
+    after_rows-append s 1 (length rows + 1) rows (row ∷ []) start (omega arith) ∙ rw (before, on_time) refl
+
 split-at : (rows : List Row) (i : ℕ) (d : Row) → i < length rows → rows ≡ take i rows ++ get_or rows i d ∷ drop (i + 1) rows
 split-at [] i d below = absurd (omega (arith, below))
 split-at (row ∷ rows) zero d below = refl

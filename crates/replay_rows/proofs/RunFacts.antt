@@ -25,8 +25,9 @@ transmits-stay devices shows waiting relation are s before after (poll ∷ polls
     transmits-stay devices shows waiting relation are s leads.0 after polls leads.2 all (is.transmits all shown)
 
 -- a run over the devices and a list of one thread
-pub record IsRunOf (s : ReplaySettings) (devices : BenchDevices) (list : List ℕ) (after : BenchDevices) (left : List ℕ)
-    (report : RunReport) : Type 0 where
+pub record IsRunOf (s : ReplaySettings) (devices : BenchDevices) (list : List ℕ) (polls : List Poll) (after : BenchDevices)
+    (left : List ℕ) (report : RunReport) : Type 0 where
+  pub polls_are : polls ≡ (replay_run s devices list).0.polls
   pub devices_after : after ≡ (replay_run s devices list).0.bench
   pub list_after : left ≡ (replay_run s devices list).1
   pub reported : report ≡ run_report s.budget s.window (replay_run s devices list).0.polls
@@ -37,12 +38,12 @@ pub only-run : {B : Type 0} (devices : B → BenchDevices) (shows : B → Transm
     → ArePolls devices shows waiting relation
     → (s : ReplaySettings) (before after : B) (list left : List ℕ) (polls : List Poll) (report : RunReport)
     → Leads relation s before polls after → IsPlainRun s.budget s.window list polls left report
-    → IsRunOf s (devices before) list (devices after) left report
+    → IsRunOf s (devices before) list polls (devices after) left report
 only-run devices shows waiting relation are s before after list left polls report leads run =
     let is =
     run-is-shown relation devices polled_at (λ b a id weight once h. (are b a id weight once h).exact) s.budget s.weight s.window
     s.budget_in.0 s.window_in.0 before after list left polls report leads run in
-    record { devices_after = is.1; list_after = is.2; reported = is.3 }
+    record { polls_are = is.0; devices_after = is.1; list_after = is.2; reported = is.3 }
 
 -- ---- room on the poll list
 

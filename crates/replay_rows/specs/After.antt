@@ -4,12 +4,14 @@ use Rattle.device_transmit.specs.Transmits.{Transmits, is_used}
 use Rattle.{device_places.specs.Places.at, device_bench.specs.DeviceBench.{ShowsTransmits, devices_of}}
 use Rattle.{device_bench.specs.declared.counts.DeviceCounts.DeviceCounts, device_rows.specs.declared.row.Row.Row}
 use Rattle.replay_rows.specs.{Played.replay_state, Replay.after_all_rows, Report.{reported_counts, last_poll_by}, Transmits.transmits_of}
-use Rattle.replay_rows.specs.{ReplayState.ReplayState, declared.{line.PollRecord.PollRecord, serial_replay.SerialReplay.SerialReplay}}
+use Rattle.replay_rows.specs.{RunLog.{list_before, polls_of_row}, ReplayState.ReplayState, declared.{line.PollRecord.PollRecord, serial_replay.SerialReplay.SerialReplay}}
 use Rattle.{replay_text.specs.declared.fault.ReplayFault.ReplayFault, replay_args.specs.declared.settings.ReplaySettings.ReplaySettings}
 
 pub record IsAfter (s : ReplaySettings) (rows : List Row) (n : ℕ) (r : SerialReplay) : Type 0 where
   pub state : after_all_rows s (take n rows) ≡ Ok (replay_state devices_of r.replay)
   pub transmits : ShowsTransmits r.replay.bench (transmits_of (take n rows))
+  pub list : r.log.list.items ≡ list_before s rows n
+  pub polls : r.log.polls.items ≡ polls_of_row s rows n
 
 -- what the report of the first n rows shows of a device
 abbrev pub device_counts_in : Result ReplayState ReplayFault → Transmits → ℕ → Option DeviceCounts

@@ -1,9 +1,15 @@
 pub mod After
 pub mod Answer
 pub mod Played
+pub mod Raised
+pub mod RaisedTrace
+pub mod Raising
 pub mod Refused
 pub mod Replay
 pub mod ReplayState
 pub mod Report
 pub mod Run
+pub mod RunLog
+pub mod Softirq
+pub mod TraceText
 pub mod Transmits

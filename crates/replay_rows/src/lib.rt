@@ -2,18 +2,27 @@
 //! bytes of the trace to the bytes of the report, or the message and the exit status of an error.
 //!
 //! [`replay_serial`] replays on one thread, and [`replay_on`] on any bench. [`SerialReplay`] processes the rows one by one, for
-//! programs that read the state after each.
+//! programs that read the state after each, and the polls of each run. [`raise_trace`] adds the runs that the kernel would make.
 #![tactic(auto)]
 
 mod line;
+mod raise;
+mod raised;
 mod replay;
 mod report;
+mod rows_text;
+mod run_log;
 mod serial;
 mod serial_replay;
+mod softirq;
 mod whole;
 
 pub use line::PollRecord;
+pub use raise::raise_trace;
+pub use raised::{raise_rows, raised_is_trace};
 pub use report::{add_numbers, state_word};
+pub use rows_text::trace_text;
+pub use run_log::RunPoll;
 pub use serial::replay_serial;
 pub use serial_replay::SerialReplay;
 pub use whole::replay_on;

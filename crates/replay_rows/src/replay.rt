@@ -4,6 +4,8 @@ ghost use Rattle.std.specs.Prelude.{◌≡◌, ◌≤◌, [], IfOk, length};
 ghost use Rattle.poll_runs.specs.Ranges.{IsRounds};
 
 use crate::line::PollRecord;
+use crate::run_log::{RunLog, run_logged};
+use crate::softirq::is_softirq;
 use device_bench::ReplayBench;
 use device_rows::{Row, RowEvent};
 use napi_model::Kind;
@@ -41,7 +43,7 @@ pub(crate) fn room_for_lines(alloc: Global, rows: &[Row]) -> Result<Vec<PollReco
 
 impl<B: ReplayBench> Replay<B> {
     ghost use Rattle.std.specs.Prelude.{◌≡◌, ℕ, ◌+◌, ◌++◌, [], ◌∷◌, true, false, Ok, OnOk, IfErr};
-    ghost use Rattle.device_transmit.specs.Transmits.{Changes, KeepsTransmits};
+    ghost use Rattle.device_transmit.specs.Transmits.{Changes, KeepsTransmits, Transmits};
     ghost use Rattle.device_places.specs.Places.{empty};
     ghost use Rattle.device_rows.specs.Row.{device_fits, value_fits};
     ghost use Rattle.device_rows.specs.Trace.{AcceptedAfter};
@@ -49,6 +51,8 @@ impl<B: ReplayBench> Replay<B> {
     ghost use Rattle.replay_rows.specs.Played.{replay_state};
     ghost use Rattle.replay_rows.specs.Refused.{IsSerialFault, IsRefusedAt};
     ghost use Rattle.replay_rows.specs.Replay.{after_event, after_row, entry, is_early, start, with_busy, with_packet, with_run, with_thread, after_all_rows};
+    ghost use Rattle.replay_rows.specs.Run.{replay_run};
+    ghost use Rattle.replay_rows.specs.RunLog.{logged, row_list, row_polls};
     ghost use Rattle.replay_rows.specs.Transmits.{after_transmit, after_transmits};
 
     /// Returns a replay on a bench without devices, which collects its lines in `lines`.
@@ -105,6 +109,31 @@ impl<B: ReplayBench> Replay<B> {
             settings.weight,
             settings.window,
         );
+        self.lines.push(PollRecord::Softirq { row, run })?;
+        Ok(())
+    }
+
+    // Like `run`, and logs the polls.
+    fn run_with(
+        &mut self,
+        settings: &ReplaySettings,
+        row: u32,
+        log: &mut RunLog,
+    ) -> Result<(), AllocError>
+        requires list { log.old.list.items ≡ [] }
+        requires polls { log.old.polls.items ≡ [] }
+        ensures state { OnOk result (replay_state B.devices self.new
+            ≡ with_run settings.now row (replay_state B.devices self.old)) }
+        ensures lines { OnOk result
+            (length self.new.lines.items ≡ length self.old.lines.items + 1) }
+        ensures transmits { KeepsTransmits B.shows self.old.bench self.new.bench }
+        ensures list { OnOk result (log.new.list.items ≡ self.old.list) }
+        ensures polls { OnOk result ((all : Transmits) → B.shows self.old.bench all
+            → log.new.polls.items ≡ logged settings.now all (B.devices self.old.bench)
+            (replay_run settings.now (B.devices self.old.bench) self.old.list).0.polls) }
+    {
+        log.begin(self.list.ids(), settings.window)?;
+        let run = run_logged(&mut self.list, &mut self.bench, settings, &mut log.polls);
         self.lines.push(PollRecord::Softirq { row, run })?;
         Ok(())
     }
@@ -222,6 +251,40 @@ impl<B: ReplayBench> Replay<B> {
             (length self.new.lines.items ≤ length self.old.lines.items + 1) }
     {
         self.play_event(alloc, settings, number, row)?;
+        self.bench.settle();
+        Ok(())
+    }
+
+    /// Like [`play`](Replay::play), and logs the polls of a softirq row.
+    pub(crate) fn play_logged(
+        &mut self,
+        alloc: Global,
+        settings: &ReplaySettings,
+        number: u32,
+        row: &Row,
+        log: &mut RunLog,
+    ) -> Result<(), ReplayFault>
+        requires device { device_fits row.now.event row.now.device ≡ true }
+        requires value { value_fits row.now.event row.now.value ≡ true }
+        ensures on_time { OnOk result
+            (is_early row.now.event row.now.device (replay_state B.devices self.old) ≡ false) }
+        ensures state { OnOk result (replay_state B.devices self.new
+            ≡ after_row settings.now number row.now (replay_state B.devices self.old)) }
+        ensures fault { IfErr result
+            (IsRefusedAt number row.now (replay_state B.devices self.old)) }
+        ensures transmits { OnOk result
+            (Changes B.shows (after_transmit row.now) self.old.bench self.new.bench) }
+        ensures list { OnOk result
+            (log.new.list.items ≡ row_list row.now (replay_state B.devices self.old)) }
+        ensures polls { OnOk result ((all : Transmits) → B.shows self.old.bench all
+            → log.new.polls.items
+            ≡ row_polls settings.now all row.now (replay_state B.devices self.old)) }
+    {
+        log.clear();
+        if !is_softirq(row.event) {
+            return self.play(alloc, settings, number, row);
+        }
+        self.run_with(settings, number, log)?;
         self.bench.settle();
         Ok(())
     }

@@ -2,6 +2,7 @@
 
 use crate::line::PollRecord;
 use crate::replay::{Replay, room_for_lines};
+use crate::run_log::{RunLog, RunPoll, counts_of};
 use device_bench::{DeviceCounts, ReplayBench, SerialBench};
 use device_rows::Row;
 use replay_args::ReplaySettings;
@@ -12,6 +13,7 @@ use std::alloc::{AllocError, Global};
 #[derive(Drop)]
 pub struct SerialReplay {
     replay: Replay<SerialBench>,
+    log: RunLog,
 }
 
 impl SerialReplay {
@@ -21,6 +23,7 @@ impl SerialReplay {
     ghost use Rattle.replay_args.specs.declared.settings.ReplaySettings.{ReplaySettings};
     ghost use Rattle.replay_rows.specs.After.{IsAfter, counts_after, is_used_after, list_after, polled_after};
     ghost use Rattle.replay_rows.specs.Replay.{after_all_rows};
+    ghost use Rattle.replay_rows.specs.RunLog.{list_before, polls_of_row};
     ghost use Rattle.replay_text.specs.Outside.{IsReplayOutOfMemory};
 
     /// Returns a replay before its first row, with room for the lines of these rows.
@@ -30,6 +33,7 @@ impl SerialReplay {
     {
         Ok(SerialReplay {
             replay: Replay::new(SerialBench::new(alloc)?, room_for_lines(alloc, rows)?),
+            log: RunLog::new(alloc),
         })
     }
 
@@ -52,7 +56,7 @@ impl SerialReplay {
             ⊎ (after_all_rows settings.now rows.now ≡ Err fault)) }
     {
         self.replay
-            .play(alloc, settings, index as u32 + 1, &rows[index])?;
+            .play_logged(alloc, settings, index as u32 + 1, &rows[index], &mut self.log)?;
         Ok(())
     }
 
@@ -61,10 +65,7 @@ impl SerialReplay {
         ensures { (s : ReplaySettings) (rows : List Row) (n : ℕ) → IsAfter s rows n self.now
             → result ≡ counts_after s rows n device }
     {
-        if !self.replay.bench.is_attached(device) {
-            return None;
-        }
-        Some(self.replay.bench.counts(device))
+        counts_of(&self.replay.bench, device)
     }
 
     /// Returns whether the report of the rows so far shows the device's transmit side, which it does after the device's first
@@ -93,5 +94,22 @@ impl SerialReplay {
             Some(line) if line.row() == number => Some(*line),
             _ => None,
         }
+    }
+
+    /// The polls of the last row processed, in order, if it is a softirq row; otherwise there are none.
+    pub fn polls(&self) -> &[RunPoll]
+        ensures few { length result.now ≤ 65535 }
+        ensures polls { (s : ReplaySettings) (rows : List Row) (n : ℕ) → IsAfter s rows n self.now
+            → result.now ≡ polls_of_row s rows n }
+    {
+        self.log.polls.as_slice()
+    }
+
+    /// The numbers on the poll list before the last row processed, if that is a softirq row; otherwise there are none.
+    pub fn list_before(&self) -> &[u32]
+        ensures { (s : ReplaySettings) (rows : List Row) (n : ℕ) → IsAfter s rows n self.now
+            → result.now ≡ list_before s rows n }
+    {
+        self.log.list.as_slice()
     }
 }

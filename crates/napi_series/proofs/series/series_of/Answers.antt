@@ -5,9 +5,8 @@ use Rattle.napi_series.proofs.series.series_of.Goals as goal
 pub loop-index-init : goal.loop-index-init
 unfolding lines_to
 loop-index-init c = record {
-  before = c.in_ok-new.ensures c.args.settings.now c.args.rows.now;
-  after = c.in_ok-new-2.ensures c.args.settings.now c.args.rows.now;
-  text = rw c.in_ok-text.ensures.ok (simp append-nil);
+  after = c.in_ok-replay.ensures c.args.settings.now.replay c.args.rows.now;
+  text = rw (c.in_ok-push_str.ensures.bytes, c.names_end.ensures, c.in_ok-text.ensures.ok) (simp append-nil);
 }
 
 pub loop-index-preserved : goal.loop-index-preserved
@@ -15,7 +14,6 @@ unfolding lines_to
 loop-index-preserved c =
     let next : c.loop-index.index + 1 ≡ suc c.loop-index.index = omega arith in
     record {
-      before = c.in_ok-play_row-2.ensures.after;
       after = c.in_ok-play_row.ensures.after;
       text = rw (next, c.in_ok-add_part.ensures, c.loop-index.invariant.text) (simp append_assoc);
     }

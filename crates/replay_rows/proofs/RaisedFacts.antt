@@ -1,0 +1,287 @@
+-- The rows with the added runs are rows of a trace that can be played.
+use Rattle.std.proofs.Common.{◌≡◌, ◌∙◌, ℕ, zero, suc, ◌+◌, ◌<◌, ◌≤◌, Bool, true, false, Ok, Err, List, [], ◌∷◌, ◌++◌, length, drop, get_or}
+use Rattle.std.proofs.{Common.{ap, arith, inl, inr, length-append, refl, subst, sym}, lemmas.Bool.ltb-true, Math.Seq.drop-cons}
+use Rattle.std.specs.Prelude.{Result, ◌⊎◌, None, if◌then◌else◌, nat_lt, not, ◌&&◌, ◌==◌}
+use Rattle.device_rows.specs.{Row.{device_fits, value_fits}, Switch.{refusal, switch_of}, Trace.{AcceptedAfter, IsAccepted}}
+use Rattle.device_rows.specs.declared.{event.RowEvent.RowEvent, fault.TraceFault.TheVariants.TooManyRows, row.Row.Row}
+use Rattle.device_rows.specs.declared.event.RowEvent.TheVariants.{Opened, Rx, Tx, Finish, Softirq, Kthread, Disable, Enable, Threaded, Busy}
+use Rattle.device_rows.specs.declared.switch.Switch.{Switch, TheVariants.{Unopened, On, Off}}
+use Rattle.device_rows.proofs.{Accepted.accepted-push, SwitchFacts.{switch_of-append, switch_of-other, switch_of-same}}
+use Rattle.replay_rows.specs.Raised.{Raised, RaisedIsTrace, ◌>>=◌, and_again, and_row, and_rows, is_last_run, is_run_at, no_rows, raised}
+use Rattle.replay_rows.specs.{Raised.{rows_in, with_row}, Replay.{after_all_rows, after_row, is_early}, ReplayState.ReplayState}
+use Rattle.replay_rows.{specs.Softirq.is_softirq, proofs.PlayFacts.played-push}
+use Rattle.replay_text.specs.declared.fault.ReplayFault.{ReplayFault, TheVariants.{OutputFailed, Pending, Trace}}
+use Rattle.replay_text.specs.Outside.{IsReplayOutOfMemory}
+use Rattle.replay_args.specs.declared.settings.ReplaySettings.{ReplaySettings}
+
+pub softirq-is : (e : RowEvent) → is_softirq e ≡ true → e ≡ Softirq
+softirq-is Opened h = cc h
+softirq-is Rx h = cc h
+softirq-is Tx h = cc h
+softirq-is Finish h = cc h
+softirq-is Softirq h = refl
+softirq-is Kthread h = cc h
+softirq-is Disable h = cc h
+softirq-is Enable h = cc h
+softirq-is Threaded h = cc h
+softirq-is Busy h = cc h
+
+last-run : (row : Row) (rows : List Row) → is_last_run row rows ≡ true → row.event ≡ Softirq
+last-run row rows h = by (is_softirq row.event) refl h
+  where
+    by : (b : Bool) → is_softirq row.event ≡ b → (b && not (is_run_at row.moment rows)) ≡ true → row.event ≡ Softirq
+    by true is h = softirq-is row.event is
+    by false is h = cc h
+
+-- whether a row is rejected doesn't depend on its number
+refused-alike : (n m : ℕ) (e : RowEvent) (s : Switch) → refusal n e s ≡ None → refusal m e s ≡ None
+refused-alike n m Opened Unopened h = refl
+refused-alike n m Opened On h = cc h
+refused-alike n m Opened Off h = cc h
+refused-alike n m Rx Unopened h = cc h
+refused-alike n m Rx On h = refl
+refused-alike n m Rx Off h = refl
+refused-alike n m Tx Unopened h = cc h
+refused-alike n m Tx On h = refl
+refused-alike n m Tx Off h = refl
+refused-alike n m Finish Unopened h = cc h
+refused-alike n m Finish On h = refl
+refused-alike n m Finish Off h = refl
+refused-alike n m Softirq s h = refl
+refused-alike n m Kthread Unopened h = cc h
+refused-alike n m Kthread On h = refl
+refused-alike n m Kthread Off h = refl
+refused-alike n m Disable Unopened h = cc h
+refused-alike n m Disable On h = refl
+refused-alike n m Disable Off h = cc h
+refused-alike n m Enable Unopened h = cc h
+refused-alike n m Enable On h = cc h
+refused-alike n m Enable Off h = refl
+refused-alike n m Threaded Unopened h = cc h
+refused-alike n m Threaded On h = refl
+refused-alike n m Threaded Off h = refl
+refused-alike n m Busy Unopened h = cc h
+refused-alike n m Busy On h = refl
+refused-alike n m Busy Off h = refl
+
+-- a run changes no switch
+run-sets-none : (d : ℕ) (rows : List Row) (row : Row) → row.event ≡ Softirq → switch_of d (rows ++ row ∷ []) ≡ switch_of d rows
+run-sets-none d rows row run = by (row.device == d) refl
+  where
+    by : (b : Bool) → (row.device == d) ≡ b → switch_of d (rows ++ row ∷ []) ≡ switch_of d rows
+    by true h = rw (switch_of-same d rows row h, run) refl
+    by false h = switch_of-other d rows row h
+
+-- ---- one row
+
+record AddsRow (s : ReplaySettings) (row : Row) (r more : Raised) : Type 0 where
+  pub room : length r.rows < 100000
+  pub on_time : is_early row.event row.device r.state ≡ false
+  pub is : more ≡ record { rows = r.rows ++ row ∷ []; state = after_row s (length r.rows + 1) row r.state }
+
+adds-row : (s : ReplaySettings) (row : Row) (r more : Raised) → and_row s row r ≡ Ok more → AddsRow s row r more
+unfolding and_row
+adds-row s row r more e = by (nat_lt (length r.rows) 100000) (is_early row.event row.device r.state) refl refl e
+  where
+    made : Raised
+    made = record { rows = r.rows ++ row ∷ []; state = after_row s (length r.rows + 1) row r.state }
+    by : (room early : Bool) → nat_lt (length r.rows) 100000 ≡ room → is_early row.event row.device r.state ≡ early
+        → (if room then (if early then Err (Pending (length r.rows + 1))
+        else Ok (record { rows = r.rows ++ row ∷ []; state = after_row s (length r.rows + 1) row r.state }))
+        else Err (Trace TooManyRows)) ≡ Ok more
+        → AddsRow s row r more
+    by true false room on_time e = record { room = ltb-true _ _ room; on_time = on_time; is = cc e }
+    by true true room on_time e = cc e
+    by false early room on_time e = cc e
+
+-- what holds after these rows of the trace
+record IsRaising (s : ReplaySettings) (earlier : List Row) (r : Raised) : Type 0 where
+  pub few : length r.rows ≤ 100000
+  pub played : after_all_rows s r.rows ≡ Ok r.state
+  pub accepted : AcceptedAfter [] r.rows
+  pub same : (d : ℕ) → switch_of d r.rows ≡ switch_of d earlier
+
+one-more : (s : ReplaySettings) (earlier later : List Row) (row : Row) (r more : Raised) → IsRaising s earlier r → IsAccepted r.rows row
+    → ((d : ℕ) → switch_of d (r.rows ++ row ∷ []) ≡ switch_of d later) → and_row s row r ≡ Ok more → IsRaising s later more
+one-more s earlier later row r more is ok same e =
+    let adds = adds-row s row r more e in
+    subst (IsRaising s later) (sym adds.is) (record {
+      few = omega (arith, length-append r.rows (row ∷ []), adds.room);
+      played = played-push s r.rows row r.state is.played adds.on_time;
+      accepted = accepted-push [] r.rows row is.accepted ok;
+      same = same;
+    })
+
+-- a row of the trace
+own-row : (s : ReplaySettings) (earlier : List Row) (row : Row) (r more : Raised) → IsRaising s earlier r → IsAccepted earlier row
+    → and_row s row r ≡ Ok more → IsRaising s (earlier ++ row ∷ []) more
+own-row s earlier row r more is ok e = one-more s earlier (earlier ++ row ∷ []) row r more is taken same e
+  where
+    taken : IsAccepted r.rows row
+    taken = record {
+      device = ok.device;
+      value = ok.value;
+      in_turn = refused-alike (length earlier + 1) (length r.rows + 1) row.event (switch_of row.device r.rows)
+          (rw (is.same row.device) ok.in_turn);
+    }
+    same : (d : ℕ) → switch_of d (r.rows ++ row ∷ []) ≡ switch_of d (earlier ++ row ∷ [])
+    same d = rw (switch_of-append d r.rows (row ∷ []), switch_of-append d earlier (row ∷ []), is.same d) refl
+
+-- ---- the added runs
+
+added : (s : ReplaySettings) (earlier : List Row) (left : ℕ) (row : Row) (r more : Raised) → IsRaising s earlier r
+    → device_fits row.event row.device ≡ true → value_fits row.event row.value ≡ true → row.event ≡ Softirq
+    → and_again s left row r ≡ Ok more → IsRaising s earlier more
+unfolding and_again
+added s earlier zero row r more is device value run e = let same : r ≡ more = cc e in subst (IsRaising s earlier) same is
+added s earlier (suc left) row r more is device value run e = by (length r.state.list == 0) e
+  where
+    then_on : (x : Result Raised ReplayFault) → and_row s row r ≡ x → (x >>= and_again s left row) ≡ Ok more → IsRaising s earlier more
+    then_on (Err fault) one e = cc e
+    then_on (Ok next) one e =
+        let taken : IsAccepted r.rows row = record { device = device; value = value; in_turn = rw run refl } in
+        added s earlier left row next more
+        (one-more s earlier earlier row r next is taken (λ d. run-sets-none d r.rows row run ∙ is.same d) one)
+        device value run e
+    by : (b : Bool) → (if b then Ok r else and_row s row r >>= and_again s left row) ≡ Ok more → IsRaising s earlier more
+    by true e = let same : r ≡ more = cc e in subst (IsRaising s earlier) same is
+    by false e = then_on (and_row s row r) refl e
+
+row-with-added : (s : ReplaySettings) (restarts : ℕ) (earlier : List Row) (row : Row) (rows : List Row) (r more : Raised)
+    → IsRaising s earlier r → IsAccepted earlier row → with_row s restarts row rows r ≡ Ok more → IsRaising s (earlier ++ row ∷ []) more
+row-with-added s restarts earlier row rows r more is ok e = then_on (and_row s row r) refl e
+  where
+    then_on : (x : Result Raised ReplayFault) → and_row s row r ≡ x
+        → (x >>= (λ one. if is_last_run row rows then and_again s restarts row one else Ok one)) ≡ Ok more
+        → IsRaising s (earlier ++ row ∷ []) more
+    then_on (Err fault) one e = cc e
+    then_on (Ok next) one e = by (is_last_run row rows) refl e
+      where
+        by : (b : Bool) → is_last_run row rows ≡ b → (if b then and_again s restarts row next else Ok next) ≡ Ok more
+            → IsRaising s (earlier ++ row ∷ []) more
+        by true run e =
+            added s (earlier ++ row ∷ []) restarts row next more (own-row s earlier row r next is ok one) ok.device ok.value
+            (last-run row rows run) e
+        by false run e =
+            let same : next ≡ more = cc e in
+            subst (IsRaising s (earlier ++ row ∷ [])) same (own-row s earlier row r next is ok one)
+
+-- ---- all rows
+
+all-rows : (s : ReplaySettings) (restarts : ℕ) (earlier rows : List Row) (r more : Raised) → IsRaising s earlier r
+    → AcceptedAfter earlier rows → and_rows s restarts rows r ≡ Ok more → (all : List Row) × IsRaising s all more
+unfolding and_rows
+all-rows s restarts earlier [] r more is ok e = let same : r ≡ more = cc e in (earlier, subst (IsRaising s earlier) same is)
+all-rows s restarts earlier (row ∷ rows) r more is ok e = then_on (with_row s restarts row rows r) refl e
+  where
+    then_on : (x : Result Raised ReplayFault) → with_row s restarts row rows r ≡ x → (x >>= and_rows s restarts rows) ≡ Ok more
+        → (all : List Row) × IsRaising s all more
+    then_on (Err fault) one e = cc e
+    then_on (Ok next) one e =
+        all-rows s restarts (earlier ++ row ∷ []) rows next more (row-with-added s restarts earlier row rows r next is ok.0 one) ok.1 e
+
+start-is : (s : ReplaySettings) → IsRaising s [] no_rows
+start-is s = record { few = omega arith; played = refl; accepted = tt; same = λ d. refl }
+
+pub raised-is-trace : RaisedIsTrace
+raised-is-trace s restarts rows all ok e = by (and_rows s restarts rows no_rows) refl e
+  where
+    by : (x : Result Raised ReplayFault) → and_rows s restarts rows no_rows ≡ x → rows_in x ≡ Ok all
+        → AcceptedAfter [] all × (length all ≤ 100000) × ((w : ReplayState) × (after_all_rows s all ≡ Ok w))
+    by (Err fault) is e = cc e
+    by (Ok r) is e =
+        let raising = all-rows s restarts [] rows no_rows r (start-is s) ok is in
+        let same : r.rows ≡ all = cc e in (
+          subst (AcceptedAfter []) same raising.1.accepted,
+          subst (λ (l : List Row). length l ≤ 100000) same raising.1.few,
+          (r.state, subst (λ (l : List Row). after_all_rows s l ≡ Ok r.state) same raising.1.played),
+        )
+
+-- ---- one row of a loop over a trace
+
+pub loop-row : (s : ReplaySettings) (restarts : ℕ) (rows : List Row) (i : ℕ) (d : Row) (r : Raised) → i < length rows
+    → and_rows s restarts (drop i rows) r
+    ≡ (with_row s restarts (get_or rows i d) (drop (i + 1) rows) r >>= and_rows s restarts (drop (i + 1) rows))
+unfolding and_rows
+loop-row s restarts rows i d r below =
+    let next : suc i ≡ i + 1 = omega arith in
+    rw (drop-cons rows i d below, next) refl
+
+-- an error of a row is that of all rows
+pub loop-fault : (s : ReplaySettings) (restarts : ℕ) (rows : List Row) (i : ℕ) (d : Row) (r : Raised) (fault : ReplayFault)
+    → i < length rows → and_rows s restarts (drop i rows) r ≡ and_rows s restarts rows no_rows
+    → with_row s restarts (get_or rows i d) (drop (i + 1) rows) r ≡ Err fault → raised s restarts rows ≡ Err fault
+loop-fault s restarts rows i d r fault below before e =
+    let whole : and_rows s restarts rows no_rows ≡ Err fault = sym before ∙ loop-row s restarts rows i d r below ∙ rw e refl in
+    ap rows_in whole
+
+-- ---- errors: none of them is a failed output
+
+row-unwritten : (s : ReplaySettings) (row : Row) (r : Raised) (fault : ReplayFault) → and_row s row r ≡ Err fault → fault ≡ OutputFailed → ⊥
+unfolding and_row
+row-unwritten s row r fault e failed = by (nat_lt (length r.rows) 100000) (is_early row.event row.device r.state) e
+  where
+    by : (room early : Bool)
+        → (if room then (if early then Err (Pending (length r.rows + 1))
+        else Ok (record { rows = r.rows ++ row ∷ []; state = after_row s (length r.rows + 1) row r.state }))
+        else Err (Trace TooManyRows)) ≡ Err fault
+        → ⊥
+    by true false e = cc e
+    by true true e = let is : fault ≡ Pending (length r.rows + 1) = cc e in cc (sym is ∙ failed)
+    by false early e = let is : fault ≡ Trace TooManyRows = cc e in cc (sym is ∙ failed)
+
+added-unwritten : (s : ReplaySettings) (left : ℕ) (row : Row) (r : Raised) (fault : ReplayFault) → and_again s left row r ≡ Err fault
+    → fault ≡ OutputFailed → ⊥
+unfolding and_again
+added-unwritten s zero row r fault e failed = cc e
+added-unwritten s (suc left) row r fault e failed = by (length r.state.list == 0) e
+  where
+    then_on : (x : Result Raised ReplayFault) → and_row s row r ≡ x → (x >>= and_again s left row) ≡ Err fault → ⊥
+    then_on (Err other) one e =
+        let same : other ≡ fault = cc e in
+        row-unwritten s row r other one (same ∙ failed)
+    then_on (Ok next) one e = added-unwritten s left row next fault e failed
+    by : (b : Bool) → (if b then Ok r else and_row s row r >>= and_again s left row) ≡ Err fault → ⊥
+    by true e = cc e
+    by false e = then_on (and_row s row r) refl e
+
+with-unwritten : (s : ReplaySettings) (restarts : ℕ) (row : Row) (rows : List Row) (r : Raised) (fault : ReplayFault)
+    → with_row s restarts row rows r ≡ Err fault → fault ≡ OutputFailed → ⊥
+with-unwritten s restarts row rows r fault e failed = then_on (and_row s row r) refl e
+  where
+    then_on : (x : Result Raised ReplayFault) → and_row s row r ≡ x
+        → (x >>= (λ one. if is_last_run row rows then and_again s restarts row one else Ok one)) ≡ Err fault → ⊥
+    then_on (Err other) one e =
+        let same : other ≡ fault = cc e in
+        row-unwritten s row r other one (same ∙ failed)
+    then_on (Ok next) one e = by (is_last_run row rows) e
+      where
+        by : (b : Bool) → (if b then and_again s restarts row next else Ok next) ≡ Err fault → ⊥
+        by true e = added-unwritten s restarts row next fault e failed
+        by false e = cc e
+
+rows-unwritten : (s : ReplaySettings) (restarts : ℕ) (rows : List Row) (r : Raised) (fault : ReplayFault)
+    → and_rows s restarts rows r ≡ Err fault → fault ≡ OutputFailed → ⊥
+unfolding and_rows
+rows-unwritten s restarts [] r fault e failed = cc e
+rows-unwritten s restarts (row ∷ rows) r fault e failed = then_on (with_row s restarts row rows r) refl e
+  where
+    then_on : (x : Result Raised ReplayFault) → with_row s restarts row rows r ≡ x → (x >>= and_rows s restarts rows) ≡ Err fault → ⊥
+    then_on (Err other) one e =
+        let same : other ≡ fault = cc e in
+        with-unwritten s restarts row rows r other one (same ∙ failed)
+    then_on (Ok next) one e = rows-unwritten s restarts rows next fault e failed
+
+pub memory-unwritten : (fault : ReplayFault) → IsReplayOutOfMemory fault → fault ≡ OutputFailed → ⊥
+memory-unwritten fault memory failed = cc (sym memory.0 ∙ failed)
+
+pub raised-unwritten : (s : ReplaySettings) (restarts : ℕ) (rows : List Row) (fault : ReplayFault)
+    → IsReplayOutOfMemory fault ⊎ (raised s restarts rows ≡ Err fault) → fault ≡ OutputFailed → ⊥
+raised-unwritten s restarts rows fault (inl memory) failed = memory-unwritten fault memory failed
+raised-unwritten s restarts rows fault (inr e) failed = by (and_rows s restarts rows no_rows) refl e
+  where
+    by : (x : Result Raised ReplayFault) → and_rows s restarts rows no_rows ≡ x → rows_in x ≡ Err fault → ⊥
+    by (Ok r) is e = cc e
+    by (Err other) is e =
+        let same : other ≡ fault = cc e in
+        rows-unwritten s restarts rows no_rows other is (same ∙ failed)

@@ -1,0 +1,58 @@
+use Rattle.std.proofs.Common.{◌≡◌, ◌∙◌, ◌∷◌, ◌++◌, ◌+◌, Some, List, [], length, length-append, ap, refl, sym, arith}
+use Rattle.std.proofs.lemmas.List.{map-append}
+use Rattle.poll_runs.specs.Polls.{At, Poll}
+use Rattle.poll_runs.proofs.PollFacts.{chain-push}
+use Rattle.replay_rows.specs.{RunLog.polls_in, declared.run_log.RunPoll.RunPoll}
+use Rattle.replay_rows.proofs.RunLogFacts.{logged-push}
+use Rattle.replay_rows.proofs.run_log.run_logged.Goals as goal
+
+pub loop-device-init : goal.loop-device-init
+loop-device-init g c =
+    let none = c.requires.none in
+    record {
+      going = rw none c.begin-run.ensures.going;
+      rests = c.begin-run.ensures.rests;
+      room = c.begin-run.ensures.room;
+      budget = c.begin-run.ensures.settings.0;
+      weight = c.begin-run.ensures.settings.1;
+      window = c.begin-run.ensures.settings.2;
+      chain = rw none refl;
+      count = rw none (sym c.begin-run.ensures.begins.polls);
+      capacity = c.requires.room;
+      shows = λ all shows. shows;
+      logged = λ all shows more. rw none refl;
+    }
+
+pub loop-device-preserved : goal.loop-device-preserved
+loop-device-preserved g c =
+    let before = c.loop-device.invariant in
+    let log = c.loop-device.polls.items in
+    let device = c.in-Some.device in
+    let once = c.poll_once-once.result in
+    let asked : c.next.new.self.asked ≡ Some device = c.next.ensures.asks ∙ c.in-Some.is in
+    let entry : RunPoll = record { device = device; once = once; counts = c.counts_of.result } in
+    let pushed : polls_in (log ++ entry ∷ []) ≡ polls_in log ++ record { id = device; once = once } ∷ [] =
+    map-append (λ (e : RunPoll). record { id = e.device; once = e.once }) log (entry ∷ []) in
+    let is = g.met.B.ReplayBench.polled c.loop-device.bench c.poll_once-once.new.self device c.args.settings.now.weight once
+    c.poll_once-once.ensures.leads in
+    let items = c.push_reserved.ensures.items in
+    record {
+      going = rw (items, pushed)
+          (c.polled.ensures.going c.args.list.now (polls_in log) device asked (c.next.ensures.going c.args.list.now (polls_in log) before.going));
+      rests = c.polled.ensures.rests;
+      room = c.polled.ensures.room;
+      budget = c.polled.ensures.settings.budget ∙ (c.next.ensures.settings.budget ∙ before.budget);
+      weight = c.polled.ensures.settings.weight ∙ (c.next.ensures.settings.weight ∙ before.weight);
+      window = c.polled.ensures.settings.window ∙ (c.next.ensures.settings.window ∙ before.window);
+      chain = rw (items, pushed)
+          (chain-push (At g.B.Bench.polls c.args.settings.now.weight) c.args.bench.now (polls_in log) c.loop-device.bench
+          c.poll_once-once.new.self (record { id = device; once = once }) before.chain c.poll_once-once.ensures.leads);
+      count = rw items
+          (omega (arith, length-append log (entry ∷ []), before.count, c.polled.ensures.counts.0, c.next.ensures.counts));
+      capacity = omega (arith, before.capacity, c.push_reserved.ensures.capacity);
+      shows = λ all shows. is.transmits all (before.shows all shows);
+      logged = λ all shows. rw items
+          (logged-push c.args.settings.now all (g.B.ReplayBench.devices c.args.bench.now) (g.B.ReplayBench.devices c.loop-device.bench)
+          (g.B.ReplayBench.devices c.poll_once-once.new.self) log entry (before.logged all shows) is.exact.1
+          (c.counts_of.ensures all (is.transmits all (before.shows all shows))));
+    }

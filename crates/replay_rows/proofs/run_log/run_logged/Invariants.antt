@@ -1,0 +1,25 @@
+use Rattle.std.proofs.Common.{◌≡◌, ◌≤◌, ◌-◌, ◌++◌, None, List, length, vec_capacity}
+use Rattle.device_transmit.specs.Transmits.{Transmits}
+use Rattle.poll_runs.specs.{Driven.{IsGoing, held}, Plain.{HasListRoom, NothingBehind, OwnPushes, all_held}, Polls.{At, Chain, Poll}}
+use Rattle.replay_rows.specs.RunLog.{logged, polls_in}
+use Rattle.replay_rows.proofs.run_log.run_logged.Given as goal
+
+abbrev pub invariant-loop-device : goal.invariant-loop-device
+invariant-loop-device g l = record {
+  going : IsGoing all_held OwnPushes NothingBehind l.fn.list (polls_in l.polls.items) l.list l.run;
+  rests : l.run.asked ≡ None;
+  room : HasListRoom l.list (held l.run);
+  budget : l.run.budget ≡ l.settings.budget;
+  weight : l.run.weight ≡ l.settings.weight;
+  window : l.run.window ≡ l.settings.window;
+  chain : Chain (At g.B.Bench.polls l.settings.weight) l.fn.bench (polls_in l.polls.items) l.bench;
+  count : length l.polls.items ≡ l.run.polls;
+  capacity : l.settings.window ≤ vec_capacity l.polls;
+  shows : (all : Transmits) → g.B.ReplayBench.shows l.fn.bench all → g.B.ReplayBench.shows l.bench all;
+  logged : (all : Transmits) → g.B.ReplayBench.shows l.fn.bench all → (more : List Poll)
+      → logged l.settings all (g.B.ReplayBench.devices l.fn.bench) (polls_in l.polls.items ++ more)
+      ≡ l.polls.items ++ logged l.settings all (g.B.ReplayBench.devices l.bench) more;
+}
+
+abbrev pub decreases-loop-device : goal.decreases-loop-device
+decreases-loop-device g l = l.settings.window - l.run.polls
