@@ -723,7 +723,7 @@ struct fq_settings {
 #define FQ_USUAL_SETTINGS {300, 64, 1024}
 
 struct fq_replayed {
-    size_t length;  /* the length of the report in bytes, even if there is no room for it; 0 if there is none */
+    size_t length;  /* the length of the report, or of the raised trace, in bytes, even if there is no room for it; 0 if there is none */
     uint32_t fault; /* the number of the trace's fault, 1 to 12; 0 if it has none */
     uint32_t row;   /* the row that the fault names, counted from 1; 0 if it names none */
 };
@@ -732,9 +732,19 @@ struct fq_replayed {
  * settings; FQ_OUT_OF_MEMORY; FQ_BAD_TRACE, and replayed->fault and replayed->row say why; FQ_NO_ROOM, and replayed->length is the room
  * that the report needs; FQ_OK, and the first replayed->length bytes of the array are the report, with no terminating 0. All other bytes
  * of the array are unchanged, and all of them unless it returns FQ_OK. For an empty trace or array the pointer still points to some byte.
- * An instance's thread polls at most 131072 times at a time, which no trace of 100000 rows reaches. fintaqush_raise.h adds the runs that
- * the kernel would make with a smaller budget. */
+ * An instance's thread polls at most 131072 times at a time, which no trace of 100000 rows reaches. */
 FQ_CHECKED enum fq_status fq_replay(const struct fq_settings *FQ_RESTRICT settings, const uint8_t *FQ_RESTRICT trace, size_t len, uint8_t *FQ_RESTRICT report, size_t room, struct fq_replayed *FQ_RESTRICT replayed);
+
+/* As `restarts` of fq_raise: runs are added until the list is empty. */
+#define FQ_UNTIL_EMPTY UINT32_MAX
+
+/* Adds to a trace the runs that the kernel would make with these settings, as the tool `fintaqush raise` does, and writes the trace to an
+ * array of `room` bytes; fq_replay then replays it. A trace has only the runs of the machine where it was recorded. If a run leaves
+ * devices on the poll list, because budget or weight is smaller than there, the kernel raises the softirq again (net_rx_action). So a
+ * softirq row that leaves devices on the list is repeated until the list is empty, at most `restarts` times. One that is followed by
+ * another at the same time has its added run already. Returns what fq_replay returns, for the trace in place of the report. A fault names
+ * a row of the trace with the added rows; fault 9 says that it would have more than 100000. */
+FQ_CHECKED enum fq_status fq_raise(const struct fq_settings *FQ_RESTRICT settings, uint32_t restarts, const uint8_t *FQ_RESTRICT trace, size_t len, uint8_t *FQ_RESTRICT out, size_t room, struct fq_replayed *FQ_RESTRICT replayed);
 
 /* Returns the name of a trace's fault, for example "BadHeader"; "?" for an unknown number. */
 static inline const char *fq_fault_name(uint32_t fault) {
