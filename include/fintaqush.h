@@ -17,7 +17,7 @@
  * No call blocks, sleeps, locks or starts a thread. fq_seat_schedule_prep, fq_seat_complete_done, fq_seat_end and fq_control_step, and
  * the inline functions over them, repeat an attempt while other threads change the instance: some thread always makes progress. Every
  * call returns: after 2^64 attempts, which take centuries, these return FQ_CHANGED, and do nothing more. fq_ring_new, fq_ring_split,
- * fq_tx_new, fq_list_new, fq_driver_new, fq_shared_new, fq_shared_bare, fq_replay and fq_machine allocate memory, after they have checked
+ * fq_tx_new, fq_list_new, fq_driver_new, fq_shared_new, fq_shared_bare, fq_replay, fq_raise and fq_machine allocate memory, after they have checked
  * their arguments; if an allocation fails, they free what they allocated, and nothing has changed. fq_free, fq_abandon and fq_ring_finish
  * free memory. No other call allocates or frees.
  *
@@ -723,7 +723,7 @@ struct fq_settings {
 #define FQ_USUAL_SETTINGS {300, 64, 1024}
 
 struct fq_replayed {
-    size_t length;  /* the length of the report, or of the raised trace, in bytes, even if there is no room for it; 0 if there is none */
+    size_t length;  /* the length of the report or trace in bytes, even if there is no room for it; 0 if there is none */
     uint32_t fault; /* the number of the trace's fault, 1 to 12; 0 if it has none */
     uint32_t row;   /* the row that the fault names, counted from 1; 0 if it names none */
 };
@@ -735,15 +735,12 @@ struct fq_replayed {
  * An instance's thread polls at most 131072 times at a time, which no trace of 100000 rows reaches. */
 FQ_CHECKED enum fq_status fq_replay(const struct fq_settings *FQ_RESTRICT settings, const uint8_t *FQ_RESTRICT trace, size_t len, uint8_t *FQ_RESTRICT report, size_t room, struct fq_replayed *FQ_RESTRICT replayed);
 
-/* As `restarts` of fq_raise: runs are added until the list is empty. */
+/* Writes a trace with the runs that the kernel would make, because net_rx_action raises the softirq again if instances are left on the poll
+ * list: each softirq row that leaves some is repeated until the list is empty, at most `restarts` times; with FQ_UNTIL_EMPTY, or any number
+ * from 100000 on, only the list decides. A softirq row that is followed by one at the same time isn't repeated. Numbers are written in
+ * decimal, and nothing is quoted. Returns what fq_replay returns, and replayed->length is the length of the trace that it writes. A trace
+ * that would have more than 100000 rows has fault 9; the row of fault 12 counts added rows. */
 #define FQ_UNTIL_EMPTY UINT32_MAX
-
-/* Adds to a trace the runs that the kernel would make with these settings, as the tool `fintaqush raise` does, and writes the trace to an
- * array of `room` bytes; fq_replay then replays it. A trace has only the runs of the machine where it was recorded. If a run leaves
- * devices on the poll list, because budget or weight is smaller than there, the kernel raises the softirq again (net_rx_action). So a
- * softirq row that leaves devices on the list is repeated until the list is empty, at most `restarts` times. One that is followed by
- * another at the same time has its added run already. Returns what fq_replay returns, for the trace in place of the report. A fault names
- * a row of the trace with the added rows; fault 9 says that it would have more than 100000. */
 FQ_CHECKED enum fq_status fq_raise(const struct fq_settings *FQ_RESTRICT settings, uint32_t restarts, const uint8_t *FQ_RESTRICT trace, size_t len, uint8_t *FQ_RESTRICT out, size_t room, struct fq_replayed *FQ_RESTRICT replayed);
 
 /* Returns the name of a trace's fault, for example "BadHeader"; "?" for an unknown number. */
