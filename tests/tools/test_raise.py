@@ -187,16 +187,15 @@ class Raise(InFolder):
             self.assertEqual(hashlib.sha256(done).hexdigest()[:16], wanted, line)
 
     def test_a_field_that_is_quoted_in_part(self):
-        """The replay accepts `"so"ftirq` and `"3"0`: the text after a closing quote belongs to the field. What adds runs doesn't, and says so."""
+        """The replay accepts `"so"ftirq` and `"3"0`: the text after a closing quote belongs to the field. So do all that add runs."""
         for old, new, row in (("2,0,softirq", '2,0,"so"ftirq', 5), ("3,0,", '"3"0,0,', 6), ("moment,", '"mo"ment,', 0)):
-            path, page, out = self.write("x.csv", self.BURST.replace(old, new, 1)), self.folder / "page.html", self.folder / "rows"
-            self.replay(path.read_text())
-            for words in (["raise", path], ["steps", path, "--out", page], ["steps", path, "--raise", "--out", page],
-                          ["compare-runs", path, "--raise", "--budget", "1", "--"], ["sweep", path, "--raise", "--budget", "1", "--out", out]):
-                done = run(*words)
-                out.unlink(missing_ok=True)
-                self.assertEqual((done.returncode, done.stdout, self.names()), (1, "", ["x.csv"]), (words, done.stderr))
-                self.assertIn(f"row {row} has a field that is quoted in part: take the quotes out of the trace\n", done.stderr)
+            text = self.BURST.replace(old, new, 1)
+            whole = HEADER + "".join(f"{row}\n" for row in self.raised(text, "--budget", "1", "--weight", "1"))
+            self.assertEqual(whole, HEADER + "".join(f"{row}\n" for row in self.raised(self.BURST.replace(old, new.replace('"', ""), 1), "--budget", "1", "--weight", "1")))
+            path, plain = self.write("x.csv", text), self.write("y.csv", self.BURST.replace(old, new.replace('"', ""), 1))
+            for words in (["compare-runs", "--raise", "--budget", "1", "--"], ["plot", "--raise", "--budget", "1", "--json"]):
+                done, other = (run(words[0], each, *words[1:]) for each in (path, plain))
+                self.assertEqual((done.returncode, done.stdout), (0, other.stdout.replace("y.csv", "x.csv")), done.stderr)
 
     def test_a_disable_that_waits_for_the_runs(self):
         """In the given rows the enable row meets a pending disable; with the added runs it doesn't."""
