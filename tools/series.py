@@ -37,11 +37,13 @@ def read_series(text):
 
 
 def keys_of(rows, own):
-    """Returns for each row of a series with added runs the row of the trace that it belongs to, and 0 or the number of the run that was added after
-    it. `own` are the records of the trace."""
+    """Returns for each row of a series with added runs the row of the trace that it belongs to, and 0 or the number of the run that was added
+    after it. `own` are the rows of the trace. Of several runs at the same time the trace's own come first."""
     keys, place, added = [], 0, 0
     for row in rows:
         is_own = place < len(own) and (row["moment"], row["device"]) == (int(own[place][0]), int(own[place][1]))
         place, added = (place + 1, 0) if is_own else (place, added + 1)
         keys.append((place, added))
+    if place < len(own):
+        raise Refusal("the series hasn't all rows of the trace")
     return keys

@@ -493,9 +493,9 @@ def played(made, words, text):
 
 
 def why_refused(words):
-    """Returns the launcher's message on options that the replay rejected, without the launcher's own options."""
+    """Returns the launcher's message on options that the replay rejected, without the launcher's own options and those of napi_series."""
     from words import judge
-    return judge(words).split(": they are --")[0]
+    return judge([word for word in words if word.partition("=")[0] not in ("--raise", "--polls", "--rows")]).split(": they are --")[0]
 
 
 def run_program(made, words, text):

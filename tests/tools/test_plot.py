@@ -147,8 +147,10 @@ class Plot(InFolder):
         self.assertEqual(self.plot(self.ROWS, "--budget", "3").returncode, 2)
         for wrong, why in (("--buget", "'--buget' is no option: is --budget meant, a whole number, 1..=65535?\n"),
                            ("--unit", "'--unit' is no option\n")):
-            done = run("plot", TOP / "examples/bursts.csv", wrong, "3")
-            self.assertEqual((done.stderr, done.returncode), (f"plot: usage fault 64: {why}", 1))
+            for more in ([], ["--raise"]):
+                done = run("plot", TOP / "examples/bursts.csv", wrong, "3", *more)
+                self.assertEqual((done.stderr, done.returncode), (f"plot: usage fault 64: {why}", 1))
+        self.assertIn("the series hasn't all rows", run("plot", TOP / "examples/bursts.csv", "--every", "2", "--raise", "--json").stderr)
         self.assertIn("--beside: No closing quotation", run("plot", TOP / "examples/bursts.csv", "--beside", "'").stderr)
         self.assertEqual(run("plot").returncode, 2)
 
