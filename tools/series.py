@@ -1,4 +1,4 @@
-"""Reads the output of napi_series: docs/TOOLS.md, "The series"."""
+"""Reads the output of napi_series: docs/FORMATS.md, "The series"."""
 
 import csv
 import io
