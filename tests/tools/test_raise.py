@@ -167,16 +167,16 @@ class Raise(InFolder):
     def test_the_definition(self):
         """A softirq row is played again while the report of all rows so far has a device on the list, unless a run at the same time follows."""
         longer = 0
-        for number in range(24):
+        for number in range(60):
             header, *own = Trace(number, 1).text().splitlines()
-            own, words, most = own[:40], SETTINGS[number % 6], (1, 3, 0, 99999)[number // 6]
+            own, words, most = own[:80], (["--budget=1", "--weight=1"], ["--window=1"], ["--weight=1"])[number % 3], (1, 3, 99999)[number // 3 % 3]
             try:
                 wanted = self.with_runs(header, own, most, words)
             except subprocess.CalledProcessError as error:
                 wanted = error.stderr
             self.assertEqual(series([f"--raise={most}", "--rows", *words], "\n".join([header, *own, ""]).encode()).decode(), wanted, number)
             longer += wanted.count("\n") > len(own) + 1
-        self.assertGreater(longer, 3)
+        self.assertGreater(longer, 15)
 
     def test_shipped_traces_stay_as_they_were(self):
         """With several settings: the checksums of the traces that earlier releases made by repeated replays (raised.sums)."""
