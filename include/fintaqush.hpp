@@ -8,13 +8,10 @@
 #define FINTAQUSH_HPP
 
 #include "fintaqush.h"
-#include "fintaqush_raise.h"
 
 #include <array>
 #include <cstddef>
 #include <cstdint>
-#include <cstdlib>
-#include <memory>
 #include <optional>
 #include <string>
 #include <string_view>
@@ -813,36 +810,36 @@ struct NoReport {
     std::uint32_t status, fault, row;
 };
 
-// Replays a whole trace on one thread (napi_replay --mode=serial), and returns its report.
-[[nodiscard]] inline std::variant<std::string, NoReport> replay(std::string_view trace, const fq_settings &settings = FQ_USUAL_SETTINGS) {
+namespace detail {
+// Returns what a call writes for a trace: call(bytes, length, out, room, &replayed).
+template <class Call>
+[[nodiscard]] std::variant<std::string, NoReport> written(std::string_view trace, Call call) {
     const std::uint8_t none = 0;
     const std::uint8_t *bytes = trace.empty() ? &none : reinterpret_cast<const std::uint8_t *>(trace.data());
-    std::string report(4096, '\0');
+    std::string out(4096, '\0');
     fq_replayed replayed{};
-    const auto play = [&] {
-        return fq_replay(&settings, bytes, trace.size(), reinterpret_cast<std::uint8_t *>(report.data()), report.size(), &replayed);
-    };
-    std::uint32_t said = play();
+    const auto write = [&] { return call(bytes, trace.size(), reinterpret_cast<std::uint8_t *>(out.data()), out.size(), &replayed); };
+    std::uint32_t said = write();
     if (said == FQ_NO_ROOM) {
-        report.resize(replayed.length);
-        said = play();
+        out.resize(replayed.length);
+        said = write();
     }
     if (said != FQ_OK) return NoReport{said, replayed.fault, replayed.row};
-    report.resize(replayed.length);
-    return report;
+    out.resize(replayed.length);
+    return out;
+}
+} // namespace detail
+
+// Replays a whole trace on one thread (napi_replay --mode=serial), and returns its report.
+[[nodiscard]] inline std::variant<std::string, NoReport> replay(std::string_view trace, const fq_settings &settings = FQ_USUAL_SETTINGS) {
+    return detail::written(trace, [&](auto... to) { return fq_replay(&settings, to...); });
 }
 
-// Adds to a trace the runs that the kernel would make with these settings, at most `restarts` after a softirq row (fq_raise_runs), and
+// Adds to a trace the runs that the kernel would make with these settings, at most `restarts` after a softirq row (fq_raise), and
 // returns the trace. Its replay is the raised replay. With more than 100000 rows it fails with fault 9.
 [[nodiscard]] inline std::variant<std::string, NoReport> raise_runs(std::string_view trace, const fq_settings &settings = FQ_USUAL_SETTINGS,
                                                                     std::uint32_t restarts = FQ_UNTIL_EMPTY) {
-    const std::uint8_t none = 0;
-    const std::uint8_t *bytes = trace.empty() ? &none : reinterpret_cast<const std::uint8_t *>(trace.data());
-    fq_raised raised{};
-    const std::uint32_t said = fq_raise_runs(&settings, restarts, bytes, trace.size(), &raised);
-    const std::unique_ptr<std::uint8_t, decltype(&std::free)> owned(raised.trace, std::free);
-    if (said != FQ_OK) return NoReport{said, raised.fault, raised.row};
-    return std::string(reinterpret_cast<const char *>(raised.trace), raised.length);
+    return detail::written(trace, [&](auto... to) { return fq_raise(&settings, restarts, to...); });
 }
 
 // The settings of the machine, at first the defaults of napi_machine.

@@ -1,5 +1,4 @@
-"""The reference of the C library, from include/fintaqush.h and fintaqush_raise.h. Groups begin at the comments `/* ---- TITLE`; the call of
-fintaqush_raise.h is a group of its own.
+"""The reference of the C library, from include/fintaqush.h. Groups begin at the comments `/* ---- TITLE`.
 
 header.py FOLDER writes the manual pages of section 3: fintaqush_GROUP.3 for each group, and for each call CALL.3, which leads there.
 header.py --names prints their names. header.py --doxygen FILE prints a header with its comments as Doxygen reads them.
@@ -10,7 +9,6 @@ import sys
 import textwrap
 
 HEADER = pathlib.Path(__file__).resolve().parent.parent / "include/fintaqush.h"
-RAISE = HEADER.with_name("fintaqush_raise.h")
 # For a group whose name isn't in its first call: by its first call, the group's name, and what its manual page says that it is. The name of
 # any other group is in its first call, and its comment says what it is.
 KNOWN = {
@@ -24,7 +22,7 @@ KNOWN = {
     "fq_list_new": ("run", "poll lists and polling runs"),
     "fq_driver_new": ("driver", "a driver of up to 64 devices on one thread"),
     "fq_word_raise": ("word", "a word of pending bits"),
-    "fq_replay": ("replay", "the replay of a trace"),
+    "fq_replay": ("replay", "the replay of a trace, and the runs that the kernel would add"),
     "fq_machine_usual": ("machine", "the receiving machine in time"),
 }
 BANNER = re.compile(r"/\* ---- (.*?)\*/", re.S)
@@ -33,7 +31,7 @@ FIRST = re.compile(r"/\*(?:(?!\*/).)*\*/\nenum fq_status", re.S)
 
 
 def groups():
-    """Yields each group: its name, what it is, its comment, and the header's text up to the next group."""
+    """Returns each group: its name, what it is, its comment, and the header's text up to the next group."""
     text = HEADER.read_text()
     parts = BANNER.split(text[FIRST.search(text).start() :])
     found = []
@@ -41,18 +39,7 @@ def groups():
         first = calls_of(part)[0]
         name = first.split("_")[1], re.match(r"[^.(]*", prose(comment))[0].strip()
         found.append((*KNOWN.get(first, name), comment, part))
-    blocks = RAISE.read_text().split("*/\n", 1)[1].split("\n\n")
-    return [*found, ("raise", "add the runs that the kernel would make with other settings", raise_comment(), "\n\n".join(public(blocks)))]
-
-
-def raise_comment():
-    """Returns the comment at the top of fintaqush_raise.h without its example and what is below that."""
-    return RAISE.read_text()[2:].split(" fq_replay then replays", 1)[0]
-
-
-def public(blocks):
-    """Returns the parts of fintaqush_raise.h, one for each declaration, that programs use."""
-    return [block for block in blocks if "fq_raising" not in block.split("{")[0]]
+    return found
 
 
 def prose(comment):
@@ -115,7 +102,7 @@ def manual(name, what, comment, text, version):
     calls = calls_of(text)
     yield f'.TH FINTAQUSH_{name.upper()} 3 "" "Fintaqush {version}"'
     yield f".SH NAME\n{', '.join([f'fintaqush_{name}', *calls])} \\- {what}"
-    yield f".SH SYNOPSIS\n.nf\n.B #include <{RAISE.name if name == 'raise' else HEADER.name}>\n.fi"
+    yield f".SH SYNOPSIS\n.nf\n.B #include <{HEADER.name}>\n.fi"
     yield ".SH DESCRIPTION"
     if comment:
         yield roff(prose(comment))
@@ -147,8 +134,6 @@ def for_doxygen(path):
         return "/** @file */\n" + re.sub(r"\b(fq_\w+|FQ_[A-Z_]+)\b", r"#\1", text[: text.index("#ifndef")]) + text[text.index("#ifndef") :]
     text = re.sub(r"(?<=\S)( +)/\* ", r"\1/**< ", text)
     text = re.sub(r"^( *)/\*(?=[ \n])", r"\1/**", text, flags=re.M)
-    if path.name == RAISE.name:
-        return "/** @file */\n" + text.replace("/**\n", "/** @defgroup raise Raised replays\n * @{\n */\n/**\n", 1).replace("#ifdef __cplusplus\n}", "/** @} */\n#ifdef __cplusplus\n}")
     text = "/** @file */\n" + text.replace("/**\n", "/** @mainpage Calls of C and C++\n", 1)
     status, *others = [(name, what[0].upper() + what[1:]) for name, what, _, _ in groups()]
     for name, what in others:

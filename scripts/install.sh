@@ -49,7 +49,7 @@ guide=share/doc/fintaqush # the pages for users of the library, and the examples
 pages=(C.md GUIDE.md LIMITS.md)
 examples=("$top"/examples/c/*)
 library_files=("$libdir"/{libfintaqush.a,"libfintaqush.so.$version","libfintaqush.so.$major",libfintaqush.so,pkgconfig/fintaqush.pc}
-    "$libdir"/cmake/Fintaqush/{FintaqushConfig,FintaqushConfigVersion}.cmake include/{fintaqush.h,fintaqush_raise.h,fintaqush.hpp,fintaqush_tsan.h}
+    "$libdir"/cmake/Fintaqush/{FintaqushConfig,FintaqushConfigVersion}.cmake include/{fintaqush.h,fintaqush.hpp,fintaqush_tsan.h}
     share/man/man3/fintaqush.3 "${pages[@]/#/$guide/}" "${examples[@]/#"$top"/$guide}")
 mapfile -t call_pages < <(python3 -EsSB "$top/scripts/header.py" --names) # a page for each group of calls, and one for each call, which leads there
 library_files+=("${call_pages[@]/#/share/man/man3/}")
@@ -175,7 +175,6 @@ put 644 "$scratch/libfintaqush.so.$version" "$libdir/libfintaqush.so.$version"
 ln -sf "libfintaqush.so.$version" "$to/$libdir/libfintaqush.so.$major"
 ln -sf "libfintaqush.so.$major" "$to/$libdir/libfintaqush.so"
 put 644 "$top/include/fintaqush.h" include/fintaqush.h
-put 644 "$top/include/fintaqush_raise.h" include/fintaqush_raise.h
 put 644 "$top/include/fintaqush.hpp" include/fintaqush.hpp
 put 644 "$top/include/fintaqush_tsan.h" include/fintaqush_tsan.h
 put 644 "$scratch/fintaqush.pc" "$libdir/pkgconfig/fintaqush.pc"
@@ -224,9 +223,7 @@ if [ -n "$is_python" ]; then
     packages=$(python3 -c 'import site, sys
 print(next((home for home in site.getsitepackages() if home.startswith(sys.argv[1] + "/lib/")), sys.argv[1] + "/lib/python3/dist-packages"))' "$prefix")
     for file in "${python[@]}"; do
-        from=$file
-        [ "${file##*/}" != _raising.py ] || from=$top/tools/raising.py # a checkout has one file for the tools and the package
-        put 644 "$from" "${packages#"$prefix/"}/fintaqush/${file##*/}"
+        put 644 "$file" "${packages#"$prefix/"}/fintaqush/${file##*/}"
     done
     [ -n "${DESTDIR:-}" ] || python3 -c 'import sys; sys.exit(sys.argv[1] not in sys.path)' "$packages" ||
         echo "install: python3 finds the package by PYTHONPATH=$packages"

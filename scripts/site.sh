@@ -45,7 +45,7 @@ make_manuals() {
 make_c() {
     cat > "$scratch/Doxyfile" << END
 PROJECT_NAME = "Fintaqush: C and C++"
-INPUT = include/fintaqush.h include/fintaqush_raise.h include/fintaqush.hpp
+INPUT = include/fintaqush.h include/fintaqush.hpp
 INPUT_FILTER = "python3 -EsSB scripts/header.py --doxygen"
 STRIP_FROM_INC_PATH = include
 OUTPUT_DIRECTORY = "$new/reference/c"
@@ -54,7 +54,7 @@ HTML_EXTRA_STYLESHEET = "$scratch/narrow_and_dark.css"
 MACRO_EXPANSION = YES
 EXPAND_ONLY_PREDEF = YES
 PREDEFINED = FQ_CHECKED= FQ_NONNULL= FQ_RESTRICT= FQ_NUMBER= __GNUC__
-EXCLUDE_SYMBOLS = fintaqush::detail private_* fq_raising*
+EXCLUDE_SYMBOLS = fintaqush::detail private_*
 JAVADOC_AUTOBRIEF = YES
 EXTRACT_ALL = YES
 EXTRACT_STATIC = YES

@@ -210,12 +210,15 @@ check 'a million pairs on a queue limit, as a plain fold counts them' as_the_fol
 # ---- the replay, compared with the tool
 
 serial=$top/crates/napi_serial/out/napi_serial
+series=$top/crates/napi_series/out/napi_series
 
-# as_the_tool PROGRAM TRACE BUDGET WEIGHT WINDOW: the same report, message and status as napi_serial's.
+# as_the_tool PROGRAM TRACE BUDGET WEIGHT WINDOW [RESTARTS]: the same report, message and status as napi_serial's; with RESTARTS the same
+# trace with added runs as napi_series'.
 as_the_tool() {
-    local program=$1 trace=$2 wanted=0 status=0
+    local program=$1 trace=$2 wanted=0 status=0 tool=("$serial")
     shift 2
-    timeout 600 "$serial" --budget="$1" --weight="$2" --window="$3" < "$trace" > "$scratch/wanted" 2> "$scratch/wanted.line" || wanted=$?
+    [ $# = 3 ] || tool=("$series" "--raise=$4" --rows)
+    timeout 600 "${tool[@]}" --budget="$1" --weight="$2" --window="$3" < "$trace" > "$scratch/wanted" 2> "$scratch/wanted.line" || wanted=$?
     timeout 600 "$program" "$@" < "$trace" > "$scratch/printed" 2> "$scratch/line" || status=$?
     [ "$status" = "$wanted" ] && cmp "$scratch/printed" "$scratch/wanted" && diff "$scratch/line" "$scratch/wanted.line"
 }
@@ -246,27 +249,11 @@ refuses_settings() {
 END
 }
 
-# raised_as_the_tool PROGRAM TRACE BUDGET WEIGHT WINDOW [RESTARTS]: the same trace as `fintaqush raise`, or the same fault and status.
-raised_as_the_tool() {
-    local program=$1 trace=$2 wanted=0 status=0
-    shift 2
-    timeout 600 "$top/tools/raise" "$trace" --program "$serial" --budget "$1" --weight "$2" --window "$3" ${4:+--restarts "$4"} > "$scratch/wanted" 2> "$scratch/wanted.line" || wanted=$?
-    [[ $program == *_cpp ]] || set -- "$1" "$2" "$3" "${4:--}"
-    timeout 600 "$program" "$@" < "$trace" > "$scratch/printed" 2> "$scratch/line" || status=$?
-    # the tool exits with 1 for each fault, and has words of its own for too many rows
-    case $status in
-        0) [ "$wanted" = 0 ] && cmp "$scratch/printed" "$scratch/wanted" ;;
-        2) [ "$wanted" = 1 ] && [ ! -s "$scratch/printed" ] && { grep -q -F "$(cat "$scratch/line")" "$scratch/wanted.line" ||
-            { grep -q 'raised there are' "$scratch/wanted.line" && grep -q -x 'trace fault 9 TooManyRows row 100001' "$scratch/line"; }; } ;;
-        *) false ;;
-    esac || { cat "$scratch/line" "$scratch/wanted.line"; false; }
-}
-
 # Without the added runs the kernel's disables are still pending at some enable row: fault 12. With them no run is missing.
 reports_all_runs() {
     "$scratch/replay" "$2" 64 1024 < "$1" > "$scratch/printed" 2> "$scratch/line"
     [ $? = 2 ] && grep -q '^trace fault 12 Pending row' "$scratch/line" || { echo 'its own runs are enough'; return 1; }
-    "$scratch/raise" "$2" 64 1024 - < "$1" > "$scratch/whole.csv" && "$scratch/replay" "$2" 64 1024 < "$scratch/whole.csv" | grep -q -x list
+    "$scratch/replay" "$2" 64 1024 99999 < "$1" > "$scratch/whole.csv" && "$scratch/replay" "$2" 64 1024 < "$scratch/whole.csv" | grep -q -x list
 }
 
 # the most rows that a trace has, and one more
@@ -282,8 +269,7 @@ printf 'moment,device,event,value\n0,1,open,4\n0,1,open,4\n' > "$scratch/twice.c
 { cat "$scratch/full.csv" && yes 1,1,rx,60 | head -n 20 && echo 2,0,softirq,0; } > "$scratch/fuller.csv"
 printf 'moment,device,event,value\n0,1,open,8\n0,2,open,8\n0,1,rx,60\n0,2,rx,60\n1,2,disable,0\n2,0,softirq,0\n3,2,enable,0\n' > "$scratch/waits.csv"
 printf '\357\273\277"moment","device",event,value\r\n\r\n"0",01,open,8\r1,1,rx,60\n\n1,1,rx,60\n"2",0,"softirq","0' > "$scratch/quoted.csv"
-: > "$scratch/none_at_all.csv"
-if "$top/scripts/build.sh" napi_serial > "$scratch/log" 2>&1; then
+if "$top/scripts/build.sh" napi_serial napi_series > "$scratch/log" 2>&1; then
     check 'the replay compiles' compile gcc "$top/tests/c/replay.c" "$scratch/replay" -O2
     for trace in "$top"/examples/*.csv "$scratch"/{long,longer,pending,twice,blank,field}.csv; do
         check "the replay of $(basename "$trace")" as_the_tool "$scratch/replay" "$trace" 300 64 1024
@@ -295,19 +281,15 @@ if "$top/scripts/build.sh" napi_serial > "$scratch/log" 2>&1; then
         check "the replay of $(basename "$trace") in C++" as_the_tool "$scratch/replay_cpp" "$trace" 300 64 1024
     done
     check 'settings out of range' refuses_settings
-    check 'the raised replay compiles' compile gcc "$top/tests/c/raise.c" "$scratch/raise" -O2
-    check 'the raised replay in C++ compiles' compile g++ "$top/tests/c/raise.cpp" "$scratch/raise_cpp" -O2
-    for trace in "$top"/examples/*.csv "$scratch"/{full,fuller,waits,quoted,pending,twice,none_at_all}.csv; do
-        for settings in '16 8 1024' '1 1 1024' '300 5 2' '1 1 1024 2'; do
-            # shellcheck disable=SC2086 # three or four numbers
-            check "the raised $(basename "$trace") by $settings" raised_as_the_tool "$scratch/raise" "$trace" $settings
-        done
+    for trace in "$top/examples/"{two-queues,busy-poll,linux-veth-bursts,linux-napi-disable}.csv "$scratch"/{fuller,waits,quoted,pending}.csv; do
+        check "the raised $(basename "$trace")" as_the_tool "$scratch/replay" "$trace" 16 8 1024 99999
+        check "the raised $(basename "$trace") with at most two more runs" as_the_tool "$scratch/replay" "$trace" 1 1 1024 2
     done
     for budget in 1 8 32; do
         check "with all runs the trace of disables has a report by a budget of $budget" reports_all_runs "$top/examples/linux-napi-disable.csv" "$budget"
     done
-    for trace in "$top/examples/linux-veth-bursts.csv" "$scratch"/{waits,none_at_all}.csv; do
-        check "the raised $(basename "$trace") in C++" raised_as_the_tool "$scratch/raise_cpp" "$trace" 7 3 1024
+    for trace in "$top/examples/linux-veth-bursts.csv" "$scratch/pending.csv"; do
+        check "the raised $(basename "$trace") in C++" as_the_tool "$scratch/replay_cpp" "$trace" 7 3 1024 99999
     done
 else
     cp "$scratch/log" "$scratch/build.log"
@@ -402,10 +384,8 @@ sanitized() {
     check "$name: the replay compiles" compile gcc "$top/tests/c/replay.c" "$scratch/sanitized" -O1 -g "$flag" -fno-sanitize-recover=all
     check "$name: the replay" as_the_tool "$scratch/sanitized" "$scratch/long.csv" 300 64 1024
     check "$name: the replay of a fault" as_the_tool "$scratch/sanitized" "$scratch/pending.csv" 300 64 1024
-    check "$name: the raised replay compiles" compile gcc "$top/tests/c/raise.c" "$scratch/sanitized" -O1 -g "$flag" -fno-sanitize-recover=all
-    for trace in "$top/examples/linux-veth-bursts.csv" "$scratch"/{fuller,waits,quoted}.csv; do
-        check "$name: the raised $(basename "$trace")" raised_as_the_tool "$scratch/sanitized" "$trace" 1 1 1024
-    done
+    check "$name: the raised replay" as_the_tool "$scratch/sanitized" "$scratch/waits.csv" 1 1 1024 99999
+    check "$name: the raised replay of a fault" as_the_tool "$scratch/sanitized" "$scratch/fuller.csv" 1 1 1024 99999
 }
 
 export ASAN_OPTIONS=detect_leaks=1

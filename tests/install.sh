@@ -80,7 +80,7 @@ guide_programs_run() {
 # each_call_has_a_page FOLDER: also those that the header has inline.
 each_call_has_a_page() {
     local call
-    for call in fq_raise_runs $(grep -oE '\bfq_[a-z_]+\(' "$top/include/fintaqush.h" | tr -d '(' | sort -u); do
+    for call in $(grep -oE '\bfq_[a-z_]+\(' "$top/include/fintaqush.h" | tr -d '(' | sort -u); do
         [ -e "$1/share/man/man3/$call.3" ] || { echo "$call has no manual page"; return 1; }
     done
 }

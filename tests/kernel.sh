@@ -2,7 +2,8 @@
 # tests/kernel.sh: Linux's own functions, compared with the program. They are taken by name from Debian's packages
 # linux-source-6.12 and, for the queue limit, linux-source-6.1 (or all of them from the folder LINUX of sources) into a scratch
 # folder, built there with tests/kernel/, and replay the same traces as napi_serial: each report has to be the same, byte by
-# byte. A report that isn't is printed with its smallest trace. Then the same with the functions of linux-source-7.3, the newest
+# byte. Some traces are raised: napi_series adds the runs for which net_rx_action raises the softirq. A report that isn't the same is
+# printed with its smallest trace. Then the same with the functions of linux-source-7.3, the newest
 # that Debian has: docs/KERNELS.md says what differs. Each is skipped if its sources can't be had. Nothing of the kernel's is
 # kept in the repository. The last line is `N passed, M failed, K skipped`. Needs python3 and a C compiler.
 #
@@ -11,7 +12,7 @@
 # --traces N    random traces (5000)
 # --small ROWS  all traces of up to this many rows after the first ones (4)
 # --seed N      the first random trace (1)
-# PROGRAM=FILE names another build of napi_serial.
+# PROGRAM=FILE and SERIES=FILE name other builds of napi_serial and napi_series.
 set -uo pipefail
 unset CDPATH
 top=$(dirname "$(dirname "$(readlink -f "$0")")")
@@ -104,12 +105,15 @@ differs() {
 }
 
 # compare KERNEL OPTION ..: napi_serial, compared with these functions.
-compare() { python3 -B "$kernel/compare.py" "${PROGRAM:-$top/crates/napi_serial/out/napi_serial}" "$@"; }
+compare() {
+    python3 -B "$kernel/compare.py" "${PROGRAM:-$top/crates/napi_serial/out/napi_serial}" "${SERIES:-$top/crates/napi_series/out/napi_series}" "$@"
+}
 
 check 'each function is found by its name' extract 6.12
 stand_in
 check 'they are built over stubs' build linux 6.12 6.1
 [ -n "${PROGRAM:-}" ] || check 'napi_serial stands' "$top/scripts/build.sh" napi_serial
+[ -n "${SERIES:-}" ] || check 'napi_series stands' "$top/scripts/build.sh" napi_series
 [ "$failed" = 0 ] || { sum_up; exit 1; }
 echo "net/core/dev.c of Linux $(release 6.12), lib/dynamic_queue_limits.c of Linux $(release 6.1)"
 check 'each report is the same' compare "$scratch/linux" "$@"
@@ -127,6 +131,7 @@ version=6.12
 check 'a name that is not there is told' eval '! take none.h net/core/dev.c: napi_schedule_prep napi_no_such_function'
 check 'a request that is not missed is seen' differs request-not-missed 6.12.d/instances.h 'NAPIF_STATE_SCHED) / NAPIF_STATE_SCHED *' 'NAPIF_STATE_SCHED) / NAPIF_STATE_SCHED * 0 *'
 check 'a repoll in front of what arrived is seen' differs repolls-before-arrivals 6.12.d/polls.h 'list_splice_tail(&repoll, &list)' 'list_splice(&repoll, &list)'
+check 'a run that is not raised again is seen' differs run-not-raised 6.12.d/polls.h '__raise_softirq_irqoff(NET_RX_SOFTIRQ)' '(void)0' 'raised .* differs; its smallest trace'
 check 'a slack of the new limit is seen' differs slack-from-new-limit 6.1/lib/dynamic_queue_limits.c 'slack = POSDIFF(limit + dql->prev_ovlimit,' 'slack = POSDIFF(limit,'
 check 'a mistake that loops ends in a line' differs loops 6.12.d/polls.h 'while (!napi_thread_wait(napi))' 'while (!napi_thread_wait(napi) || true)' "the kernel's side loops: no report after 5 s"
 sum_up

@@ -82,23 +82,20 @@ check 'the example limit' compared "$scratch/target/debug/examples/limit"
 check 'it builds as a release' of build --release --example threads
 check 'the example threads as a release' compared "$scratch/target/release/examples/threads"
 
-# ---- the raised replay, compared with the tool
+# ---- the raised replay, compared with the programs
 
-# raised TRACE BUDGET WEIGHT: the report of the trace that `fintaqush raise` writes.
+# raised TRACE BUDGET WEIGHT: the report of the trace with the runs that napi_series adds.
 raised() {
-    local serial=$top/crates/napi_serial/out/napi_serial
-    "$top/tools/raise" "$1" --program "$serial" --budget "$2" --weight "$3" > "$scratch/raised.csv" &&
-        "$serial" --budget="$2" --weight="$3" < "$scratch/raised.csv" > "$scratch/wanted" &&
+    "$top/crates/napi_series/out/napi_series" --raise --rows --budget="$2" --weight="$3" < "$1" > "$scratch/raised.csv" &&
+        "$top/crates/napi_serial/out/napi_serial" --budget="$2" --weight="$3" < "$scratch/raised.csv" > "$scratch/wanted" &&
         timeout 300 "$scratch/target/debug/examples/raised" "$2" "$3" < "$1" | cmp - "$scratch/wanted"
 }
 
-if "$top/scripts/build.sh" napi_serial > "$scratch/build.log" 2>&1; then
-    for trace in "$top"/examples/*.csv; do
-        check "the raised $(basename "$trace")" raised "$trace" 16 8
-    done
+if "$top/scripts/build.sh" napi_serial napi_series > "$scratch/build.log" 2>&1; then
+    check 'the raised replay of recorded bursts' raised "$top/examples/linux-veth-bursts.csv" 16 8
     check 'raised runs of one packet' raised "$top/examples/busy-poll.csv" 1 1
 else
-    check 'napi_serial, which the raised replay is compared with' eval 'cat "$scratch/build.log"; false'
+    check 'napi_series, which the raised replay is compared with' eval 'cat "$scratch/build.log"; false'
 fi
 
 # ---- what the compiler rejects

@@ -56,6 +56,10 @@ def series_parser():
     parser = parser_of(SERIES)
     parser.add_argument("file", nargs="?", metavar="TRACE", help="the trace; - or none: standard input")
     parser.add_argument("--every", type=number(1, 99999), metavar="N", help="only each Nth row, 1 to 99999 (1)")
+    parser.add_argument("--raise", action="store_true", dest="raised", help="add the runs that the kernel would make, as fintaqush raise does")
+    parser.add_argument("--restarts", type=number(0, 99999), metavar="N", help="with --raise: add at most N runs after a row (until the list is empty)")
+    parser.add_argument("--polls", action="store_true", help="a line for each poll before the line of its softirq row")
+    parser.add_argument("--rows", action="store_true", help="print the rows of the trace, with the added runs, in place of the series")
     add_settings(parser)
     return parser
 
@@ -87,9 +91,16 @@ def become(command, path):
 
 
 def series():
-    words = series_parser().parse_args()
+    parser = series_parser()
+    words = parser.parse_args()
+    if words.restarts is not None and not words.raised:
+        parser.error("--restarts goes with --raise")
+    if words.rows and (words.polls or words.every):
+        parser.error("--rows prints no lines of the series: it goes with neither --every nor --polls")
     every = ["--every", str(words.every)] if words.every else []
-    become([program("napi_series"), *every, *settings_of(words)], words.file)
+    adds = ["--raise" if words.restarts is None else f"--raise={words.restarts}"] if words.raised else []
+    own = [*every, *adds, *["--polls"] * words.polls, *["--rows"] * words.rows]
+    become([program("napi_series"), *own, *settings_of(words)], words.file)
 
 
 def machine():

@@ -20,15 +20,13 @@ from start import lacking, version
 if lacking():  # any Python 3 can parse this file and the tools
     sys.exit(f"{os.path.basename(sys.argv[0])}: {lacking()}")
 
-from raising import MOST_ROWS, Pending, QuotedInPart, Raising, TooManyRows
-
 # The checkout; or the prefix of an installation, whose tools are in PREFIX/lib/fintaqush/tools.
 HOME = TOP if os.path.isdir(f"{TOP}/crates") else os.path.dirname(os.path.dirname(TOP))
 MOST_DEVICES = 16
+MOST_ROWS = 100000
 MOST_BYTES = 64 * 1024 * 1024  # of a trace or a report; the largest trace has 7 MB
 HEADERS = {"moment,device,event,value": 1, "moment,device,event,value,2": 2}
 RANGES = {"budget": 65535, "weight": 64, "window": 65535}  # docs/FORMATS.md, "The words"
-PENDING = "trace fault 12 Pending row "
 TICKS = {"ms": 1000, "us": 1000000}  # time units per second
 
 NAME = os.environ.get("FINTAQUSH_NAME", "")  # how scripts/subcommands.py was called, as `fintaqush plot`
@@ -147,7 +145,7 @@ def say(tool, text):
 
 def why(error):
     """Returns an error as one line. An unexpected exception is included, with its place in the code."""
-    if isinstance(error, (Refusal, QuotedInPart)):
+    if isinstance(error, Refusal):
         return str(error)
     if isinstance(error, MemoryError) or isinstance(error, (ImportError, RuntimeError)) and ("failed to map" in str(error)
                                                                                              or "new thread" in str(error)):
@@ -495,9 +493,9 @@ def played(made, words, text):
 
 
 def why_refused(words):
-    """Returns the launcher's message on options that the replay rejected, without the launcher's own options."""
+    """Returns the launcher's message on options that the replay rejected, without the launcher's own options and those of napi_series."""
     from words import judge
-    return judge(words).split(": they are --")[0]
+    return judge([word for word in words if word.partition("=")[0] not in ("--raise", "--polls", "--rows")]).split(": they are --")[0]
 
 
 def run_program(made, words, text):
@@ -515,24 +513,19 @@ def as_rows(key, value, numbers):
     return [{key: each, value: number} for each, number in numbers.items()]
 
 
-def raise_runs(text, made, words, restarts=None):
-    """Adds the runs that the kernel would make with these options: one after each softirq row that leaves the list nonempty, until it is
-    empty or `restarts` were added. Returns the trace's bytes, and for each row the index of the row that it belongs to."""
-    def replay(trace):
-        try:
-            return run_program(made, words, trace)
-        except Refusal as error:
-            pending = str(error).partition(PENDING)[2]
-            raise (Pending(int(pending)) if pending.isdecimal() else error) from None
+def records_of(text):
+    """Returns the rows of a trace that a program of ours accepted: time, device, event, value."""
+    import csv
+    import io
+    records = [record for record in csv.reader(io.StringIO(text.decode("utf-8-sig"), newline="")) if record]
+    return [(int(moment), int(device), event, int(value)) for moment, device, event, value in records[1:]]
 
-    try:
-        raising = Raising(text, replay, restarts)
-        with Progress("raising runs", lambda: raising.settled / max(1, len(raising.runs))):
-            return raising.whole()
-    except Pending as pending:
-        raise Refusal(f"{PENDING}{pending.row}") from None
-    except (TooManyRows, QuotedInPart) as error:
-        raise Refusal(str(error)) from None
+
+def raised(text, words, restarts=None, named=None):
+    """Returns a trace with the runs that the kernel would make with these options: one after each softirq row that leaves the list nonempty,
+    until it is empty or `restarts` were added."""
+    option = "--raise" if restarts is None else f"--raise={restarts}"
+    return run_program(program("napi_series", named), [option, "--rows", *words], text).encode()
 
 
 def with_runs(arrivals, delay):

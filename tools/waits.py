@@ -1,22 +1,17 @@
 """How long packets wait, in rows of a trace: a ring is first in, first out, and the series has what each run took from each device."""
 
-from collections import Counter, deque
-
-from raising import records_of
+from collections import defaultdict, deque
 
 
-def add_waits(rows, text):
+def add_waits(rows):
     """Adds to each row of a series that took packets how many rows these had waited, minimum and maximum. A run that was added counts as the
     row that it follows."""
-    rings, dropped = {}, Counter()
-    for row, (_, _, event, _) in zip(rows, records_of(text)[1]):
+    rings, arrived = defaultdict(deque), defaultdict(int)
+    for row in rows:
         number, device = int(row["row"]), row["device"]
-        if event == "open":
-            rings[device] = deque()
-        elif event == "rx" and row["dropped"] == dropped[device]:
+        if device and row["arrived"] - row["dropped"] > arrived[device]:
             rings[device].append(number)
-        if device:
-            dropped[device] = row["dropped"]
+            arrived[device] += 1
         waits = [number - rings[each].popleft() for each, count in row["gave"].items() for _ in range(count)]
         if waits:
             row["waits"] = min(waits), max(waits)

@@ -1,7 +1,8 @@
 /* A trace is replayed with a budget of one packet: first with its own two runs, between which the ring overflows, then with the runs
  * that the kernel would make after them, because they leave packets. */
-#include <fintaqush_raise.h>
+#include <fintaqush.h>
 #include <stdio.h>
+#include <string.h>
 
 static const char trace[] = "moment,device,event,value\n0,1,open,4\n"
                             "1,1,rx,60\n1,1,rx,60\n1,1,rx,60\n1,1,rx,60\n2,0,softirq,0\n"
@@ -20,10 +21,9 @@ static bool replay(const char *runs, const uint8_t *bytes, size_t len) {
 }
 
 int main(void) {
-    struct fq_raised raised;
+    uint8_t whole[1024];
+    struct fq_replayed raised;
     if (!replay("recorded", (const uint8_t *)trace, sizeof trace - 1)) return 1;
-    if (fq_raise_runs(&settings, FQ_UNTIL_EMPTY, (const uint8_t *)trace, sizeof trace - 1, &raised) != FQ_OK) return 1;
-    const bool is_replayed = replay("raised", raised.trace, raised.length);
-    free(raised.trace);
-    return is_replayed ? 0 : 1;
+    if (fq_raise(&settings, FQ_UNTIL_EMPTY, (const uint8_t *)trace, sizeof trace - 1, whole, sizeof whole, &raised) != FQ_OK) return 1;
+    return replay("raised", whole, raised.length) ? 0 : 1;
 }

@@ -1,7 +1,7 @@
 /* corners [NAME]: results in corner cases, each case by hand, with calls and structs of the headers only. If one is wrong it
  * prints which, and exits with 9. To be linked with --wrap for malloc, realloc and free. */
 #include "memory.h"
-#include <fintaqush_raise.h>
+#include <fintaqush.h>
 #include <stdio.h>
 #include <stdlib.h>
 #include <string.h>
@@ -299,21 +299,20 @@ static void runs_that_the_kernel_would_add(void) {
 #define LAST "3,0,softirq,0\n"
     static const char given[] = ROWS RUN LAST;
     static const struct {
-        uint32_t restarts, added;
+        uint32_t restarts;
         const char *wanted;
-    } rows[] = {{FQ_UNTIL_EMPTY, 3, ROWS RUN RUN RUN RUN LAST}, {0, 0, given}, {1, 2, ROWS RUN RUN LAST LAST}, {3, 3, ROWS RUN RUN RUN RUN LAST}};
+    } rows[] = {{FQ_UNTIL_EMPTY, ROWS RUN RUN RUN RUN LAST}, {0, given}, {1, ROWS RUN RUN LAST LAST}, {3, ROWS RUN RUN RUN RUN LAST}};
     struct fq_settings settings = {1, 1, 1024};
-    struct fq_raised raised;
+    struct fq_replayed told;
+    uint8_t out[512];
     for (size_t i = 0; i < sizeof rows / sizeof rows[0]; i++) {
-        want(fq_raise_runs(&settings, rows[i].restarts, (const uint8_t *)given, sizeof given - 1, &raised) == FQ_OK, "runs are added");
-        want(raised.added == rows[i].added && raised.length == strlen(rows[i].wanted), "as many as the kernel would make");
-        want(memcmp(raised.trace, rows[i].wanted, raised.length) == 0, "after the runs that leave the list filled");
-        free(raised.trace);
+        want(fq_raise(&settings, rows[i].restarts, (const uint8_t *)given, sizeof given - 1, out, sizeof out, &told) == FQ_OK, "runs are added");
+        want(told.length == strlen(rows[i].wanted) && memcmp(out, rows[i].wanted, told.length) == 0, "after the runs that leave the list filled");
     }
     settings.weight = 65;
-    want(fq_raise_runs(&settings, 0, (const uint8_t *)"?", 1, &raised) == FQ_BAD_WEIGHT && raised.trace == NULL && raised.fault == 0, "a weight of 65");
+    want(fq_raise(&settings, 0, (const uint8_t *)"?", 1, out, 0, &told) == FQ_BAD_WEIGHT && told.fault == 0, "a weight of 65");
     settings.weight = 1;
-    want(fq_raise_runs(&settings, 0, (const uint8_t *)"?", 1, &raised) == FQ_BAD_TRACE && raised.trace == NULL && raised.fault == 1, "no trace");
+    want(fq_raise(&settings, 0, (const uint8_t *)"?", 1, out, 0, &told) == FQ_BAD_TRACE && told.fault == 1, "no trace");
     want(blocks == 0, "nothing is left");
 }
 

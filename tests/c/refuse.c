@@ -3,7 +3,7 @@
  * is on the heap; and the same call succeeds as soon as allocations do. To be linked with --wrap for malloc, realloc and free.
  * It exits with 9 if one of this isn't so. */
 #include "memory.h"
-#include <fintaqush_raise.h>
+#include <fintaqush.h>
 #include <stdio.h>
 #include <stdlib.h>
 #include <string.h>
@@ -169,25 +169,22 @@ static uint32_t make_machine(void) {
 }
 static bool machine_works(void) { return memcmp(report, wanted_of_machine, ROOM) == 0; }
 
-/* With a trace whose runs are added in several replays, each longer than the one before. */
+/* With a trace that gets 50 runs: each takes a packet, and the last one is for the request that was missed. */
 static const char *const raised_head = "moment,device,event,value\n0,1,open,64\n", *const raised_row = "1,1,rx,60\n", *const raised_run = "2,0,softirq,0\n";
-static struct fq_raised raised;
+static size_t raised_length;
 
 static uint32_t make_raised(void) {
     const struct fq_settings settings = {1, 1, 1024};
+    struct fq_replayed replayed = {0, 0, 0};
     char text[1024];
     int len = snprintf(text, sizeof text, "%s", raised_head);
     for (int i = 0; i < 50; i++) len += snprintf(text + len, sizeof text - (size_t)len, "%s", raised_row);
     len += snprintf(text + len, sizeof text - (size_t)len, "%s", raised_run);
-    return fq_raise_runs(&settings, FQ_UNTIL_EMPTY, (const uint8_t *)text, (size_t)len, &raised);
+    const uint32_t said = fq_raise(&settings, FQ_UNTIL_EMPTY, (const uint8_t *)text, (size_t)len, report, ROOM, &replayed);
+    raised_length = replayed.length;
+    return said;
 }
-
-/* 50 runs take a packet each, and one more is for the request that was missed. */
-static bool raised_works(void) {
-    const bool works = raised.added == 50 && raised.length == strlen(raised_head) + 50 * strlen(raised_row) + 51 * strlen(raised_run);
-    free(raised.trace);
-    return works;
-}
+static bool raised_works(void) { return raised_length == strlen(raised_head) + 50 * strlen(raised_row) + 51 * strlen(raised_run); }
 
 /* Returns how many allocations the call makes, after it made each of them fail. */
 static long refuse_each(const char *what, uint32_t (*make)(void), bool (*works)(void)) {
@@ -220,7 +217,7 @@ int main(void) {
     want(refuse_each("a shared instance", make_shared, shared_works) > 8, "a shared instance takes no memory", 0);
     want(refuse_each("a replay", make_replay, replay_works) > 0, "a replay takes no memory", 0);
     want(refuse_each("the machine", make_machine, machine_works) > 5, "the machine takes no memory", 0);
-    want(refuse_each("a raised trace", make_raised, raised_works) > 5, "a raised trace takes no memory", 0);
+    want(refuse_each("a raised trace", make_raised, raised_works) > 0, "a raised trace takes no memory", 0);
     want(refuse_each("a bare instance", make_bare, bare_works) > 8, "a bare instance takes no memory", 0);
     want(refuse_each("a split", make_split, split_works) > 1, "a split takes no memory", 0);
     take_none();

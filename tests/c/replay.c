@@ -1,5 +1,6 @@
 /* replay BUDGET WEIGHT WINDOW < TRACE: what napi_serial does with it, by fq_replay: the report on standard output, or the
- * message of the error on standard error, and its status. Before that, each array that is too short has to stay unchanged,
+ * message of the error on standard error, and its status. With RESTARTS as a fourth number, what napi_series does with
+ * --raise=RESTARTS --rows, by fq_raise: the trace with the runs that the kernel would add. Before that, each array that is too short has to stay unchanged,
  * with the length that the report needs returned, and no byte after a report may be written. It exits with 9 if one of this
  * isn't so. */
 #include <fintaqush.h>
@@ -21,6 +22,16 @@ static bool is_untouched(const uint8_t *bytes, size_t from, size_t to) {
     return true;
 }
 
+static uint8_t trace[MOST_BYTES];
+static size_t len;
+static struct fq_settings settings;
+static bool raises;
+static uint32_t restarts;
+
+static uint32_t play(uint8_t *out, size_t room, struct fq_replayed *replayed) {
+    return raises ? fq_raise(&settings, restarts, trace, len, out, room, replayed) : fq_replay(&settings, trace, len, out, room, replayed);
+}
+
 /* Prints an error as napi_serial does. */
 static int tell(uint32_t said, const struct fq_replayed *replayed) {
     if (said != FQ_BAD_TRACE) {
@@ -32,14 +43,15 @@ static int tell(uint32_t said, const struct fq_replayed *replayed) {
 }
 
 int main(int count, char **words) {
-    static uint8_t trace[MOST_BYTES];
-    want(count == 4, "three numbers");
-    const struct fq_settings settings = {(uint32_t)strtoul(words[1], NULL, 10), (uint32_t)strtoul(words[2], NULL, 10),
-                                         (uint32_t)strtoul(words[3], NULL, 10)};
-    const size_t len = fread(trace, 1, sizeof trace, stdin);
+    want(count == 4 || count == 5, "three or four numbers");
+    settings.budget = (uint32_t)strtoul(words[1], NULL, 10), settings.weight = (uint32_t)strtoul(words[2], NULL, 10);
+    settings.window = (uint32_t)strtoul(words[3], NULL, 10);
+    raises = count == 5;
+    if (raises) restarts = (uint32_t)strtoul(words[4], NULL, 10);
+    len = fread(trace, 1, sizeof trace, stdin);
     struct fq_replayed replayed = {1, 2, 3};
     uint8_t none = GUARD;
-    uint32_t said = fq_replay(&settings, trace, len, &none, 0, &replayed);
+    uint32_t said = play(&none, 0, &replayed);
     want(none == GUARD, "an array of no bytes was written to");
     want(said != FQ_OK, "a report of no bytes");
     if (said != FQ_NO_ROOM) {
@@ -51,9 +63,9 @@ int main(int count, char **words) {
     uint8_t *report = malloc(length + 1);
     want(report != NULL, "no memory");
     memset(report, GUARD, length + 1);
-    want(fq_replay(&settings, trace, len, report, length - 1, &replayed) == FQ_NO_ROOM, "a byte too short");
+    want(play(report, length - 1, &replayed) == FQ_NO_ROOM, "a byte too short");
     want(replayed.length == length && is_untouched(report, 0, length + 1), "an array that is too short was written to");
-    said = fq_replay(&settings, trace, len, report, length, &replayed);
+    said = play(report, length, &replayed);
     want(said == FQ_OK && replayed.length == length, "the room that was told isn't enough");
     want(is_untouched(report, length, length + 1), "a byte behind the report was written");
     want(fwrite(report, 1, length, stdout) == length && fflush(stdout) == 0, "the report can't be written");

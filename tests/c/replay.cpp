@@ -1,5 +1,6 @@
 // replay.cpp BUDGET WEIGHT WINDOW < TRACE: what napi_serial does with it, by fintaqush::replay: the report on standard output,
-// or the message of the error on standard error, and its status.
+// or the message of the error on standard error, and its status. With RESTARTS as a fourth number, the raised trace, by
+// fintaqush::raise_runs.
 #include <fintaqush.hpp>
 
 #include <cstdlib>
@@ -7,10 +8,11 @@
 #include <iterator>
 
 int main(int count, char **words) {
-    if (count != 4) return 9;
+    if (count != 4 && count != 5) return 9;
     const auto number = [&](int at) { return static_cast<std::uint32_t>(std::strtoul(words[at], nullptr, 10)); };
     const std::string trace(std::istreambuf_iterator<char>(std::cin), {});
-    const auto answer = fintaqush::replay(trace, {number(1), number(2), number(3)});
+    const fq_settings settings{number(1), number(2), number(3)};
+    const auto answer = count == 5 ? fintaqush::raise_runs(trace, settings, number(4)) : fintaqush::replay(trace, settings);
     if (const auto *report = std::get_if<std::string>(&answer)) {
         std::cout << *report << std::flush;
         return std::cout ? 0 : 9;

@@ -1,9 +1,10 @@
 #!/usr/bin/env python3
-"""Plays traces by napi_serial and by Linux's own functions, and compares the reports.
+"""Plays traces by napi_serial and by Linux's own functions, and compares the reports. A raised trace gets its runs from napi_series, and
+there from net_rx_action, which raises the softirq again.
 
-usage: compare.py PROGRAM KERNEL [--traces N] [--small ROWS] [--seed N] [--stop]
+usage: compare.py PROGRAM SERIES KERNEL [--traces N] [--small ROWS] [--seed N] [--stop]
 
-PROGRAM is napi_serial, KERNEL what kernel.sh has built. It prints how many traces were compared, and how often each mapping of
+PROGRAM is napi_serial, SERIES napi_series, KERNEL what kernel.sh has built. It prints how many traces were compared, and how often each mapping of
 profile and kernel made a difference; of reports that differ, the smallest trace that shows it. Status 1 where one differs. With
 --stop it ends at the first one.
 """
@@ -36,10 +37,11 @@ FAR = [0, 2 ** 63, 2 ** 64 - 1400]  # where the moments of some traces lie
 
 
 class Trace:
-    """Rows as (moment, device, event, value), with the version and the settings (budget, weight, window)."""
+    """Rows as (moment, device, event, value), with the version and the settings (budget, weight, window). With `restarts`, each run that is
+    followed by no other at the same time is made again at most so often while the softirq is raised."""
 
-    def __init__(self, name, version, rows, settings):
-        self.name, self.version, self.rows, self.settings = name, version, rows, settings
+    def __init__(self, name, version, rows, settings, restarts=0):
+        self.name, self.version, self.rows, self.settings, self.restarts = name, version, rows, settings, restarts
 
     def text(self):
         lines = [HEADER + (",2" if self.version == 2 else "")] + ["%d,%d,%s,%d" % row for row in self.rows]
@@ -50,10 +52,15 @@ class Trace:
 
     def for_kernel(self):
         head = "%d %d %d %d %d\n" % (self.version, *self.settings, len(self.rows))
-        return head + "".join("%d %d %s %d\n" % row for row in self.rows)
+        return head + "".join("%d %d %s %d\n" % (*row[:3], self.restarts if self.is_raised(at) else row[3]) for at, row in enumerate(self.rows))
+
+    def is_raised(self, at):
+        """Whether the row at this index is a run that may be made again."""
+        moment, _, event, _ = self.rows[at]
+        return event == "softirq" and [(row[0], row[2]) for row in self.rows[at + 1:at + 2]] != [(moment, event)]
 
     def cut(self, rows):
-        return Trace(self.name, self.version, rows, self.settings)
+        return Trace(self.name, self.version, rows, self.settings, self.restarts)
 
 
 def trace_of(name, text, settings):
@@ -78,6 +85,12 @@ def random_traces(count, seed):
             if number % 5 == 0:
                 trace = trace.cut(far_moments(trace.rows, random.Random(number)))
             yield trace
+
+
+def raised_traces(count, seed):
+    """Random traces, and the examples, with added runs: until the list is empty, or a few."""
+    for number, trace in enumerate(itertools.chain(worked_traces(), random_traces(count, seed + 10 ** 6))):
+        yield Trace("raised " + trace.name, trace.version, trace.rows, trace.settings, (99999, 1, 99999, 3)[number % 4])
 
 
 def far_moments(rows, dice):
@@ -142,14 +155,20 @@ def worked_traces():
 # ---- both sides
 
 class Sides:
-    """The program, one process per trace, and the kernel's functions, one process for all."""
+    """The program, one process per trace, or two if it is raised, and the kernel's functions, one process for all."""
 
-    def __init__(self, program, kernel):
-        self.program, self.kernel = program, kernel
+    def __init__(self, program, series, kernel):
+        self.program, self.series, self.kernel = program, series, kernel
         self.server = None
 
     def ours(self, trace):
-        run = subprocess.run([self.program] + trace.words(), input=trace.text().encode(), capture_output=True)
+        text = trace.text().encode()
+        if trace.restarts:
+            run = subprocess.run([self.series, "--raise=%d" % trace.restarts, "--rows"] + trace.words(), input=text, capture_output=True)
+            if run.returncode != 0:
+                return run.returncode, run.stderr.decode()
+            text = run.stdout
+        run = subprocess.run([self.program] + trace.words(), input=text, capture_output=True)
         return run.returncode, (run.stdout if run.returncode == 0 else run.stderr).decode()
 
     def kernels(self, trace):
@@ -211,7 +230,7 @@ def shown(trace, sides):
         return "%s: %s" % (trace.name, LOOPS)
     trace, ours, kernels, _ = sides.compare(sides.smallest(trace))
     return "%s differs; its smallest trace, with %s:\n%s-- napi_serial:\n%s-- the kernel:\n%s" % (
-        trace.name, " ".join(trace.words()), trace.text(), ours, kernels)
+        trace.name, " ".join(trace.words() + ["--raise=%d" % trace.restarts] * bool(trace.restarts)), trace.text(), ours, kernels)
 
 
 def compare_some(traces):
@@ -236,16 +255,18 @@ def main():
     global SIDES
     words = argparse.ArgumentParser(usage=__doc__)
     words.add_argument("program")
+    words.add_argument("series")
     words.add_argument("kernel")
     words.add_argument("--traces", type=int, default=5000)
     words.add_argument("--small", type=int, default=4)
     words.add_argument("--seed", type=int, default=1)
     words.add_argument("--stop", action="store_true")
     given = words.parse_args()
-    SIDES = Sides(given.program, given.kernel)
+    SIDES = Sides(given.program, given.series, given.kernel)
     kinds = [("worked traces and examples", worked_traces()), ("small traces", small_traces(given.small)),
              ("random traces", random_traces(given.traces, given.seed)),
-             ("random traces of a queue", queue_traces(-(-given.traces // 10), given.seed))]
+             ("random traces of a queue", queue_traces(-(-given.traces // 10), given.seed)),
+             ("raised traces", raised_traces(-(-given.traces // 5), given.seed))]
     differences, all_mapped = [], [0] * len(MAPPINGS)
     with multiprocessing.get_context("fork").Pool(4) as pool:
         for kind, traces in kinds:

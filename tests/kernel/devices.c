@@ -1,7 +1,8 @@
 // Replays traces on Linux's own functions, which kernel.sh has extracted into instances.h and queues.h, and writes the reports
 // that napi_serial writes. Devices, rings, rows and text are here; every rule of an instance, a poll, a run and a limit is the
 // kernel's. Standard input has traces one after the other: a line of version, budget, weight, window and how many rows, then
-// each row as its moment, device, event and value. After each report there is a line `end` with how often each mapping of
+// each row as its moment, device, event and value; the value of a softirq row is how often it runs again while net_rx_action
+// raises the softirq, and each of these runs is a row of its own. After each report there is a line `end` with how often each mapping of
 // profile and kernel made a difference: set threaded, repoll after busy polling, window, moments, threaded off. With
 // STOPS_THREADS the functions are those of a kernel that stops the thread of an instance (napi_stop_kthread).
 #include <sys/time.h>
@@ -16,7 +17,7 @@ typedef unsigned long long count;
 struct softnet_data softnet_data;
 typeof(net_hotdata) net_hotdata;
 struct task_struct thread_of_all;
-bool is_asleep;
+bool is_asleep, is_raised;
 unsigned long jiffies;              // of the queue limit: the row's moment
 static unsigned long polls_as_time; // of a run: a poll takes one jiffy
 static struct { count threaded, repoll, window, moments, off; } mapped;
@@ -166,8 +167,10 @@ static void finish(struct device *device, count packets) {
     netdev_tx_completed_queue(&device->queue, packets, bytes);
 }
 
-static void run_softirq(struct device *device, count value) {
+static void run_once(void) {
     const unsigned int before = softnet_data.time_squeeze;
+    made.polls = made.work = 0;
+    is_raised = false;
     net_rx_action();
     const bool is_squeezed = softnet_data.time_squeeze != before;
     mapped.window += is_squeezed && made.work < (unsigned int)net_hotdata.netdev_budget;
@@ -176,6 +179,15 @@ static void run_softirq(struct device *device, count value) {
     squeezes += is_squeezed;
     in_runs.polls += made.polls;
     in_runs.work += made.work;
+}
+
+static void run_softirq(struct device *device, count restarts) {
+    for (run_once(); is_raised && restarts; restarts--) {
+        for (device = devices + 1; device <= devices + DEVICES; device++)
+            if (device->is_disabling) try_disable(device);
+        row++;
+        run_once();
+    }
 }
 
 // The thread runs until it would sleep, and then ends.

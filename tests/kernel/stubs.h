@@ -108,7 +108,7 @@ extern struct { int netdev_budget; unsigned int netdev_budget_usecs; } net_hotda
 #define preempt_disable() ((void)0)
 #define preempt_enable() ((void)0)
 #define raise_softirq_irqoff(number) ((void)0)
-#define __raise_softirq_irqoff(number) ((void)0)
+#define __raise_softirq_irqoff(number) (is_raised = true) // devices.c looks at it after a run
 #define sd_has_rps_ipi_waiting(data) false
 #define net_rps_action_and_irq_enable(data) ((void)0)
 #define skb_defer_free_flush(...) ((void)0)
@@ -178,7 +178,7 @@ extern struct { int netdev_budget; unsigned int netdev_budget_usecs; } net_hotda
 #define usleep_range(least, most) sleep_in_disable()
 #define msleep(time) abort() // of a thread that is stopped: devices.c stops none that works
 extern struct task_struct thread_of_all;
-extern bool is_asleep;
+extern bool is_asleep, is_raised;
 void sleep_in_disable(void);
 struct napi_struct *napi_by_id(unsigned int number);
 static int napi_threaded_poll(void *data);

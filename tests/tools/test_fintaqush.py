@@ -79,6 +79,11 @@ class Fintaqush(InFolder):
         self.assertEqual(call("series", BURSTS, "--every", "10").stdout, expected)
         self.assertEqual(call("series", "--every", "10", text=text).stdout, expected)
         self.assertEqual(call("series", "--every", "0", text=text).returncode, 2)
+        for words, own in ((["--raise", "--polls"], ["--raise", "--polls"]), (["--rows", "--raise", "--restarts", "1"], ["--raise=1", "--rows"])):
+            expected = subprocess.run([SERIES, *own, "--budget", "2"], input=text, capture_output=True, text=True, check=True).stdout
+            self.assertEqual(call("series", *words, "--budget", "2", text=text).stdout, expected)
+        for words in (["--restarts", "1"], ["--rows", "--polls"], ["--rows", "--every", "2"]):
+            self.assertEqual(call("series", *words, text=text).returncode, 2)
 
     @HAS_MACHINE
     def test_the_machine(self):

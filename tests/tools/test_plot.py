@@ -35,6 +35,13 @@ class Plot(InFolder):
                                   "packets that wait": [[1, 0], [2, 1], [3, 2], [4, 1], [5, 0], [6, 0], [7, 0]],
                                   "work of a run": [[4, 1], [5, 1]], "squeezed": [[4, 1]]})
 
+    def test_a_series_with_polls(self):
+        """The lines of polls aren't drawn: the runs have their sums."""
+        head, *rows = self.ROWS.splitlines()
+        rows[3:3] = ["4.1,1,1,on,1,2,0,1,,,,,1,1,,3, 1, 1:1"]
+        text = "".join(f"{line},{end}\n" for line, end in [(head, "ended"), *((row, "repoll" if "." in row[:3] else "") for row in rows)])
+        self.assertEqual(self.described(text), self.described(self.ROWS))
+
     def test_moments_on_the_axis(self):
         self.assertEqual(self.described(self.ROWS, "--time")["limit"], [[2, 0], [3, 1000]])
         self.assertEqual(json.loads(self.plot(self.ROWS, "--json", "--time").stdout)["axis"]["label"], "ms")
@@ -140,8 +147,10 @@ class Plot(InFolder):
         self.assertEqual(self.plot(self.ROWS, "--budget", "3").returncode, 2)
         for wrong, why in (("--buget", "'--buget' is no option: is --budget meant, a whole number, 1..=65535?\n"),
                            ("--unit", "'--unit' is no option\n")):
-            done = run("plot", TOP / "examples/bursts.csv", wrong, "3")
-            self.assertEqual((done.stderr, done.returncode), (f"plot: usage fault 64: {why}", 1))
+            for more in ([], ["--raise"]):
+                done = run("plot", TOP / "examples/bursts.csv", wrong, "3", *more)
+                self.assertEqual((done.stderr, done.returncode), (f"plot: usage fault 64: {why}", 1))
+        self.assertIn("the series hasn't all rows", run("plot", TOP / "examples/bursts.csv", "--every", "2", "--raise", "--json").stderr)
         self.assertIn("--beside: No closing quotation", run("plot", TOP / "examples/bursts.csv", "--beside", "'").stderr)
         self.assertEqual(run("plot").returncode, 2)
 

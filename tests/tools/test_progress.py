@@ -60,10 +60,6 @@ class Shown(InFolder):
         self.program("tcpdump", HALF)
         self.check(r"reading, 50 %, \d s left", "from-pcap", capture, "made", PATH=f"{self.folder}:{os.environ['PATH']}")
 
-    def test_runs_that_are_raised(self):
-        slow = self.program("slow", f"#!/bin/sh\nsleep 0.5\nexec '{REPLAY}' \"$@\"\n")
-        self.check(r"raising runs, \d+ %", "raise", BURSTS, "--budget", "1", "--weight", "1", PROGRAM=slow)
-
     @HAS_MACHINE
     def test_settings_of_advise(self):
         slow = self.program("slow", f"#!/bin/sh\nsleep 0.7\nexec '{MACHINE}' \"$@\"\n")
@@ -76,8 +72,8 @@ class Shown(InFolder):
         self.assertRegex(self.seen("from-ftrace", recording, "trace", "--arrivals"), r"from-ftrace: reading, \d+ %, \d+ s left")
 
     def test_elsewhere_nothing_is_shown(self):
-        slow = self.program("slow", f"#!/bin/sh\nsleep 1.5\nexec '{REPLAY}' \"$@\"\n")
-        done = run("raise", BURSTS, "--out", "x.csv", folder=self.folder, PROGRAM=slow)
+        slow = self.program("slow", f"#!/bin/sh\nsleep 1.5\nexec '{SERIES}' \"$@\"\n")
+        done = run("raise", BURSTS, "--out", "x.csv", folder=self.folder, SERIES=slow)
         self.assertEqual((done.stderr.count("\n"), "\r" in done.stderr, done.returncode), (1, False, 0))
 
 

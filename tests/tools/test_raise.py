@@ -1,9 +1,52 @@
-"""Tests of tools/raise: expected numbers come from the kernel, or from traces that are small enough to replay by hand."""
+"""Tests of tools/raise and of `napi_series --raise`: expected numbers come from the kernel, from traces that are small enough to replay by hand, or
+from replays of each prefix. tests/kernel.sh compares raised replays with the kernel's own functions. RAISED=10000 tries that many random traces."""
 
+import hashlib
+import os
+import random
 import re
 import subprocess
+import sys
+from concurrent.futures import ThreadPoolExecutor
 
-from tooltest import HEADER, REPLAY, TOP, InFolder, run
+from tooltest import HEADER, HERE, REPLAY, SERIES, TOP, InFolder, run
+
+sys.path += [str(TOP / "bench"), str(TOP / "tools")]
+from random_trace import Trace  # noqa: E402
+from toolbox import records_of  # noqa: E402
+
+SETTINGS = [[], ["--budget=2"], ["--budget=1", "--weight=1"], ["--budget=16", "--weight=8"], ["--window=1"], ["--budget=64", "--weight=3", "--window=2"]]
+LIMITS = ["--raise", "--raise=0", "--raise=1", "--raise=3"]
+TRACES = int(os.environ.get("RAISED", "300"))
+
+
+def form_of(text, dice):
+    """Returns a trace in another form: quotes, zeros in front of numbers, other ends of lines, empty lines, a byte-order mark, and no end of the last
+    line. A reader has to reject some: a number may have 21 digits, and a field a quote or a space too many."""
+    def field(part):
+        if part.isdigit() and dice.random() < 0.2:
+            part = part.zfill(dice.choice([2, 19, 20]) + (dice.random() < 0.01))
+        return f'"{part}"' if dice.random() < 0.2 else part
+
+    lines = [",".join(map(field, line.split(","))) for line in text.splitlines()]
+    if dice.random() < 0.05:
+        lines[-1] = dice.choice([lines[-1] + '"', '"' + lines[-1], lines[-1].replace(",", '",', 1), lines[-1].replace(",", '"0,', 1), lines[-1] + " "])
+    ends = dice.choice([["\n"], ["\r\n"], ["\r"], ["\n", "\r\n", "\r", "\n\n", "\r\n\r\n", "\n\r"]])
+    text = dice.choice(["", "", "\ufeff", "\n"]) + "".join(line + dice.choice(ends) for line in lines)
+    return text.rstrip("\r\n") if dice.random() < 0.2 else text
+
+
+def is_run(rows, place):
+    """Returns whether a row is a softirq row without another one at the same time after it."""
+    moment, _, event, _ = rows[place].split(",")
+    return event == "softirq" and [row.split(",")[0::2] for row in rows[place + 1 : place + 2]] != [[moment, event]]
+
+
+def series(words, text):
+    """Returns the output of napi_series, or its error."""
+    done = subprocess.run([SERIES, *words], input=text, capture_output=True, check=False)
+    return done.stdout or done.stderr
+
 
 
 class Raise(InFolder):
@@ -78,21 +121,81 @@ class Raise(InFolder):
         self.assertEqual(self.raised(text), text.splitlines()[1:])
 
     def test_every_form_of_a_record(self):
-        text = '\ufeff"moment","device",event,value\r\n\r\n"0",01,open,8\r1,1,rx,60\n\n1,1,rx,60\n"2",0,"softirq","0'
+        """The trace that is printed has numbers without zeros in front, no quotes, and a line for each row."""
+        text = '\ufeff"moment","device",event,value\r\n\r\n"0",01,open,8\r1,1,rx,60\n\n"18446744073709551615",1,rx,60\n"2",0,"softirq","0'
         self.assertEqual(self.raised(text, "--weight", "1", "--budget", "1"),
-                         ["0,01,open,8", "1,1,rx,60", "1,1,rx,60", "2,0,softirq,0", *["2,0,softirq,0"] * 2])
+                         ["0,1,open,8", "1,1,rx,60", "18446744073709551615,1,rx,60", "2,0,softirq,0", *["2,0,softirq,0"] * 2])
+
+    def test_a_run_that_is_followed_by_one_at_the_same_time(self):
+        """It has its added run already, in whatever form the time is written. The last run of three is repeated until the list is empty, which takes
+        four runs; of five, none."""
+        words = ["--budget", "1", "--weight", "1"]
+        for own, wanted in ((3, 4), (5, 5)):
+            text = HEADER + "0,1,open,8\n" + "1,1,rx,60\n" * 3 + "2,0,softirq,0\n02,0,softirq,00\n" + "2,0,softirq,0\n" * (own - 2)
+            self.assertEqual(self.raised(text, *words)[4:], ["2,0,softirq,0"] * wanted)
+
+    def test_random_traces(self):
+        """The raised replay equals the replay of the raised trace, or both have the same fault; the program and the tools read the same rows."""
+        def check(number):
+            dice = random.Random(number)
+            text = Trace(number, 1 + number % 2).text()
+            text = (form_of(text, dice) if number % 3 else text).encode()
+            words, limit, more = dice.choice(SETTINGS), dice.choice(LIMITS), dice.choice([[], ["--polls"], ["--every", "3"]])
+            own, rows = series(["--rows", *words], text), series([limit, "--rows", *words], text)
+            is_raised = rows.startswith(b"moment")
+            self.assertEqual(series([*more, limit, *words], text), series([*more, *words], rows) if is_raised else rows, number)
+            if own.startswith(b"moment"):
+                self.assertEqual(records_of(text), records_of(own), number)
+                self.assertTrue(limit != "--raise=0" or not is_raised or rows == own, number)
+            return is_raised, is_raised and rows != own
+
+        with ThreadPoolExecutor(4) as pool:
+            raised, longer = map(sum, zip(*pool.map(check, range(TRACES))))
+        self.assertGreater(raised, TRACES // 2)
+        self.assertGreater(longer, TRACES // 10)
+
+    def with_runs(self, header, own, most, words):
+        """Returns what the definition says: after each run, a replay of all rows so far shows whether it is made again."""
+        rows = []
+        for place, row in enumerate(own):
+            rows, added = [*rows, row], 0
+            while is_run(own, place) and added < most and self.replay("\n".join([header, *rows, ""]), *words)[-2] != ["list"]:
+                rows, added = [*rows, row], added + 1
+        self.replay("\n".join([header, *rows, ""]), *words)  # which may have a fault
+        return "\n".join([header, *rows, ""])
+
+    def test_the_definition(self):
+        """A softirq row is played again while the report of all rows so far has a device on the list, unless a run at the same time follows."""
+        longer = 0
+        for number in range(60):
+            header, *own = Trace(number, 1).text().splitlines()
+            own, words, most = own[:80], (["--budget=1", "--weight=1"], ["--window=1"], ["--weight=1"])[number % 3], (1, 3, 99999)[number // 3 % 3]
+            try:
+                wanted = self.with_runs(header, own, most, words)
+            except subprocess.CalledProcessError as error:
+                wanted = error.stderr
+            self.assertEqual(series([f"--raise={most}", "--rows", *words], "\n".join([header, *own, ""]).encode()).decode(), wanted, number)
+            longer += wanted.count("\n") > len(own) + 1
+        self.assertGreater(longer, 15)
+
+    def test_shipped_traces_stay_as_they_were(self):
+        """With several settings: the checksums of the traces that earlier releases made by repeated replays (raised.sums)."""
+        for line in (HERE / "raised.sums").read_text().splitlines():
+            name, most, *words, wanted = line.split()
+            text = (TOP / f"examples/{name}.csv").read_bytes()
+            done = series(["--raise" if most == "all" else f"--raise={most}", "--rows", *words], text)
+            self.assertEqual(hashlib.sha256(done).hexdigest()[:16], wanted, line)
 
     def test_a_field_that_is_quoted_in_part(self):
-        """The replay accepts `"so"ftirq` and `"3"0`: the text after a closing quote belongs to the field. What adds runs doesn't, and says so."""
+        """The replay accepts `"so"ftirq` and `"3"0`: the text after a closing quote belongs to the field. So do all that add runs."""
         for old, new, row in (("2,0,softirq", '2,0,"so"ftirq', 5), ("3,0,", '"3"0,0,', 6), ("moment,", '"mo"ment,', 0)):
-            path, page, out = self.write("x.csv", self.BURST.replace(old, new, 1)), self.folder / "page.html", self.folder / "rows"
-            self.replay(path.read_text())
-            for words in (["raise", path], ["steps", path, "--out", page], ["steps", path, "--raise", "--out", page],
-                          ["compare-runs", path, "--raise", "--budget", "1", "--"], ["sweep", path, "--raise", "--budget", "1", "--out", out]):
-                done = run(*words)
-                out.unlink(missing_ok=True)
-                self.assertEqual((done.returncode, done.stdout, self.names()), (1, "", ["x.csv"]), (words, done.stderr))
-                self.assertIn(f"row {row} has a field that is quoted in part: take the quotes out of the trace\n", done.stderr)
+            text = self.BURST.replace(old, new, 1)
+            whole = HEADER + "".join(f"{row}\n" for row in self.raised(text, "--budget", "1", "--weight", "1"))
+            self.assertEqual(whole, HEADER + "".join(f"{row}\n" for row in self.raised(self.BURST.replace(old, new.replace('"', ""), 1), "--budget", "1", "--weight", "1")))
+            path, plain = self.write("x.csv", text), self.write("y.csv", self.BURST.replace(old, new.replace('"', ""), 1))
+            for words in (["compare-runs", "--raise", "--budget", "1", "--"], ["plot", "--raise", "--budget", "1", "--json"]):
+                done, other = (run(words[0], each, *words[1:]) for each in (path, plain))
+                self.assertEqual((done.returncode, done.stdout), (0, other.stdout.replace("y.csv", "x.csv")), done.stderr)
 
     def test_a_disable_that_waits_for_the_runs(self):
         """In the given rows the enable row meets a pending disable; with the added runs it doesn't."""
@@ -111,7 +214,7 @@ class Raise(InFolder):
         for more in (full.replace("tx", "rx"), text + "1,1,rx,60\n" * 20 + "2,0,softirq,0\n"):
             done = run("raise", "-", *words, text=more)
             self.assertEqual((done.stdout, done.returncode), ("", 1))
-            self.assertIn("raised there are", done.stderr)
+            self.assertIn("trace fault 9 TooManyRows row 100001", done.stderr)
 
     def test_refusals(self):
         self.assertIn("trace fault 6 UnknownDevice row 1", run("raise", "-", text=HEADER + "0,1,rx,60\n").stderr)

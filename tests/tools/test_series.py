@@ -1,9 +1,10 @@
 """Tests of napi_series: its lines equal the values in the reports of all prefixes, and its faults equal napi_replay's."""
 
+import random
 import subprocess
 import unittest
 
-from prefixes import series_by_reports
+from prefixes import report_of, series_by_reports, values_of
 from tooltest import HEADER, REPLAY, SERIES, TOP
 
 NAMES = "row,moment,device,state,waiting,arrived,dropped,polled,in_flight,limit,avail,stopped,polls,work,squeezed,word,list,gave\n"
@@ -89,6 +90,40 @@ class Series(unittest.TestCase):
         lines = run(SERIES, ["--budget", "2", "--weight", "1"], text).stdout.splitlines()
         self.assertEqual([line.split(",")[-2:] for line in lines[3:]], [[" 1", ""], [" 1", ""], [" 1 2", ""], [" 1 2", " 1:1 2:1"], [" 1", " 1:1 2:0"]])
 
+    def test_polls_by_hand(self):
+        """The run above, poll by poll: both polls are of a whole weight. In the next run device 1 takes its second packet; device 2 has none left
+        and no missed request, so it completes."""
+        text = HEADER + "0,1,open,8\n0,2,open,8\n1,1,rx,60\n1,1,rx,60\n1,2,rx,60\n2,0,softirq,0\n3,0,softirq,0\n"
+        lines = run(SERIES, ["--polls", "--budget", "2", "--weight", "1"], text).stdout.splitlines()
+        self.assertEqual(lines[0], NAMES.strip() + ",ended")
+        fields = [dict(zip(lines[0].split(","), line.split(","))) for line in lines[6:]]
+        self.assertEqual([[one[name] for name in ("row", "device", "waiting", "polled", "polls", "work", "squeezed", "list", "gave", "ended")] for one in fields],
+                         [["6.1", "1", "1", "1", "1", "1", "", " 2 1", " 1:1", "repoll"], ["6.2", "2", "0", "1", "1", "1", "", " 1 2", " 2:1", "repoll"],
+                          ["6", "0", "", "", "2", "2", "1", " 1 2", " 1:1 2:1", ""],
+                          ["7.1", "1", "0", "2", "1", "1", "", " 2 1", " 1:1", "repoll"], ["7.2", "2", "0", "1", "1", "0", "", " 1", " 2:0", "complete"],
+                          ["7", "0", "", "", "2", "1", "0", " 1", " 1:1 2:0", ""]])
+
+    def test_polls_are_those_of_shorter_runs(self):
+        """The state after K polls of a first run is that of a run with a window of K: the poll list, and what the report has of the polled device."""
+        tried = 0
+        for number in range(12):
+            dice = random.Random(number)
+            devices = range(1, dice.choice([2, 4]) + 1)
+            rows = [f"0,{device},open,{dice.choice([2, 8])}" for device in devices]
+            rows += [f"1,{dice.choice(devices)},rx,60" for _ in range(dice.choice([3, 9]))] + ["2,0,softirq,0"]
+            words = dice.choice([["--weight", "1"], ["--weight", "2", "--budget", "7"], ["--budget", "3"]])
+            lines = run(SERIES, ["--polls", *words], HEADER + "".join(f"{row}\n" for row in rows)).stdout.splitlines()
+            names = lines[0].split(",")
+            polls = [dict(zip(names, line.split(","))) for line in lines if "." in line.split(",")[0]]
+            self.assertEqual(int(dict(zip(names, lines[-1].split(",")))["polls"]), len(polls))
+            for place, poll in enumerate(polls, 1):
+                report = report_of(REPLAY, rows, [*words, "--window", str(place)], HEADER)
+                told = values_of(len(rows), f"2,{poll['device']},softirq,0", report, report)
+                self.assertEqual([poll["row"], *(poll[name] for name in ("list", "state", "waiting", "arrived", "dropped", "polled", "word"))],
+                                 [f"{len(rows)}.{place}", *(told[name] for name in ("list", "state", "waiting", "arrived", "dropped", "polled", "word"))], number)
+                tried += 1
+        self.assertGreater(tried, 20)
+
     def test_no_rows(self):
         self.assertEqual(run(SERIES, [], HEADER).stdout, NAMES)
 
@@ -112,6 +147,13 @@ class Series(unittest.TestCase):
         for words in (["--every", "99999"], ["--every", "00001"], ["--every", "2", "--budget=5", "--mode", "serial"]):
             done = run(SERIES, words, HEADER)
             self.assertEqual((done.stdout, done.stderr, done.returncode), (NAMES, "", 0), words)
+        for words in (["--raise="], ["--raise=x"], ["--raise=100000"], ["--raise", "--raise"], ["--polls", "--polls"], ["--rows", "--rows"], ["--raised"],
+                      ["--budget", "2", "--raise"], ["--rows", "--polls"], ["--every", "2", "--rows"]):
+            self.assertEqual(run(SERIES, words, HEADER).stderr, "usage fault 64\n", words)
+        for words in (["--raise=99999", "--every", "2"], ["--every", "2", "--raise=0", "--budget=5"]):
+            self.assertEqual(run(SERIES, words, HEADER).stdout, NAMES, words)
+        self.assertEqual(run(SERIES, ["--polls", "--every", "2", "--raise"], HEADER).stdout, NAMES.replace("\n", ",ended\n"))
+        self.assertEqual([run(SERIES, words, HEADER).stdout for words in (["--rows"], ["--rows", "--raise"], ["--raise=3", "--rows"])], [HEADER] * 3)
         done = subprocess.run([SERIES, b"--every", b"\xff"], input=b"", capture_output=True, check=False)
         self.assertEqual((done.stderr, done.returncode), (b"usage fault 64\n", 64))
 

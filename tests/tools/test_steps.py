@@ -9,7 +9,7 @@ import subprocess
 import unittest
 
 from prefixes import report_of
-from tooltest import HEADER, REPLAY, TOP, InFolder, contrast, run
+from tooltest import HEADER, REPLAY, SERIES, TOP, InFolder, contrast, run
 
 BROWSER = next(filter(None, map(shutil.which, ("chromium", "chromium-browser", "google-chrome"))), None)
 # docs/FORMATS.md, "The state word".
@@ -149,8 +149,7 @@ class Steps(InFolder):
         """Returns the polls of each run: device, packets, how it ended, and the remaining budget."""
         trace = self.write("trace.csv", HEADER + "".join(f"{row}\n" for row in rows))
         steps = self.data(trace, *words)["sides"][0]["steps"]
-        return [step["polls"] and [(poll["device"], poll["packets"], poll["ending"], poll["budget"]) for poll in step["polls"]]
-                for step in steps if "polls" in step]
+        return [[(poll["device"], poll["packets"], poll["ending"], poll["budget"]) for poll in step["polls"]] for step in steps if "polls" in step]
 
     def test_a_run_poll_by_poll(self):
         """By hand, with a weight of 2. The list has 1, 2 and 3. Device 1 has three packets: its poll takes two and asks for a repoll.
@@ -178,7 +177,7 @@ class Steps(InFolder):
         """In recordings, with several settings: the polls and packets of each expanded run sum to those of its report."""
         for name, rows, words in (("linux-veth-bursts", "1:500", ["--budget", "16", "--weight", "8"]), ("linux-veth-small-budget", "120:320", []),
                                   ("linux-veth-tcp", "13500:13913", ["--budget", "64"])):
-            trace, known, runs = TOP / f"examples/{name}.csv", 0, 0
+            trace, runs = TOP / f"examples/{name}.csv", 0
             header, *lines = trace.read_text().splitlines()
             first, last = map(int, rows.split(":"))
             page = self.data(trace, "--rows", rows, *words)
@@ -187,11 +186,27 @@ class Steps(InFolder):
                 if "polls" not in step:
                     continue
                 runs += 1
-                known += step["polls"] is not None
-                if step["polls"] is not None:
-                    self.assertEqual((len(step["polls"]), sum(poll["packets"] for poll in step["polls"])), report[int(label["at"])])
+                self.assertEqual((len(step["polls"]), sum(poll["packets"] for poll in step["polls"])), report[int(label["at"])])
             self.assertEqual(runs, sum(first <= number <= last and polls > 0 for number, (polls, _) in report.items()))
-            self.assertEqual(known, runs, name)
+
+    def test_one_process_for_each_side(self):
+        """Whatever the number of rows and polls."""
+        counted = self.write("counted", f"#!/bin/sh\necho \"$@\" >> '{self.folder}/calls'\nexec '{SERIES}' \"$@\"\n")
+        counted.chmod(0o755)
+        for words, calls in (([], ["--polls"]), (["--raise", "--budget", "16", "--beside", ""], ["--polls --raise --budget 16", "--polls --raise"])):
+            (self.folder / "calls").unlink(missing_ok=True)
+            done = run("steps", TOP / "examples/linux-veth-bursts.csv", "--rows", "801:1000", "--out", self.folder / "page.html", *words,
+                       SERIES=counted, PROGRAM="/bin/false")
+            self.assertEqual((done.stderr, done.returncode), ("", 0))
+            self.assertEqual((self.folder / "calls").read_text().splitlines(), calls)
+
+    def test_a_disable_that_completes_in_a_run(self):
+        """By hand: device 1's packet is polled, and it completes; its pending disable completes at the row's end, also if device 2 is polled after it."""
+        trace = self.write("trace.csv", HEADER + "0,1,open,8\n0,2,open,8\n1,1,rx,60\n1,2,rx,60\n1,1,disable,0\n2,0,softirq,0\n")
+        step = self.data(trace)["sides"][0]["steps"][-1]
+        self.assertEqual([poll["ending"] for poll in step["polls"]], ["complete", "complete"])
+        self.assertEqual([[device["state"], device["flags"]] for device in step["devices"] if device["device"] == 1], [["off", ["SCHED", "NPSVC"]]])
+        self.assertIn("the pending disable completes", " ".join(sentence for sentence, _ in step["said"]))
 
     def test_a_window_of_rows(self):
         """Rows of a recording of 13,913 rows: their numbers stay those of the trace, and the states match the reports so far."""

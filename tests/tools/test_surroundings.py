@@ -128,8 +128,8 @@ class Surroundings(InFolder):
         held.chmod(0o755)
         before = self.names()
         for number in (signal.SIGTERM, signal.SIGHUP):
-            for tool, words, variables in (("raise", [TRACE, "--out", old], {"PROGRAM": held}), ("plot", [TRACE, "--out", old, "--force"], {"SERIES": held}),
-                                           ("steps", [TRACE, "--out", "page.html"], {"PROGRAM": held}),
+            for tool, words, variables in (("raise", [TRACE, "--out", old], {"SERIES": held}), ("plot", [TRACE, "--out", old, "--force"], {"SERIES": held}),
+                                           ("steps", [TRACE, "--out", "page.html"], {"SERIES": held}),
                                            ("advise", [HERE / "recorded-apart.rec", "--plot", old], {"MACHINE": held}),
                                            ("sweep", [TRACE, "--resume", "--out", "rows"], {"PROGRAM": held})):
                 process = self.start(tool, words, variables=variables, stdout=subprocess.PIPE)
@@ -217,7 +217,7 @@ class Surroundings(InFolder):
         held = self.held("held")
         old = self.write("old.svg", "old\n")
         before = self.names()
-        for tool, words, variables in (("raise", [TRACE, "--out", old], {"PROGRAM": held}),
+        for tool, words, variables in (("raise", [TRACE, "--out", old], {"SERIES": held}),
                                        ("compare-runs", [TRACE, "--out", old, "--"], {"PROGRAM": held}),
                                        ("plot", [TRACE, "--out", old, "--force"], {"SERIES": held})):
             begun = os.open(self.folder / "begun", os.O_RDONLY | os.O_NONBLOCK)
@@ -303,7 +303,7 @@ class Surroundings(InFolder):
         report = subprocess.run([REPLAY], input=(TOP / "examples/linux-veth-bursts.csv").read_bytes(), capture_output=True, check=True).stdout
         for tool, each in words.items():
             done = subprocess.run(["bash", "-c", 'ulimit -f 1; trap "" XFSZ; exec "$0" "$@"', sys.executable, "-B", TOP / "tools" / tool, *each],
-                                  capture_output=True, check=False, input=report, env={**os.environ, "PROGRAM": REPLAY})
+                                  capture_output=True, check=False, input=report, env={**os.environ, "PROGRAM": REPLAY, "SERIES": SERIES})
             self.assertEqual((done.returncode, old.read_text(), self.names()), (1, "old\n", ["old.csv"]), (tool, done.stderr))
             self.check_line(tool, done.stderr)
 

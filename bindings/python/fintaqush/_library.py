@@ -231,6 +231,8 @@ driver_step = declare("driver_step", driver=Handle, todo=Todo)
 driver_show = declare("driver_show", driver=Handle, device=u32, shown=DeviceShown)
 replay = declare("replay", u32, _long, settings=Settings, trace=ctypes.c_char_p, len=size, report=ctypes.c_char_p, room=size,
                  replayed=Replayed)
+raise_runs = declare("raise", u32, _long, settings=Settings, restarts=u32, trace=ctypes.c_char_p, len=size, out=ctypes.c_char_p, room=size,
+                     replayed=Replayed)
 machine_usual = declare("machine_usual", settings=MachineSettings, size=size)
 machine = declare("machine", u32, _long, settings=MachineSettings, arrivals=ctypes.c_char_p, len=size, report=ctypes.c_char_p, room=size,
                   ran=MachineRan)

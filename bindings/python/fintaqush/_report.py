@@ -6,7 +6,6 @@ from typing import Any, Callable, NamedTuple
 
 from . import _library as c
 from ._answers import Status, TraceFault, Word
-from ._raising import Pending, Raising
 
 
 class Turn(NamedTuple):
@@ -67,28 +66,15 @@ def replay(trace: bytes, budget: int = 300, weight: int = 64, window: int = 1024
     the report count in that longer trace. TraceFault; BAD_WEIGHT, otherwise BAD_BUDGET."""
     if raised:
         trace = raise_runs(trace, budget, weight, window)
-    return _report_of(_text_of(trace, _settings(trace, budget, weight, window)))
+    return _report_of(_written(c.replay, trace, _settings(trace, budget, weight, window)).decode())
 
 
 def raise_runs(trace: bytes, budget: int = 300, weight: int = 64, window: int = 1024, restarts: int | None = None) -> bytes:
     """Adds to a trace the runs that the kernel would make with these settings (fintaqush raise), at most `restarts` after a row, and
-    returns its bytes. Errors are those of `replay`, and ValueError if there would be more than 100000 rows, or if
-    a field is quoted in part."""
-    settings = _settings(trace, budget, weight, window)
-
-    def play(rows: bytes) -> str:
-        try:
-            return _text_of(rows, settings)
-        except TraceFault as fault:
-            if fault.name != "Pending":
-                raise
-            raise Pending(fault.row) from None
-
-    try:
-        raised: bytes = Raising(trace, play, restarts).whole()[0]
-        return raised
-    except Pending as pending:
-        raise TraceFault(Status.BAD_TRACE, TraceFault.NAMES.index("Pending"), pending.row) from None
+    returns its bytes. Errors are those of `replay`; a fault names a row of the longer trace, and is TooManyRows if that would have more
+    than 100000."""
+    most = c.MOST[c.u32] if restarts is None else restarts  # FQ_UNTIL_EMPTY
+    return _written(c.raise_runs, trace, _settings(trace, budget, weight, window), most)
 
 
 def _settings(trace: bytes, budget: int, weight: int, window: int) -> c.Settings:
@@ -97,16 +83,17 @@ def _settings(trace: bytes, budget: int, weight: int, window: int) -> c.Settings
     return c.Settings(c.number(budget, "budget"), c.number(weight, "weight"), c.number(window, "window"))
 
 
-def _text_of(trace: bytes, settings: c.Settings) -> str:
+def _written(call: Callable[..., Any], trace: bytes, *settings: Any) -> bytes:
+    """Returns what a call writes for a trace, to an array that grows until there is room."""
     replayed, room = c.Replayed(), 2 * len(trace) + 4096
     while True:
-        report = ctypes.create_string_buffer(room)
-        said = Status(c.replay(settings, trace, len(trace), report, room, replayed))
+        out = ctypes.create_string_buffer(room)
+        said = Status(call(*settings, trace, len(trace), out, room, replayed))
         if said is Status.BAD_TRACE:
             raise TraceFault(said, replayed.fault, replayed.row)
         if said is not Status.NO_ROOM:
             c.checked(said)
-            return ctypes.string_at(report, replayed.length).decode()
+            return ctypes.string_at(out, replayed.length)
         room = replayed.length
 
 

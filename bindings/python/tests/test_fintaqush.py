@@ -585,6 +585,13 @@ class TestRaising(Refusals):
         self.assertEqual((raised.work, sum(device.dropped for device in raised.devices.values()), raised.listed), (15245, 0, []))
         self.assertEqual(raise_runs(trace), trace)
 
+    def test_a_trace_that_gets_too_long(self):
+        trace = b"moment,device,event,value\n0,1,open,65536\n" + b"0,1,rx,60\n" * 60000 + b"1,0,softirq,0\n"
+        with self.assertRaises(TraceFault) as raised:
+            raise_runs(trace, 1, 1)
+        self.assertEqual(str(raised.exception), "trace fault 9 TooManyRows row 100001")
+        self.assertEqual(len(raise_runs(trace, 1, 1, restarts=100)), len(trace) + 100 * len(b"1,0,softirq,0\n"))
+
     def test_by_hand(self):
         head = "moment,device,event,value\n0,1,open,8\n" + "1,1,rx,60\n" * 3
         trace = f"{head}2,0,softirq,0\n3,0,softirq,0\n".encode()
@@ -599,6 +606,9 @@ class TestRaising(Refusals):
                 raise_runs(trace)
             self.assertEqual(str(raised.exception), line)
         self.refused(Status.BAD_WEIGHT, raise_runs, pending, weight=0)
+        for restarts in (-1, 2**32):
+            with self.assertRaises(ValueError):
+                raise_runs(pending, restarts=restarts)
         with self.assertRaises(TypeError):
             raise_runs("moment")
 

@@ -61,32 +61,78 @@ impl Error for NoReport {}
 /// assert_eq!(refused.to_string(), "trace fault 1 BadHeader row 0");
 /// ```
 pub fn replay(trace: &[u8], settings: &Settings) -> Result<Vec<u8>, NoReport> {
-    let mut report = vec![0; 4096];
-    loop {
-        let mut replayed = sys::fq_replayed::default();
+    written(|out, room, replayed| {
         // SAFETY: each pointer leads to as many bytes as its length says, and they don't overlap.
-        let said = unsafe {
-            sys::fq_replay(
+        unsafe { sys::fq_replay(settings, trace.as_ptr(), trace.len(), out, room, replayed) }
+    })
+}
+
+/// Adds to a trace the runs that the kernel would make with these settings, as `fintaqush raise` does, and returns the trace.
+///
+/// A trace has only the runs of the machine where it was recorded. If a run leaves devices on the poll list, because budget or
+/// weight is smaller than there, the kernel raises the softirq again (`net_rx_action`). So a softirq row that leaves devices on
+/// the list is repeated until the list is empty, or `restarts` rows were added; [`None`] is no such limit. One that is followed
+/// by another at the same time has its added run already.
+///
+/// # Errors
+/// Those of [`replay`]: a pending disable ([`NoReport::Trace`], fault 12) names a row of the trace with the added rows, and fault
+/// 9 says that this trace would have more than 100000 rows.
+///
+/// ```
+/// use fintaqush::{raise_runs, replay, Settings};
+///
+/// # fn main() -> Result<(), fintaqush::NoReport> {
+/// let trace = "moment,device,event,value\n0,1,open,8\n1,1,rx,60\n1,1,rx,60\n2,0,softirq,0\n";
+/// let small = Settings { budget: 1, weight: 1, window: 1024 };
+/// let raised = raise_runs(trace.as_bytes(), &small, None)?;
+/// // Two runs take a packet each. Each poll was full, and a packet came while a poll was requested, so a third run polls without a packet.
+/// assert_eq!(raised, [trace, "2,0,softirq,0\n", "2,0,softirq,0\n"].concat().into_bytes());
+/// let report = replay(&raised, &small)?;
+/// # assert!(report.ends_with(b"\nlist\ntotal devices 1 runs 3 polls 4 work 2 squeezed 2\n"));
+/// # Ok(())
+/// # }
+/// ```
+pub fn raise_runs(
+    trace: &[u8],
+    settings: &Settings,
+    restarts: Option<u32>,
+) -> Result<Vec<u8>, NoReport> {
+    let restarts = restarts.unwrap_or(u32::MAX); // FQ_UNTIL_EMPTY
+    written(|out, room, replayed| {
+        // SAFETY: each pointer leads to as many bytes as its length says, and they don't overlap.
+        unsafe {
+            sys::fq_raise(
                 settings,
+                restarts,
                 trace.as_ptr(),
                 trace.len(),
-                report.as_mut_ptr(),
-                report.len(),
-                &mut replayed,
+                out,
+                room,
+                replayed,
             )
-        };
-        match said {
-            sys::FQ_NO_ROOM => report.resize(replayed.length, 0),
+        }
+    })
+}
+
+// Returns what a call writes to an array of this many bytes, which grows until there is room.
+fn written(
+    call: impl Fn(*mut u8, usize, &mut sys::fq_replayed) -> u32,
+) -> Result<Vec<u8>, NoReport> {
+    let mut out = vec![0; 4096];
+    loop {
+        let mut replayed = sys::fq_replayed::default();
+        match call(out.as_mut_ptr(), out.len(), &mut replayed) {
+            sys::FQ_NO_ROOM => out.resize(replayed.length, 0),
             sys::FQ_BAD_TRACE => {
                 return Err(NoReport::Trace {
                     fault: replayed.fault,
                     row: replayed.row,
                 })
             }
-            _ => {
+            said => {
                 Fault::unless_made(said).map_err(NoReport::Refused)?;
-                report.truncate(replayed.length);
-                return Ok(report);
+                out.truncate(replayed.length);
+                return Ok(out);
             }
         }
     }

@@ -395,7 +395,7 @@ pub struct fq_settings {
 #[repr(C)]
 #[derive(Clone, Copy, Debug, Default, PartialEq, Eq)]
 pub struct fq_replayed {
-    /// The length of the report in bytes, even if there is no room for it; 0 if there is none.
+    /// The length of the report, or of the raised trace, in bytes, even if there is no room for it; 0 if there is none.
     pub length: usize,
     /// The number of the trace's error; 0 if it has none.
     pub fault: u32,
@@ -620,6 +620,15 @@ extern "C" {
         trace: *const u8,
         len: usize,
         report: *mut u8,
+        room: usize,
+        replayed: *mut fq_replayed,
+    ) -> u32;
+    pub fn fq_raise(
+        settings: *const fq_settings,
+        restarts: u32,
+        trace: *const u8,
+        len: usize,
+        out: *mut u8,
         room: usize,
         replayed: *mut fq_replayed,
     ) -> u32;

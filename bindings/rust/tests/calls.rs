@@ -508,7 +508,7 @@ fn runs_that_the_kernel_would_add() {
 fn every_form_of_a_record_is_raised() {
     let trace = "\u{feff}\"moment\",\"device\",event,value\r\n\r\n\"0\",01,open,8\r1,1,rx,60\n\n1,1,rx,60\n\"2\",0,\"softirq\",\"0";
     let raised = raise_runs(trace.as_bytes(), &ONE, None).unwrap();
-    let head = "moment,device,event,value\n0,01,open,8\n1,1,rx,60\n1,1,rx,60\n";
+    let head = "moment,device,event,value\n0,1,open,8\n1,1,rx,60\n1,1,rx,60\n";
     assert_eq!(raised, [head, RUN, RUN, RUN].concat().into_bytes());
 }
 
