@@ -1,6 +1,6 @@
 -- The rows with the added runs are rows of a trace that can be played.
-use Rattle.std.proofs.Common.{◌≡◌, ◌∙◌, ℕ, zero, suc, ◌+◌, ◌<◌, ◌≤◌, Bool, true, false, Ok, Err, List, [], ◌∷◌, ◌++◌, length, drop, get_or}
-use Rattle.std.proofs.{Common.{ap, arith, inl, inr, length-append, refl, subst, sym}, lemmas.Bool.ltb-true, Math.Seq.drop-cons}
+use Rattle.std.proofs.Common.{◌≡◌, ◌∙◌, ℕ, zero, suc, ◌+◌, ◌-◌, ◌<◌, ◌≤◌, Bool, true, false, Ok, Err, List, [], ◌∷◌, ◌++◌, length, drop, get_or}
+use Rattle.std.proofs.{Common.{ap, arith, inl, inr, length-append, refl, subst, sym, take}, lemmas.{Bool.ltb-true, List.take_rest}, Math.{ListN.drop_of_length-le, Seq.drop-cons}}
 use Rattle.std.specs.Prelude.{Result, ◌⊎◌, None, if◌then◌else◌, nat_lt, not, ◌&&◌, ◌==◌}
 use Rattle.device_rows.specs.{Row.{device_fits, value_fits}, Switch.{refusal, switch_of}, Trace.{AcceptedAfter, IsAccepted}}
 use Rattle.device_rows.specs.declared.{event.RowEvent.RowEvent, fault.TraceFault.TheVariants.TooManyRows, row.Row.Row}
@@ -83,8 +83,6 @@ adds-row : (s : ReplaySettings) (row : Row) (r more : Raised) → and_row s row 
 unfolding and_row
 adds-row s row r more e = by (nat_lt (length r.rows) 100000) (is_early row.event row.device r.state) refl refl e
   where
-    made : Raised
-    made = record { rows = r.rows ++ row ∷ []; state = after_row s (length r.rows + 1) row r.state }
     by : (room early : Bool) → nat_lt (length r.rows) 100000 ≡ room → is_early row.event row.device r.state ≡ early
         → (if room then (if early then Err (Pending (length r.rows + 1))
         else Ok (record { rows = r.rows ++ row ∷ []; state = after_row s (length r.rows + 1) row r.state }))
@@ -134,18 +132,19 @@ added : (s : ReplaySettings) (earlier : List Row) (left : ℕ) (row : Row) (r mo
     → and_again s left row r ≡ Ok more → IsRaising s earlier more
 unfolding and_again
 added s earlier zero row r more is device value run e = let same : r ≡ more = cc e in subst (IsRaising s earlier) same is
-added s earlier (suc left) row r more is device value run e = by (length r.state.list == 0) e
+added s earlier (suc left) row r more is device value run e =
+    by (λ next so_far e'. added s earlier left row next more so_far device value run e') (length r.state.list == 0) e
   where
-    then_on : (x : Result Raised ReplayFault) → and_row s row r ≡ x → (x >>= and_again s left row) ≡ Ok more → IsRaising s earlier more
-    then_on (Err fault) one e = cc e
-    then_on (Ok next) one e =
+    then_on : ((next : Raised) → IsRaising s earlier next → and_again s left row next ≡ Ok more → IsRaising s earlier more)
+        → (x : Result Raised ReplayFault) → and_row s row r ≡ x → (x >>= and_again s left row) ≡ Ok more → IsRaising s earlier more
+    then_on rest (Err fault) one e = cc e
+    then_on rest (Ok next) one e =
         let taken : IsAccepted r.rows row = record { device = device; value = value; in_turn = rw run refl } in
-        added s earlier left row next more
-        (one-more s earlier earlier row r next is taken (λ d. run-sets-none d r.rows row run ∙ is.same d) one)
-        device value run e
-    by : (b : Bool) → (if b then Ok r else and_row s row r >>= and_again s left row) ≡ Ok more → IsRaising s earlier more
-    by true e = let same : r ≡ more = cc e in subst (IsRaising s earlier) same is
-    by false e = then_on (and_row s row r) refl e
+        rest next (one-more s earlier earlier row r next is taken (λ d. run-sets-none d r.rows row run ∙ is.same d) one) e
+    by : ((next : Raised) → IsRaising s earlier next → and_again s left row next ≡ Ok more → IsRaising s earlier more)
+        → (b : Bool) → (if b then Ok r else and_row s row r >>= and_again s left row) ≡ Ok more → IsRaising s earlier more
+    by rest true e = let same : r ≡ more = cc e in subst (IsRaising s earlier) same is
+    by rest false e = then_on rest (and_row s row r) refl e
 
 row-with-added : (s : ReplaySettings) (restarts : ℕ) (earlier : List Row) (row : Row) (rows : List Row) (r more : Raised)
     → IsRaising s earlier r → IsAccepted earlier row → with_row s restarts row rows r ≡ Ok more → IsRaising s (earlier ++ row ∷ []) more
@@ -172,13 +171,15 @@ all-rows : (s : ReplaySettings) (restarts : ℕ) (earlier rows : List Row) (r mo
     → AcceptedAfter earlier rows → and_rows s restarts rows r ≡ Ok more → (all : List Row) × IsRaising s all more
 unfolding and_rows
 all-rows s restarts earlier [] r more is ok e = let same : r ≡ more = cc e in (earlier, subst (IsRaising s earlier) same is)
-all-rows s restarts earlier (row ∷ rows) r more is ok e = then_on (with_row s restarts row rows r) refl e
+all-rows s restarts earlier (row ∷ rows) r more is ok e =
+    then_on (λ next so_far e'. all-rows s restarts (earlier ++ row ∷ []) rows next more so_far ok.1 e') (with_row s restarts row rows r) refl e
   where
-    then_on : (x : Result Raised ReplayFault) → with_row s restarts row rows r ≡ x → (x >>= and_rows s restarts rows) ≡ Ok more
+    then_on : ((next : Raised) → IsRaising s (earlier ++ row ∷ []) next → and_rows s restarts rows next ≡ Ok more
+        → (all : List Row) × IsRaising s all more)
+        → (x : Result Raised ReplayFault) → with_row s restarts row rows r ≡ x → (x >>= and_rows s restarts rows) ≡ Ok more
         → (all : List Row) × IsRaising s all more
-    then_on (Err fault) one e = cc e
-    then_on (Ok next) one e =
-        all-rows s restarts (earlier ++ row ∷ []) rows next more (row-with-added s restarts earlier row rows r next is ok.0 one) ok.1 e
+    then_on rest (Err fault) one e = cc e
+    then_on rest (Ok next) one e = rest next (row-with-added s restarts earlier row rows r next is ok.0 one) e
 
 start-is : (s : ReplaySettings) → IsRaising s [] no_rows
 start-is s = record { few = omega arith; played = refl; accepted = tt; same = λ d. refl }
@@ -197,6 +198,33 @@ raised-is-trace s restarts rows all ok e = by (and_rows s restarts rows no_rows)
           (r.state, subst (λ (l : List Row). after_all_rows s l ≡ Ok r.state) same raising.1.played),
         )
 
+-- ---- one turn of a loop that plays a row again
+
+pub again-none : (s : ReplaySettings) (left : ℕ) (row : Row) (r : Raised) → left ≡ 0 → and_again s left row r ≡ Ok r
+unfolding and_again
+again-none s left row r none = rw none refl
+
+pub again-empty : (s : ReplaySettings) (left : ℕ) (row : Row) (r : Raised) → (length r.state.list == 0) ≡ true → and_again s left row r ≡ Ok r
+unfolding and_again
+again-empty s zero row r empty = refl
+again-empty s (suc left) row r empty = rw empty refl
+
+again-full : (s : ReplaySettings) (left : ℕ) (row : Row) (r : Raised) → 0 < left → (length r.state.list == 0) ≡ false
+    → and_again s left row r ≡ (and_row s row r >>= and_again s (left - 1) row)
+unfolding and_again
+again-full s zero row r some full = absurd (omega (arith, some))
+again-full s (suc left) row r some full =
+    let next : suc left - 1 ≡ left = omega arith in
+    rw (full, next) refl
+
+pub again-next : (s : ReplaySettings) (left : ℕ) (row : Row) (r more : Raised) → 0 < left → (length r.state.list == 0) ≡ false
+    → and_row s row r ≡ Ok more → and_again s left row r ≡ and_again s (left - 1) row more
+again-next s left row r more some full one = again-full s left row r some full ∙ rw one refl
+
+pub again-fault : (s : ReplaySettings) (left : ℕ) (row : Row) (r : Raised) (fault : ReplayFault) → 0 < left
+    → (length r.state.list == 0) ≡ false → and_row s row r ≡ Err fault → and_again s left row r ≡ Err fault
+again-fault s left row r fault some full one = again-full s left row r some full ∙ rw one refl
+
 -- ---- one row of a loop over a trace
 
 pub loop-row : (s : ReplaySettings) (restarts : ℕ) (rows : List Row) (i : ℕ) (d : Row) (r : Raised) → i < length rows
@@ -205,7 +233,39 @@ pub loop-row : (s : ReplaySettings) (restarts : ℕ) (rows : List Row) (i : ℕ)
 unfolding and_rows
 loop-row s restarts rows i d r below =
     let next : suc i ≡ i + 1 = omega arith in
-    rw (drop-cons rows i d below, next) refl
+    let split : drop i rows ≡ get_or rows i d ∷ drop (i + 1) rows =
+    subst (λ (n : ℕ). drop i rows ≡ get_or rows i d ∷ drop n rows) next (drop-cons rows i d below) in
+    rw split refl
+
+-- the rows after a row, as a slice
+pub last-is : (row : Row) (rows : List Row) (n : ℕ) (b : Bool) → is_last_run row (take (length rows - n) (drop n rows)) ≡ b
+    → is_last_run row (drop n rows) ≡ b
+last-is row rows n b h = subst (λ (l : List Row). is_last_run row l ≡ b) (take_rest rows n) h
+
+-- a row of the trace alone, and with added runs
+pub with-none : (s : ReplaySettings) (restarts : ℕ) (row : Row) (rows : List Row) (r next : Raised) → and_row s row r ≡ Ok next
+    → is_last_run row rows ≡ false → with_row s restarts row rows r ≡ Ok next
+with-none s restarts row rows r next one last = rw (one, last) refl
+
+pub with-again : (s : ReplaySettings) (restarts : ℕ) (row : Row) (rows : List Row) (r next : Raised) (x : Result Raised ReplayFault)
+    → and_row s row r ≡ Ok next → is_last_run row rows ≡ true → and_again s restarts row next ≡ x → with_row s restarts row rows r ≡ x
+with-again s restarts row rows r next x one last again = rw (one, last, again) refl
+
+pub with-fault : (s : ReplaySettings) (restarts : ℕ) (row : Row) (rows : List Row) (r : Raised) (fault : ReplayFault)
+    → and_row s row r ≡ Err fault → with_row s restarts row rows r ≡ Err fault
+with-fault s restarts row rows r fault one = rw one refl
+
+pub loop-next : (s : ReplaySettings) (restarts : ℕ) (rows : List Row) (i : ℕ) (d : Row) (r more : Raised) → i < length rows
+    → with_row s restarts (get_or rows i d) (drop (i + 1) rows) r ≡ Ok more
+    → and_rows s restarts (drop i rows) r ≡ and_rows s restarts (drop (i + 1) rows) more
+loop-next s restarts rows i d r more below e = loop-row s restarts rows i d r below ∙ rw e refl
+
+pub loop-end : (s : ReplaySettings) (restarts : ℕ) (rows : List Row) (i : ℕ) (r : Raised) → length rows ≤ i
+    → and_rows s restarts (drop i rows) r ≡ and_rows s restarts rows no_rows → raised s restarts rows ≡ Ok r.rows
+unfolding and_rows
+loop-end s restarts rows i r past same =
+    let whole : and_rows s restarts rows no_rows ≡ Ok r = sym same ∙ rw (drop_of_length-le rows past) refl in
+    ap rows_in whole
 
 -- an error of a row is that of all rows
 pub loop-fault : (s : ReplaySettings) (restarts : ℕ) (rows : List Row) (i : ℕ) (d : Row) (r : Raised) (fault : ReplayFault)
@@ -219,31 +279,33 @@ loop-fault s restarts rows i d r fault below before e =
 
 row-unwritten : (s : ReplaySettings) (row : Row) (r : Raised) (fault : ReplayFault) → and_row s row r ≡ Err fault → fault ≡ OutputFailed → ⊥
 unfolding and_row
-row-unwritten s row r fault e failed = by (nat_lt (length r.rows) 100000) (is_early row.event row.device r.state) e
+row-unwritten s row r fault e failed =
+    by (nat_lt (length r.rows) 100000) (is_early row.event row.device r.state)
+    (record { rows = r.rows ++ row ∷ []; state = after_row s (length r.rows + 1) row r.state }) e
   where
-    by : (room early : Bool)
-        → (if room then (if early then Err (Pending (length r.rows + 1))
-        else Ok (record { rows = r.rows ++ row ∷ []; state = after_row s (length r.rows + 1) row r.state }))
-        else Err (Trace TooManyRows)) ≡ Err fault
-        → ⊥
-    by true false e = cc e
-    by true true e = let is : fault ≡ Pending (length r.rows + 1) = cc e in cc (sym is ∙ failed)
-    by false early e = let is : fault ≡ Trace TooManyRows = cc e in cc (sym is ∙ failed)
+    by : (room early : Bool) (more : Raised)
+        → (if room then (if early then Err (Pending (length r.rows + 1)) else Ok more) else Err (Trace TooManyRows)) ≡ Err fault → ⊥
+    by true false more e = cc e
+    by true true more e = let is : fault ≡ Pending (length r.rows + 1) = cc e in cc (sym is ∙ failed)
+    by false early more e = let is : fault ≡ Trace TooManyRows = cc e in cc (sym is ∙ failed)
 
 added-unwritten : (s : ReplaySettings) (left : ℕ) (row : Row) (r : Raised) (fault : ReplayFault) → and_again s left row r ≡ Err fault
     → fault ≡ OutputFailed → ⊥
 unfolding and_again
 added-unwritten s zero row r fault e failed = cc e
-added-unwritten s (suc left) row r fault e failed = by (length r.state.list == 0) e
+added-unwritten s (suc left) row r fault e failed =
+    by (λ next e'. added-unwritten s left row next fault e' failed) (length r.state.list == 0) e
   where
-    then_on : (x : Result Raised ReplayFault) → and_row s row r ≡ x → (x >>= and_again s left row) ≡ Err fault → ⊥
-    then_on (Err other) one e =
+    then_on : ((next : Raised) → and_again s left row next ≡ Err fault → ⊥)
+        → (x : Result Raised ReplayFault) → and_row s row r ≡ x → (x >>= and_again s left row) ≡ Err fault → ⊥
+    then_on rest (Err other) one e =
         let same : other ≡ fault = cc e in
         row-unwritten s row r other one (same ∙ failed)
-    then_on (Ok next) one e = added-unwritten s left row next fault e failed
-    by : (b : Bool) → (if b then Ok r else and_row s row r >>= and_again s left row) ≡ Err fault → ⊥
-    by true e = cc e
-    by false e = then_on (and_row s row r) refl e
+    then_on rest (Ok next) one e = rest next e
+    by : ((next : Raised) → and_again s left row next ≡ Err fault → ⊥)
+        → (b : Bool) → (if b then Ok r else and_row s row r >>= and_again s left row) ≡ Err fault → ⊥
+    by rest true e = cc e
+    by rest false e = then_on rest (and_row s row r) refl e
 
 with-unwritten : (s : ReplaySettings) (restarts : ℕ) (row : Row) (rows : List Row) (r : Raised) (fault : ReplayFault)
     → with_row s restarts row rows r ≡ Err fault → fault ≡ OutputFailed → ⊥
@@ -264,13 +326,15 @@ rows-unwritten : (s : ReplaySettings) (restarts : ℕ) (rows : List Row) (r : Ra
     → and_rows s restarts rows r ≡ Err fault → fault ≡ OutputFailed → ⊥
 unfolding and_rows
 rows-unwritten s restarts [] r fault e failed = cc e
-rows-unwritten s restarts (row ∷ rows) r fault e failed = then_on (with_row s restarts row rows r) refl e
+rows-unwritten s restarts (row ∷ rows) r fault e failed =
+    then_on (λ next e'. rows-unwritten s restarts rows next fault e' failed) (with_row s restarts row rows r) refl e
   where
-    then_on : (x : Result Raised ReplayFault) → with_row s restarts row rows r ≡ x → (x >>= and_rows s restarts rows) ≡ Err fault → ⊥
-    then_on (Err other) one e =
+    then_on : ((next : Raised) → and_rows s restarts rows next ≡ Err fault → ⊥)
+        → (x : Result Raised ReplayFault) → with_row s restarts row rows r ≡ x → (x >>= and_rows s restarts rows) ≡ Err fault → ⊥
+    then_on rest (Err other) one e =
         let same : other ≡ fault = cc e in
         with-unwritten s restarts row rows r other one (same ∙ failed)
-    then_on (Ok next) one e = rows-unwritten s restarts rows next fault e failed
+    then_on rest (Ok next) one e = rest next e
 
 pub memory-unwritten : (fault : ReplayFault) → IsReplayOutOfMemory fault → fault ≡ OutputFailed → ⊥
 memory-unwritten fault memory failed = cc (sym memory.0 ∙ failed)

@@ -24,7 +24,7 @@ pub(crate) struct Raising {
 }
 
 impl Raising {
-    ghost use Rattle.std.specs.Prelude.{◌≡◌, ◌⊎◌, Ok, Err, IfOk, IfErr, OnOk};
+    ghost use Rattle.std.specs.Prelude.{◌≡◌, ◌⊎◌, ◌==◌, Ok, Err, IfOk, IfErr, OnOk, length};
     ghost use Rattle.replay_rows.specs.Raised.{and_again, and_row, no_rows};
     ghost use Rattle.replay_rows.specs.Raising.{raised_so_far};
 
@@ -36,6 +36,13 @@ impl Raising {
             replay: Replay::new(SerialBench::new(alloc)?, room_for_lines(alloc, rows)?),
             rows: Vec::with_capacity(alloc, MOST_ROWS as usize)?,
         })
+    }
+
+    // Returns whether the poll list is empty.
+    fn has_emptied(&self) -> bool
+        ensures { result ≡ (length (raised_so_far self.now).state.list == 0) }
+    {
+        self.replay.list.ids().is_empty()
     }
 
     // Plays one more row.
@@ -79,7 +86,7 @@ impl Raising {
     {
         let mut left = restarts;
         while left > 0 {
-            if self.replay.list.ids().is_empty() {
+            if self.has_emptied() {
                 return Ok(());
             }
             self.play(alloc, settings, row)?;

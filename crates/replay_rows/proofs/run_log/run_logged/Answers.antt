@@ -1,8 +1,8 @@
 use Rattle.std.proofs.Common.{◌≡◌, ◌∙◌, ◌∷◌, ◌++◌, ◌+◌, Some, List, [], length, length-append, ap, refl, sym, arith}
-use Rattle.std.proofs.lemmas.List.{map-append}
+use Rattle.std.proofs.lemmas.List.{append-nil, map-append}
 use Rattle.poll_runs.specs.Polls.{At, Poll}
 use Rattle.poll_runs.proofs.PollFacts.{chain-push}
-use Rattle.replay_rows.specs.{RunLog.polls_in, declared.run_log.RunPoll.RunPoll}
+use Rattle.replay_rows.specs.{RunLog.{logged, polls_in}, declared.run_log.RunPoll.RunPoll}
 use Rattle.replay_rows.proofs.RunLogFacts.{logged-push}
 use Rattle.replay_rows.proofs.run_log.run_logged.Goals as goal
 
@@ -56,3 +56,17 @@ loop-device-preserved g c =
           (g.B.ReplayBench.devices c.poll_once-once.new.self) log entry (before.logged all shows) is.exact.1
           (c.counts_of.ensures all (is.transmits all (before.shows all shows))));
     }
+
+pub returns-clause-logged : goal.returns-clause-logged
+unfolding logged
+returns-clause-logged g c = λ all shows. sym (simp append-nil at (c.loop-device.invariant.logged all shows []))
+
+pub returns-clause-run : goal.returns-clause-run
+returns-clause-run g c =
+    let inv = c.loop-device.invariant in
+    let log = polls_in c.loop-device.polls.items in
+    let going = c.next.ensures.going c.args.list.now log inv.going in
+    let over = c.next.ensures.over c.args.list.now log c.in_default.is inv.going in
+    let budget : c.next.new.self.budget ≡ c.args.settings.now.budget = c.next.ensures.settings.budget ∙ inv.budget in
+    let window : c.next.new.self.window ≡ c.args.settings.now.window = c.next.ensures.settings.window ∙ inv.window in
+    rw (budget, window) at (c.end.ensures.run c.args.list.now log going over)

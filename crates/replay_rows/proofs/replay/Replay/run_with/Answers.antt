@@ -19,8 +19,8 @@ returns-clause-state g c =
     c.run_logged-run.ensures.run in
     rw (is.devices_after, is.list_after, c.in_ok-push.ensures.items, is.reported) refl
 
-pub invariant_of-self : goal.invariant_of-self
-invariant_of-self g c = record {
+pub invariant_of-self-2 : goal.invariant_of-self-2
+invariant_of-self-2 g c = record {
   room = run-room g.B.ReplayBench.devices g.B.ReplayBench.shows g.B.ReplayBench.waiting g.B.Bench.polls g.met.B.ReplayBench.polled
       c.args.settings.now c.args.self.now.bench c.run_logged-run.new.bench _ _ _ _ c.run_logged-run.ensures.polls
       c.run_logged-run.ensures.run c.args.self.now.room;
