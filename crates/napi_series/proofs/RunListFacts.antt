@@ -5,7 +5,6 @@ use Rattle.poll_runs.specs.Polls.{Poll, is_arrival, is_repoll, queued_by, repoll
 use Rattle.poll_runs.proofs.PollFacts.{arrivals-append, arrivals-one, repolled-append, repolled-one}
 use Rattle.replay_rows.specs.{RunLog.polls_in, declared.run_log.RunPoll.RunPoll}
 
-
 pub polls-push : (polls : List RunPoll) (entry : RunPoll)
     → polls_in (polls ++ entry ∷ []) ≡ polls_in polls ++ record { id = entry.device; once = entry.once } ∷ []
 polls-push polls entry = map-append (λ (e : RunPoll). record { id = e.device; once = e.once }) polls (entry ∷ [])

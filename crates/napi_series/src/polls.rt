@@ -86,14 +86,7 @@ fn add_once(
     ensures { OnOk result (string_bytes text.new
         ≡ string_bytes text.old ++ once_fields number count row.now used poll.now) }
 {
-    write!(
-        text,
-        "{}.{},{},{}",
-        number,
-        count,
-        row.moment,
-        poll.device
-    )?;
+    write!(text, "{}.{},{},{}", number, count, row.moment, poll.device)?;
     add_device(text, poll.counts)?;
     add_queue(text, used, poll.counts)?;
     write!(text, ",1,{},", poll.once.work)?;
@@ -129,7 +122,14 @@ pub(crate) fn add_polls(
     let mut list = RunList::new(alloc, replay.list_before())?;
     for (k, poll) in replay.polls().iter().enumerate() {
         list.hand_on(poll)?;
-        add_once(text, number, row, k + 1, replay.uses_transmit(poll.device), poll)?;
+        add_once(
+            text,
+            number,
+            row,
+            k + 1,
+            replay.uses_transmit(poll.device),
+            poll,
+        )?;
         text.push_str(",")?;
         list.add(text, k + 1)?;
         add_once_end(text, poll)?;

@@ -89,11 +89,7 @@ fn add_part(
 }
 
 // Returns the series of the rows.
-fn series_of(
-    alloc: Global,
-    settings: &SeriesSettings,
-    rows: &[Row],
-) -> Result<String, ReplayFault>
+fn series_of(alloc: Global, settings: &SeriesSettings, rows: &[Row]) -> Result<String, ReplayFault>
     requires accepted { AcceptedAfter [] rows.now }
     requires count { length rows.now ≤ 100000 }
     ensures text { IfOk result (λ text. series_of settings.now rows.now ≡ Ok (string_bytes text)) }

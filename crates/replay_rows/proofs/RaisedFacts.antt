@@ -122,6 +122,7 @@ own-row s earlier row r more is ok e = one-more s earlier (earlier ++ row ∷ []
       in_turn = refused-alike (length earlier + 1) (length r.rows + 1) row.event (switch_of row.device r.rows)
           (rw (is.same row.device) ok.in_turn);
     }
+
     same : (d : ℕ) → switch_of d (r.rows ++ row ∷ []) ≡ switch_of d (earlier ++ row ∷ [])
     same d = rw (switch_of-append d r.rows (row ∷ []), switch_of-append d earlier (row ∷ []), is.same d) refl
 
@@ -141,6 +142,7 @@ added s earlier (suc left) row r more is device value run e =
     then_on rest (Ok next) one e =
         let taken : IsAccepted r.rows row = record { device = device; value = value; in_turn = rw run refl } in
         rest next (one-more s earlier earlier row r next is taken (λ d. run-sets-none d r.rows row run ∙ is.same d) one) e
+
     by : ((next : Raised) → IsRaising s earlier next → and_again s left row next ≡ Ok more → IsRaising s earlier more)
         → (b : Bool) → (if b then Ok r else and_row s row r >>= and_again s left row) ≡ Ok more → IsRaising s earlier more
     by rest true e = let same : r ≡ more = cc e in subst (IsRaising s earlier) same is
@@ -302,6 +304,7 @@ added-unwritten s (suc left) row r fault e failed =
         let same : other ≡ fault = cc e in
         row-unwritten s row r other one (same ∙ failed)
     then_on rest (Ok next) one e = rest next e
+
     by : ((next : Raised) → and_again s left row next ≡ Err fault → ⊥)
         → (b : Bool) → (if b then Ok r else and_row s row r >>= and_again s left row) ≡ Err fault → ⊥
     by rest true e = cc e

@@ -55,8 +55,13 @@ impl SerialReplay {
             (λ fault. IsReplayOutOfMemory fault
             ⊎ (after_all_rows settings.now rows.now ≡ Err fault)) }
     {
-        self.replay
-            .play_logged(alloc, settings, index as u32 + 1, &rows[index], &mut self.log)?;
+        self.replay.play_logged(
+            alloc,
+            settings,
+            index as u32 + 1,
+            &rows[index],
+            &mut self.log,
+        )?;
         Ok(())
     }
 
