@@ -5,6 +5,6 @@ use Rattle.napi_series.specs.declared.polls.RunList.{RunList}
 use Rattle.replay_rows.specs.{RunLog.polls_in, declared.run_log.RunPoll.RunPoll}
 
 -- the state after these polls of a run over this list
-pub record Follows (list : List ℕ) (polls : List RunPoll) (run : RunList) : Type 0 where
+pub record IsListAfter (list : List ℕ) (polls : List RunPoll) (run : RunList) : Type 0 where
   pub queue : run.queue.items ≡ list ++ queued_by (polls_in polls)
   pub repolls : run.repolls.items ≡ repolled (polls_in polls)

@@ -122,14 +122,14 @@ once_fields n k row used poll =
 abbrev pub once_end : RunPoll → List ℕ
 once_end poll = codes ", " ++ (decimal poll.device ++ (codes ":" ++ (decimal poll.once.work ++ (codes "," ++ (ending poll.once.next ++ codes "\n")))))
 
-abbrev pub poll_line : ℕ → ℕ → Row → (ℕ → Bool) → List ℕ → RunPoll → List ℕ
-poll_line n k row used list poll =
+abbrev pub run_poll_line : ℕ → ℕ → Row → (ℕ → Bool) → List ℕ → RunPoll → List ℕ
+run_poll_line n k row used list poll =
     once_fields n k row (used poll.device) poll ++ (codes "," ++ (spaced list ++ once_end poll))
 
 -- the line of the poll after k others
 abbrev pub poll_line_at : ℕ → Row → (ℕ → Bool) → List ℕ → List RunPoll → ℕ → Option RunPoll → List ℕ
 poll_line_at n row used list polls k None = []
-poll_line_at n row used list polls k (Some poll) = poll_line n (k + 1) row used (list_left list (take (k + 1) polls)) poll
+poll_line_at n row used list polls k (Some poll) = run_poll_line n (k + 1) row used (list_left list (take (k + 1) polls)) poll
 
 -- the lines of the first k polls of row n
 unfoldable pub poll_lines : ℕ → Row → (ℕ → Bool) → List ℕ → List RunPoll → ℕ → List ℕ

@@ -3,7 +3,7 @@
 ghost use Rattle.std.specs.Prelude.{◌≡◌, ◌+◌, ◌++◌, ◌∷◌, [], ℕ, List, IfOk, OnOk, length, string_bytes};
 ghost use Rattle.device_rows.specs.declared.row.Row.{Row};
 ghost use Rattle.napi_series.specs.Series.{ending, list_left, once_end, once_fields, polls_part};
-ghost use Rattle.napi_series.specs.RunList.{Follows};
+ghost use Rattle.napi_series.specs.RunList.{IsListAfter};
 ghost use Rattle.replay_args.specs.declared.settings.ReplaySettings.{ReplaySettings};
 ghost use Rattle.replay_rows.specs.After.{IsAfter};
 ghost use Rattle.replay_rows.specs.Report.{spaced};
@@ -26,7 +26,7 @@ pub(crate) struct RunList {
 impl RunList {
     // Returns the list before a run.
     fn new(alloc: Global, list: &[u32]) -> Result<RunList, AllocError>
-        ensures { IfOk result (λ run. Follows list.now [] run) }
+        ensures { IfOk result (λ run. IsListAfter list.now [] run) }
     {
         let queue = list.to_vec(alloc)?;
         Ok(RunList {
@@ -37,8 +37,9 @@ impl RunList {
 
     // Adds a poll.
     fn hand_on(&mut self, poll: &RunPoll) -> Result<(), AllocError>
-        ensures { OnOk result ((list : List ℕ) (polls : List RunPoll) → Follows list polls self.old
-            → Follows list (polls ++ poll.now ∷ []) self.new) }
+        ensures { OnOk result ((list : List ℕ) (polls : List RunPoll)
+            → IsListAfter list polls self.old
+            → IsListAfter list (polls ++ poll.now ∷ []) self.new) }
     {
         match poll.once.next {
             Next::Again(Kind::List) => Ok(self.queue.push(poll.device)?),
@@ -51,7 +52,7 @@ impl RunList {
 
     // Appends the list as it is if the run ends after this many polls.
     fn add(&self, text: &mut String, count: usize) -> Result<(), AllocError>
-        ensures { (list : List ℕ) (polls : List RunPoll) → Follows list polls self.now
+        ensures { (list : List ℕ) (polls : List RunPoll) → IsListAfter list polls self.now
             → count ≡ length polls → OnOk result
             (string_bytes text.new ≡ string_bytes text.old ++ spaced (list_left list polls)) }
     {

@@ -46,8 +46,8 @@ fn add_row_part(
     replay: &SerialReplay,
 ) -> Result<(), AllocError>
     ensures { (rows : List Row) → IsAfter settings.now.replay rows number replay.now
-        → OnOk result
-        (string_bytes text.new ≡ string_bytes text.old ++ row_part settings.now rows number row.now) }
+        → OnOk result (string_bytes text.new
+        ≡ string_bytes text.old ++ row_part settings.now rows number row.now) }
 {
     add_poll(
         text,

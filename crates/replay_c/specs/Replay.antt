@@ -56,7 +56,7 @@ pub record ReportsFault (fault : ReplayFault) (replayed : FqReplayed) : Type 0 w
 
 -- A call's status and results, and the caller's array before and after it. The text that is written is that of the trace with
 -- these settings, and an error that is reported is that of the trace.
-pub record Answers (computes : Computes) (asked : FqSettings) (trace before after : List ℕ) (replayed : FqReplayed) (status : ℕ)
+pub record IsCallResult (computes : Computes) (asked : FqSettings) (trace before after : List ℕ) (replayed : FqReplayed) (status : ℕ)
     : Type 0 where
   pub written : status ≡ REPLAY_OK → IsTextOf computes asked trace (take replayed.length after)
   pub rest : status ≡ REPLAY_OK → drop replayed.length after ≡ drop replayed.length before

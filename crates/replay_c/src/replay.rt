@@ -7,7 +7,7 @@ ghost use Rattle.replay_rows.specs.Answer.{replay_of};
 ghost use Rattle.replay_rows.specs.RaisedTrace.{raised_trace};
 ghost use Rattle.replay_c.specs.Status.{REPLAY_OK, REPLAY_NO_ROOM, REPLAY_BAD_TRACE};
 ghost use Rattle.replay_c.specs.Faults.{fault_status};
-ghost use Rattle.replay_c.specs.Replay.{Answers, AreSettingsOf, HasWeight, HasBudget, Lacks, ReportsFault, computed_by};
+ghost use Rattle.replay_c.specs.Replay.{IsCallResult, AreSettingsOf, HasWeight, HasBudget, Lacks, ReportsFault, computed_by};
 
 use crate::fault::{fault_status, row_of};
 use crate::status;
@@ -150,7 +150,7 @@ fn answer(
     to: &mut [u8],
     replayed: &mut FqReplayed,
 ) -> u32
-    ensures { Answers (computed_by restarts) settings.now trace.now to.old to.new replayed.new
+    ensures { IsCallResult (computed_by restarts) settings.now trace.now to.old to.new replayed.new
         result }
 {
     *replayed = FqReplayed {
@@ -178,7 +178,8 @@ pub extern "C" fn fq_replay(
     report: &mut [u8],
     replayed: &mut FqReplayed,
 ) -> u32
-    ensures { Answers replay_of settings.now trace.now report.old report.new replayed.new result }
+    ensures { IsCallResult replay_of settings.now trace.now report.old report.new replayed.new
+        result }
 {
     answer(alloc, settings, None, trace, report, replayed)
 }
@@ -194,7 +195,7 @@ pub extern "C" fn fq_raise(
     raised: &mut [u8],
     replayed: &mut FqReplayed,
 ) -> u32
-    ensures { Answers (λ s bytes. raised_trace s (Some restarts) bytes) settings.now trace.now
+    ensures { IsCallResult (λ s bytes. raised_trace s (Some restarts) bytes) settings.now trace.now
         raised.old raised.new replayed.new result }
 {
     answer(alloc, settings, Some(restarts), trace, raised, replayed)
