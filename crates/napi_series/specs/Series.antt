@@ -12,8 +12,9 @@ use Rattle.poll_runs.specs.Polls.{queued_by, repolled}
 use Rattle.poll_runs.specs.declared.bench.Next.{Next, TheVariants.{Absent, Gone, Again, Repoll}}
 use Rattle.replay_args.specs.declared.settings.ReplaySettings.{ReplaySettings}
 use Rattle.replay_rows.specs.After.{counts_after, is_used_after, list_after, polled_after}
-use Rattle.replay_rows.specs.{RaisedTrace.{raised_trace, rows_with}, Replay.after_all_rows, TraceText.fields}
-use Rattle.replay_rows.specs.{Report.{lines_below, spaced, state_word}, ReplayState.ReplayState, RunLog.{list_before, polls_in, polls_of_row}}
+use Rattle.replay_rows.specs.{RaisedTrace.{raised_trace, with_added_runs}, Replay.after_all_rows, TraceText.fields}
+use Rattle.replay_rows.specs.{Report.{lines_below, spaced, state_word}, ReplayState.ReplayState}
+use Rattle.replay_rows.specs.{RunLog.{list_before, polls_in, polls_of_row}}
 use Rattle.replay_text.specs.{Lines.flag, declared.fault.ReplayFault.{ReplayFault, TheVariants.Trace}}
 use Rattle.replay_rows.specs.declared.line.PollRecord.{PollRecord, TheVariants.{Softirq, Kthread, Busy}}
 use Rattle.replay_rows.specs.declared.run_log.RunPoll.{RunPoll}
@@ -120,7 +121,9 @@ once_fields n k row used poll =
 
 -- the packets of the poll, and how it ended
 abbrev pub once_end : RunPoll → List ℕ
-once_end poll = codes ", " ++ (decimal poll.device ++ (codes ":" ++ (decimal poll.once.work ++ (codes "," ++ (ending poll.once.next ++ codes "\n")))))
+once_end poll =
+    codes ", " ++ (decimal poll.device ++ (codes ":" ++ (decimal poll.once.work
+    ++ (codes "," ++ (ending poll.once.next ++ codes "\n")))))
 
 abbrev pub run_poll_line : ℕ → ℕ → Row → (ℕ → Bool) → List ℕ → RunPoll → List ℕ
 run_poll_line n k row used list poll =
@@ -186,7 +189,7 @@ series_of_raised s (Err fault) = Err fault
 
 -- the series of a text: that of its rows, or the first error of the trace
 abbrev pub series_result : SeriesSettings → Result (List Row) TraceFault → Result (List ℕ) ReplayFault
-series_result s (Ok rows) = series_of_raised s (rows_with s.replay s.options.restarts rows)
+series_result s (Ok rows) = series_of_raised s (with_added_runs s.replay s.options.restarts rows)
 series_result s (Err fault) = Err (Trace fault)
 
 -- the rows with the added runs are printed, or their series

@@ -5,7 +5,7 @@ ghost use Rattle.device_rows.specs.Trace.{AcceptedAfter};
 ghost use Rattle.device_rows.specs.declared.row.Row.{Row};
 ghost use Rattle.napi_series.specs.Series.{names_end, part_after, row_end, row_part, series_by, series_of, series_of_raised};
 ghost use Rattle.replay_rows.specs.After.{IsAfter};
-ghost use Rattle.replay_rows.specs.RaisedTrace.{rows_with};
+ghost use Rattle.replay_rows.specs.RaisedTrace.{with_added_runs};
 ghost use Rattle.replay_rows.specs.Replay.{after_all_rows};
 ghost use Rattle.replay_text.specs.Outside.{IsOutside, IsReplayOutOfMemory};
 ghost use Rattle.replay_text.specs.Written.{IsFaultBy, LeavesText, Writes};
@@ -113,11 +113,11 @@ fn raised_series(
     trace: &Trace,
 ) -> Result<String, ReplayFault>
     ensures text { IfOk result (λ text. series_of_raised settings.now
-        (rows_with settings.now.replay settings.now.options.restarts trace.now.rows)
+        (with_added_runs settings.now.replay settings.now.options.restarts trace.now.rows)
         ≡ Ok (string_bytes text)) }
     ensures fault { IfErr result (λ fault. IsReplayOutOfMemory fault
         ⊎ (series_of_raised settings.now
-        (rows_with settings.now.replay settings.now.options.restarts trace.now.rows)
+        (with_added_runs settings.now.replay settings.now.options.restarts trace.now.rows)
         ≡ Err fault)) }
     ensures unwritten { IfErr result (λ fault. fault ≢ OutputFailed) }
 {

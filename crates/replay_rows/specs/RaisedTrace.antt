@@ -7,16 +7,16 @@ use Rattle.replay_text.specs.declared.fault.ReplayFault.{ReplayFault, TheVariant
 use Rattle.replay_args.specs.declared.settings.ReplaySettings.{ReplaySettings}
 
 -- the rows, with at most this many added runs after each softirq row; without a number there are none
-abbrev pub rows_with : ReplaySettings → Option ℕ → List Row → Result (List Row) ReplayFault
-rows_with s None rows = Ok rows
-rows_with s (Some restarts) rows = raised s restarts rows
+abbrev pub with_added_runs : ReplaySettings → Option ℕ → List Row → Result (List Row) ReplayFault
+with_added_runs s None rows = Ok rows
+with_added_runs s (Some restarts) rows = raised s restarts rows
 
 abbrev pub text_in : ℕ → Result (List Row) ReplayFault → Result (List ℕ) ReplayFault
 text_in version (Ok rows) = Ok (trace_text version rows)
 text_in version (Err fault) = Err fault
 
 abbrev pub raised_result : ReplaySettings → Option ℕ → ℕ → Result (List Row) TraceFault → Result (List ℕ) ReplayFault
-raised_result s restarts version (Ok rows) = text_in version (rows_with s restarts rows)
+raised_result s restarts version (Ok rows) = text_in version (with_added_runs s restarts rows)
 raised_result s restarts version (Err fault) = Err (Trace fault)
 
 -- the text of the trace of these bytes, with the added runs, or its first error

@@ -3,7 +3,7 @@
 ghost use Rattle.std.specs.Prelude.{◌≡◌, ◌≢◌, ◌⊎◌, Ok, Err, IfErr, IfOk, OnOk, string_bytes};
 ghost use Rattle.replay_text.specs.Outside.{IsOutside, IsReplayOutOfMemory};
 ghost use Rattle.replay_text.specs.Written.{IsFaultBy, LeavesText, Writes};
-ghost use Rattle.replay_rows.specs.RaisedTrace.{raised_trace, rows_with, text_in};
+ghost use Rattle.replay_rows.specs.RaisedTrace.{raised_trace, with_added_runs, text_in};
 ghost use Rattle.replay_text.specs.declared.fault.ReplayFault.TheVariants.{OutputFailed};
 
 use crate::raised::raise_rows;
@@ -22,9 +22,9 @@ fn text_of(
     trace: &Trace,
 ) -> Result<String, ReplayFault>
     ensures text { IfOk result (λ text. text_in trace.now.version
-        (rows_with settings.now restarts trace.now.rows) ≡ Ok (string_bytes text)) }
+        (with_added_runs settings.now restarts trace.now.rows) ≡ Ok (string_bytes text)) }
     ensures fault { IfErr result (λ fault. IsReplayOutOfMemory fault
-        ⊎ (text_in trace.now.version (rows_with settings.now restarts trace.now.rows)
+        ⊎ (text_in trace.now.version (with_added_runs settings.now restarts trace.now.rows)
         ≡ Err fault)) }
     ensures unwritten { IfErr result (λ fault. fault ≢ OutputFailed) }
 {
