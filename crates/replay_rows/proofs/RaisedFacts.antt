@@ -1,14 +1,16 @@
 -- The rows with the added runs are rows of a trace that can be played.
-use Rattle.std.proofs.Common.{◌≡◌, ◌∙◌, ℕ, zero, suc, ◌+◌, ◌-◌, ◌<◌, ◌≤◌, Bool, true, false, Ok, Err, List, [], ◌∷◌, ◌++◌, length, drop, get_or}
-use Rattle.std.proofs.{Common.{ap, arith, inl, inr, length-append, refl, subst, sym, take}, lemmas.{Bool.ltb-true, List.take_rest}, Math.{ListN.drop_of_length-le, Seq.drop-cons}}
+use Rattle.std.proofs.Common.{◌≡◌, ◌∙◌, ℕ, zero, suc, ◌+◌, ◌-◌, ◌<◌, ◌≤◌, Bool, true, false, Ok, Err}
+use Rattle.std.proofs.Common.{List, [], ◌∷◌, ◌++◌, length, drop, get_or}
+use Rattle.std.proofs.{Common.{ap, arith, inl, inr, length-append, refl, subst, sym, take}, lemmas.{Bool.ltb-true, List.take_rest}}
+use Rattle.std.proofs.Math.{ListN.drop_of_length-le, Seq.drop-cons}
 use Rattle.std.specs.Prelude.{Result, ◌⊎◌, None, if◌then◌else◌, nat_lt, not, ◌&&◌, ◌==◌}
 use Rattle.device_rows.specs.{Row.{device_fits, value_fits}, Switch.{refusal, switch_of}, Trace.{AcceptedAfter, IsAccepted}}
 use Rattle.device_rows.specs.declared.{event.RowEvent.RowEvent, fault.TraceFault.TheVariants.TooManyRows, row.Row.Row}
 use Rattle.device_rows.specs.declared.event.RowEvent.TheVariants.{Opened, Rx, Tx, Finish, Softirq, Kthread, Disable, Enable, Threaded, Busy}
 use Rattle.device_rows.specs.declared.switch.Switch.{Switch, TheVariants.{Unopened, On, Off}}
 use Rattle.device_rows.proofs.{Accepted.accepted-push, SwitchFacts.{switch_of-append, switch_of-other, switch_of-same}}
-use Rattle.replay_rows.specs.Raised.{Raised, RaisedIsTrace, ◌>>=◌, and_again, and_row, and_rows, is_last_run, is_run_at, no_rows, raised}
-use Rattle.replay_rows.specs.{Raised.{rows_in, with_row}, Replay.{after_all_rows, after_row, is_early}, ReplayState.ReplayState}
+use Rattle.replay_rows.specs.Raised.{Raised, RaisedIsTrace, ◌>>=◌, and_again, and_row, and_rows, is_last_run, is_run_at, no_rows}
+use Rattle.replay_rows.specs.{Raised.{raised_rows, rows_in, row_and_runs}, Replay.{after_all_rows, after_row, is_early}, ReplayState.ReplayState}
 use Rattle.replay_rows.{specs.Softirq.is_softirq, proofs.PlayFacts.played-push}
 use Rattle.replay_text.specs.declared.fault.ReplayFault.{ReplayFault, TheVariants.{OutputFailed, Pending, Trace}}
 use Rattle.replay_text.specs.Outside.{IsReplayOutOfMemory}
@@ -149,7 +151,7 @@ added s earlier (suc left) row r more is device value run e =
     by rest false e = then_on rest (and_row s row r) refl e
 
 row-with-added : (s : ReplaySettings) (restarts : ℕ) (earlier : List Row) (row : Row) (rows : List Row) (r more : Raised)
-    → IsRaising s earlier r → IsAccepted earlier row → with_row s restarts row rows r ≡ Ok more → IsRaising s (earlier ++ row ∷ []) more
+    → IsRaising s earlier r → IsAccepted earlier row → row_and_runs s restarts row rows r ≡ Ok more → IsRaising s (earlier ++ row ∷ []) more
 row-with-added s restarts earlier row rows r more is ok e = then_on (and_row s row r) refl e
   where
     then_on : (x : Result Raised ReplayFault) → and_row s row r ≡ x
@@ -174,11 +176,12 @@ all-rows : (s : ReplaySettings) (restarts : ℕ) (earlier rows : List Row) (r mo
 unfolding and_rows
 all-rows s restarts earlier [] r more is ok e = let same : r ≡ more = cc e in (earlier, subst (IsRaising s earlier) same is)
 all-rows s restarts earlier (row ∷ rows) r more is ok e =
-    then_on (λ next so_far e'. all-rows s restarts (earlier ++ row ∷ []) rows next more so_far ok.1 e') (with_row s restarts row rows r) refl e
+    then_on (λ next so_far e'. all-rows s restarts (earlier ++ row ∷ []) rows next more so_far ok.1 e')
+    (row_and_runs s restarts row rows r) refl e
   where
     then_on : ((next : Raised) → IsRaising s (earlier ++ row ∷ []) next → and_rows s restarts rows next ≡ Ok more
         → (all : List Row) × IsRaising s all more)
-        → (x : Result Raised ReplayFault) → with_row s restarts row rows r ≡ x → (x >>= and_rows s restarts rows) ≡ Ok more
+        → (x : Result Raised ReplayFault) → row_and_runs s restarts row rows r ≡ x → (x >>= and_rows s restarts rows) ≡ Ok more
         → (all : List Row) × IsRaising s all more
     then_on rest (Err fault) one e = cc e
     then_on rest (Ok next) one e = rest next (row-with-added s restarts earlier row rows r next is ok.0 one) e
@@ -206,7 +209,8 @@ pub again-none : (s : ReplaySettings) (left : ℕ) (row : Row) (r : Raised) → 
 unfolding and_again
 again-none s left row r none = rw none refl
 
-pub again-empty : (s : ReplaySettings) (left : ℕ) (row : Row) (r : Raised) → (length r.state.list == 0) ≡ true → and_again s left row r ≡ Ok r
+pub again-empty : (s : ReplaySettings) (left : ℕ) (row : Row) (r : Raised) → (length r.state.list == 0) ≡ true
+    → and_again s left row r ≡ Ok r
 unfolding and_again
 again-empty s zero row r empty = refl
 again-empty s (suc left) row r empty = rw empty refl
@@ -231,7 +235,7 @@ again-fault s left row r fault some full one = again-full s left row r some full
 
 pub loop-row : (s : ReplaySettings) (restarts : ℕ) (rows : List Row) (i : ℕ) (d : Row) (r : Raised) → i < length rows
     → and_rows s restarts (drop i rows) r
-    ≡ (with_row s restarts (get_or rows i d) (drop (i + 1) rows) r >>= and_rows s restarts (drop (i + 1) rows))
+    ≡ (row_and_runs s restarts (get_or rows i d) (drop (i + 1) rows) r >>= and_rows s restarts (drop (i + 1) rows))
 unfolding and_rows
 loop-row s restarts rows i d r below =
     let next : suc i ≡ i + 1 = omega arith in
@@ -246,24 +250,24 @@ last-is row rows n b h = subst (λ (l : List Row). is_last_run row l ≡ b) (tak
 
 -- a row of the trace alone, and with added runs
 pub with-none : (s : ReplaySettings) (restarts : ℕ) (row : Row) (rows : List Row) (r next : Raised) → and_row s row r ≡ Ok next
-    → is_last_run row rows ≡ false → with_row s restarts row rows r ≡ Ok next
+    → is_last_run row rows ≡ false → row_and_runs s restarts row rows r ≡ Ok next
 with-none s restarts row rows r next one last = rw (one, last) refl
 
 pub with-again : (s : ReplaySettings) (restarts : ℕ) (row : Row) (rows : List Row) (r next : Raised) (x : Result Raised ReplayFault)
-    → and_row s row r ≡ Ok next → is_last_run row rows ≡ true → and_again s restarts row next ≡ x → with_row s restarts row rows r ≡ x
+    → and_row s row r ≡ Ok next → is_last_run row rows ≡ true → and_again s restarts row next ≡ x → row_and_runs s restarts row rows r ≡ x
 with-again s restarts row rows r next x one last again = rw (one, last, again) refl
 
 pub with-fault : (s : ReplaySettings) (restarts : ℕ) (row : Row) (rows : List Row) (r : Raised) (fault : ReplayFault)
-    → and_row s row r ≡ Err fault → with_row s restarts row rows r ≡ Err fault
+    → and_row s row r ≡ Err fault → row_and_runs s restarts row rows r ≡ Err fault
 with-fault s restarts row rows r fault one = rw one refl
 
 pub loop-next : (s : ReplaySettings) (restarts : ℕ) (rows : List Row) (i : ℕ) (d : Row) (r more : Raised) → i < length rows
-    → with_row s restarts (get_or rows i d) (drop (i + 1) rows) r ≡ Ok more
+    → row_and_runs s restarts (get_or rows i d) (drop (i + 1) rows) r ≡ Ok more
     → and_rows s restarts (drop i rows) r ≡ and_rows s restarts (drop (i + 1) rows) more
 loop-next s restarts rows i d r more below e = loop-row s restarts rows i d r below ∙ rw e refl
 
 pub loop-end : (s : ReplaySettings) (restarts : ℕ) (rows : List Row) (i : ℕ) (r : Raised) → length rows ≤ i
-    → and_rows s restarts (drop i rows) r ≡ and_rows s restarts rows no_rows → raised s restarts rows ≡ Ok r.rows
+    → and_rows s restarts (drop i rows) r ≡ and_rows s restarts rows no_rows → raised_rows s restarts rows ≡ Ok r.rows
 unfolding and_rows
 loop-end s restarts rows i r past same =
     let whole : and_rows s restarts rows no_rows ≡ Ok r = sym same ∙ rw (drop_of_length-le rows past) refl in
@@ -272,7 +276,7 @@ loop-end s restarts rows i r past same =
 -- an error of a row is that of all rows
 pub loop-fault : (s : ReplaySettings) (restarts : ℕ) (rows : List Row) (i : ℕ) (d : Row) (r : Raised) (fault : ReplayFault)
     → i < length rows → and_rows s restarts (drop i rows) r ≡ and_rows s restarts rows no_rows
-    → with_row s restarts (get_or rows i d) (drop (i + 1) rows) r ≡ Err fault → raised s restarts rows ≡ Err fault
+    → row_and_runs s restarts (get_or rows i d) (drop (i + 1) rows) r ≡ Err fault → raised_rows s restarts rows ≡ Err fault
 loop-fault s restarts rows i d r fault below before e =
     let whole : and_rows s restarts rows no_rows ≡ Err fault = sym before ∙ loop-row s restarts rows i d r below ∙ rw e refl in
     ap rows_in whole
@@ -311,7 +315,7 @@ added-unwritten s (suc left) row r fault e failed =
     by rest false e = then_on rest (and_row s row r) refl e
 
 with-unwritten : (s : ReplaySettings) (restarts : ℕ) (row : Row) (rows : List Row) (r : Raised) (fault : ReplayFault)
-    → with_row s restarts row rows r ≡ Err fault → fault ≡ OutputFailed → ⊥
+    → row_and_runs s restarts row rows r ≡ Err fault → fault ≡ OutputFailed → ⊥
 with-unwritten s restarts row rows r fault e failed = then_on (and_row s row r) refl e
   where
     then_on : (x : Result Raised ReplayFault) → and_row s row r ≡ x
@@ -330,10 +334,10 @@ rows-unwritten : (s : ReplaySettings) (restarts : ℕ) (rows : List Row) (r : Ra
 unfolding and_rows
 rows-unwritten s restarts [] r fault e failed = cc e
 rows-unwritten s restarts (row ∷ rows) r fault e failed =
-    then_on (λ next e'. rows-unwritten s restarts rows next fault e' failed) (with_row s restarts row rows r) refl e
+    then_on (λ next e'. rows-unwritten s restarts rows next fault e' failed) (row_and_runs s restarts row rows r) refl e
   where
     then_on : ((next : Raised) → and_rows s restarts rows next ≡ Err fault → ⊥)
-        → (x : Result Raised ReplayFault) → with_row s restarts row rows r ≡ x → (x >>= and_rows s restarts rows) ≡ Err fault → ⊥
+        → (x : Result Raised ReplayFault) → row_and_runs s restarts row rows r ≡ x → (x >>= and_rows s restarts rows) ≡ Err fault → ⊥
     then_on rest (Err other) one e =
         let same : other ≡ fault = cc e in
         with-unwritten s restarts row rows r other one (same ∙ failed)
@@ -343,7 +347,7 @@ pub memory-unwritten : (fault : ReplayFault) → IsReplayOutOfMemory fault → f
 memory-unwritten fault memory failed = cc (sym memory.0 ∙ failed)
 
 pub raised-unwritten : (s : ReplaySettings) (restarts : ℕ) (rows : List Row) (fault : ReplayFault)
-    → IsReplayOutOfMemory fault ⊎ (raised s restarts rows ≡ Err fault) → fault ≡ OutputFailed → ⊥
+    → IsReplayOutOfMemory fault ⊎ (raised_rows s restarts rows ≡ Err fault) → fault ≡ OutputFailed → ⊥
 raised-unwritten s restarts rows fault (inl memory) failed = memory-unwritten fault memory failed
 raised-unwritten s restarts rows fault (inr e) failed = by (and_rows s restarts rows no_rows) refl e
   where

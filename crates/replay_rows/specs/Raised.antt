@@ -41,14 +41,14 @@ abbrev pub is_last_run : Row → List Row → Bool
 is_last_run row rows = is_softirq row.event && not (is_run_at row.moment rows)
 
 -- a row, and the runs that are added after it
-abbrev pub with_row : ReplaySettings → ℕ → Row → List Row → Raised → Result Raised ReplayFault
-with_row s restarts row rows r =
+abbrev pub row_and_runs : ReplaySettings → ℕ → Row → List Row → Raised → Result Raised ReplayFault
+row_and_runs s restarts row rows r =
     and_row s row r >>= (λ more. if is_last_run row rows then and_again s restarts row more else Ok more)
 
 -- these rows, each run followed by at most this many added ones
 unfoldable pub and_rows : ReplaySettings → ℕ → List Row → Raised → Result Raised ReplayFault
 and_rows s restarts [] r = Ok r
-and_rows s restarts (row ∷ rows) r = with_row s restarts row rows r >>= and_rows s restarts rows
+and_rows s restarts (row ∷ rows) r = row_and_runs s restarts row rows r >>= and_rows s restarts rows
 
 abbrev pub rows_in : Result Raised ReplayFault → Result (List Row) ReplayFault
 rows_in (Ok r) = Ok r.rows
@@ -58,11 +58,11 @@ abbrev pub no_rows : Raised
 no_rows = record { rows = []; state = start }
 
 -- the rows of a trace with the added runs, or the first error
-abbrev pub raised : ReplaySettings → ℕ → List Row → Result (List Row) ReplayFault
-raised s restarts rows = rows_in (and_rows s restarts rows no_rows)
+abbrev pub raised_rows : ReplaySettings → ℕ → List Row → Result (List Row) ReplayFault
+raised_rows s restarts rows = rows_in (and_rows s restarts rows no_rows)
 
 -- law: these are the rows of a trace, and all of them can be played
 abbrev pub RaisedIsTrace : Type 0
 RaisedIsTrace =
-    (s : ReplaySettings) (restarts : ℕ) (rows all : List Row) → AcceptedAfter [] rows → raised s restarts rows ≡ Ok all
+    (s : ReplaySettings) (restarts : ℕ) (rows all : List Row) → AcceptedAfter [] rows → raised_rows s restarts rows ≡ Ok all
     → AcceptedAfter [] all × (length all ≤ 100000) × ((w : ReplayState) × (after_all_rows s all ≡ Ok w))

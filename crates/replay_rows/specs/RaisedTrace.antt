@@ -2,14 +2,14 @@
 use Rattle.std.specs.Prelude.{ℕ, List, Option, Some, None, Result, Ok, Err}
 use Rattle.device_rows.specs.Trace.{records_of, trace_of, version_in}
 use Rattle.device_rows.specs.declared.{fault.TraceFault.TraceFault, row.Row.Row}
-use Rattle.replay_rows.specs.{Raised.raised, TraceText.trace_text}
+use Rattle.replay_rows.specs.{Raised.raised_rows, TraceText.trace_text}
 use Rattle.replay_text.specs.declared.fault.ReplayFault.{ReplayFault, TheVariants.Trace}
 use Rattle.replay_args.specs.declared.settings.ReplaySettings.{ReplaySettings}
 
 -- the rows, with at most this many added runs after each softirq row; without a number there are none
 abbrev pub with_added_runs : ReplaySettings → Option ℕ → List Row → Result (List Row) ReplayFault
 with_added_runs s None rows = Ok rows
-with_added_runs s (Some restarts) rows = raised s restarts rows
+with_added_runs s (Some restarts) rows = raised_rows s restarts rows
 
 abbrev pub text_in : ℕ → Result (List Row) ReplayFault → Result (List ℕ) ReplayFault
 text_in version (Ok rows) = Ok (trace_text version rows)

@@ -3,7 +3,7 @@
 ghost use Rattle.std.specs.Prelude.{◌≡◌, ◌⊎◌, ◌≤◌, [], Ok, Err, IfOk, IfErr, OnOk, length, true, vec_capacity};
 ghost use Rattle.device_rows.specs.Row.{device_fits, value_fits};
 ghost use Rattle.device_rows.specs.Trace.{AcceptedAfter};
-ghost use Rattle.replay_rows.specs.Raised.{RaisedIsTrace, is_last_run, is_run_at, raised};
+ghost use Rattle.replay_rows.specs.Raised.{RaisedIsTrace, is_last_run, is_run_at, raised_rows};
 ghost use Rattle.replay_text.specs.Outside.{IsReplayOutOfMemory};
 
 use crate::replay::{Replay, room_for_lines};
@@ -132,9 +132,10 @@ pub fn raise_rows(
 ) -> Result<Vec<Row>, ReplayFault>
     requires accepted { AcceptedAfter [] rows.now }
     requires count { length rows.now ≤ 100000 }
-    ensures raised { IfOk result (λ all. raised settings.now restarts rows.now ≡ Ok all.items) }
+    ensures raised { IfOk result
+        (λ all. raised_rows settings.now restarts rows.now ≡ Ok all.items) }
     ensures fault { IfErr result (λ fault. IsReplayOutOfMemory fault
-        ⊎ (raised settings.now restarts rows.now ≡ Err fault)) }
+        ⊎ (raised_rows settings.now restarts rows.now ≡ Err fault)) }
     // They are rows that a trace can have.
     ensures accepted { IfOk result (λ all. AcceptedAfter [] all.items) }
     ensures count { IfOk result (λ all. length all.items ≤ 100000) }

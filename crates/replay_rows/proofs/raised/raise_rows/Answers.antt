@@ -1,4 +1,5 @@
-use Rattle.std.proofs.{Common.{◌≡◌, ◌∙◌, ◌+◌, ◌<◌, ◌≤◌, inl, inr, drop, get_or, length, sym, arith, rules}, lemmas.Result.err_from_is_err_and}
+use Rattle.std.proofs.{Common.{◌≡◌, ◌∙◌, ◌+◌, ◌<◌, ◌≤◌, inl, inr, drop, get_or, length, sym, arith, rules}}
+use Rattle.std.proofs.lemmas.Result.{err_from_is_err_and}
 use Rattle.device_rows.{specs.declared.{event.RowEvent.TheVariants.Opened, row.Row.Row}, proofs.Accepted.accepted-at}
 use Rattle.replay_rows.{specs.Raising.raised_so_far, proofs.RaisedFacts.{loop-end, loop-fault, loop-next, raised-is-trace, with-again}}
 use Rattle.replay_rows.proofs.RaisedFacts.{last-is, with-fault, with-none}
@@ -45,7 +46,9 @@ returns-in_err-play_again-clause-fault c =
       | inr again ↦
           inr (loop-fault s c.args.restarts c.args.rows.now c.loop-i.i none _ _ below c.loop-i.invariant
           (with-again s c.args.restarts (get_or c.args.rows.now c.loop-i.i none) (drop (c.loop-i.i + 1) c.args.rows.now) _ _ _
-          c.in_ok-play.ensures.raised (last-is (get_or c.args.rows.now c.loop-i.i none) c.args.rows.now (c.loop-i.i + 1) _ (sym c.is_last_run.ensures ∙ c.if-is_last_run.true)) again))
+          c.in_ok-play.ensures.raised
+          (last-is (get_or c.args.rows.now c.loop-i.i none) c.args.rows.now (c.loop-i.i + 1)
+          _ (sym c.is_last_run.ensures ∙ c.if-is_last_run.true)) again))
     ])
 
 pub loop-i-preserved : goal.loop-i-preserved
@@ -57,19 +60,24 @@ loop-i-preserved c =
           rw w.raising-is
           (sym (loop-next s c.args.restarts c.args.rows.now c.loop-i.i none _ _ below
           (with-again s c.args.restarts (get_or c.args.rows.now c.loop-i.i none) (drop (c.loop-i.i + 1) c.args.rows.now) _ _ _
-          c.in_ok-play.ensures.raised (last-is (get_or c.args.rows.now c.loop-i.i none) c.args.rows.now (c.loop-i.i + 1) _ (sym c.is_last_run.ensures ∙ w.if-is_last_run.true)) w.in_ok-play_again.ensures.raised))
+          c.in_ok-play.ensures.raised
+          (last-is (get_or c.args.rows.now c.loop-i.i none) c.args.rows.now (c.loop-i.i + 1)
+          _ (sym c.is_last_run.ensures ∙ w.if-is_last_run.true)) w.in_ok-play_again.ensures.raised))
           ∙ c.loop-i.invariant)
       | else-is_last_run w ↦
           rw w.raising-is
           (sym (loop-next s c.args.restarts c.args.rows.now c.loop-i.i none _ _ below
           (with-none s c.args.restarts (get_or c.args.rows.now c.loop-i.i none) (drop (c.loop-i.i + 1) c.args.rows.now) _ _
-          c.in_ok-play.ensures.raised (last-is (get_or c.args.rows.now c.loop-i.i none) c.args.rows.now (c.loop-i.i + 1) _ (sym c.is_last_run.ensures ∙ w.if-is_last_run.false))))
+          c.in_ok-play.ensures.raised
+          (last-is (get_or c.args.rows.now c.loop-i.i none) c.args.rows.now (c.loop-i.i + 1)
+          _ (sym c.is_last_run.ensures ∙ w.if-is_last_run.false))))
           ∙ c.loop-i.invariant)
     ]
 
 pub returns-clause-raised : goal.returns-clause-raised
 returns-clause-raised c =
-    loop-end c.args.settings.now c.args.restarts c.args.rows.now c.loop-i.i (raised_so_far c.loop-i.raising) (omega arith) c.loop-i.invariant
+    loop-end c.args.settings.now c.args.restarts c.args.rows.now c.loop-i.i (raised_so_far c.loop-i.raising)
+    (omega arith) c.loop-i.invariant
 
 pub returns-clause-accepted : goal.returns-clause-accepted
 returns-clause-accepted c =

@@ -38,7 +38,8 @@ loop-device-preserved g c =
     let items = c.push_reserved.ensures.items in
     record {
       going = rw (items, pushed)
-          (c.polled.ensures.going c.args.list.now (polls_in log) device asked (c.next.ensures.going c.args.list.now (polls_in log) before.going));
+          (c.polled.ensures.going c.args.list.now (polls_in log) device asked
+          (c.next.ensures.going c.args.list.now (polls_in log) before.going));
       rests = c.polled.ensures.rests;
       room = c.polled.ensures.room;
       budget = c.polled.ensures.settings.budget ∙ (c.next.ensures.settings.budget ∙ before.budget);

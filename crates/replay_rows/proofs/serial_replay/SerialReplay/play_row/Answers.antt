@@ -22,7 +22,8 @@ returns-clause-after c =
           played-more c.args.settings.now c.args.rows.now c.args.index none _ _ c.requires.index c.requires.after.state
           c.in_ok-play_logged.ensures.on_time c.in_ok-play_logged.ensures.state;
       transmits =
-          subst (ShowsTransmits c.play_logged.new.self.bench) (sym (after_transmits-more c.args.rows.now empty c.args.index none c.requires.index))
+          subst (ShowsTransmits c.play_logged.new.self.bench)
+          (sym (after_transmits-more c.args.rows.now empty c.args.index none c.requires.index))
           (c.in_ok-play_logged.ensures.transmits (after_transmits (take c.args.index c.args.rows.now) empty) c.requires.after.transmits);
       list =
           c.in_ok-play_logged.ensures.list
