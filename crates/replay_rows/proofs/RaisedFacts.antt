@@ -10,7 +10,8 @@ use Rattle.device_rows.specs.declared.event.RowEvent.TheVariants.{Opened, Rx, Tx
 use Rattle.device_rows.specs.declared.switch.Switch.{Switch, TheVariants.{Unopened, On, Off}}
 use Rattle.device_rows.proofs.{Accepted.accepted-push, SwitchFacts.{switch_of-append, switch_of-other, switch_of-same}}
 use Rattle.replay_rows.specs.Raised.{Raised, RaisedIsTrace, ◌>>=◌, and_again, and_row, and_rows, is_last_run, is_run_at, no_rows}
-use Rattle.replay_rows.specs.{Raised.{raised_rows, rows_in, row_and_runs}, Replay.{after_all_rows, after_row, is_early}, ReplayState.ReplayState}
+use Rattle.replay_rows.specs.{Raised.{raised_rows, rows_in, row_and_runs}, ReplayState.ReplayState}
+use Rattle.replay_rows.specs.Replay.{after_all_rows, after_row, is_early}
 use Rattle.replay_rows.{specs.Softirq.is_softirq, proofs.PlayFacts.played-push}
 use Rattle.replay_text.specs.declared.fault.ReplayFault.{ReplayFault, TheVariants.{OutputFailed, Pending, Trace}}
 use Rattle.replay_text.specs.Outside.{IsReplayOutOfMemory}
