@@ -1,6 +1,9 @@
 -- One more poll of a run, in the list and in the lines.
-use Rattle.std.proofs.Common.{◌≡◌, ◌∙◌, ◌+◌, ◌++◌, ◌∷◌, cond, ℕ, List, [], ap}
-use Rattle.std.proofs.lemmas.List.{map-append}
+use Rattle.std.proofs.Common.{◌≡◌, ◌∙◌, ◌+◌, ◌++◌, ◌∷◌, ◌<◌, cond, ℕ, suc, Bool, List, [], Some, ap, append_assoc, arith, get_or, length}
+use Rattle.std.proofs.{Common.{subst, sym, take}, lemmas.{List.map-append, Option.slice_get-get_or}}
+use Rattle.std.specs.{Prelude.Option, List.slice_get}
+use Rattle.device_rows.specs.declared.row.Row.{Row}
+use Rattle.napi_series.specs.Series.{list_left, poll_line, poll_line_at, poll_lines}
 use Rattle.poll_runs.specs.Polls.{Poll, is_arrival, is_repoll, queued_by, repolled}
 use Rattle.poll_runs.proofs.PollFacts.{arrivals-append, arrivals-one, repolled-append, repolled-one}
 use Rattle.replay_rows.specs.{RunLog.polls_in, declared.run_log.RunPoll.RunPoll}
@@ -24,3 +27,21 @@ repolled-push polls entry =
     let poll : Poll = record { id = entry.device; once = entry.once } in
     ap repolled (polls-push polls entry)
     ∙ (repolled-append (polls_in polls) (poll ∷ []) ∙ ap (λ (l : List ℕ). repolled (polls_in polls) ++ l) (repolled-one poll))
+
+-- ---- the lines of one more poll
+
+pub line-next : (n : ℕ) (row : Row) (used : ℕ → Bool) (list : List ℕ) (polls : List RunPoll) (k : ℕ) (d : RunPoll) → k < length polls
+    → poll_lines n row used list polls (k + 1)
+    ≡ poll_lines n row used list polls k ++ poll_line n (k + 1) row used (list_left list (take (k + 1) polls)) (get_or polls k d)
+unfolding poll_lines
+line-next n row used list polls k d below =
+    let next : k + 1 ≡ suc k = omega arith in
+    let found : slice_get polls k ≡ Some (get_or polls k d) = slice_get-get_or polls k d below in
+    subst (λ (m : ℕ). poll_lines n row used list polls m
+    ≡ poll_lines n row used list polls k ++ poll_line n (k + 1) row used (list_left list (take (k + 1) polls)) (get_or polls k d))
+    (sym next) (ap (λ (o : Option RunPoll). poll_lines n row used list polls k ++ poll_line_at n row used list polls k o) found)
+
+pub five-parts : (start below fields comma list end one two three four five : List ℕ) → one ≡ start ++ below → two ≡ one ++ fields
+    → three ≡ two ++ comma → four ≡ three ++ list → five ≡ four ++ end
+    → five ≡ start ++ (below ++ (fields ++ (comma ++ (list ++ end))))
+five-parts start below fields comma list end one two three four five a b c d e = rw (e, d, c, b, a) (simp append_assoc)

@@ -1,6 +1,7 @@
 //! The command line.
 
-ghost use Rattle.std.specs.Prelude.{◌≡◌, ◌≤◌, None, Some, Err, IfOk, IfSome, false, map, option_map, string_bytes};
+ghost use Rattle.std.specs.Prelude.{◌≡◌, ◌≤◌, None, Some, Err, IfOk, IfSome, map, option_map, string_bytes};
+ghost use Rattle.std.specs.Option.{ForSome};
 ghost use Rattle.napi_series.specs.Args.{is_allowed, options_of, restarts_of};
 ghost use Rattle.napi_series.specs.Program.{AskForSeries};
 ghost use Rattle.replay_args.specs.Refusals.{IsArgsOutOfMemory};
@@ -14,13 +15,15 @@ use std::alloc::Global;
 const UNTIL_EMPTY: u32 = 100000;
 
 impl SeriesOptions {
-    ghost use Rattle.std.specs.Prelude.{◌≡◌, ◌≤◌};
+    ghost use Rattle.std.specs.Prelude.{◌≡◌, ◌≤◌, IfSome};
+    ghost use Rattle.std.specs.Option.{ForSome};
     ghost use Rattle.napi_series.specs.Args.{with_every, with_polls, with_restarts, with_rows};
 
     // Each of these returns the options with one more, or `None` if it was given before.
     fn with_every(self, every: u32) -> Option<SeriesOptions>
         requires { 1 ≤ every }
-        ensures { result ≡ with_every self every }
+        ensures options { result ≡ with_every self every }
+        ensures range { IfSome result (λ o. ForSome o.every (λ n. 1 ≤ n)) }
     {
         if self.every.is_some() {
             return None;
@@ -34,7 +37,9 @@ impl SeriesOptions {
     }
 
     fn with_restarts(self, restarts: u32) -> Option<SeriesOptions>
-        ensures { result ≡ with_restarts self restarts }
+        requires { ForSome self.every (λ n. 1 ≤ n) }
+        ensures options { result ≡ with_restarts self restarts }
+        ensures range { IfSome result (λ o. ForSome o.every (λ n. 1 ≤ n)) }
     {
         if self.restarts.is_some() {
             return None;
@@ -48,7 +53,9 @@ impl SeriesOptions {
     }
 
     fn with_polls(self) -> Option<SeriesOptions>
-        ensures { result ≡ with_polls self }
+        requires { ForSome self.every (λ n. 1 ≤ n) }
+        ensures options { result ≡ with_polls self }
+        ensures range { IfSome result (λ o. ForSome o.every (λ n. 1 ≤ n)) }
     {
         if self.polls {
             return None;
@@ -62,7 +69,9 @@ impl SeriesOptions {
     }
 
     fn with_rows(self) -> Option<SeriesOptions>
-        ensures { result ≡ with_rows self }
+        requires { ForSome self.every (λ n. 1 ≤ n) }
+        ensures options { result ≡ with_rows self }
+        ensures range { IfSome result (λ o. ForSome o.every (λ n. 1 ≤ n)) }
     {
         if self.rows {
             return None;
@@ -110,8 +119,10 @@ fn split_options(
     options: SeriesOptions,
     words: &[String],
 ) -> Option<(SeriesOptions, &[String])>
-    ensures { option_map (λ s. (s.0, map string_bytes s.1.now)) result
+    requires { ForSome options.every (λ n. 1 ≤ n) }
+    ensures split { option_map (λ s. (s.0, map string_bytes s.1.now)) result
         ≡ options_of awaits options (map string_bytes words.now) }
+    ensures range { IfSome result (λ s. ForSome s.0.every (λ n. 1 ≤ n)) }
 {
     let [word, rest @ ..] = words else {
         return if awaits { None } else { Some((options, words)) };

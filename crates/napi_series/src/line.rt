@@ -5,7 +5,7 @@ ghost use Rattle.device_rows.specs.declared.row.Row.{Row};
 ghost use Rattle.replay_rows.specs.After.{IsAfter};
 ghost use Rattle.replay_rows.specs.Report.{lines_below};
 ghost use Rattle.replay_args.specs.declared.settings.ReplaySettings.{ReplaySettings};
-ghost use Rattle.napi_series.specs.Series.{device_fields, queue_fields, row_fields, run_fields, poll_fields, word_field};
+ghost use Rattle.napi_series.specs.Series.{device_fields, gave, is_absent, is_poll_of, list_fields, poll_fields, queue_fields, row_fields, row_gave, run_fields, run_gave, word_field};
 
 use device_bench::DeviceCounts;
 use device_places::TABLE_LEN;

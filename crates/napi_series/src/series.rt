@@ -1,9 +1,9 @@
 //! The series of a trace: from the bytes of the trace to the bytes of the series.
 
-ghost use Rattle.std.specs.Prelude.{◌≡◌, ◌≢◌, ◌⊎◌, ◌≤◌, ◌<◌, ◌+◌, ◌++◌, [], Ok, Err, IfOk, IfErr, OnOk, List, length, slice_get, string_bytes};
+ghost use Rattle.std.specs.Prelude.{◌≡◌, ◌≢◌, ◌⊎◌, ◌≤◌, ◌<◌, ◌+◌, ◌++◌, [], Some, Ok, Err, IfOk, IfErr, OnOk, List, length, slice_get, string_bytes};
 ghost use Rattle.device_rows.specs.Trace.{AcceptedAfter};
 ghost use Rattle.device_rows.specs.declared.row.Row.{Row};
-ghost use Rattle.napi_series.specs.Series.{names_end, part_after, row_end, row_part, series_by, series_of, series_of_raised};
+ghost use Rattle.napi_series.specs.Series.{lines_after, names_end, part_after, row_end, row_part, series_by, series_of, series_of_raised};
 ghost use Rattle.replay_rows.specs.After.{IsAfter};
 ghost use Rattle.replay_rows.specs.RaisedTrace.{with_added_runs};
 ghost use Rattle.replay_rows.specs.Replay.{after_all_rows};
@@ -61,7 +61,27 @@ fn add_row_part(
     text.push_str(row_end(settings.options.polls))
 }
 
-// Appends the lines of the row with this index, if it has any: those of its polls, and its own.
+// Appends the lines of the row with this number: those of its polls if they are wanted, and its own.
+fn add_row_lines(
+    alloc: Global,
+    text: &mut String,
+    settings: &SeriesSettings,
+    number: u32,
+    row: &Row,
+    replay: &SerialReplay,
+) -> Result<(), AllocError>
+    ensures { (rows : List Row) → IsAfter settings.now.replay rows number replay.now
+        → OnOk result (string_bytes text.new
+        ≡ string_bytes text.old ++ lines_after settings.now rows number (Some row.now)) }
+{
+    if !settings.options.polls {
+        return add_row_part(text, settings, number, row, replay);
+    }
+    add_polls(alloc, text, number, row, replay)?;
+    add_row_part(text, settings, number, row, replay)
+}
+
+// Appends the lines of the row with this index, if it has any.
 fn add_part(
     alloc: Global,
     text: &mut String,
@@ -78,14 +98,10 @@ fn add_part(
         ++ part_after settings.now rows.now index (slice_get rows.now index)) }
 {
     let number = index as u32 + 1;
-    if number % settings.options.every.unwrap_or(1) != 0 {
+    if number % settings.every() != 0 {
         return Ok(());
     }
-    let row = &rows[index];
-    if settings.options.polls {
-        add_polls(alloc, text, number, row, replay)?;
-    }
-    add_row_part(text, settings, number, row, replay)
+    add_row_lines(alloc, text, settings, number, &rows[index], replay)
 }
 
 // Returns the series of the rows.

@@ -16,7 +16,6 @@ pub(crate) struct SeriesOptions {
     pub(crate) polls: bool,
     /// Whether the rows are printed, in place of the series.
     pub(crate) rows: bool,
-    ghost every_in: { ForSome every (λ n. 1 ≤ n) },
 }
 
 /// The settings of a series.
@@ -26,4 +25,21 @@ pub(crate) struct SeriesSettings {
     pub(crate) options: SeriesOptions,
     /// The settings of the replay, which is on one thread.
     pub(crate) replay: ReplaySettings,
+    ghost every_in: { ForSome options.every (λ n. 1 ≤ n) },
+}
+
+impl SeriesSettings {
+    ghost use Rattle.std.specs.Prelude.{◌≡◌, ◌<◌};
+    ghost use Rattle.napi_series.specs.Series.{every_of};
+
+    /// How many rows make one line.
+    pub(crate) fn every(&self) -> u32
+        ensures every { result ≡ every_of self.now }
+        ensures range { 0 < result }
+    {
+        match self.options.every {
+            Some(every) => every,
+            None => 1,
+        }
+    }
 }
