@@ -3,7 +3,7 @@ use Rattle.std.proofs.Common.{◌≡◌, ◌∙◌, ◌+◌, ◌++◌, ◌∷◌
 use Rattle.std.proofs.{Common.{subst, sym, take}, lemmas.{List.map-append, Option.slice_get-get_or}}
 use Rattle.std.specs.{Prelude.Option, List.slice_get}
 use Rattle.device_rows.specs.declared.row.Row.{Row}
-use Rattle.napi_series.specs.Series.{list_left, poll_line, poll_line_at, poll_lines}
+use Rattle.napi_series.specs.Series.{list_left, once_fields, poll_line, poll_line_at, poll_lines}
 use Rattle.poll_runs.specs.Polls.{Poll, is_arrival, is_repoll, queued_by, repolled}
 use Rattle.poll_runs.proofs.PollFacts.{arrivals-append, arrivals-one, repolled-append, repolled-one}
 use Rattle.replay_rows.specs.{RunLog.polls_in, declared.run_log.RunPoll.RunPoll}
@@ -40,6 +40,13 @@ line-next n row used list polls k d below =
     subst (λ (m : ℕ). poll_lines n row used list polls m
     ≡ poll_lines n row used list polls k ++ poll_line n (k + 1) row used (list_left list (take (k + 1) polls)) (get_or polls k d))
     (sym next) (ap (λ (o : Option RunPoll). poll_lines n row used list polls k ++ poll_line_at n row used list polls k o) found)
+
+pub fields-at : (one two : List ℕ) (n k : ℕ) (row : Row) (used : ℕ → Bool) (is : Bool) (p q : RunPoll) → p ≡ q → is ≡ used p.device
+    → two ≡ one ++ once_fields n k row is p → two ≡ one ++ once_fields n k row (used q.device) q
+fields-at one two n k row used is p q same uses told =
+    let at_p : two ≡ one ++ once_fields n k row (used p.device) p =
+    subst (λ (b : Bool). two ≡ one ++ once_fields n k row b p) uses told in
+    subst (λ (x : RunPoll). two ≡ one ++ once_fields n k row (used x.device) x) same at_p
 
 pub five-parts : (start below fields comma list end one two three four five : List ℕ) → one ≡ start ++ below → two ≡ one ++ fields
     → three ≡ two ++ comma → four ≡ three ++ list → five ≡ four ++ end

@@ -1,7 +1,7 @@
 -- The series of a trace: CSV with a line after each row, or after each Nth row. A line has the values that the report of the
 -- rows so far would show. A run can also have a line for each of its polls.
 use Rattle.std.specs.Prelude.{ℕ, zero, suc, ◌+◌, ◌%◌, ◌==◌, ◌&&◌, not, Bool, true, false, List, [], ◌∷◌, ◌++◌, Option, Some, None}
-use Rattle.std.specs.Prelude.{Result, Ok, Err, codes, count_by, decimal, drop, filter, if◌then◌else◌, length, sum_by, take, unwrap_or}
+use Rattle.std.specs.Prelude.{Result, Ok, Err, codes, decimal, drop, if◌then◌else◌, length, sum_by, take, unwrap_or}
 use Rattle.std.specs.{Fmt.signed_decimal, List.slice_get}
 use Rattle.device_rows.specs.Trace.{records_of, trace_of, version_in}
 use Rattle.device_bench.specs.declared.counts.DeviceCounts.{DeviceCounts}
@@ -83,10 +83,16 @@ is_absent Repoll = false
 abbrev pub is_poll_of : ℕ → RunPoll → Bool
 is_poll_of device poll = poll.device == device && not (is_absent poll.once.next)
 
+-- a poll of this device counts once, with its packets
+abbrev pub polls_by : ℕ → RunPoll → ℕ
+polls_by device poll = if is_poll_of device poll then 1 else 0
+
+abbrev pub work_by : ℕ → RunPoll → ℕ
+work_by device poll = if is_poll_of device poll then poll.once.work else 0
+
 -- how many packets a device processed in a run
 abbrev pub run_gave : List RunPoll → ℕ → List ℕ
-run_gave polls device =
-    gave device (count_by (is_poll_of device) polls) (sum_by (λ poll. poll.once.work) (filter (is_poll_of device) polls))
+run_gave polls device = gave device (sum_by (polls_by device) polls) (sum_by (work_by device) polls)
 
 -- how many packets each device processed that the row polled
 abbrev pub row_gave : Option PollRecord → List RunPoll → List ℕ

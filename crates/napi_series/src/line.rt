@@ -5,7 +5,7 @@ ghost use Rattle.device_rows.specs.declared.row.Row.{Row};
 ghost use Rattle.replay_rows.specs.After.{IsAfter};
 ghost use Rattle.replay_rows.specs.Report.{lines_below};
 ghost use Rattle.replay_args.specs.declared.settings.ReplaySettings.{ReplaySettings};
-ghost use Rattle.napi_series.specs.Series.{device_fields, gave, is_absent, is_poll_of, list_fields, poll_fields, queue_fields, row_fields, row_gave, run_fields, run_gave, word_field};
+ghost use Rattle.napi_series.specs.Series.{device_fields, gave, is_absent, is_poll_of, list_fields, poll_fields, polls_by, queue_fields, row_fields, row_gave, run_fields, run_gave, word_field, work_by};
 
 use device_bench::DeviceCounts;
 use device_places::TABLE_LEN;
@@ -144,6 +144,26 @@ fn is_poll_of(device: u32, poll: &RunPoll) -> bool
     poll.device == device && !is_absent(poll.once.next)
 }
 
+// Returns 1 for a poll of this device, and 0 for any other.
+fn polls_by(device: u32, poll: &RunPoll) -> u32
+    ensures polls { result ≡ polls_by device poll.now }
+    ensures range { result ≤ 1 }
+{
+    if is_poll_of(device, poll) { 1 } else { 0 }
+}
+
+// Returns the packets of a poll of this device, and 0 for any other.
+fn work_by(device: u32, poll: &RunPoll) -> u64
+    ensures work { result ≡ work_by device poll.now }
+    ensures range { result ≤ 4294967295 }
+{
+    if is_poll_of(device, poll) {
+        u64::from(poll.once.work)
+    } else {
+        0
+    }
+}
+
 // Appends how many packets a device processed in a run.
 fn add_run_gave(text: &mut String, polls: &[RunPoll], device: u32) -> Result<(), AllocError>
     requires { length polls.now ≤ 65535 }
@@ -153,10 +173,8 @@ fn add_run_gave(text: &mut String, polls: &[RunPoll], device: u32) -> Result<(),
     let mut count = 0;
     let mut work = 0;
     for poll in polls {
-        if is_poll_of(device, poll) {
-            count += 1;
-            work += u64::from(poll.once.work);
-        }
+        count += polls_by(device, poll);
+        work += work_by(device, poll);
     }
     add_gave(text, device, count, work)
 }

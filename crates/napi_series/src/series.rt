@@ -58,7 +58,8 @@ fn add_row_part(
         replay.polled(number),
     )?;
     add_list(text, replay, number)?;
-    text.push_str(row_end(settings.options.polls))
+    text.push_str(row_end(settings.options.polls))?;
+    Ok(())
 }
 
 // Appends the lines of the row with this number: those of its polls if they are wanted, and its own.
@@ -78,7 +79,8 @@ fn add_row_lines(
         return add_row_part(text, settings, number, row, replay);
     }
     add_polls(alloc, text, number, row, replay)?;
-    add_row_part(text, settings, number, row, replay)
+    add_row_part(text, settings, number, row, replay)?;
+    Ok(())
 }
 
 // Appends the lines of the row with this index, if it has any.

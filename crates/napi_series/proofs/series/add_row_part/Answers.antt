@@ -24,4 +24,4 @@ returns c = λ rows after.
     tells _ _ n c.args.row.now _ _ _ _ _ _ c.in_ok-add_poll.ensures (c.uses_transmit.ensures s rows n after)
     (c.counts.ensures s rows n after)
     (c.polled.ensures s rows after) in
-    three _ _ _ _ _ _ _ told (c.in_ok-add_list.ensures s rows after) (rw (sym c.row_end.ensures) c.push_str.ensures.bytes)
+    three _ _ _ _ _ _ _ told (c.in_ok-add_list.ensures s rows after) (rw c.row_end.ensures at c.in_ok-push_str.ensures.bytes)

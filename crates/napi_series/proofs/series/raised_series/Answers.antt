@@ -1,0 +1,27 @@
+use Rattle.std.proofs.{Common.{◌≡◌, ◌⊎◌, Err, IfErr, Ok, inl, inr, ℕ, List}, lemmas.Result.err_from_is_err_and}
+use Rattle.std.specs.Prelude.{Result}
+use Rattle.replay_rows.{specs.Replay.after_all_rows, proofs.{PlayFacts.{report-early, unwritten}, RaisedFacts.raised-unwritten}}
+use Rattle.replay_text.specs.{Outside.IsReplayOutOfMemory, declared.fault.ReplayFault.{ReplayFault, TheVariants.OutputFailed}}
+use Rattle.device_rows.specs.declared.row.Row.{Row}
+use Rattle.replay_args.specs.declared.settings.ReplaySettings.{ReplaySettings}
+use Rattle.napi_series.proofs.series.raised_series.Goals as goal
+
+-- an error of a row is never OutputFailed
+never : {A : Type 0} (s : ReplaySettings) (rows : List Row) (r : Result A ReplayFault)
+    → IfErr r (λ fault. IsReplayOutOfMemory fault ⊎ (after_all_rows s rows ≡ Err fault)) → IfErr r (λ fault. fault ≡ OutputFailed → ⊥)
+never s rows (Ok a) h = tt
+never s rows (Err fault) (inl memory) = unwritten {A = ℕ} s 1 rows (Err fault) (inl memory)
+never s rows (Err fault) (inr early) = unwritten {A = ℕ} s 1 rows (Err fault) (inr (report-early s rows fault early 1))
+
+pub returns-in_err-rows-in-Some-clause-unwritten : goal.returns-in_err-rows-in-Some-clause-unwritten
+returns-in_err-rows-in-Some-clause-unwritten c =
+    let p = err_from_is_err_and c.from_residual.result c.from_residual.ensures.1 in
+    rw (p.1, p.2)
+    (raised-unwritten c.args.settings.now.replay c.in-Some.restarts c.rows.result.now _ c.in_err-rows-in-Some.ensures.fault)
+
+pub returns-in_ok-rows-in-Some-clause-unwritten : goal.returns-in_ok-rows-in-Some-clause-unwritten
+returns-in_ok-rows-in-Some-clause-unwritten c = never c.args.settings.now.replay c.as_slice.result.now c.series_of.result c.series_of.ensures.fault
+
+pub returns-in-None-clause-unwritten : goal.returns-in-None-clause-unwritten
+returns-in-None-clause-unwritten c =
+    never c.args.settings.now.replay c.rows-in-None.result.now c.series_of-in-None.result c.series_of-in-None.ensures.fault
