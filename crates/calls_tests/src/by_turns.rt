@@ -92,11 +92,11 @@ fn play<R: Threads + Wait + Abort + Copy + Drop + Send>(
         &rt,
         move || -> Caller
             requires { IsSeatOf napi.now first.value.pass }
-            ensures { IsSeatOf napi.now result.pass }
+            ensures { IsSeatOf napi.entry.now result.pass }
         { first_turns(&rt, napi, first.open(), turns) },
         move || -> Caller
             requires { IsSeatOf napi.now second.value.pass }
-            ensures { IsSeatOf napi.now result.pass }
+            ensures { IsSeatOf napi.entry.now result.pass }
         { second_turns(&rt, napi, second.open(), turns) },
     )
 }

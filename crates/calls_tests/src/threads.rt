@@ -215,33 +215,34 @@ fn play<R: Threads + Wait + Copy + Drop + Send>(
         &rt,
         move || -> (Caller, Caller)
             requires { IsSeatOf napi.now first.value.pass × IsSeatOf napi.now second.value.pass }
-            ensures { IsSeatOf napi.now result.0.pass × IsSeatOf napi.now result.1.pass }
+            ensures { IsSeatOf napi.entry.now result.0.pass × IsSeatOf napi.entry.now result.1.pass }
         {
             thread::join(
                 &rt,
                 move || -> Caller
                     requires { IsSeatOf napi.now first.value.pass }
-                    ensures { IsSeatOf napi.now result.pass }
+                    ensures { IsSeatOf napi.entry.now result.pass }
                 { interrupt(&rt, napi, first.open(), Some(input), half, end) },
                 move || -> Caller
                     requires { IsSeatOf napi.now second.value.pass }
-                    ensures { IsSeatOf napi.now result.pass }
+                    ensures { IsSeatOf napi.entry.now result.pass }
                 { interrupt(&rt, napi, second.open(), None, half, end) },
             )
         },
         move || -> (PolledPackets, Control<On>)
             requires { IsSeatOf napi.now poller.value.pass × IsSeatOf napi.now control.value.pass }
-            ensures { IsSeatOf napi.now result.0.caller.pass × IsSeatOf napi.now result.1.pass }
+            ensures { IsSeatOf napi.entry.now result.0.caller.pass
+                × IsSeatOf napi.entry.now result.1.pass }
         {
             thread::join(
                 &rt,
                 move || -> PolledPackets
                     requires { IsSeatOf napi.now poller.value.pass }
-                    ensures { IsSeatOf napi.now result.caller.pass }
+                    ensures { IsSeatOf napi.entry.now result.caller.pass }
                 { poll_all(&rt, napi, poller.open(), end) },
                 move || -> Control<On>
                     requires { IsSeatOf napi.now control.value.pass }
-                    ensures { IsSeatOf napi.now result.pass }
+                    ensures { IsSeatOf napi.entry.now result.pass }
                 { switch(&rt, napi, control.open(), half, end) },
             )
         },

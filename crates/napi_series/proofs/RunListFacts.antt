@@ -3,7 +3,7 @@ use Rattle.std.proofs.Common.{◌≡◌, ◌∙◌, ◌+◌, ◌++◌, ◌∷◌
 use Rattle.std.proofs.{Common.{subst, sym, take}, lemmas.{List.map-append, Option.slice_get-get_or}}
 use Rattle.std.specs.{Prelude.Option, List.slice_get}
 use Rattle.device_rows.specs.declared.row.Row.{Row}
-use Rattle.napi_series.specs.Series.{list_left, once_fields, poll_line, poll_line_at, poll_lines}
+use Rattle.napi_series.specs.Series.{list_left, once_fields, run_poll_line, poll_line_at, poll_lines}
 use Rattle.poll_runs.specs.Polls.{Poll, is_arrival, is_repoll, queued_by, repolled}
 use Rattle.poll_runs.proofs.PollFacts.{arrivals-append, arrivals-one, repolled-append, repolled-one}
 use Rattle.replay_rows.specs.{RunLog.polls_in, declared.run_log.RunPoll.RunPoll}
@@ -32,13 +32,13 @@ repolled-push polls entry =
 
 pub line-next : (n : ℕ) (row : Row) (used : ℕ → Bool) (list : List ℕ) (polls : List RunPoll) (k : ℕ) (d : RunPoll) → k < length polls
     → poll_lines n row used list polls (k + 1)
-    ≡ poll_lines n row used list polls k ++ poll_line n (k + 1) row used (list_left list (take (k + 1) polls)) (get_or polls k d)
+    ≡ poll_lines n row used list polls k ++ run_poll_line n (k + 1) row used (list_left list (take (k + 1) polls)) (get_or polls k d)
 unfolding poll_lines
 line-next n row used list polls k d below =
     let next : k + 1 ≡ suc k = omega arith in
     let found : slice_get polls k ≡ Some (get_or polls k d) = slice_get-get_or polls k d below in
     subst (λ (m : ℕ). poll_lines n row used list polls m
-    ≡ poll_lines n row used list polls k ++ poll_line n (k + 1) row used (list_left list (take (k + 1) polls)) (get_or polls k d))
+    ≡ poll_lines n row used list polls k ++ run_poll_line n (k + 1) row used (list_left list (take (k + 1) polls)) (get_or polls k d))
     (sym next) (ap (λ (o : Option RunPoll). poll_lines n row used list polls k ++ poll_line_at n row used list polls k o) found)
 
 pub fields-at : (one two : List ℕ) (n k : ℕ) (row : Row) (used : ℕ → Bool) (is : Bool) (p q : RunPoll) → p ≡ q → is ≡ used p.device

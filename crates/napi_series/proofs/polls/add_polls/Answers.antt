@@ -1,6 +1,7 @@
-use Rattle.std.proofs.Common.{◌≡◌, ◌∙◌, ◌+◌, ◌<◌, ◌++◌, ◌∷◌, [], List, None, ℕ, ap, append-nil, arith, get_or, length, refl, string_bytes, subst}
+use Rattle.std.proofs.Common.{◌≡◌, ◌∙◌, ◌+◌, ◌<◌, ◌++◌, ◌∷◌, [], List, None, ℕ, ap, append-nil, arith, get_or}
+use Rattle.std.proofs.Common.{length, refl, string_bytes, subst}
 use Rattle.std.proofs.{Common.{sym, take}, lemmas.List.{length-take, take_more}}
-use Rattle.napi_series.specs.{RunList.Follows, Series.{once_end, poll_lines}}
+use Rattle.napi_series.specs.{RunList.IsListAfter, Series.{once_end, poll_lines}}
 use Rattle.napi_series.proofs.RunListFacts.{fields-at, five-parts, line-next}
 use Rattle.poll_runs.specs.declared.bench.{Next.TheVariants.Absent, Once.Once}
 use Rattle.replay_rows.specs.{After.is_used_after, RunLog.{list_before, polls_of_row}, declared.run_log.RunPoll.RunPoll}
@@ -28,9 +29,9 @@ loop-k-preserved c = λ s rows after.
     let so_far = c.loop-k.invariant s rows after in
     let here : get_or given k none ≡ get_or polls k none = ap (λ (l : List RunPoll). get_or l k none) same in
     let more : take (k + 1) polls ≡ take k polls ++ get_or polls k none ∷ [] = take_more polls k none below in
-    let follows : Follows list (take (k + 1) polls) c.hand_on.new.self =
+    let follows : IsListAfter list (take (k + 1) polls) c.hand_on.new.self =
     rw more
-    (subst (λ (p : RunPoll). Follows list (take k polls ++ p ∷ []) c.hand_on.new.self) here
+    (subst (λ (p : RunPoll). IsListAfter list (take k polls ++ p ∷ []) c.hand_on.new.self) here
     (c.in_ok-hand_on.ensures list (take k polls) so_far.0)) in
     let count : k + 1 ≡ length (take (k + 1) polls) = omega (arith, length-take (k + 1) polls) in (
       follows,

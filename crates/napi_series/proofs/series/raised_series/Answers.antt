@@ -20,7 +20,8 @@ returns-in_err-rows-in-Some-clause-unwritten c =
     (raised-unwritten c.args.settings.now.replay c.in-Some.restarts c.rows.result.now _ c.in_err-rows-in-Some.ensures.fault)
 
 pub returns-in_ok-rows-in-Some-clause-unwritten : goal.returns-in_ok-rows-in-Some-clause-unwritten
-returns-in_ok-rows-in-Some-clause-unwritten c = never c.args.settings.now.replay c.as_slice.result.now c.series_of.result c.series_of.ensures.fault
+returns-in_ok-rows-in-Some-clause-unwritten c =
+    never c.args.settings.now.replay c.as_slice.result.now c.series_of.result c.series_of.ensures.fault
 
 pub returns-in-None-clause-unwritten : goal.returns-in-None-clause-unwritten
 returns-in-None-clause-unwritten c =
