@@ -1,14 +1,14 @@
 //! The public types and calls that a program of each kind needs, each used as a user writes it: a name that is lost, or a
 //! signature that changes, stops this crate.
 
-ghost use Rattle.std.specs.Prelude.{◌≡◌, ◌≤◌, [], ¬◌, ℕ, IsSome, IsTrue, Some, false, length, slice_get, true, vec_items};
+ghost use Rattle.std.specs.Prelude.{◌≡◌, ◌≤◌, [], ℕ, IsSome, IsTrue, Some, false, length, slice_get, true, vec_items};
 ghost use Rattle.std.specs.List.{All};
 ghost use Rattle.napi_model.specs.Serial.{serial_controller, state_of};
 ghost use Rattle.napi_model.specs.Step.{IsControl, MayHand};
 ghost use Rattle.napi_model.specs.declared.state.Kind.TheVariants as kind;
 ghost use Rattle.napi_model.specs.declared.state.Place.TheVariants as place;
 ghost use Rattle.rx_ring.specs.Ends.{IsOneRing};
-ghost use Rattle.tx_ring.specs.Ring.{IsNewLimit};
+ghost use Rattle.dql_core.specs.Dql.{IsNewLimit};
 ghost use Rattle.napi_calls.specs.declared.types.Caller.{Caller};
 ghost use Rattle.napi_calls.specs.Instance.{IsSeatOf};
 ghost use Rattle.napi_calls.specs.Seats.{PutsIntoRingOf};
