@@ -184,7 +184,7 @@ class Starts(InFolder):
 
     def test_no_environment(self):
         """Without PATH a shell finds python3 in its own folders, and Python doesn't know its own name."""
-        for words in (["--version"], ["plot", "--help"], ["raise", BURSTS, "--program", REPLAY], ["replay", "--help"], ["completion", "bash"]):
+        for words in (["--version"], ["plot", "--help"], ["raise", BURSTS, "--program", SERIES], ["replay", "--help"], ["completion", "bash"]):
             done = subprocess.run(["env", "-i", COMMAND, *words], capture_output=True, text=True, check=False)
             self.assertEqual((done.stderr.count("\n") <= 1, done.returncode), (True, 0), done.stderr)
             self.assertEqual(done.stdout, call(*words).stdout)

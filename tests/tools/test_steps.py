@@ -74,7 +74,7 @@ class Steps(InFolder):
         for name, words in (("two-packets", []), ("queue-limit", []), ("two-queues", []), ("busy-poll", []), ("two-packets", ["--weight", "1"])):
             header, *rows = (TOP / f"examples/{name}.csv").read_text().splitlines()
             page = self.steps(TOP / f"examples/{name}.csv", *words)
-            self.assertNotRegex(page, r"(src|href)=")
+            self.assertNotRegex(re.sub(r'<a href="[^"]*">', "", page), r"(src|href)=")  # it loads nothing; its links are for the reader
             found = re.search(r'<pre class="told">(.*?)</pre>', self.dumped(page.replace("</body>", WALK + "</body>")))
             self.assertTrue(found, name)
             walked = json.loads(html.unescape(found[1]))
