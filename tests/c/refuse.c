@@ -175,13 +175,13 @@ static size_t raised_length;
 
 static uint32_t make_raised(void) {
     const struct fq_settings settings = {1, 1, 1024};
-    struct fq_replayed replayed = {0, 0, 0};
+    struct fq_replayed raised = {0, 0, 0};
     char text[1024];
     int len = snprintf(text, sizeof text, "%s", raised_head);
     for (int i = 0; i < 50; i++) len += snprintf(text + len, sizeof text - (size_t)len, "%s", raised_row);
     len += snprintf(text + len, sizeof text - (size_t)len, "%s", raised_run);
-    const uint32_t said = fq_raise(&settings, FQ_UNTIL_EMPTY, (const uint8_t *)text, (size_t)len, report, ROOM, &replayed);
-    raised_length = replayed.length;
+    const uint32_t said = fq_raise(&settings, FQ_UNTIL_EMPTY, (const uint8_t *)text, (size_t)len, report, ROOM, &raised);
+    raised_length = raised.length;
     return said;
 }
 static bool raised_works(void) { return raised_length == strlen(raised_head) + 50 * strlen(raised_row) + 51 * strlen(raised_run); }

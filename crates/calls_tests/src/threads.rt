@@ -215,7 +215,8 @@ fn play<R: Threads + Wait + Copy + Drop + Send>(
         &rt,
         move || -> (Caller, Caller)
             requires { IsSeatOf napi.now first.value.pass × IsSeatOf napi.now second.value.pass }
-            ensures { IsSeatOf napi.entry.now result.0.pass × IsSeatOf napi.entry.now result.1.pass }
+            ensures { IsSeatOf napi.entry.now result.0.pass
+                × IsSeatOf napi.entry.now result.1.pass }
         {
             thread::join(
                 &rt,
