@@ -78,12 +78,12 @@ proctype Scheduler(bit me) {
 proctype Poller() {
     byte seen, repolls; bool won, is_last, has_taken;
     do
-    :: is_last = closed;                                                          /* poll_seats/poller serve */
+    :: is_last = closed;                                                          /* poll_engine/poller serve */
        atomic { has_taken = (word & QUEUED) != 0; word = word & ~QUEUED;        /* napi_calls/caller take */
                 if :: has_taken -> assert(!is_polled && !is_controlled); begin_poll() :: else fi };
        if
-       :: !has_taken && is_last -> break                                        /* poll_seats/poller serve */
-       :: !has_taken && !is_last                                                /* poll_seats/poller serve */
+       :: !has_taken && is_last -> break                                        /* poll_engine/poller serve */
+       :: !has_taken && !is_last                                                /* poll_engine/poller serve */
        :: has_taken ->
           if
           :: (ENDLESS || repolls < REPOLLS) && (!(word & DISABLE) || FAULT == 2) ->     /* poll_shared/shared_instance poll_instance */
@@ -142,7 +142,7 @@ marked:
 init {
     atomic { run Scheduler(0); run Scheduler(1); run Poller(); run Controller() };
     schedulers_ended == 2 && controller_ended;
-    closed = true;                                                                /* poll_tasks/signals close */
+    closed = true;                                                                /* poll_engine/signals close */
     poller_ended;
     assert(word == (SCHED | NPSVC) || word == (SCHED | NPSVC | MISSED))
 }

@@ -57,9 +57,9 @@ inline unpark(waker) {
     atomic { was_parked = (word[waker] == PARKED); word[waker] = NOTIFIED };      /* kit crossbeam_utils/sync/parker/ruled unpark_as */
     if :: was_parked -> atomic { asleep[waker] = false; was_parked = false } :: else fi  /* kit crossbeam_utils/sync/parker/ruled unpark_as */
 }
-inline wake(waker) { unpark(waker) }                                              /* poll_tasks/signals wake */
-inline close(waker) { closed[waker] = true; unpark(waker) }                           /* poll_tasks/signals close */
-inline wait(waker) {                                                             /* poll_tasks/signals wait */
+inline wake(waker) { unpark(waker) }                                              /* poll_engine/signals wake */
+inline close(waker) { closed[waker] = true; unpark(waker) }                           /* poll_engine/signals close */
+inline wait(waker) {                                                             /* poll_engine/signals wait */
     atomic { if :: word[waker] == EMPTY -> word[waker] = PARKED :: else fi };     /* kit crossbeam_utils/sync/parker/ruled park_as */
     do
     :: atomic { word[waker] == NOTIFIED -> word[waker] = EMPTY; break }           /* kit crossbeam_utils/sync/parker/ruled park_as */
@@ -69,16 +69,16 @@ inline wait(waker) {                                                            
     od
 }
 #define AT(list, end) ((list) * PLACES + (end) % PLACES)
-inline push(number) {                                                           /* poll_list/list_in push */
+inline push(number) {                                                           /* poll_engine/list_in push */
     d_step { assert((tail[LIST_OF(number)] - head[LIST_OF(number)] + 2 * PLACES) % (2 * PLACES) < PLACES);
         at = AT(LIST_OF(number), tail[LIST_OF(number)]); tail[LIST_OF(number)] = (tail[LIST_OF(number)] + 1) % (2 * PLACES); slot[at] = number };  /* kit crossbeam_queue/array_queue/ruled push_as */
     atomic { published[at] = true; at = 0 }                                     /* kit crossbeam_queue/array_queue/ruled push_as */
 }
-inline hand_to_list(number) {                                                   /* poll_interrupts/worker hand_to_list */
+inline hand_to_list(number) {                                                   /* poll_engine/worker hand_to_list */
     mark[number] = LISTED;                                                      /* napi_calls/granted hand */
     if
     :: FAULT == 2 -> wake(LIST_OF(number)); push(number)
-    :: else -> push(number); wake(LIST_OF(number))                              /* poll_interrupts/worker hand_to_list */
+    :: else -> push(number); wake(LIST_OF(number))                              /* poll_engine/worker hand_to_list */
     fi
 }
 
@@ -91,7 +91,7 @@ inline schedule(number) {
 }
 inline turn_off(number) {
     if
-    :: is_on ->                                                                 /* poll_interrupts/worker turn_off */
+    :: is_on ->                                                                 /* poll_engine/worker turn_off */
        disabling[number] = true;                                                /* napi_calls/control mark */
        atomic { !sched[number] && !npsvc[number] -> assert(!asked[number]);
            sched[number] = true; npsvc[number] = true; threaded[number] = false };      /* napi_calls/control disable_pausing */
@@ -102,38 +102,38 @@ inline turn_off(number) {
 inline turn_on(number) {
     if
     :: !is_on -> atomic { assert(!threaded[number] || setting); sched[number] = false; npsvc[number] = false; is_on = true;
-           threaded[number] = setting && FAULT != 8 }                           /* poll_interrupts/worker turn_on */
+           threaded[number] = setting && FAULT != 8 }                           /* poll_engine/worker turn_on */
     :: else
     fi
 }
 proctype Worker(byte number) {
     byte act, at; bool was_parked, granted, is_on, setting;
-    turn_on(number);                                                            /* poll_interrupts/worker run */
+    turn_on(number);                                                            /* poll_engine/worker run */
     do
-    :: act < (number == 0 -> ACTS : OTHER_ACTS) ->                              /* poll_interrupts/worker make_acts */
-       if :: refused || stopped -> break :: else fi;                            /* poll_tasks/context stop */
-       if :: true :: stopped = true; break fi;                                  /* poll_interrupts/worker stop_before */
+    :: act < (number == 0 -> ACTS : OTHER_ACTS) ->                              /* poll_engine/worker make_acts */
+       if :: refused || stopped -> break :: else fi;                            /* poll_engine/context stop */
+       if :: true :: stopped = true; break fi;                                  /* poll_engine/worker stop_before */
        if
-       :: ring[number] = ring[number] + 1;                                      /* poll_interrupts/worker make_act */
-          schedule(number);                                                     /* poll_interrupts/worker interrupt */
+       :: ring[number] = ring[number] + 1;                                      /* poll_engine/worker make_act */
+          schedule(number);                                                     /* poll_engine/worker interrupt */
           if
-          :: granted && BY_THREAD(number) ->                                    /* poll_interrupts/worker hand_over */
+          :: granted && BY_THREAD(number) ->                                    /* poll_engine/worker hand_over */
              mark[number] = TO_THREAD;                                          /* napi_calls/granted hand */
-             if :: FAULT != 1 -> wake(THREAD(number)) :: else fi                /* poll_interrupts/worker hand_over */
-          :: granted && !BY_THREAD(number) ->                                   /* poll_interrupts/worker hand_over */
+             if :: FAULT != 1 -> wake(THREAD(number)) :: else fi                /* poll_engine/worker hand_over */
+          :: granted && !BY_THREAD(number) ->                                   /* poll_engine/worker hand_over */
              assert(number >= THREADS || !is_on || !setting);                   /* a packet of a threaded instance that is on */
              hand_to_list(number)
-          :: else                                                               /* poll_interrupts/worker interrupt */
+          :: else                                                               /* poll_engine/worker interrupt */
           fi
-       :: is_on -> turn_off(number)                                             /* poll_interrupts/worker make_act */
-       :: !is_on -> turn_on(number)                                             /* poll_interrupts/worker make_act */
-       :: number < THREADS -> atomic { setting = !setting; threaded[number] = setting } /* poll_interrupts/worker make_act */
+       :: is_on -> turn_off(number)                                             /* poll_engine/worker make_act */
+       :: !is_on -> turn_on(number)                                             /* poll_engine/worker make_act */
+       :: number < THREADS -> atomic { setting = !setting; threaded[number] = setting } /* poll_engine/worker make_act */
        fi;
        act++
     :: else -> break
     od;
-    turn_off(number);                                                           /* poll_interrupts/worker run */
-    if :: number < THREADS && FAULT != 3 -> close(THREAD(number)) :: else fi;    /* poll_interrupts/worker run */
+    turn_off(number);                                                           /* poll_engine/worker run */
+    if :: number < THREADS && FAULT != 3 -> close(THREAD(number)) :: else fi;    /* poll_engine/worker run */
     workers_ended++
 }
 
@@ -150,34 +150,34 @@ inline complete(number) {
 }
 proctype Poller(byte list) {
     byte at, number, in_hand = NOBODY; bool was_parked, is_last, again, whole, snoozed;
-    if :: unpolled -> goto ended :: else fi;                                    /* poll_seats/poller run */
-    if :: true :: stopped = true fi;                                            /* poll_seats/poller run */
+    if :: unpolled -> goto ended :: else fi;                                    /* poll_engine/poller run */
+    if :: true :: stopped = true fi;                                            /* poll_engine/poller run */
     do
-    :: atomic { is_last = closed[list]; number = NOBODY; again = false; whole = false };    /* poll_seats/poller serve */
+    :: atomic { is_last = closed[list]; number = NOBODY; again = false; whole = false };    /* poll_engine/poller serve */
        if
-       :: in_hand != NOBODY -> number = in_hand; in_hand = NOBODY               /* poll_list/shared splice */
-       :: in_hand == NOBODY && head[list] == tail[list]                         /* poll_list/pops pop */
-       :: in_hand == NOBODY && head[list] != tail[list] && published[AT(list, head[list])] ->      /* poll_list/pops pop */
+       :: in_hand != NOBODY -> number = in_hand; in_hand = NOBODY               /* poll_engine/shared splice */
+       :: in_hand == NOBODY && head[list] == tail[list]                         /* poll_engine/pops pop */
+       :: in_hand == NOBODY && head[list] != tail[list] && published[AT(list, head[list])] ->      /* poll_engine/pops pop */
           d_step { at = AT(list, head[list]); number = slot[at]; slot[at] = 0; published[at] = false; head[list] = (head[list] + 1) % (2 * PLACES); at = 0 }  /* kit crossbeam_queue/array_queue/ruled pop_as */
        fi;
        if
-       :: atomic { number != NOBODY ->                                          /* poll_seats/list_poller turn */
-             assert(mark[number] == LISTED); mark[number] = AWAY };             /* poll_seats/handle poll */
+       :: atomic { number != NOBODY ->                                          /* poll_engine/list_poller turn */
+             assert(mark[number] == LISTED); mark[number] = AWAY };             /* poll_engine/handle poll */
           d_step { take_packets(number) };                                      /* poll_shared/shared_instance poll_instance */
           if
-          :: whole && !disabling[number] -> atomic { mark[number] = LISTED; in_hand = number }     /* poll_list/shared put_back */
+          :: whole && !disabling[number] -> atomic { mark[number] = LISTED; in_hand = number }     /* poll_engine/shared put_back */
           :: else ->
              complete(number);                                                  /* poll_shared/shared_instance poll_instance */
              if
-             :: again && BY_THREAD(number) -> mark[number] = TO_THREAD; wake(THREAD(number))      /* poll_seats/handle poll */
-             :: again && !BY_THREAD(number) -> mark[number] = LISTED; push(number)      /* poll_list/shared push */
-             :: else                                                            /* poll_seats/handle poll */
+             :: again && BY_THREAD(number) -> mark[number] = TO_THREAD; wake(THREAD(number))      /* poll_engine/handle poll */
+             :: again && !BY_THREAD(number) -> mark[number] = LISTED; push(number)      /* poll_engine/shared push */
+             :: else                                                            /* poll_engine/handle poll */
              fi
           fi;
-          snoozed = false                                                       /* poll_tasks/signals reset */
-       :: number == NOBODY && is_last -> break                                  /* poll_seats/poller serve */
-       :: atomic { number == NOBODY && !is_last && !snoozed -> snoozed = true } /* poll_tasks/signals wait */
-       :: number == NOBODY && !is_last && snoozed -> wait(list); snoozed = false        /* poll_seats/poller serve */
+          snoozed = false                                                       /* poll_engine/signals reset */
+       :: number == NOBODY && is_last -> break                                  /* poll_engine/poller serve */
+       :: atomic { number == NOBODY && !is_last && !snoozed -> snoozed = true } /* poll_engine/signals wait */
+       :: number == NOBODY && !is_last && snoozed -> wait(list); snoozed = false        /* poll_engine/poller serve */
        fi
     od;
     assert(in_hand == NOBODY && head[list] == tail[list]);
@@ -186,10 +186,10 @@ ended:
 }
 proctype Thread(byte number) {
     byte at, polls; bool was_parked, is_last, again, found, has, repoll, whole, snoozed;
-    if :: unpolled -> goto ended :: else fi;                                    /* poll_seats/poller run */
-    if :: true :: stopped = true fi;                                            /* poll_seats/poller run */
+    if :: unpolled -> goto ended :: else fi;                                    /* poll_engine/poller run */
+    if :: true :: stopped = true fi;                                            /* poll_engine/poller run */
     do
-    :: atomic { is_last = closed[THREAD(number)]; found = false; repoll = false; has = false; again = false; whole = false; polls = 0 };  /* poll_seats/poller serve */
+    :: atomic { is_last = closed[THREAD(number)]; found = false; repoll = false; has = false; again = false; whole = false; polls = 0 };  /* poll_engine/poller serve */
        do
        :: atomic { polls < WINDOW ->
              has = repoll || mark[number] == TO_THREAD;                         /* poll_shared/shared_instance poll_instance_by_thread */
@@ -204,25 +204,25 @@ proctype Thread(byte number) {
              if
              :: again && threaded[number] -> mark[number] = TO_THREAD           /* poll_shared/shared_instance poll_instance_by_thread */
              :: again && !threaded[number] ->
-                mark[number] = LISTED; push(number);                            /* poll_seats/thread_poller hand_on */
-                if :: FAULT != 4 -> wake(LIST_OF(number)) :: else fi;           /* poll_seats/thread_poller hand_on */
+                mark[number] = LISTED; push(number);                            /* poll_engine/thread_poller hand_on */
+                if :: FAULT != 4 -> wake(LIST_OF(number)) :: else fi;           /* poll_engine/thread_poller hand_on */
                 break
              :: else -> break
              fi
           fi
-       :: polls == WINDOW -> break                                              /* poll_seats/thread_poller turn */
+       :: polls == WINDOW -> break                                              /* poll_engine/thread_poller turn */
        od;
        if
        :: repoll ->
-          mark[number] = LISTED; push(number);                                  /* poll_seats/thread_poller hand_on */
-          if :: FAULT != 4 -> wake(LIST_OF(number)) :: else fi                  /* poll_seats/thread_poller hand_on */
+          mark[number] = LISTED; push(number);                                  /* poll_engine/thread_poller hand_on */
+          if :: FAULT != 4 -> wake(LIST_OF(number)) :: else fi                  /* poll_engine/thread_poller hand_on */
        :: else
-       fi;                                                                      /* poll_seats/thread_poller hand_on */
+       fi;                                                                      /* poll_engine/thread_poller hand_on */
        if
-       :: found -> snoozed = false                                              /* poll_tasks/signals reset */
-       :: !found && is_last -> break                                            /* poll_seats/poller serve */
-       :: atomic { !found && !is_last && !snoozed -> snoozed = true }           /* poll_tasks/signals wait */
-       :: !found && !is_last && snoozed -> wait(THREAD(number)); snoozed = false        /* poll_seats/poller serve */
+       :: found -> snoozed = false                                              /* poll_engine/signals reset */
+       :: !found && is_last -> break                                            /* poll_engine/poller serve */
+       :: atomic { !found && !is_last && !snoozed -> snoozed = true }           /* poll_engine/signals wait */
+       :: !found && !is_last && snoozed -> wait(THREAD(number)); snoozed = false        /* poll_engine/poller serve */
        fi
     od;
 ended:
@@ -233,32 +233,32 @@ ended:
 
 init {
     byte number; bool was_parked;
-    d_step { number = 0; do :: number < WORKERS -> sched[number] = true; npsvc[number] = true; number++ :: else -> break od; number = 0 };  /* poll_interrupts/opening open_all */
+    d_step { number = 0; do :: number < WORKERS -> sched[number] = true; npsvc[number] = true; number++ :: else -> break od; number = 0 };  /* poll_engine/opening open_all */
     do
     :: number < THREADS ->
-       if :: run Thread(number) :: unpolled = true; threads_ended++ fi;         /* poll_tasks/tasks spawn */
+       if :: run Thread(number) :: unpolled = true; threads_ended++ fi;         /* poll_engine/tasks spawn */
        number++
-    :: else -> break                                                            /* poll_seats/poller is_idle */
+    :: else -> break                                                            /* poll_engine/poller is_idle */
     od;
     number = 0;
     do
     :: number < POLLERS ->
-       if :: run Poller(number) :: unpolled = true; pollers_ended = pollers_ended + (FAULT != 6) fi;    /* poll_tasks/tasks spawn */
+       if :: run Poller(number) :: unpolled = true; pollers_ended = pollers_ended + (FAULT != 6) fi;    /* poll_engine/tasks spawn */
        number++
     :: else -> break
     od;
-    if :: unpolled && FAULT != 5 -> refused = true :: else fi;                  /* poll_tasks/driving drive */
+    if :: unpolled && FAULT != 5 -> refused = true :: else fi;                  /* poll_engine/driving drive */
     number = 0;
     do
-    :: number < WORKERS ->                                                      /* poll_tasks/tasks spawn_all */
-       if :: run Worker(number) :: refused = true; run Worker(number); workers_ended == number + 1 fi; /* poll_tasks/tasks spawn */
+    :: number < WORKERS ->                                                      /* poll_engine/tasks spawn_all */
+       if :: run Worker(number) :: refused = true; run Worker(number); workers_ended == number + 1 fi; /* poll_engine/tasks spawn */
        number++
     :: else -> break
     od;
-    workers_ended == WORKERS;                                                   /* poll_tasks/tasks join_all */
+    workers_ended == WORKERS;                                                   /* poll_engine/tasks join_all */
     number = 0;
-    do :: number < POLLERS -> close(number); number++ :: else -> break od;       /* poll_tasks/driving drive */
-    pollers_ended == POLLERS && threads_ended == THREADS;                       /* poll_tasks/tasks join_all */
+    do :: number < POLLERS -> close(number); number++ :: else -> break od;       /* poll_engine/driving drive */
+    pollers_ended == POLLERS && threads_ended == THREADS;                       /* poll_engine/tasks join_all */
     number = 0;
     do
     :: number < WORKERS -> assert(mark[number] == AWAY && sched[number] && npsvc[number] && !asked[number]); number++

@@ -1,6 +1,6 @@
 #!/usr/bin/env bash
 # scripts/c_library.sh FOLDER: proves and builds the C library, if that isn't done yet, and puts libfintaqush.a into the folder,
-# which it makes if necessary: the exports of napi_c, the replay of replay_c, the machine of machine_c, and the kit's heap that
+# which it makes if necessary: the exports of napi_c, the replay and the machine of files_c, and the kit's heap that
 # they call. The archive needs only the C library, and exports only the calls. FINTAQUSH_CPU=x86-64 compiles it for all x86-64
 # processors, in place of x86-64-v2; x86-64-v3 for newer ones. Standard output stays empty.
 set -euo pipefail
@@ -9,13 +9,13 @@ crates=$(dirname "$(dirname "$(readlink -f "${BASH_SOURCE[0]}")")")/crates
 mkdir -p "${1:?a folder}"
 to=$(readlink -f "$1")
 command -v rt > /dev/null || { echo 'c_library: there is no rt on PATH, which proves and builds it' >&2; exit 69; }
-"$crates/../scripts/build.sh" napi_c replay_c machine_c
+"$crates/../scripts/build.sh" napi_c files_c
 scratch=$(mktemp -d)
 trap 'rm -rf "$scratch"' EXIT
 cd "$scratch"
 out=out${FINTAQUSH_CPU:+/$FINTAQUSH_CPU}
-for archive in "$crates"/{napi_c/"$out"/libnapi_c,replay_c/"$out"/libreplay_c,machine_c/"$out"/libmachine_c}.a "$(dirname "$(rt doc)")/c/liblibc_c.a"; do ar x "$archive"; done
-ld -r -o fintaqush.o napi_c.o replay_c.o machine_c.o heap*.o
+for archive in "$crates"/{napi_c/"$out"/libnapi_c,files_c/"$out"/libfiles_c}.a "$(dirname "$(rt doc)")/c/liblibc_c.a"; do ar x "$archive"; done
+ld -r -o fintaqush.o napi_c.o files_c.o heap*.o
 objcopy --wildcard --keep-global-symbol='fq_*' fintaqush.o
 rm -f "$to/libfintaqush.a"
 ar rcs "$to/libfintaqush.a" fintaqush.o

@@ -16,6 +16,6 @@ git ls-files -z --cached --others --exclude-standard | while IFS= read -r -d '' 
 git ls-files -z --deleted | (cd "$clone" && xargs -0 rm -f)
 # what is built, with the checksums of its sources
 for built in crates/{napi_machine/out/napi_machine,napi_replay/out/napi_replay,napi_serial/out/napi_serial,napi_series/out/napi_series} \
-    crates/{napi_c/out/libnapi_c,replay_c/out/libreplay_c,machine_c/out/libmachine_c}.a; do
+    crates/{napi_c/out/libnapi_c,files_c/out/libfiles_c}.a; do
     [ ! -e "$built.sum" ] || cp --parents "$built"{,.sum} "$clone"
 done

@@ -12,7 +12,7 @@ import pathlib
 import re
 import sys
 
-CRATES = "napi_model napi_word napi_calls poll_runs poll_list poll_shared poll_tasks poll_interrupts poll_seats driver_core".split()
+CRATES = "napi_model napi_word napi_calls poll_runs poll_shared poll_engine driver_core".split()
 OF_KIT = {"crossbeam_utils": "sync/parker", "crossbeam_queue": "array_queue", "atomic_table": ""}
 HEAD = re.compile(r"^( *)(?:pub(?:\([a-z]+\))? )?(?:const |unsafe )*fn (\w+)")
 CALL = re.compile(r"(\.|\b[A-Z]\w*(?:::<[^;()]*>)?::|)\b([a-z_]\w*)(?:::<[^;()]*?>)?\(")

@@ -27,7 +27,7 @@ OUTSIDE = {"__do_softirq", "time_after", "softnet_stat", "virtio_net", "sysexits
            "virtqueue_napi_complete", "mlx5e_trigger_napi_sched", "mlx5e_trigger_napi_icosq", "ethernet", "skb_flow_limit", "__qdisc_run",
            "napi_weight", "rx_weight", "MAX_SOFTIRQ_TIME", "handle_softirqs", "dql_check_stall", "stall_thrs", "irq_suspend_timeout", "EPIOCSPARAMS", "napi_busy_loop_rcu", "NAPI_STATE_THREADED_BUSY_POLL", "_locked", "libfintaqush1"}
 # The crates that may have unsafe code: those that export C functions.
-EXPORTING = {"c_handles", "napi_c", "replay_c", "machine_c"}
+EXPORTING = {"c_handles", "napi_c", "files_c"}
 SENT = "unsafe impl<A> Send for Trail<A> {}"  # the one other line of unsafe code
 
 
@@ -206,7 +206,7 @@ def door_rules(_page):
     yield from (f"{name} hasn't the prefix of {door[name]}" for name in door if name.split("_")[0] != door[name].split("_")[0])
     for name in needs:
         if name.startswith(USERS) or name.endswith("_tests"):
-            yield from (f"{name} names {low}, an internal crate of {door[low]}" for low in needs[name] if low in door and low != "replay_text")
+            yield from (f"{name} names {low}, an internal crate of {door[low]}" for low in needs[name] if low in door)
     for user in sorted((TOP / "crates/uses_facades/src").glob("[!l]*.rt")):
         text = user.read_text()
         named = {*re.findall(r"^(?:ghost )?use (?:Rattle\.)?(\w+)", text, re.M)} - {"std", "mathlib", "crate", "uses_facades"}
@@ -319,7 +319,7 @@ def checks():
         yield TOP / name, durations(TOP / name)
     for door in DOORS:
         yield TOP / "crates" / door / "README.md", door_page(TOP / "crates" / door / "README.md")
-    yield TOP / "docs/C.md", claims.judge(TOP / "docs/C.md", ["napi_c", "c_handles", "replay_c", "machine_c"])
+    yield TOP / "docs/C.md", claims.judge(TOP / "docs/C.md", ["napi_c", "c_handles", "files_c"])
     for check, name in ((lengths, "README.md"), (places, "docs/WORKING.md"), (scripts_told, "docs/WORKING.md"), (assurance, "docs/ASSURANCE.md"), (door_rules, "crates.txt"),
                         (crate_picture, "docs/pictures/crates.dot")):
         yield TOP / name, check(TOP / name)

@@ -15,7 +15,7 @@ elif [ -n "$stale" ]; then
     echo "pages: these aren't built as they are: $stale. \`scripts/build.sh $stale\` builds them; --static leaves commands out"
     echo '0 passed, 1 failed'
     exit 1
-elif ! scripts/build.sh napi_c replay_c machine_c; then
+elif ! scripts/build.sh napi_c files_c; then
     echo '0 passed, 1 failed'
     exit 1
 fi

@@ -17,7 +17,7 @@ use Rattle.device_bench.specs.Device.{is_pending, operated, device_polled, polle
 use Rattle.device_bench.specs.Device.{device_state, with_napi}
 use Rattle.device_bench.specs.{DeviceView.DeviceView, Kept.{is_held, is_sound}, declared.counts.DeviceState.DeviceState}
 use Rattle.device_bench.specs.{declared.device.TheConstants.INTERRUPT, Receive.{ring_has_place, is_control, put_if, tried_by}}
-use Rattle.device_transmit.specs.Counter.{raised}
+use Rattle.device_bench.specs.Counter.{raised}
 use Rattle.napi_model.specs.declared.event.Operation.TheVariants as operation
 use Rattle.poll_runs.specs.Polling as rule
 

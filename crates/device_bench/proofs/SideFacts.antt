@@ -1,7 +1,9 @@
 -- Each device has a transmit side: what preserves this.
 use Rattle.std.proofs.Common.{◌≡◌, ◌∙◌, ℕ, zero, suc, ◌<◌, Option, Some, None, [], ◌∷◌, length, slice_set, ap, refl, sym, arith}
-use Rattle.{std.specs.Prelude.is_some, device_transmit.specs.{Transmits.Transmits, Transmit.TransmitView}}
-use Rattle.device_places.specs.Places.{DeviceTable, at, changed, changed_from}
+use Rattle.std.specs.Prelude.{is_some}
+use Rattle.device_bench.specs.Transmits.{Transmits}
+use Rattle.device_bench.specs.Transmit.{TransmitView}
+use Rattle.device_rows.specs.Places.{DeviceTable, at, changed, changed_from}
 use Rattle.device_bench.specs.Bench.{BenchDevices, HaveSides, all_settled, attached}
 
 module _ {A : Type 0} where

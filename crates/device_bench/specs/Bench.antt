@@ -5,9 +5,10 @@ use Rattle.poll_runs.specs.declared.bench.{BusyReport.BusyReport, Next.TheVarian
 use Rattle.device_bench.specs.{Counts.device_counts, Device.{device_after_packet, polled_busily, polled_by_thread, polled_once, settled}}
 use Rattle.device_bench.specs.{DeviceView.DeviceView, Waiting.{one_when, is_left_to_list, leaves}}
 use Rattle.device_bench.specs.{declared.counts.DeviceCounts.DeviceCounts}
-use Rattle.{device_places.specs.Places.{DeviceTable, at, changed}}
-use Rattle.{device_transmit.specs.{declared.transmit.TxCounts.TxCounts, Transmits.KeepsTransmits}}
-use Rattle.device_transmit.specs.Transmits.{Transmits}
+use Rattle.device_rows.specs.Places.{DeviceTable, at, changed}
+use Rattle.device_bench.specs.declared.transmit.TxCounts.{TxCounts}
+use Rattle.device_bench.specs.Transmits.{KeepsTransmits}
+use Rattle.device_bench.specs.Transmits.{Transmits}
 
 abbrev pub BenchDevices : Type 0
 BenchDevices = DeviceTable DeviceView

@@ -4,7 +4,8 @@ use Rattle.napi_model.specs.{Step.{after, event, schedule_reply, take_disable_re
 use Rattle.napi_model.specs.declared.event.{Done.TheVariants.{Released, Again, Held}, Operation.Operation}
 use Rattle.napi_model.specs.declared.event.Prep.{Prep, TheVariants.{Granted, Missed, Disabled}}
 use Rattle.{poll_runs.specs.{Plan.{Plan, ends, asks, acts, polls}, declared.bench.{BusyReport.BusyReport, Once.Once}}}
-use Rattle.{device_transmit.specs.Counter.raised, device_bench.specs.DeviceView.DeviceView}
+use Rattle.device_bench.specs.Counter.{raised}
+use Rattle.device_bench.specs.DeviceView.{DeviceView}
 use Rattle.device_bench.specs.Receive.{answered, polled_bytes, caller_of, given_of, queued_kind, ring_has_place, is_control, opened_side}
 use Rattle.device_bench.specs.Receive.{put_if}
 use Rattle.device_bench.specs.{Receive.{requested, tried_by}, declared.counts.{DeviceCounts.DeviceCounts, DeviceState.DeviceState}}

@@ -1,7 +1,9 @@
 -- What a bench shows: its devices, and their transmit sides.
 use Rattle.{std.specs.Prelude.ℕ}
 use Rattle.{device_bench.specs.{Bench.{BenchDevices, HaveSides}, Waiting.waiting, declared.bench.DeviceBench.DeviceBench}}
-use Rattle.{device_bench.specs.declared.receive_side.ReceiveSide.Ghosts, device_transmit.specs.{Transmits.Transmits, Sides.ShowsSides}}
+use Rattle.device_bench.specs.declared.receive_side.ReceiveSide.{Ghosts}
+use Rattle.device_bench.specs.Transmits.{Transmits}
+use Rattle.device_bench.specs.Sides.{ShowsSides}
 
 module _ {S O : Type 0} {g : Ghosts S} where
   -- the devices of the bench, by number

@@ -10,3 +10,7 @@ pub mod Kept
 pub mod Owner
 pub mod Receive
 pub mod Waiting
+pub mod Counter
+pub mod Sides
+pub mod Transmit
+pub mod Transmits

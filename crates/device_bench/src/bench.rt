@@ -1,7 +1,7 @@
 //! The devices of a replay, by their numbers.
 
 ghost use Rattle.std.specs.Prelude.{◌≡◌, None, Some, IfOk, false, is_some};
-ghost use Rattle.device_places.specs.Places.{empty};
+ghost use Rattle.device_rows.specs.Places.{empty};
 ghost use Rattle.device_bench.specs.Kept.{IsKept};
 
 use crate::counts::DeviceCounts;
@@ -9,8 +9,9 @@ use crate::device::BenchDevice;
 use crate::receive_side::{Opener, ReceiveSide, SpentSide};
 use crate::replay_bench::ReplayBench;
 use crate::serial_receive::{SerialOpener, SerialReceive};
-use device_places::TABLE_LEN;
-use device_transmit::{Transmit, TransmitSides};
+use device_rows::TABLE_LEN;
+use crate::transmit::Transmit;
+use crate::sides::TransmitSides;
 use napi_model::Kind;
 use poll_runs::{Bench, BusyReport, Next, Once, ThreadReport};
 use std::alloc::{AllocError, Global};
@@ -54,7 +55,7 @@ fn no_devices<T>(alloc: Global) -> Result<Vec<Option<T>>, AllocError>
 
 impl DeviceBench<SerialReceive, SerialOpener> {
     ghost use Rattle.std.specs.Prelude.{IfOk};
-    ghost use Rattle.device_places.specs.Places.{empty};
+    ghost use Rattle.device_rows.specs.Places.{empty};
     ghost use Rattle.device_bench.specs.DeviceBench.{ShowsTransmits, devices_of};
 
     /// Returns a bench without devices. The table is allocated here, so only `attach` allocates later.
@@ -71,8 +72,8 @@ impl<S: ReceiveSide, O: Opener<S>> DeviceBench<S, O> {
     ghost use Rattle.device_bench.specs.Bench.{attached};
     ghost use Rattle.device_bench.specs.Device.{new_device, settled};
     ghost use Rattle.device_bench.specs.Kept.{is_pending_at};
-    ghost use Rattle.device_places.specs.Places.{added, at, changed, empty};
-    ghost use Rattle.device_places.specs.Range.{IsWithin};
+    ghost use Rattle.device_rows.specs.Places.{added, at, changed, empty};
+    ghost use Rattle.device_rows.specs.Range.{IsWithin};
     ghost use Rattle.device_bench.specs.DeviceBench.{ShowsTransmits, devices_of, waiting_of};
 
     /// Returns a bench without devices; this opener creates their receive sides. The table is allocated here, so only `attach`
@@ -134,7 +135,7 @@ impl<S: ReceiveSide, O: Opener<S>> DeviceBench<S, O> {
 
 impl<S: SpentSide, O: Opener<S> + Drop> DeviceBench<S, O> {
     ghost use Rattle.std.specs.Prelude.{IfOk};
-    ghost use Rattle.device_places.specs.Places.{empty};
+    ghost use Rattle.device_rows.specs.Places.{empty};
     ghost use Rattle.device_bench.specs.DeviceBench.{ShowsTransmits, devices_of};
     ghost use Rattle.device_bench.specs.Ending.{AllEnded};
 

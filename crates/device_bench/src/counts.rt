@@ -1,6 +1,6 @@
 //! What the report shows of a device.
 
-use device_transmit::TxCounts;
+use crate::transmit::TxCounts;
 
 /// Whether a device is enabled.
 #[derive(Clone, Copy, Debug, PartialEq, Eq)]

@@ -10,7 +10,7 @@ ghost use Rattle.poll_runs.specs.Ranges.{IsMost, IsRounds, IsWeight};
 
 use crate::counts::{DeviceCounts, DeviceState};
 use crate::receive_side::{ReceiveSide, SpentSide};
-use device_transmit::TxCounts;
+use crate::transmit::TxCounts;
 use napi_model::{Kind, Prep, encode};
 use poll_runs::{
     BusyInstance, BusyReport, Instance, Once, ThreadReport, poll_busy_of, poll_once_of,

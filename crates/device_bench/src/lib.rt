@@ -10,9 +10,12 @@ mod device;
 mod receive_side;
 mod replay_bench;
 mod serial_receive;
+mod sides;
+mod transmit;
 
 pub use bench::{DeviceBench, SerialBench};
 pub use counts::{DeviceCounts, DeviceState};
 pub use receive_side::{Opener, ReceiveSide, SpentSide};
 pub use replay_bench::ReplayBench;
 pub use serial_receive::{SerialOpener, SerialReceive};
+pub use transmit::{Transmit, TxCounts};

@@ -2,12 +2,12 @@
 
 ghost use Rattle.std.specs.Prelude.{◌≡◌, ◌≤◌, ◌+◌, ℕ, Some, is_some, not, true, OnErr, OnOk};
 ghost use Rattle.device_bench.specs.Bench.{AreBusyPolls, ArePolls, AreThreadPolls, BenchDevices, all_settled, after_arrival, attached, counts_at, handed_by};
-ghost use Rattle.device_transmit.specs.Transmits.{Changes, KeepsTransmits, Transmits, is_used, tx_counts_of};
+ghost use Rattle.device_bench.specs.Transmits.{Changes, KeepsTransmits, Transmits, is_used, tx_counts_of};
 ghost use Rattle.device_bench.specs.Device.{after_disable, after_enable, after_threaded, new_device};
 ghost use Rattle.device_bench.specs.Kept.{is_pending_at};
-ghost use Rattle.device_places.specs.Places.{added, at, changed};
-ghost use Rattle.device_places.specs.Range.{IsWithin};
-ghost use Rattle.device_transmit.specs.Transmit.{after_finish, after_tx, opened_transmit};
+ghost use Rattle.device_rows.specs.Places.{added, at, changed};
+ghost use Rattle.device_rows.specs.Range.{IsWithin};
+ghost use Rattle.device_bench.specs.Transmit.{after_finish, after_tx, opened_transmit};
 ghost use Rattle.device_bench.specs.Waiting.{one_when, is_listed};
 
 use crate::counts::DeviceCounts;

@@ -2,9 +2,9 @@
 //! instances of its own or with instances that threads could share; or each device's rows are the acts of a device that runs in
 //! its own thread.
 //!
-//! This is a facade: it re-exports its internal crates, and adds nothing. `device_places` has the numbers of devices,
-//! `device_rows` the rows, `device_transmit` the transmit sides, `device_bench` the devices for one thread, `device_shared`
-//! those with shared instances, and `device_script` a device for a run with threads. `specs/Lib.antt` re-exports what contracts
+//! This is a facade: it re-exports its internal crates, and adds nothing. `device_rows` has
+//! the rows, `device_bench` the devices for one thread with their transmit sides, `device_shared`
+//! those with shared instances, and `replay` a device for a run with threads. `specs/Lib.antt` re-exports what contracts
 //! cite.
 #![tactic(auto)]
 
@@ -12,6 +12,6 @@ pub use device_bench::{DeviceCounts, DeviceState, ReplayBench, SerialBench};
 pub use device_rows::{
     Row, RowEvent as Event, Trace, TraceFault, first_fault_stands, first_records_decide, read_trace,
 };
-pub use device_script::{ScriptDevice, opening_of};
+pub use replay::{ScriptDevice, opening_of};
 pub use device_shared::{ClosedSide, SharedBench};
-pub use device_transmit::TxCounts;
+pub use device_bench::TxCounts;

@@ -7,3 +7,4 @@ pub mod RecordsFacts
 pub mod RowsFacts
 pub mod ShortFacts
 pub mod SwitchFacts
+pub mod PlaceFacts

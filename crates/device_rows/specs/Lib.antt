@@ -9,3 +9,5 @@ pub mod Row
 pub mod Source
 pub mod Switch
 pub mod Trace
+pub mod Places
+pub mod Range

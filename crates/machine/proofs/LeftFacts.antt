@@ -5,7 +5,8 @@ use Rattle.std.proofs.Common.{ap, subst, arith}
 use Rattle.std.proofs.lemmas.{Bool.{and_left, and_right, eqb-true, false_from_ne_true, leb-false}, Grind.common_steps}
 use Rattle.std.proofs.lemmas.List.Sums.{fails_before_first, sum_by-cons}
 use Rattle.std.specs.{Prelude.{◌==◌, ◌&&◌, if◌then◌else◌, min, not, position}}
-use Rattle.{machine_model.specs.declared.settings.MachineSettings.MachineSettings, device_places.specs.Places.{at}}
+use Rattle.machine_model.specs.declared.settings.MachineSettings.{MachineSettings}
+use Rattle.device_rows.specs.Places.{at}
 use Rattle.machine.specs.{Lives.{MachineEvent, behind, next, packet}, Fates.{NothingIsLeft, delivery_of, queue_ring, taken_in}}
 use Rattle.machine_model.specs.declared.{devices.Timer.Timer}
 use Rattle.machine_model.specs.declared.{processor.ProcessorCounts.ProcessorCounts}

@@ -12,3 +12,9 @@ pub mod LeftFacts
 pub mod BoundFacts
 pub mod LifeFacts
 pub mod AllLaws
+pub mod FaultFacts
+pub mod PlainFacts
+pub mod ReadingFacts
+pub mod ReportFacts
+pub mod RisingFacts
+pub mod TakingFacts

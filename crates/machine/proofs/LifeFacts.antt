@@ -16,7 +16,9 @@ use Rattle.machine_model.specs.declared.processor.Upcoming.{Upcoming}
 use Rattle.std.proofs.{Common.{ℕ, ◌<◌, ◌≤◌, ◌^◌, List, [], ◌∷◌, refl, arith}, lemmas.Grind.common_steps}
 use Rattle.{machine_model.specs.Machine.{PacketArrives, Machine, opened_machine}, machine.specs.Lives.{EachLives, Took}}
 use Rattle.{device_rows.specs.Trace.records_of, machine_model.specs.declared.settings.MachineSettings.MachineSettings}
-use Rattle.machine_report.{specs.{Answer.TakesArrivals, declared.arrival.Arrival.Arrival}, proofs.RisingFacts.{Rises, rises-of}}
+use Rattle.machine.specs.Answer.{TakesArrivals}
+use Rattle.machine.specs.declared.arrival.Arrival.{Arrival}
+use Rattle.machine.proofs.RisingFacts.{Rises, rises-of}
 use Rattle.machine.specs.Reports.{ReportsLives, arrived_packets}
 
 pub runs-as-one : RunsAsOne

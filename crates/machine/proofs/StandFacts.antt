@@ -4,7 +4,8 @@ use Rattle.std.proofs.Common.{◌≡◌, ◌∙◌, ℕ, ◌+◌, ◌≤◌, Boo
 use Rattle.std.proofs.Common.{sym, ap, arith}
 use Rattle.std.proofs.lemmas.Grind.{common_steps}
 use Rattle.std.specs.{Option.{option_map_or}, Prelude.{◌==◌, ◌&&◌, if◌then◌else◌, not, slice_get}}
-use Rattle.{machine_model.specs.declared.settings.MachineSettings.MachineSettings, device_places.specs.Places.{at, changed}}
+use Rattle.machine_model.specs.declared.settings.MachineSettings.{MachineSettings}
+use Rattle.device_rows.specs.Places.{at, changed}
 use Rattle.machine.specs.Lives.{MachineEvent, behind, next, packet}
 use Rattle.poll_runs.specs.{Turn.asked_for, declared.bench.{Next.TheVariants.{Gone, Repoll}}}
 use Rattle.machine_model.specs.declared.{device.Phase.{Phase, TheVariants.Raised}, processor.ProcessorCounts.ProcessorCounts}

@@ -3,7 +3,8 @@ use Rattle.std.proofs.Common.{◌≡◌, ◌∙◌, ℕ, ◌+◌, ◌<◌, ◌�
 use Rattle.std.proofs.Common.{arith}
 use Rattle.std.proofs.lemmas.{Bool.{and_left, and_right, eq-eqb, ltb-false}, Grind.common_steps}
 use Rattle.std.specs.Prelude.{◌==◌, ◌&&◌, if◌then◌else◌, nat_lt, not}
-use Rattle.{machine_model.specs.declared.settings.MachineSettings.MachineSettings, device_places.specs.Places.{at, changed}}
+use Rattle.machine_model.specs.declared.settings.MachineSettings.{MachineSettings}
+use Rattle.device_rows.specs.Places.{at, changed}
 use Rattle.machine.specs.{Lives.{MachineEvent, behind, next, packet}, Fates.{taken_in}}
 use Rattle.machine_model.specs.declared.device.Phase.{Phase, TheVariants.{Quiet, Scheduled}}
 use Rattle.machine_model.specs.declared.processor.{Work.{Work, TheVariants.{Interrupt, Packet}}, InHand.InHand}

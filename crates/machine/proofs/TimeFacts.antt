@@ -6,7 +6,7 @@ use Rattle.std.proofs.Common.{ap}
 use Rattle.std.proofs.{Common.{arith}, lemmas.{Bool.{and_left, and_parts, leb-true}}}
 use Rattle.std.specs.{List.AllByRecursion, Prelude.{◌==◌, ◌&&◌, if◌then◌else◌, is_some, not, position}}
 use Rattle.machine_model.specs.declared.settings.MachineSettings.{MachineSettings}
-use Rattle.device_places.specs.Places.{at, changed}
+use Rattle.device_rows.specs.Places.{at, changed}
 use Rattle.circular_buffer.specs.Buffer.{buffer}
 use Rattle.machine.specs.{Deferrals.TimersAreNear, Lives.{MachineEvent, InTurn, behind, next, packet}, Times.{ClocksNeverFall}}
 use Rattle.machine.specs.Fates.{delivery_of, finds_room, taken_in}

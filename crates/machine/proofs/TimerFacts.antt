@@ -3,7 +3,8 @@ use Rattle.std.proofs.Common.{◌≡◌, ℕ, zero, suc, ◌+◌, ◌-◌, ◌<�
 use Rattle.std.proofs.Common.{arith}
 use Rattle.std.proofs.lemmas.{Bool.{leb-true, leb-false}, Grind.common_steps}
 use Rattle.std.specs.{Option.{option_map, option_map_or}, Prelude.{◌&&◌, if◌then◌else◌, nat_le}}
-use Rattle.{machine_model.specs.declared.settings.MachineSettings.MachineSettings, device_places.specs.Places.{at}}
+use Rattle.machine_model.specs.declared.settings.MachineSettings.{MachineSettings}
+use Rattle.device_rows.specs.Places.{at}
 use Rattle.machine_model.specs.declared.devices.Timer.{Timer}
 use Rattle.machine_model.specs.declared.device.Phase.{Phase}
 use Rattle.machine_model.specs.declared.device.Phase.TheVariants.{Coalescing, Deferred}

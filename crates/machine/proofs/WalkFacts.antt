@@ -3,7 +3,8 @@
 use Rattle.std.specs.Prelude.{◌==◌, ◌&&◌, if◌then◌else◌, is_some, not, nat_lt, position, slice_get}
 use Rattle.std.proofs.Common.{◌≡◌, ℕ, ◌+◌, ◌-◌, arith, Bool, true, false, Option, Some, None, List, [], ◌∷◌, ◌++◌, length, refl}
 use Rattle.std.{proofs.lemmas.{List.Quantifiers.position-Some, Grind.common_steps}, specs.Option.option_map_or}
-use Rattle.{device_places.{proofs.PlaceFacts.none-of, specs.Places.{at, changed}}}
+use Rattle.device_rows.proofs.PlaceFacts.{none-of}
+use Rattle.device_rows.specs.Places.{at, changed}
 use Rattle.{machine_model.specs.declared.settings.MachineSettings.MachineSettings}
 use Rattle.poll_runs.specs.declared.bench.{Next.TheVariants.{Gone, Repoll}}
 use Rattle.machine_model.specs.declared.processor.Work.{Work}

@@ -8,7 +8,7 @@ use Rattle.std.proofs.Common.{sym, ap, arith}
 use Rattle.poll_runs.specs.declared.bench.Next.TheVariants.{Gone, Repoll}
 use Rattle.poll_runs.specs.declared.bench.Once.{Once}
 use Rattle.machine_model.specs.declared.settings.MachineSettings.{MachineSettings}
-use Rattle.device_places.specs.Places.{at, changed}
+use Rattle.device_rows.specs.Places.{at, changed}
 use Rattle.machine.specs.Lives.{MachineEvent, behind, next, packet}
 use Rattle.machine.specs.Times.{WorksWithin}
 use Rattle.machine_model.specs.declared.processor.{ProcessorCounts.ProcessorCounts, Work.{Work}}

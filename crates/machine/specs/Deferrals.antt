@@ -1,6 +1,7 @@
 -- Laws about deferred interrupts (`napi_defer_hard_irqs`).
 use Rattle.std.specs.Prelude.{◌≡◌, ◌≤◌, ◌<◌, ℕ, ◌+◌, ◌^◌, ◌==◌, ◌&&◌, max, not, is_some, true, false, Some, List, [], ◌∷◌, if◌then◌else◌}
-use Rattle.{machine_model.specs.declared.settings.MachineSettings.MachineSettings, device_places.specs.Places.at}
+use Rattle.machine_model.specs.declared.settings.MachineSettings.{MachineSettings}
+use Rattle.device_rows.specs.Places.{at}
 use Rattle.machine.specs.{Fates.finds_room, Lives.{MachineEvent, InTurn, behind, next, packet}}
 use Rattle.machine_model.specs.{Device.{QueueView, next_packet}, declared.device.Phase.TheVariants.Deferred}
 use Rattle.machine_model.specs.{Devices.next_packet_at, Processor.{Advances, ProcessorView, is_polling, step, upcoming}}

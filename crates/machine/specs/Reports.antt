@@ -2,7 +2,8 @@
 use Rattle.std.specs.Prelude.{◌≡◌, ℕ, List, [], ◌∷◌, Some, slice_get}
 use Rattle.machine.specs.Lives.{Ended, own_packets}
 use Rattle.machine_model.specs.{Processor.ProcessorView, declared.settings.MachineSettings.MachineSettings}
-use Rattle.machine_report.specs.{Answer.IsReportOf, declared.arrival.Arrival.Arrival}
+use Rattle.machine.specs.Answer.{IsReportOf}
+use Rattle.machine.specs.declared.arrival.Arrival.{Arrival}
 
 -- the packets of these arrivals after earlier ones, the last one first: the time and the queue of each
 abbrev pub arrived_packets : List (ℕ × ℕ) → List Arrival → List (ℕ × ℕ)

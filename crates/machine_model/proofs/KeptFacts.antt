@@ -2,7 +2,8 @@
 use Rattle.std.proofs.Common.{◌≡◌, ◌∙◌, ℕ, ◌+◌, ◌<◌, ◌≤◌, Bool, true, false, Option, Some, None, length, refl, sym, arith}
 use Rattle.std.{proofs.lemmas.Grind.common_steps, specs.Prelude.{◌==◌, if◌then◌else◌}}
 use Rattle.machine_model.specs.declared.settings.MachineSettings.{MachineSettings}
-use Rattle.{poll_runs.specs.declared.bench.Next.TheVariants.{Gone, Repoll}, device_places.specs.Places.{changed}}
+use Rattle.poll_runs.specs.declared.bench.Next.TheVariants.{Gone, Repoll}
+use Rattle.device_rows.specs.Places.{changed}
 use Rattle.poll_runs.specs.declared.bench.Once.{Once}
 use Rattle.machine_model.specs.{Device.{queue_polled}, Devices.{QueueViews}, Processor.is_polling, Shown.{held_in, listed}}
 use Rattle.machine_model.specs.Kept.{ProcessorKept, all_scheduled, work_given, has_list, polled_by}

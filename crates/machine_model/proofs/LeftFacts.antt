@@ -4,7 +4,9 @@ use Rattle.std.proofs.Common.{length, ap, refl, sym, arith}
 use Rattle.std.proofs.lemmas.{List.Quantifiers.position-Some, Bool.eqb-true, Grind.common_steps}
 use Rattle.std.specs.Prelude.{◌==◌, ◌&&◌, if◌then◌else◌, is_some, nat_le, nat_lt, not, position, slice_get}
 use Rattle.std.specs.Option.{option_map_or}
-use Rattle.{poll_runs.specs.{Turn.asked_for, declared.bench.Once.Once}, device_places.specs.Places.{at, changed}}
+use Rattle.poll_runs.specs.Turn.{asked_for}
+use Rattle.poll_runs.specs.declared.bench.Once.{Once}
+use Rattle.device_rows.specs.Places.{at, changed}
 use Rattle.machine_model.specs.declared.settings.MachineSettings.{MachineSettings}
 use Rattle.machine_model.specs.declared.{device.Phase.{TheVariants.{Raised}}, devices.Timer.Timer}
 use Rattle.machine_model.specs.declared.processor.{InHand.InHand, Rest.Rest, Upcoming.Upcoming}

@@ -6,7 +6,8 @@ use Rattle.std.specs.{Prelude.{◌==◌, position}, List.position_or_len, Option
 use Rattle.std.proofs.lemmas.{Bool.cases_eq, Grind.{common_steps, get_or-set_at}}
 use Rattle.std.proofs.lemmas.List.{get_or-set_other, length-set, Sums.position_or_len_is}
 use Rattle.std.proofs.lemmas.Nat.Bits.{bit_at-trailing_zeros, bit_at-zero}
-use Rattle.{device_places.{proofs.PlaceFacts.{at-index, below-some}, specs.Places.{at, changed, changed_from}}}
+use Rattle.device_rows.proofs.PlaceFacts.{at-index, below-some}
+use Rattle.device_rows.specs.Places.{at, changed, changed_from}
 use Rattle.machine_model.specs.declared.settings.MachineSettings.{MachineSettings}
 use Rattle.machine_model.specs.Device.{QueueView, after_packet, is_masked, new_queue, without_next}
 use Rattle.machine_model.specs.Devices.{QueueViews, asks_at, soonest_from, sooner, timer_at}

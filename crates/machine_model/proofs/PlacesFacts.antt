@@ -1,7 +1,9 @@
 -- Sums over a processor's queues after one of them changed, and how many are scheduled.
 use Rattle.std.proofs.Common.{◌+◌, ◌≤◌, Bool, true, false, Option, Some, None, [], ◌∷◌, ◌++◌, length, replicate, arith, ◌≡◌, ℕ}
 use Rattle.std.{proofs.lemmas.{List.Sums.sum_by-cons, Grind.common_steps}, specs.Prelude.{◌==◌, sum_by, if◌then◌else◌}}
-use Rattle.{device_places.{proofs.PlaceFacts.below-some, specs.Places.{at, changed}}, machine_model.specs.Devices.{QueueViews, asks_at}}
+use Rattle.device_rows.proofs.PlaceFacts.{below-some}
+use Rattle.device_rows.specs.Places.{at, changed}
+use Rattle.machine_model.specs.Devices.{QueueViews, asks_at}
 use Rattle.machine_model.specs.declared.settings.MachineSettings.{MachineSettings}
 use Rattle.machine_model.specs.{Device.{QueueView, after_packet, expired, interrupted, is_masked, notified, queue_polled}}
 use Rattle.machine_model.specs.{Device.{asks, expired_phase, without_next}, Kept.{all_scheduled, is_scheduled, scheduled_at}}

@@ -5,7 +5,10 @@ use Rattle.std.proofs.Common.{◌⊎◌, inl, inr, length, length-append, drop, 
 use Rattle.std.proofs.lemmas.{Bool.eqb-true, Grind.common_steps}
 use Rattle.std.specs.Prelude.{◌==◌, if◌then◌else◌, nat_le, slice_get, sum_by}
 use Rattle.std.specs.Option.{option_map, option_map_or}
-use Rattle.{poll_runs.specs.{Polls.is_repoll, Turn.asked_for, declared.bench.Once.Once}, device_places.specs.Places.{at, changed}}
+use Rattle.poll_runs.specs.Polls.{is_repoll}
+use Rattle.poll_runs.specs.Turn.{asked_for}
+use Rattle.poll_runs.specs.declared.bench.Once.{Once}
+use Rattle.device_rows.specs.Places.{at, changed}
 use Rattle.machine_model.specs.declared.settings.MachineSettings.{MachineSettings}
 use Rattle.machine_model.specs.declared.{device.Phase.{Phase, TheVariants.{Coalescing, Raised, Deferred, Fired}}, devices.Timer.Timer}
 use Rattle.machine_model.specs.declared.{tasks.RunnableTask.{RunnableTask, TheVariants.{Application, Thread}}}

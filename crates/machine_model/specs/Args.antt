@@ -1,6 +1,6 @@
 -- Which machine the program's arguments ask for.
 use Rattle.std.specs.Prelude.{ℕ, [], ◌∷◌, Bool, nat_eq, List, Option, Some, codes, option_map}
-use Rattle.replay_args.specs.Given.{◌>>=◌, Text, given_by, number_within, or_usual, value_of}
+use Rattle.text_io.specs.Given.{◌>>=◌, Text, given_by, number_within, or_usual, value_of}
 use Rattle.machine_model.specs.declared.{settings.MachineSettings.MachineSettings}
 use Rattle.machine_model.specs.declared.{args.{Coalescing.Coalescing, Costs.Costs, PollingOptions.PollingOptions}}
 use Rattle.machine_model.specs.declared.args.{Sizes.Sizes, TaskOptions.TaskOptions}

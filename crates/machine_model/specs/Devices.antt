@@ -1,7 +1,8 @@
 -- The queues of a processor, by their numbers there.
 use Rattle.std.specs.Prelude.{ℕ, ◌+◌, ◌-◌, nat_le, Bool, false, [], ◌∷◌, ◌++◌, length, replicate, Option, Some, None, if◌then◌else◌}
 use Rattle.std.specs.Option.{option_and_then, option_map, option_map_or}
-use Rattle.{device_places.specs.Places.{DeviceTable, added}, machine_model.specs.declared.devices.Timer.Timer}
+use Rattle.device_rows.specs.Places.{DeviceTable, added}
+use Rattle.machine_model.specs.declared.devices.Timer.{Timer}
 use Rattle.machine_model.specs.Device.{QueueView, asks, is_fired, has_room, next_packet, new_queue, timer_of}
 
 abbrev pub QueueViews : Type 0

@@ -1,7 +1,8 @@
 -- A processor: which work it begins, and what happens when work ends, timers expire and packets arrive.
 use Rattle.std.specs.Prelude.{◌≡◌, ℕ, zero, suc, ◌+◌, ◌-◌, ◌<◌, ◌==◌, ◌||◌, ◌&&◌, not, nat_le, nat_lt, Bool, true, false, List, [], ◌∷◌}
 use Rattle.std.specs.{Prelude.{◌++◌, length, position, slice_get, Option, Some, None, is_some, if◌then◌else◌}, Option.option_map_or}
-use Rattle.{circular_buffer.specs.Buffer.{buffer}, device_places.specs.Places.{at, changed}}
+use Rattle.circular_buffer.specs.Buffer.{buffer}
+use Rattle.device_rows.specs.Places.{at, changed}
 use Rattle.{machine_model.specs.declared.settings.MachineSettings.MachineSettings}
 use Rattle.{poll_runs.specs.declared.bench.Next.TheVariants.{Gone, Repoll}}
 use Rattle.poll_runs.specs.declared.bench.Once.{Once}

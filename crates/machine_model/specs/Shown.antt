@@ -2,7 +2,9 @@
 -- queues, so that no step searches them. It isn't part of the machine's definition.
 use Rattle.std.specs.Prelude.{◌≡◌, ◌<◌, ℕ, ◌+◌, ◌==◌, ◌||◌, ◌&&◌, nat_lt, Bool, true, false, ◌++◌, length, is_some, Option, Some, None}
 use Rattle.std.specs.{Prelude.{if◌then◌else◌}, Option.option_map_or, Int.bit_at}
-use Rattle.{poll_runs.specs.Turn.asked_for, poll_runs.specs.declared.polling_run.PollingRun.PollingRun, device_places.specs.Places.at}
+use Rattle.poll_runs.specs.Turn.{asked_for}
+use Rattle.poll_runs.specs.declared.polling_run.PollingRun.{PollingRun}
+use Rattle.device_rows.specs.Places.{at}
 use Rattle.machine_model.specs.{Device.{QueueView, timer_of}, Devices.{QueueViews, asks_at, soonest_from}, Softirq.{RunView, SoftirqView}}
 use Rattle.machine_model.specs.declared.devices.{Pending.Pending, Timer.Timer}
 

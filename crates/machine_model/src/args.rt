@@ -2,10 +2,10 @@
 
 ghost use Rattle.std.specs.Prelude.{◌≡◌, ◌≤◌, Some, None, Err, IfOk, IfSome, option_map, map, string_bytes};
 ghost use Rattle.machine_model.specs.Args.{machine_asked_for, machine_args_of, machine_args_with, coalescing_with, costs_with, flag_value, polling_with, sizes_with, tasks_with};
-ghost use Rattle.replay_args.specs.Given.{number_within, or_usual};
-ghost use Rattle.replay_args.specs.Options.{value_in};
-ghost use Rattle.replay_args.specs.Refusals.{IsArgsOutOfMemory};
-ghost use Rattle.replay_args.specs.declared.args.WordFault.TheVariants.{OutOfMemory, Usage};
+ghost use Rattle.text_io.specs.Given.{number_within, or_usual};
+ghost use Rattle.text_io.specs.Options.{value_in};
+ghost use Rattle.text_io.specs.Refusals.{IsArgsOutOfMemory};
+ghost use Rattle.text_io.specs.declared.args.WordFault.TheVariants.{OutOfMemory, Usage};
 ghost use Rattle.poll_runs.specs.Ranges.{IsWeight, IsWindow};
 
 use crate::settings::{
@@ -13,9 +13,7 @@ use crate::settings::{
     MachineSettings,
 };
 use clap::ArgMatches;
-use replay_args::{
-    MOST_BUDGET, MOST_WEIGHT, MOST_WINDOW, WordFault, option_number, read_options, with_name,
-};
+use text_io::{MOST_BUDGET, MOST_WEIGHT, MOST_WINDOW, WordFault, option_number, read_options, with_name};
 use std::alloc::Global;
 
 // The names of the options.

@@ -3,7 +3,7 @@
 ghost use Rattle.std.specs.Prelude.{◌≡◌, ◌≢◌, ◌≤◌, ◌<◌, ◌+◌, ◌-◌, ◌++◌, ◌==◌, ℕ, IfSome, OnOk, length, position, replicate, None, false, true};
 ghost use Rattle.std.specs.Int.{bit_at};
 ghost use Rattle.std.specs.Option.{option_map_or};
-ghost use Rattle.device_places.specs.Places.{at, changed};
+ghost use Rattle.device_rows.specs.Places.{at, changed};
 ghost use Rattle.machine_model.specs.Device.{QueueView};
 ghost use Rattle.machine_model.specs.Devices.{QueueViews, asks_at, soonest_from, sooner, timer_at};
 ghost use Rattle.machine_model.specs.Kept.{all_scheduled};
@@ -240,7 +240,7 @@ impl QueueTable {
     ghost use Rattle.std.specs.Prelude.{◌≡◌, ◌≤◌, ◌<◌, [], IfSome, OnOk, length, position};
     ghost use Rattle.std.specs.Option.{option_map};
     ghost use Rattle.machine_model.specs.Machine.{queue_report};
-    ghost use Rattle.device_places.specs.Places.{at, changed};
+    ghost use Rattle.device_rows.specs.Places.{at, changed};
     ghost use Rattle.machine_model.specs.Device.{after_packet, queue_delivered, expired, interrupted, queue_polled, raised_again, without_next};
     ghost use Rattle.machine_model.specs.Devices.{asks_at, has_room_at, is_fired_at, next_packet_at, soonest_from, with_device};
     ghost use Rattle.machine_model.specs.Kept.{all_scheduled};

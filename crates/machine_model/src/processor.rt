@@ -3,7 +3,7 @@
 ghost use Rattle.std.specs.Prelude.{◌≡◌, ◌≤◌, ◌<◌, ◌+◌, true, false, None, Some, IfOk, OnOk, if◌then◌else◌};
 ghost use Rattle.std.specs.Option.{option_map};
 ghost use Rattle.poll_runs.specs.declared.bench.Next.TheVariants.{Gone, Repoll};
-ghost use Rattle.device_places.specs.Places.{at};
+ghost use Rattle.device_rows.specs.Places.{at};
 ghost use Rattle.machine_model.specs.Devices.{asks_at};
 ghost use Rattle.machine_model.specs.Kept.{IsProcessorKept, all_scheduled, polled_by};
 ghost use Rattle.machine_model.specs.Machine.{ArrivesAt, FinishesAt, processor_report, queue_report};

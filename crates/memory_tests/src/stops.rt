@@ -25,7 +25,7 @@ struct Counting<'a> {
 }
 
 impl Device for Counting<'_> {
-    ghost use Rattle.poll_engine.specs.Act.TheVariants.{Nothing};
+    ghost use Rattle.poll_engine.specs.declared.acts.Act.TheVariants.{Nothing};
 
     ghost acts = { λ _. 10 };
 

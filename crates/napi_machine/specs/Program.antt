@@ -1,8 +1,10 @@
 -- The program: which machine its arguments ask for, and how it answers the bytes of its input.
 use Rattle.std.specs.Prelude.{◌≡◌, ◌⊎◌, ℕ, List, Option, Result, Ok, Err, option_map}
-use Rattle.machine_report.specs.{Answer.{IsArrivalsFault, IsReportOf}, Fault.IsMachineOutside, declared.fault.MachineFault.MachineFault}
+use Rattle.machine.specs.Answer.{IsArrivalsFault, IsReportOf}
+use Rattle.machine.specs.Fault.{IsMachineOutside}
+use Rattle.machine.specs.declared.fault.MachineFault.{MachineFault}
 use Rattle.machine_model.specs.{Args.{machine_asked_for, machine_args_of}, declared.settings.MachineSettings.MachineSettings}
-use Rattle.replay_args.specs.Given.{Text}
+use Rattle.text_io.specs.Given.{Text}
 
 -- the arguments ask for this machine; for None if they are an error
 abbrev pub AskForMachine : List Text → Option MachineSettings → Type 0

@@ -3,16 +3,16 @@
 ghost use Rattle.std.specs.Prelude.{◌≡◌, ◌≢◌, map, string_bytes};
 ghost use Rattle.std.specs.Io.KnownBytes.{Keeps};
 ghost use Rattle.std.specs.Process.{exit_status};
-ghost use Rattle.machine_report.specs.Fault.{machine_fault_line, machine_fault_status};
-ghost use Rattle.machine_report.specs.declared.fault.MachineFault.TheVariants.{OutputFailed};
+ghost use Rattle.machine.specs.Fault.{machine_fault_line, machine_fault_status};
+ghost use Rattle.machine.specs.declared.fault.MachineFault.TheVariants.{OutputFailed};
 ghost use Rattle.napi_machine.specs.Program.{AnswersMachine, AskForMachine};
-ghost use Rattle.replay_text.specs.Program.{FailedBy, IsTextBy};
-ghost use Rattle.replay_text.specs.Written.{Writes};
+ghost use Rattle.text_io.specs.Program.{FailedBy, IsTextBy};
+ghost use Rattle.text_io.specs.Written.{Writes};
 
 use machine_model::{MachineSettings, parse_words};
-use machine_report::{MachineFault, run_machine};
-use replay_args::WordFault;
-use replay_text::{Program, run_asked};
+use machine::{MachineFault, run_machine};
+use text_io::WordFault;
+use text_io::{Program, run_asked};
 use std::alloc::Global;
 use std::io::{Read, Write};
 use std::process::ExitCode;

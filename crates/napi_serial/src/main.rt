@@ -5,7 +5,7 @@
 mod program;
 
 use crate::program::run_program;
-use replay_text::given_args;
+use text_io::given_args;
 use std::io;
 use std::process::ExitCode;
 

@@ -10,12 +10,14 @@ use Rattle.dql_core.specs.Counter.{distance_of}
 use Rattle.napi_series.specs.declared.settings.SeriesSettings.{SeriesSettings}
 use Rattle.poll_runs.specs.Polls.{queued_by, repolled}
 use Rattle.poll_runs.specs.declared.bench.Next.{Next, TheVariants.{Absent, Gone, Again, Repoll}}
-use Rattle.replay_args.specs.declared.settings.ReplaySettings.{ReplaySettings}
+use Rattle.text_io.specs.declared.settings.ReplaySettings.{ReplaySettings}
 use Rattle.replay_rows.specs.After.{counts_after, is_used_after, list_after, polled_after}
 use Rattle.replay_rows.specs.{RaisedTrace.{raised_trace, with_added_runs}, Replay.after_all_rows, TraceText.fields}
 use Rattle.replay_rows.specs.{Report.{lines_below, spaced, state_word}, ReplayState.ReplayState}
 use Rattle.replay_rows.specs.{RunLog.{list_before, polls_in, polls_of_row}}
-use Rattle.replay_text.specs.{Lines.flag, declared.fault.ReplayFault.{ReplayFault, TheVariants.Trace}}
+use Rattle.text_io.specs.Lines.{flag}
+use Rattle.text_io.specs.declared.fault.ReplayFault.{ReplayFault}
+use Rattle.text_io.specs.declared.fault.ReplayFault.TheVariants.{Trace}
 use Rattle.replay_rows.specs.declared.line.PollRecord.{PollRecord, TheVariants.{Softirq, Kthread, Busy}}
 use Rattle.replay_rows.specs.declared.run_log.RunPoll.{RunPoll}
 

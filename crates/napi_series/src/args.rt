@@ -4,11 +4,11 @@ ghost use Rattle.std.specs.Prelude.{◌≡◌, ◌≤◌, None, Some, Err, IfOk,
 ghost use Rattle.std.specs.Option.{ForSome};
 ghost use Rattle.napi_series.specs.Args.{is_allowed, options_of, restarts_of};
 ghost use Rattle.napi_series.specs.Program.{AskForSeries};
-ghost use Rattle.replay_args.specs.Refusals.{IsArgsOutOfMemory};
-ghost use Rattle.replay_args.specs.declared.args.WordFault.TheVariants.{OutOfMemory, Usage};
+ghost use Rattle.text_io.specs.Refusals.{IsArgsOutOfMemory};
+ghost use Rattle.text_io.specs.declared.args.WordFault.TheVariants.{OutOfMemory, Usage};
 
 use crate::settings::{SeriesOptions, SeriesSettings};
-use replay_args::{WordFault, number_of, number_within, parse_serial_words};
+use text_io::{WordFault, number_of, number_within, parse_serial_words};
 use std::alloc::Global;
 
 // More runs than a trace has room for: runs are added until the list is empty.

@@ -4,11 +4,11 @@ ghost use Rattle.std.specs.Prelude.{◌≡◌, ◌≤◌, ◌++◌, List, OnOk, 
 ghost use Rattle.device_rows.specs.declared.row.Row.{Row};
 ghost use Rattle.replay_rows.specs.After.{IsAfter};
 ghost use Rattle.replay_rows.specs.Report.{lines_below};
-ghost use Rattle.replay_args.specs.declared.settings.ReplaySettings.{ReplaySettings};
+ghost use Rattle.text_io.specs.declared.settings.ReplaySettings.{ReplaySettings};
 ghost use Rattle.napi_series.specs.Series.{device_fields, gave, is_absent, is_poll_of, list_fields, poll_fields, polls_by, queue_fields, row_fields, row_gave, run_fields, run_gave, word_field, work_by};
 
 use device_bench::DeviceCounts;
-use device_places::TABLE_LEN;
+use device_rows::TABLE_LEN;
 use device_rows::Row;
 use poll_runs::Next;
 use replay_rows::{PollRecord, RunPoll, SerialReplay, add_numbers, state_word};

@@ -4,7 +4,7 @@ ghost use Rattle.std.specs.Prelude.{◌≡◌, ◌+◌, ◌++◌, ◌∷◌, [],
 ghost use Rattle.device_rows.specs.declared.row.Row.{Row};
 ghost use Rattle.napi_series.specs.Series.{ending, list_left, once_end, once_fields, polls_part};
 ghost use Rattle.napi_series.specs.RunList.{IsListAfter};
-ghost use Rattle.replay_args.specs.declared.settings.ReplaySettings.{ReplaySettings};
+ghost use Rattle.text_io.specs.declared.settings.ReplaySettings.{ReplaySettings};
 ghost use Rattle.replay_rows.specs.After.{IsAfter};
 ghost use Rattle.replay_rows.specs.Report.{spaced};
 ghost use Rattle.replay_rows.specs.declared.run_log.RunPoll.{RunPoll};

@@ -7,16 +7,16 @@ ghost use Rattle.napi_series.specs.Series.{lines_after, names_end, part_after, r
 ghost use Rattle.replay_rows.specs.After.{IsAfter};
 ghost use Rattle.replay_rows.specs.RaisedTrace.{with_added_runs};
 ghost use Rattle.replay_rows.specs.Replay.{after_all_rows};
-ghost use Rattle.replay_text.specs.Outside.{IsOutside, IsReplayOutOfMemory};
-ghost use Rattle.replay_text.specs.Written.{IsFaultBy, LeavesText, Writes};
-ghost use Rattle.replay_text.specs.declared.fault.ReplayFault.TheVariants.{OutputFailed};
+ghost use Rattle.text_io.specs.Outside.{IsOutside, IsReplayOutOfMemory};
+ghost use Rattle.text_io.specs.Written.{IsFaultBy, LeavesText, Writes};
+ghost use Rattle.text_io.specs.declared.fault.ReplayFault.TheVariants.{OutputFailed};
 
 use crate::line::{add_list, add_poll};
 use crate::polls::add_polls;
 use crate::settings::SeriesSettings;
 use device_rows::{Row, Trace, read_trace};
 use replay_rows::{SerialReplay, raise_rows, raise_trace};
-use replay_text::{ReplayFault, write_text};
+use text_io::{ReplayFault, write_text};
 use std::alloc::{AllocError, Global};
 use std::io::{Read, Write};
 

@@ -3,7 +3,7 @@
 ghost use Rattle.std.specs.Prelude.{◌≤◌};
 ghost use Rattle.std.specs.Option.{ForSome};
 
-use replay_args::ReplaySettings;
+use text_io::ReplaySettings;
 
 /// The options of a series, which come before those of the replay.
 #[derive(Clone, Copy)]

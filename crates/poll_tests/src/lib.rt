@@ -3,8 +3,20 @@
 #![tactic(auto)]
 
 #[cfg(test)]
+mod asked_once;
+#[cfg(test)]
+mod at_each_act;
+#[cfg(test)]
 mod counts;
+#[cfg(test)]
+mod gates;
 #[cfg(test)]
 mod listing;
 #[cfg(test)]
+mod pacing;
+#[cfg(test)]
 mod polling;
+#[cfg(test)]
+mod shut;
+#[cfg(test)]
+mod threads;

@@ -13,9 +13,10 @@ use Rattle.replay_rows.specs.Raised.{Raised, RaisedIsTrace, ◌>>=◌, and_again
 use Rattle.replay_rows.specs.{Raised.{raised_rows, rows_in, row_and_runs}, ReplayState.ReplayState}
 use Rattle.replay_rows.specs.Replay.{after_all_rows, after_row, is_early}
 use Rattle.replay_rows.{specs.Softirq.is_softirq, proofs.PlayFacts.played-push}
-use Rattle.replay_text.specs.declared.fault.ReplayFault.{ReplayFault, TheVariants.{OutputFailed, Pending, Trace}}
-use Rattle.replay_text.specs.Outside.{IsReplayOutOfMemory}
-use Rattle.replay_args.specs.declared.settings.ReplaySettings.{ReplaySettings}
+use Rattle.text_io.specs.declared.fault.ReplayFault.{ReplayFault}
+use Rattle.text_io.specs.declared.fault.ReplayFault.TheVariants.{OutputFailed, Pending, Trace}
+use Rattle.text_io.specs.Outside.{IsReplayOutOfMemory}
+use Rattle.text_io.specs.declared.settings.ReplaySettings.{ReplaySettings}
 
 pub softirq-is : (e : RowEvent) → is_softirq e ≡ true → e ≡ Softirq
 softirq-is Opened h = cc h

@@ -3,12 +3,12 @@
 use Rattle.std.proofs.Common.{◌≡◌, ℕ, ◌+◌, ◌≤◌, cond, List, [], ◌∷◌, ◌++◌, length, length-append, take, drop, ap, refl, arith}
 use Rattle.{std.{proofs.lemmas.List.{length-drop, length-take, Sums.sum_by-cons}, specs.Prelude.sum_by}, device_bench.specs.Bench.ArePolls}
 use Rattle.{device_bench.specs.{Bench.{BenchDevices, polled_at}, Waiting.leaves}}
-use Rattle.{device_transmit.specs.Transmits.{KeepsTransmits, Transmits}}
+use Rattle.device_bench.specs.Transmits.{KeepsTransmits, Transmits}
 use Rattle.poll_runs.specs.{Function.run_report, Laws.IsPlainRun, Polls.{At, Chain, Poll, queued_by, ids, is_arrival, is_repoll, repolled}}
 use Rattle.poll_runs.specs.declared.{bench.{Next.{Next, TheVariants.{Absent, Gone, Again, Repoll}}, Once.Once}, run.RunReport.RunReport}
 use Rattle.poll_runs.proofs.{FunctionFacts.run-is-shown, PlainFacts.list-afterwards, PollFacts.{arrivals-append, arrivals-one, length-ids}}
 use Rattle.{poll_runs.proofs.PollFacts.{repolled-append, repolled-one}, replay_rows.specs.Run.replay_run}
-use Rattle.replay_args.specs.declared.settings.ReplaySettings.{ReplaySettings}
+use Rattle.text_io.specs.declared.settings.ReplaySettings.{ReplaySettings}
 use Rattle.napi_model.specs.declared.state.Kind.TheVariants as kind
 
 abbrev pub Leads : {B : Type 0} → (B → ℕ → ℕ → Once → B → Type 0) → ReplaySettings → B → List Poll → B → Type 0

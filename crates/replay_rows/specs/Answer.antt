@@ -3,8 +3,9 @@ use Rattle.std.specs.Prelude.{◌≡◌, ℕ, List, Option, Some, Result, Ok, Er
 use Rattle.device_rows.specs.Trace.{records_of, trace_of, version_in}
 use Rattle.{device_rows.specs.declared.{fault.TraceFault.TraceFault, row.Row.Row}, replay_rows.specs.Report.serial_report}
 use Rattle.{device_bench.specs.Bench.BenchDevices, replay_rows.specs.{Replay.after_all_rows, ReplayState.ReplayState}}
-use Rattle.replay_text.specs.declared.fault.ReplayFault.{ReplayFault, TheVariants.Trace}
-use Rattle.replay_args.specs.declared.settings.ReplaySettings.{ReplaySettings}
+use Rattle.text_io.specs.declared.fault.ReplayFault.{ReplayFault}
+use Rattle.text_io.specs.declared.fault.ReplayFault.TheVariants.{Trace}
+use Rattle.text_io.specs.declared.settings.ReplaySettings.{ReplaySettings}
 
 abbrev pub serial_result : ReplaySettings → ℕ → Result (List Row) TraceFault → Result (List ℕ) ReplayFault
 serial_result s version (Ok rows) = serial_report s version rows

@@ -13,3 +13,4 @@ pub mod RunLog
 pub mod Softirq
 pub mod TraceText
 pub mod Transmits
+pub mod TransmitLine

@@ -4,8 +4,9 @@ use Rattle.std.specs.Prelude.{◌≡◌, ◌≤◌, ℕ, zero, suc, ◌+◌, ◌
 use Rattle.std.specs.Prelude.{List, [], ◌∷◌, ◌++◌, length, Result, Ok, Err}
 use Rattle.device_rows.specs.{Trace.AcceptedAfter, declared.{fault.TraceFault.TheVariants.TooManyRows, row.Row.Row}}
 use Rattle.replay_rows.specs.{Replay.{after_all_rows, after_row, is_early, start}, ReplayState.ReplayState, Softirq.is_softirq}
-use Rattle.replay_text.specs.declared.fault.ReplayFault.{ReplayFault, TheVariants.{Pending, Trace}}
-use Rattle.replay_args.specs.declared.settings.ReplaySettings.{ReplaySettings}
+use Rattle.text_io.specs.declared.fault.ReplayFault.{ReplayFault}
+use Rattle.text_io.specs.declared.fault.ReplayFault.TheVariants.{Pending, Trace}
+use Rattle.text_io.specs.declared.settings.ReplaySettings.{ReplaySettings}
 
 -- the rows so far, with those that were added, and the state after them
 pub record Raised : Type 0 where

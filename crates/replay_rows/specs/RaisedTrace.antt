@@ -3,8 +3,9 @@ use Rattle.std.specs.Prelude.{ℕ, List, Option, Some, None, Result, Ok, Err}
 use Rattle.device_rows.specs.Trace.{records_of, trace_of, version_in}
 use Rattle.device_rows.specs.declared.{fault.TraceFault.TraceFault, row.Row.Row}
 use Rattle.replay_rows.specs.{Raised.raised_rows, TraceText.trace_text}
-use Rattle.replay_text.specs.declared.fault.ReplayFault.{ReplayFault, TheVariants.Trace}
-use Rattle.replay_args.specs.declared.settings.ReplaySettings.{ReplaySettings}
+use Rattle.text_io.specs.declared.fault.ReplayFault.{ReplayFault}
+use Rattle.text_io.specs.declared.fault.ReplayFault.TheVariants.{Trace}
+use Rattle.text_io.specs.declared.settings.ReplaySettings.{ReplaySettings}
 
 -- the rows, with at most this many added runs after each softirq row; without a number there are none
 abbrev pub with_added_runs : ReplaySettings → Option ℕ → List Row → Result (List Row) ReplayFault

@@ -2,9 +2,10 @@
 use Rattle.std.specs.Prelude.{◌≡◌, ◌⊎◌, ℕ, true, List, Err}
 use Rattle.device_rows.specs.declared.{event.RowEvent.TheVariants.Enable, row.Row.Row}
 use Rattle.{replay_rows.specs.{Replay.is_early, Report.serial_report, ReplayState.ReplayState}}
-use Rattle.{replay_text.specs.Outside.IsReplayOutOfMemory}
-use Rattle.replay_text.specs.declared.fault.ReplayFault.{ReplayFault, TheVariants.Pending}
-use Rattle.replay_args.specs.declared.settings.ReplaySettings.{ReplaySettings}
+use Rattle.text_io.specs.Outside.{IsReplayOutOfMemory}
+use Rattle.text_io.specs.declared.fault.ReplayFault.{ReplayFault}
+use Rattle.text_io.specs.declared.fault.ReplayFault.TheVariants.{Pending}
+use Rattle.text_io.specs.declared.settings.ReplaySettings.{ReplaySettings}
 
 -- an allocation failed, or the rows have an error: an enable row met a pending disable
 abbrev pub IsSerialFault : ReplaySettings → List Row → ReplayFault → Type 0

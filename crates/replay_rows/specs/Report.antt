@@ -1,16 +1,21 @@
 -- The text of the report. See docs/FORMATS.md, "The report".
+use Rattle.replay_rows.specs.TransmitLine.{tx_lines}
 use Rattle.std.specs.Prelude.{ℕ, zero, suc, ◌-◌, ◌==◌, Bool, length, slice_get, List, [], ◌∷◌, ◌++◌, Option, Some, None, Result, Ok, Err}
 use Rattle.std.specs.Prelude.{codes, decimal, flat_map, if◌then◌else◌, sum_by}
-use Rattle.device_transmit.specs.Transmits.{Transmits, is_used}
-use Rattle.{device_places.specs.Places.at, device_transmit.specs.Transmits.tx_counts_of, device_bench.specs.Bench.{attached, counts_at}}
+use Rattle.device_bench.specs.Transmits.{Transmits, is_used}
+use Rattle.device_rows.specs.Places.{at}
+use Rattle.device_bench.specs.Transmits.{tx_counts_of}
+use Rattle.device_bench.specs.Bench.{attached, counts_at}
 use Rattle.device_bench.specs.declared.counts.{DeviceCounts.DeviceCounts, DeviceState.{DeviceState, TheVariants.{On, Off, Pending}}}
 use Rattle.{device_rows.specs.declared.row.Row.Row, replay_rows.specs.{Replay.after_all_rows, Transmits.transmits_of}}
 use Rattle.replay_rows.specs.ReplayState.{ReplayState}
 use Rattle.replay_rows.specs.declared.{report.RunTotals.RunTotals, line.PollRecord.{PollRecord, TheVariants.{Softirq, Kthread}}}
 use Rattle.{replay_rows.specs.declared.line.PollRecord.TheVariants.Busy}
-use Rattle.{replay_text.specs.{declared.fault.ReplayFault.ReplayFault, Lines.with_newline}}
-use Rattle.{replay_text.specs.Lines.{flag, tx_lines, words}, poll_runs.specs.declared.run.RunReport.RunReport}
-use Rattle.replay_args.specs.declared.settings.ReplaySettings.{ReplaySettings}
+use Rattle.text_io.specs.declared.fault.ReplayFault.{ReplayFault}
+use Rattle.text_io.specs.Lines.{with_newline}
+use Rattle.text_io.specs.Lines.{flag, words}
+use Rattle.poll_runs.specs.declared.run.RunReport.{RunReport}
+use Rattle.text_io.specs.declared.settings.ReplaySettings.{ReplaySettings}
 
 -- the line of a row that polled
 abbrev pub poll_line : PollRecord → List ℕ

@@ -2,7 +2,7 @@
 use Rattle.std.specs.Prelude.{ℕ, ◌==◌, List, [], ◌∷◌, ◌++◌, codes, decimal, flat_map, if◌then◌else◌}
 use Rattle.device_rows.specs.declared.{event.RowEvent.RowEvent, row.Row.Row}
 use Rattle.device_rows.specs.declared.event.RowEvent.TheVariants.{Opened, Rx, Tx, Finish, Softirq, Kthread, Disable, Enable, Threaded, Busy}
-use Rattle.replay_text.specs.Lines.{with_newline}
+use Rattle.text_io.specs.Lines.{with_newline}
 
 -- fields, each preceded by a comma
 abbrev pub fields : List (List ℕ) → List ℕ

@@ -1,7 +1,9 @@
 -- The transmit sides of all devices, computed from the open, tx and done rows. Polls don't affect them.
 use Rattle.std.specs.Prelude.{List, [], ◌∷◌}
-use Rattle.device_transmit.specs.{Transmits.Transmits, Transmit.{after_finish, after_tx}}
-use Rattle.{device_transmit.specs.Transmit.opened_transmit, device_places.specs.Places.{added, changed, empty}}
+use Rattle.device_bench.specs.Transmits.{Transmits}
+use Rattle.device_bench.specs.Transmit.{after_finish, after_tx}
+use Rattle.device_bench.specs.Transmit.{opened_transmit}
+use Rattle.device_rows.specs.Places.{added, changed, empty}
 use Rattle.device_rows.specs.declared.{event.RowEvent.{RowEvent, TheVariants.{Opened, Tx, Finish}}, row.Row.Row}
 
 -- the effect of a row, by its event

@@ -15,6 +15,7 @@ mod run_log;
 mod serial;
 mod serial_replay;
 mod softirq;
+mod transmit_line;
 mod whole;
 
 pub use line::PollRecord;
@@ -25,4 +26,5 @@ pub use rows_text::trace_text;
 pub use run_log::RunPoll;
 pub use serial::replay_serial;
 pub use serial_replay::SerialReplay;
+pub use transmit_line::add_transmit;
 pub use whole::replay_on;

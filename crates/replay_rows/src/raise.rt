@@ -1,16 +1,16 @@
 //! A trace with the runs that the kernel adds, from the bytes of a trace to the bytes of another.
 
 ghost use Rattle.std.specs.Prelude.{◌≡◌, ◌≢◌, ◌⊎◌, Ok, Err, IfErr, IfOk, OnOk, string_bytes};
-ghost use Rattle.replay_text.specs.Outside.{IsOutside, IsReplayOutOfMemory};
-ghost use Rattle.replay_text.specs.Written.{IsFaultBy, LeavesText, Writes};
+ghost use Rattle.text_io.specs.Outside.{IsOutside, IsReplayOutOfMemory};
+ghost use Rattle.text_io.specs.Written.{IsFaultBy, LeavesText, Writes};
 ghost use Rattle.replay_rows.specs.RaisedTrace.{raised_trace, with_added_runs, text_in};
-ghost use Rattle.replay_text.specs.declared.fault.ReplayFault.TheVariants.{OutputFailed};
+ghost use Rattle.text_io.specs.declared.fault.ReplayFault.TheVariants.{OutputFailed};
 
 use crate::raised::raise_rows;
 use crate::rows_text::trace_text;
 use device_rows::{Trace, read_trace};
-use replay_args::ReplaySettings;
-use replay_text::{ReplayFault, write_text};
+use text_io::ReplaySettings;
+use text_io::{ReplayFault, write_text};
 use std::alloc::Global;
 use std::io::{Read, Write};
 

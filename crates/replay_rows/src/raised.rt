@@ -4,14 +4,14 @@ ghost use Rattle.std.specs.Prelude.{◌≡◌, ◌⊎◌, ◌≤◌, [], Ok, Err
 ghost use Rattle.device_rows.specs.Row.{device_fits, value_fits};
 ghost use Rattle.device_rows.specs.Trace.{AcceptedAfter};
 ghost use Rattle.replay_rows.specs.Raised.{RaisedIsTrace, is_last_run, is_run_at, raised_rows};
-ghost use Rattle.replay_text.specs.Outside.{IsReplayOutOfMemory};
+ghost use Rattle.text_io.specs.Outside.{IsReplayOutOfMemory};
 
 use crate::replay::{Replay, room_for_lines};
 use crate::softirq::is_softirq;
 use device_bench::SerialBench;
 use device_rows::{MOST_ROWS, Row, TraceFault};
-use replay_args::ReplaySettings;
-use replay_text::ReplayFault;
+use text_io::ReplaySettings;
+use text_io::ReplayFault;
 use std::alloc::{AllocError, Global};
 
 /// The rows so far, with those that were added, and a replay of them.

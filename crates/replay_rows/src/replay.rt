@@ -10,8 +10,8 @@ use device_bench::ReplayBench;
 use device_rows::{Row, RowEvent};
 use napi_model::Kind;
 use poll_runs::{Next, PlainList, PollList, run_softirq};
-use replay_args::ReplaySettings;
-use replay_text::ReplayFault;
+use text_io::ReplaySettings;
+use text_io::ReplayFault;
 use std::alloc::{AllocError, Global};
 
 /// The most polls that a kthread row makes. A trace has too few packets to reach this number.
@@ -43,8 +43,8 @@ pub(crate) fn room_for_lines(alloc: Global, rows: &[Row]) -> Result<Vec<PollReco
 
 impl<B: ReplayBench> Replay<B> {
     ghost use Rattle.std.specs.Prelude.{◌≡◌, ℕ, ◌+◌, ◌++◌, [], ◌∷◌, true, false, Ok, OnOk, IfErr};
-    ghost use Rattle.device_transmit.specs.Transmits.{Changes, KeepsTransmits, Transmits};
-    ghost use Rattle.device_places.specs.Places.{empty};
+    ghost use Rattle.device_bench.specs.Transmits.{Changes, KeepsTransmits, Transmits};
+    ghost use Rattle.device_rows.specs.Places.{empty};
     ghost use Rattle.device_rows.specs.Row.{device_fits, value_fits};
     ghost use Rattle.device_rows.specs.Trace.{AcceptedAfter};
     ghost use Rattle.device_bench.specs.Waiting.{one_when, is_left_to_list};

@@ -1,22 +1,23 @@
 //! The report: the rows are processed, and the state after them is written as text, in all modes that process rows.
 
 ghost use Rattle.std.specs.Prelude.{◌≡◌, ◌≢◌, ◌⊎◌, ◌+◌, ◌^◌, ◌<◌, ◌≤◌, ◌++◌, [], Ok, Err, Some, IfErr, IfOk, OnOk, flat_map, length, string_bytes};
-ghost use Rattle.device_places.specs.Places.{empty};
+ghost use Rattle.device_rows.specs.Places.{empty};
 ghost use Rattle.device_rows.specs.Trace.{AcceptedAfter};
 ghost use Rattle.replay_rows.specs.Answer.{LeavesDevices};
 ghost use Rattle.replay_rows.specs.Report.{device_line, device_lines, held_part, list_line, napi_line, of_run, poll_line, serial_report, spaced, state_word, total_line, run_totals};
-ghost use Rattle.replay_text.specs.Lines.{with_newline, flag, tx_line};
-ghost use Rattle.replay_text.specs.Outside.{IsReplayOutOfMemory};
-ghost use Rattle.replay_text.specs.declared.fault.ReplayFault.TheVariants.{OutputFailed};
+ghost use Rattle.text_io.specs.Lines.{with_newline, flag};
+ghost use Rattle.text_io.specs.Outside.{IsReplayOutOfMemory};
+ghost use Rattle.text_io.specs.declared.fault.ReplayFault.TheVariants.{OutputFailed};
 
+use crate::transmit_line::add_transmit;
 use crate::line::PollRecord;
 use crate::replay::{Replay, room_for_lines};
 use device_bench::{DeviceCounts, DeviceState, ReplayBench};
-use device_places::TABLE_LEN;
+use device_rows::TABLE_LEN;
 use device_rows::Row;
 use poll_runs::PollList;
-use replay_args::ReplaySettings;
-use replay_text::{ReplayFault, add_transmit};
+use text_io::ReplaySettings;
+use text_io::ReplayFault;
 use std::alloc::{AllocError, Global};
 use std::fmt;
 
@@ -259,7 +260,7 @@ fn add_totals(text: &mut String, totals: &RunTotals) -> Result<(), AllocError>
 
 impl<B: ReplayBench> Replay<B> {
     ghost use Rattle.std.specs.Prelude.{◌≡◌, ◌++◌, IfOk, OnOk, string_bytes};
-    ghost use Rattle.device_transmit.specs.Transmits.{Transmits};
+    ghost use Rattle.device_bench.specs.Transmits.{Transmits};
     ghost use Rattle.replay_rows.specs.Played.{replay_state};
     ghost use Rattle.replay_rows.specs.Replay.{start};
     ghost use Rattle.replay_rows.specs.Report.{lines_below, lines_of, serial_text};

@@ -2,7 +2,7 @@
 
 ghost use Rattle.std.specs.Prelude.{◌≡◌, ◌++◌, IfOk, OnOk, flat_map, string_bytes};
 ghost use Rattle.replay_rows.specs.TraceText.{event_word, row_line, titles, trace_text};
-ghost use Rattle.replay_text.specs.Lines.{with_newline};
+ghost use Rattle.text_io.specs.Lines.{with_newline};
 
 use device_rows::{Row, RowEvent};
 use std::alloc::{AllocError, Global};

@@ -2,15 +2,15 @@
 
 ghost use Rattle.std.specs.Prelude.{◌≡◌, ◌≤◌, ◌+◌, [], IfOk, OnOk, length, vec_capacity, vec_len};
 ghost use Rattle.device_bench.specs.Bench.{counts_at};
-ghost use Rattle.device_places.specs.Places.{at};
-ghost use Rattle.device_transmit.specs.Transmits.{Transmits, tx_counts_of};
+ghost use Rattle.device_rows.specs.Places.{at};
+ghost use Rattle.device_bench.specs.Transmits.{Transmits, tx_counts_of};
 ghost use Rattle.poll_runs.specs.Laws.{IsPlainRun};
 ghost use Rattle.poll_runs.specs.Polls.{At, Chain};
 ghost use Rattle.replay_rows.specs.RunLog.{logged, polls_in};
 
 use device_bench::{DeviceCounts, ReplayBench};
 use poll_runs::{Once, PlainList, PollingRun, RunReport};
-use replay_args::ReplaySettings;
+use text_io::ReplaySettings;
 use std::alloc::{AllocError, Global};
 
 /// One poll of a run, and its device after it.

@@ -1,14 +1,14 @@
 //! A whole replay on one thread.
 
 ghost use Rattle.std.specs.Prelude.{◌≡◌, Ok, Err, IfErr, OnOk};
-ghost use Rattle.replay_text.specs.Outside.{IsOutside};
-ghost use Rattle.replay_text.specs.Written.{IsFaultBy, LeavesText, Writes};
+ghost use Rattle.text_io.specs.Outside.{IsOutside};
+ghost use Rattle.text_io.specs.Written.{IsFaultBy, LeavesText, Writes};
 ghost use Rattle.replay_rows.specs.Answer.{replay_of};
 
 use crate::whole::replay_on;
 use device_bench::SerialBench;
-use replay_args::ReplaySettings;
-use replay_text::ReplayFault;
+use text_io::ReplaySettings;
+use text_io::ReplayFault;
 use std::alloc::Global;
 use std::io::{Read, Write};
 

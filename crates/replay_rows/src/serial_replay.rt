@@ -5,8 +5,8 @@ use crate::replay::{Replay, room_for_lines};
 use crate::run_log::{RunLog, RunPoll, counts_of};
 use device_bench::{DeviceCounts, ReplayBench, SerialBench};
 use device_rows::Row;
-use replay_args::ReplaySettings;
-use replay_text::ReplayFault;
+use text_io::ReplaySettings;
+use text_io::ReplayFault;
 use std::alloc::{AllocError, Global};
 
 /// A replay on one thread that processes the rows one by one, and shows the state after each row.
@@ -20,11 +20,11 @@ impl SerialReplay {
     ghost use Rattle.std.specs.Prelude.{◌≡◌, ◌⊎◌, ◌≤◌, ◌<◌, ◌+◌, ℕ, [], List, Err, IfOk, IfErr, OnOk, length};
     ghost use Rattle.device_rows.specs.Trace.{AcceptedAfter};
     ghost use Rattle.device_rows.specs.declared.row.Row.{Row};
-    ghost use Rattle.replay_args.specs.declared.settings.ReplaySettings.{ReplaySettings};
+    ghost use Rattle.text_io.specs.declared.settings.ReplaySettings.{ReplaySettings};
     ghost use Rattle.replay_rows.specs.After.{IsAfter, counts_after, is_used_after, list_after, polled_after};
     ghost use Rattle.replay_rows.specs.Replay.{after_all_rows};
     ghost use Rattle.replay_rows.specs.RunLog.{list_before, polls_of_row};
-    ghost use Rattle.replay_text.specs.Outside.{IsReplayOutOfMemory};
+    ghost use Rattle.text_io.specs.Outside.{IsReplayOutOfMemory};
 
     /// Returns a replay before its first row, with room for the lines of these rows.
     pub fn new(alloc: Global, rows: &[Row]) -> Result<SerialReplay, AllocError>

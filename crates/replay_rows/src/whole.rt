@@ -1,16 +1,16 @@
 //! A whole replay on a bench: from the bytes of a trace to the bytes of a report.
 
 ghost use Rattle.std.specs.Prelude.{◌≡◌, Ok, Err, IfErr, OnOk};
-ghost use Rattle.device_places.specs.Places.{empty};
-ghost use Rattle.replay_text.specs.Outside.{IsOutside};
-ghost use Rattle.replay_text.specs.Written.{IsFaultBy, LeavesText, Writes};
+ghost use Rattle.device_rows.specs.Places.{empty};
+ghost use Rattle.text_io.specs.Outside.{IsOutside};
+ghost use Rattle.text_io.specs.Written.{IsFaultBy, LeavesText, Writes};
 ghost use Rattle.replay_rows.specs.Answer.{Plays, replay_of};
 
 use crate::report::report_on;
 use device_bench::ReplayBench;
 use device_rows::read_trace;
-use replay_args::ReplaySettings;
-use replay_text::{ReplayFault, write_text};
+use text_io::ReplaySettings;
+use text_io::{ReplayFault, write_text};
 use std::alloc::Global;
 use std::io::{Read, Write};
 

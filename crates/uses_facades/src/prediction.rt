@@ -4,7 +4,7 @@
 ghost use Rattle.std.specs.Prelude.{◌≡◌, IfErr, OnOk};
 ghost use Rattle.machine.specs.Answer.{IsReportOf};
 ghost use Rattle.machine.specs.Fault.{machine_fault_status};
-ghost use Rattle.machine.specs.MachineFault.{MachineFault};
+ghost use Rattle.machine.specs.declared.fault.MachineFault.{MachineFault};
 ghost use Rattle.machine.specs.Written.{Writes};
 
 use machine::{MachineSettings, run_machine, status};

@@ -1,7 +1,10 @@
 use Rattle.std.proofs.{Common.{◌≡◌, ◌∙◌, Err, ap, map, string_bytes, sym}, lemmas.Result.err_from_is_err_and}
-use Rattle.{std.specs.Option.{option_and_then}, replay_args.specs.declared.args.WordFault.TheVariants.Usage}
+use Rattle.std.specs.Option.{option_and_then}
+use Rattle.text_io.specs.declared.args.WordFault.TheVariants.{Usage}
 use Rattle.machine_model.specs.Args.{machine_args_of, machine_args_with}
-use Rattle.replay_args.{specs.{Given.value_of, Refusals.args_out_of_memory}, proofs.ClapFacts.{asked-as, found_is, refused_is}}
+use Rattle.text_io.specs.Given.{value_of}
+use Rattle.text_io.specs.Refusals.{args_out_of_memory}
+use Rattle.text_io.proofs.ClapFacts.{asked-as, found_is, refused_is}
 use Rattle.machine_model.proofs.args.parse_words.Goals as goal
 
 pub returns-in_err-matches-clause-usage : goal.returns-in_err-matches-clause-usage

@@ -1,5 +1,6 @@
 use Rattle.std.proofs.Common.{◌∙◌, sym}
-use Rattle.{device_places.proofs.PlaceFacts.at-index, machine_model.proofs.PendingFacts.{soonest-other, soonest-stays}}
+use Rattle.device_rows.proofs.PlaceFacts.{at-index}
+use Rattle.machine_model.proofs.PendingFacts.{soonest-other, soonest-stays}
 use Rattle.machine_model.proofs.devices.soonest_after.Goals as goal
 
 pub returns-then-is_same : goal.returns-then-is_same

@@ -1,5 +1,7 @@
 use Rattle.std.proofs.Common.{◌≡◌, ◌+◌, ◌≤◌, true, arith}
-use Rattle.{device_places.specs.Places.at, machine_model.specs.{Devices.asks_at, Kept.all_scheduled}}
+use Rattle.device_rows.specs.Places.{at}
+use Rattle.machine_model.specs.Devices.{asks_at}
+use Rattle.machine_model.specs.Kept.{all_scheduled}
 use Rattle.machine_model.proofs.PlacesFacts.{scheduled-interrupted, scheduled-most}
 use Rattle.machine_model.proofs.processor.Processor.interrupt.Goals as goal
 

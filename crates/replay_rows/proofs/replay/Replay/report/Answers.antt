@@ -1,6 +1,6 @@
 use Rattle.{std.specs.Prelude.flat_map, device_bench.specs.Bench.attached, replay_rows.specs.{Played.replay_state, Report.lines_below}}
 use Rattle.replay_rows.{specs.Report.{lines_of, list_line, poll_line, text_by, total_line, run_totals}, proofs.PlayFacts.four-parts}
-use Rattle.replay_text.specs.Lines.{with_newline}
+use Rattle.text_io.specs.Lines.{with_newline}
 use Rattle.replay_rows.proofs.replay.Replay.report.Goals as goal
 
 pub returns : goal.returns

@@ -1,0 +1,20 @@
+-- The transmit sides of a bench's devices, as the program stores them.
+use Rattle.std.specs.Prelude.{◌≡◌, ℕ, Option, Some, None, length}
+use Rattle.device_bench.specs.Transmits.{Transmits}
+use Rattle.device_bench.specs.Transmit.{ShowsTransmit}
+use Rattle.device_bench.specs.Transmit.{TransmitView}
+use Rattle.device_bench.specs.declared.sides.TransmitSides.{TransmitSides}
+use Rattle.device_bench.specs.declared.transmit.Transmit.{Transmit}
+use Rattle.device_rows.specs.Places.{at}
+
+-- the stored transmit side, if there is one, represents this one
+abbrev pub ShowsAt : Option Transmit → Option TransmitView → Type 0
+ShowsAt None None = Unit {0}
+ShowsAt (Some kept) (Some t) = ShowsTransmit kept t
+ShowsAt None (Some t) = ⊥
+ShowsAt (Some kept) None = ⊥
+
+-- the stored transmit sides represent these
+pub record ShowsSides (sides : TransmitSides) (all : Transmits) : Type 0 where
+  pub places : length all ≡ 17
+  pub each : (number : ℕ) → ShowsAt (at number sides.of.items) (at number all)

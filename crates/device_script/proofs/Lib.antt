@@ -1,4 +1,0 @@
-pub mod DealFacts
-pub mod OpeningFacts
-pub mod Rows
-pub mod ScriptFacts

@@ -1,6 +1,0 @@
-use Rattle.std.proofs.Common.{◌≡◌, take}
-use Rattle.device_script.specs.Script.{openings_of}
-use Rattle.device_script.proofs.dealing.openings_of.Given as goal
-
-abbrev pub invariant-loop-row : goal.invariant-loop-row
-invariant-loop-row l = l.openings.items ≡ openings_of (take l.row-index l.rows)

@@ -1,4 +1,0 @@
-pub mod Counter
-pub mod Sides
-pub mod Transmit
-pub mod Transmits

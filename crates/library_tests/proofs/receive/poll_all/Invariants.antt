@@ -1,5 +1,0 @@
-use Rattle.rx_ring.specs.Ends.{SameCtx}
-use Rattle.library_tests.proofs.receive.poll_all.Given as goal
-
-abbrev pub invariant-loop : goal.invariant-loop
-invariant-loop g l = SameCtx l.initial.ctx l.ctx

@@ -1,3 +1,0 @@
-mod FlagFacts
-mod MessageFacts
-mod OutsideFacts

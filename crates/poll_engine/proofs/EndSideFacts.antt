@@ -1,0 +1,29 @@
+-- What a closed instance implies for the calls made on it.
+use Rattle.napi_word.specs.{Knowledge.{deliverers, own_deliveries, packets_of}, Slot.givers}
+use Rattle.poll_engine.specs.Closings.{IsClosedAs, seats_in}
+use Rattle.poll_engine.specs.Runs.{IsEnded}
+use Rattle.napi_calls.specs.{Closed.IsHistoryOf, Instance.{callers_of, first_of_instance}}
+use Rattle.std.proofs.Common.{◌≡◌, ℕ, ◌<◌, List, [], ◌++◌, ap, ◌∙◌, subst}
+use Rattle.napi_model.specs.Step.{opening}
+use Rattle.rx_ring.specs.declared.{ends.{RxIn.RxIn, RxCtx.RxCtx}, packet.Packet.Packet}
+use Rattle.rx_ring.specs.{declared.packet.Totals.Totals, Ends.{put_list, received_list, ring_of}, ReceiveRing.{IsInOrder, totals_of}}
+use Rattle.poll_engine.specs.declared.station.Closed.{Closed}
+use Rattle.poll_engine.specs.Runs.{controller_number}
+use mathlib.Core.List.{IsPrefix}
+
+pub ended_of : (closed : Closed) (rx : RxIn) (ctx : RxCtx) (totals : Totals) → callers_of closed.napi.value ≡ controller_number
+    → received_list (first_of_instance closed.napi.value) ≡ [] → IsClosedAs closed ctx → totals ≡ totals_of (ring_of rx ctx)
+    → IsInOrder (ring_of rx ctx)
+    → IsEnded closed (put_list rx) totals
+ended_of closed rx ctx totals three nothing was are in_order =
+    let received : received_list ctx ≡ packets_of was.deliveries = was.received ∙ ap (λ l. l ++ packets_of was.deliveries) nothing in
+    record {
+      history = was.history;
+      is = subst (λ k. IsHistoryOf k (seats_in closed) was.history) three was.is;
+      deliveries = was.deliveries;
+      deliverers_are = subst (λ k. deliverers was.deliveries ≡ givers (opening k) was.history) three was.order;
+      in_order = subst (λ (l : List Packet). IsPrefix l (put_list rx)) received in_order;
+      own_exact = was.own_exact;
+      own_only = subst (λ k. (c : ℕ) → k < c → own_deliveries c was.deliveries ≡ []) three was.own_only;
+      totals_are = are ∙ ap (λ (l : List Packet). totals_of (record { put = put_list rx; received = l })) received;
+    }

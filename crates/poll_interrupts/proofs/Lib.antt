@@ -1,4 +1,0 @@
-pub mod ActSteps
-pub mod LedgerSteps
-pub mod Listings
-mod EndFacts

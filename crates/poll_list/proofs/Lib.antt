@@ -1,3 +1,0 @@
-pub mod EndLists
-pub mod OrderSteps
-pub mod PushCounts

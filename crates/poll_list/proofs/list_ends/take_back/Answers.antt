@@ -1,5 +1,0 @@
-use Rattle.{std.proofs.Common.ap, poll_list.proofs.OrderSteps.merges}
-use Rattle.poll_list.proofs.list_ends.take_back.Goals as goal
-
-pub absorb-requires-clause-rule : goal.absorb-requires-clause-rule
-absorb-requires-clause-rule g c = merges _ _ _ _ (ap (λ v. v.polls) c.loop-end.invariant.knows) c.in-Some.end.live

@@ -1,4 +1,0 @@
-pub mod PushOrder
-pub mod EmptyPops
-pub mod SharedList
-pub mod ListFaults

@@ -1,6 +1,0 @@
-use Rattle.std.proofs.Common.{inr}
-use Rattle.poll_tasks.specs.Refusals.{refused_by}
-use Rattle.poll_tasks.proofs.tasks.spawn.Goals as goal
-
-pub store-requires : goal.store-requires
-store-requires g c = inr (refused_by c.in-Err.not_started)

@@ -1,8 +1,0 @@
--- Which waker wakes which thread.
-use Rattle.std.specs.Prelude.{◌≡◌}
-use Rattle.std.specs.Arc.{arc_value}
-use Rattle.poll_tasks.specs.declared.signals.{Waker.Waker, IdleWait.IdleWait}
-
--- the waker wakes the thread that waits by this `IdleWait`
-abbrev pub Wakes : Waker → IdleWait → Type 0
-Wakes waker wait = arc_value waker.unparker.state ≡ arc_value wait.parker.unparker.state

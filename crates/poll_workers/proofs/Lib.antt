@@ -1,4 +1,0 @@
-pub mod RunFacts
-pub mod NumberFacts
-pub mod PollerFacts
-mod EndFacts

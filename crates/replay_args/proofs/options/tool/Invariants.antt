@@ -1,6 +1,0 @@
-use Rattle.std.proofs.Common.{◌≡◌, take, map}
-use Rattle.{clap.specs.Simple.app_of, replay_args.specs.Options.tool}
-use Rattle.replay_args.proofs.options.tool.Given as goal
-
-abbrev pub invariant-loop-name : goal.invariant-loop-name
-invariant-loop-name l = app_of l.command ≡ tool (map (λ s. s.now) (take l.name-index l.names))

@@ -1,5 +1,0 @@
-pub mod Defaults
-pub mod Given
-pub mod Options
-pub mod Refusals
-pub mod Args

@@ -1,2 +1,0 @@
-pub mod StationFacts
-pub mod DistinctNumbers

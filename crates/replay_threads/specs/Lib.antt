@@ -1,4 +1,0 @@
-pub mod ThreadsReport
-pub mod Stations
-pub mod Answer
-pub mod SharedRun

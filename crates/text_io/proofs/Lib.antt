@@ -1,0 +1,2 @@
+pub mod ClapFacts
+pub mod OutFacts

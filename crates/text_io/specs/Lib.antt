@@ -1,0 +1,11 @@
+pub mod Defaults
+pub mod Given
+pub mod Options
+pub mod Refusals
+pub mod Args
+pub mod Fault
+pub mod Lines
+pub mod Outside
+pub mod Program
+pub mod Stops
+pub mod Written
