@@ -187,9 +187,10 @@ def door_page(page):
     behind = [name for name, at in door_of().items() if at == door]
     programs = {"replay": ["napi_replay", "napi_serial", "napi_series"], "machine": ["napi_machine"]}.get(door, [])
     yield from (f"it doesn't describe {name}" for name in behind if f"`{name}`" not in page.read_text())
-    yield from claims.judge(page, [door, *behind, *programs])
-    surface = subprocess.run(["scripts/surface.sh", door], cwd=TOP, capture_output=True, text=True, check=True).stdout
     passed_on = " ".join(re.findall(r"pub use ([^;]*);", (page.parent / "src/lib.rt").read_text()))
+    known = {*behind, *(needs_of_crates().keys() & {*re.findall(r"(\w+)::", passed_on)})}
+    yield from claims.judge(page, [door, *sorted(known), *programs])
+    surface = subprocess.run(["scripts/surface.sh", door], cwd=TOP, capture_output=True, text=True, check=True).stdout
     others = {name: own for own, name in re.findall(r"(\w+) as (\w+)", passed_on)}
     names = re.findall(r"\b\w+\b(?=[,}\s]|$)", re.sub(r"\w+ as |\w+::", "", passed_on))
     missing = [name for name in names if not re.search(rf"\b{name}\b", surface)]

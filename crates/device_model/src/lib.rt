@@ -2,16 +2,14 @@
 //! instances of its own or with instances that threads could share; or each device's rows are the acts of a device that runs in
 //! its own thread.
 //!
-//! This is a facade: it re-exports its internal crates, and adds nothing. `device_rows` has
-//! the rows, `device_bench` the devices for one thread with their transmit sides, `device_shared`
-//! those with shared instances, and `replay` a device for a run with threads. `specs/Lib.antt` re-exports what contracts
-//! cite.
+//! This is a facade, with no code of its own: `device_rows` has the rows, `device_bench` the devices for one thread with their
+//! transmit sides, `device_shared` those with shared instances, and `replay` a device for a run with threads. `specs/Lib.antt`
+//! re-exports what contracts cite.
 #![tactic(auto)]
 
-pub use device_bench::{DeviceCounts, DeviceState, ReplayBench, SerialBench};
+pub use device_bench::{DeviceCounts, DeviceState, ReplayBench, SerialBench, TxCounts};
 pub use device_rows::{
     Row, RowEvent as Event, Trace, TraceFault, first_fault_stands, first_records_decide, read_trace,
 };
-pub use replay::{ScriptDevice, opening_of};
 pub use device_shared::{ClosedSide, SharedBench};
-pub use device_bench::TxCounts;
+pub use replay::{ScriptDevice, opening_of};

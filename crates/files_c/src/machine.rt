@@ -10,11 +10,11 @@ ghost use Rattle.files_c.specs.MachineStatus.{MACHINE_OK, MACHINE_OUT_OF_MEMORY,
 ghost use Rattle.files_c.specs.MachineStatus.{MACHINE_BAD_ARRIVALS};
 
 use crate::machine_fault::{machine_c_status, machine_fault_row};
+use crate::machine_status;
 use crate::ranges::first_out;
 use crate::settings::{FqMachineSettings, ranges_of, settings_of};
-use crate::machine_status;
-use machine_model::MachineSettings;
 use machine::{MachineFault, fault_line, run_machine};
+use machine_model::MachineSettings;
 use std::alloc::Global;
 use std::mem::size_of;
 

@@ -11,10 +11,9 @@ ghost use Rattle.files_c.specs.Replay.{IsCallResult, AreSettingsOf, HasWeight, H
 
 use crate::replay_fault::{fault_status, row_of};
 use crate::replay_status;
-use text_io::ReplaySettings;
 use replay_rows::{raise_trace, replay_serial};
-use text_io::ReplayFault;
 use std::alloc::Global;
+use text_io::{ReplayFault, ReplaySettings};
 
 /// The settings of a replay: `struct fq_settings`.
 #[repr(C)]

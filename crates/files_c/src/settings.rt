@@ -8,8 +8,8 @@ ghost use Rattle.files_c.specs.Ranges.{IsIn};
 ghost use Rattle.files_c.specs.Settings.{AsksMachine, ranges_of};
 ghost use Rattle.files_c.specs.MachineStatus.{MACHINE_OK, MACHINE_BAD_SIZE};
 
-use crate::ranges::{Range, within};
 use crate::machine_status;
+use crate::ranges::{Range, within};
 use machine_model::{
     MOST_BUDGET, MOST_DEFERRALS, MOST_FRAMES, MOST_PLACES, MOST_PROCESSORS, MOST_QUEUES, MOST_TIME,
     MOST_WEIGHT, MOST_WINDOW, MachineSettings,

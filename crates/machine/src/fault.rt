@@ -4,9 +4,9 @@ ghost use Rattle.std.specs.Prelude.{◌≡◌, ◌++◌, IfOk, codes, string_byt
 ghost use Rattle.machine.specs.Fault.{machine_fault_line, machine_fault_number, machine_fault_status};
 
 use device_rows::ReadError;
-use text_io::Fault;
 use std::alloc::{AllocError, Global};
 use std::fmt;
+use text_io::Fault;
 use thiserror::Error;
 
 /// Why arrivals have no report. Nothing was written, unless the error is `OutputFailed`. Errors 2 to 8 name the first row that

@@ -3,8 +3,8 @@
 //! effect of another setting.
 //!
 //! It computes the bytes of a report from the bytes of arrivals, or the message and the exit status of an error, and it parses
-//! the options of a program. This is a facade over its internal crates: `machine_model` has the options and the
-//! machine; the arrivals, the report and the errors are here. The program `napi_machine` makes these calls.
+//! the options of a program. This is a facade over an internal crate: `machine_model` has the options and the machine;
+//! the arrivals, the report and the errors are here. The program `napi_machine` makes these calls.
 //!
 //! `laws.rt` has what is proved about whole runs. `specs/` has the statements of these laws: `Lives` defines the life of a
 //! processor, `Fates` the fate of packets, `Times` times and work, `Deferrals` deferred interrupts, and `Reports` says that they
@@ -22,7 +22,14 @@ mod run;
 pub use arrival::Arrival;
 pub use arrivals::Arrivals;
 pub use fault::{MachineFault, fault_line, status};
-pub use laws::{arrives_as_one, clocks_never_fall, deferral_is_bounded, delivers_in_order, each_lives, every_run_ends, no_wait_is_less, nothing_is_left, reports_live, runs_as_one, tells_of_use, timers_are_near, uses_in_order, works_within};
-pub use machine_model::{ApplicationReport, Machine, MachineSettings, ProcessorCounts, ProcessorReport, QueueCounts, QueueReport, WaitCounts, parse_words};
+pub use laws::{
+    arrives_as_one, clocks_never_fall, deferral_is_bounded, delivers_in_order, each_lives,
+    every_run_ends, no_wait_is_less, nothing_is_left, reports_live, runs_as_one, tells_of_use,
+    timers_are_near, uses_in_order, works_within,
+};
+pub use machine_model::{
+    ApplicationReport, Machine, MachineSettings, ProcessorCounts, ProcessorReport, QueueCounts,
+    QueueReport, WaitCounts, parse_words,
+};
 pub use run::run_machine;
 pub use text_io::{WordFault, word_line, word_status};

@@ -13,9 +13,9 @@ use crate::arrivals::Arrivals;
 use crate::fault::MachineFault;
 use crate::report::report_of;
 use machine_model::{Machine, MachineSettings};
-use text_io::write_text;
 use std::alloc::Global;
 use std::io::{Read, Write};
+use text_io::write_text;
 
 // Passes all arrivals to the machine, one by one.
 fn take_all<R: Read + Drop>(

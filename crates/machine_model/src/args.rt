@@ -13,8 +13,10 @@ use crate::settings::{
     MachineSettings,
 };
 use clap::ArgMatches;
-use text_io::{MOST_BUDGET, MOST_WEIGHT, MOST_WINDOW, WordFault, option_number, read_options, with_name};
 use std::alloc::Global;
+use text_io::{
+    MOST_BUDGET, MOST_WEIGHT, MOST_WINDOW, WordFault, option_number, read_options, with_name,
+};
 
 // The names of the options.
 const OPTIONS: [&str; 21] = [

@@ -25,10 +25,10 @@ pub use device::{Phase, QueueCounts, QueueReport};
 pub use devices::Timer;
 pub use machine::Machine;
 pub use processor::{InHand, ProcessorCounts, ProcessorReport, Rest, Upcoming, Work};
-pub use text_io::{MOST_BUDGET, MOST_WEIGHT, MOST_WINDOW};
 pub use settings::{
     MOST_DEFERRALS, MOST_FRAMES, MOST_PLACES, MOST_PROCESSORS, MOST_QUEUES, MOST_TIME,
     MachineSettings,
 };
 pub use tasks::RunnableTask;
+pub use text_io::{MOST_BUDGET, MOST_WEIGHT, MOST_WINDOW};
 pub use waits::{WaitCounts, Waits};

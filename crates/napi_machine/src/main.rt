@@ -5,9 +5,9 @@
 mod program;
 
 use crate::program::run_program;
-use text_io::given_args;
 use std::io;
 use std::process::ExitCode;
+use text_io::given_args;
 
 // Runs the program with the real standard input and outputs.
 fn main(rt: HostRuntime) -> ExitCode {

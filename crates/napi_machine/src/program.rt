@@ -9,13 +9,12 @@ ghost use Rattle.napi_machine.specs.Program.{AnswersMachine, AskForMachine};
 ghost use Rattle.text_io.specs.Program.{FailedBy, IsTextBy};
 ghost use Rattle.text_io.specs.Written.{Writes};
 
-use machine_model::{MachineSettings, parse_words};
 use machine::{MachineFault, run_machine};
-use text_io::WordFault;
-use text_io::{Program, run_asked};
+use machine_model::{MachineSettings, parse_words};
 use std::alloc::Global;
 use std::io::{Read, Write};
 use std::process::ExitCode;
+use text_io::{Program, WordFault, run_asked};
 
 // The receiving machine.
 struct MachineProgram;

@@ -11,15 +11,14 @@ ghost use Rattle.text_io.specs.Written.{LeavesText, Writes};
 ghost use Rattle.text_io.specs.declared.fault.ReplayFault.TheVariants.{OutputFailed};
 
 use poll_engine::OpenGate;
-use text_io::{ReplayMode, ReplaySettings, parse_words};
-use replay_rows::replay_serial;
-use text_io::{ProgramFault, ReplayFault, end_by};
 use replay::{replay_shared, replay_threads};
+use replay_rows::replay_serial;
 use std::alloc::Global;
 use std::io::{Read, Write};
 use std::process::ExitCode;
 use std::sync::Wait;
 use std::thread::Threads;
+use text_io::{ProgramFault, ReplayFault, ReplayMode, ReplaySettings, end_by, parse_words};
 
 // Replays the input in a mode. No impl of `Program`, because there a type's bound `Sync` isn't known.
 fn replay_in<H: Threads + Wait + Sync, R: Read + Drop, W: Write>(

@@ -9,12 +9,11 @@ ghost use Rattle.text_io.specs.Program.{FailedBy, IsTextBy};
 ghost use Rattle.text_io.specs.Written.{Writes};
 ghost use Rattle.text_io.specs.declared.fault.ReplayFault.TheVariants.{OutputFailed};
 
-use text_io::{ReplaySettings, WordFault, parse_serial_words};
 use replay_rows::replay_serial;
-use text_io::{Program, ReplayFault, run_asked};
 use std::alloc::Global;
 use std::io::{Read, Write};
 use std::process::ExitCode;
+use text_io::{Program, ReplayFault, ReplaySettings, WordFault, parse_serial_words, run_asked};
 
 // A replay in serial mode.
 struct SerialProgram;

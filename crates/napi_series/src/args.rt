@@ -8,8 +8,8 @@ ghost use Rattle.text_io.specs.Refusals.{IsArgsOutOfMemory};
 ghost use Rattle.text_io.specs.declared.args.WordFault.TheVariants.{OutOfMemory, Usage};
 
 use crate::settings::{SeriesOptions, SeriesSettings};
-use text_io::{WordFault, number_of, number_within, parse_serial_words};
 use std::alloc::Global;
+use text_io::{WordFault, number_of, number_within, parse_serial_words};
 
 // More runs than a trace has room for: runs are added until the list is empty.
 const UNTIL_EMPTY: u32 = 100000;

@@ -13,9 +13,9 @@ mod series;
 mod settings;
 
 use crate::program::run_program;
-use text_io::given_args;
 use std::io;
 use std::process::ExitCode;
+use text_io::given_args;
 
 // Runs the program with the real standard input and outputs.
 fn main(rt: HostRuntime) -> ExitCode {

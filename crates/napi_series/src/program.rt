@@ -12,11 +12,10 @@ ghost use Rattle.text_io.specs.declared.fault.ReplayFault.TheVariants.{OutputFai
 use crate::args::parse_series_words;
 use crate::series::write_series;
 use crate::settings::SeriesSettings;
-use text_io::WordFault;
-use text_io::{Program, ReplayFault, run_asked};
 use std::alloc::Global;
 use std::io::{Read, Write};
 use std::process::ExitCode;
+use text_io::{Program, ReplayFault, WordFault, run_asked};
 
 // A replay that writes its series.
 struct SeriesProgram;

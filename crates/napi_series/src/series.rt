@@ -16,9 +16,9 @@ use crate::polls::add_polls;
 use crate::settings::SeriesSettings;
 use device_rows::{Row, Trace, read_trace};
 use replay_rows::{SerialReplay, raise_rows, raise_trace};
-use text_io::{ReplayFault, write_text};
 use std::alloc::{AllocError, Global};
 use std::io::{Read, Write};
+use text_io::{ReplayFault, write_text};
 
 const NAMES: &str =
     "row,moment,device,state,waiting,arrived,dropped,polled,in_flight,limit,avail,stopped,polls,work,squeezed,word,list,gave";

@@ -8,16 +8,16 @@ ghost use Rattle.poll_engine.specs.declared.handle.PollHandle.{PollHandle};
 ghost use Rattle.poll_engine.specs.Tasks.{EachAt, HasRoom};
 ghost use Rattle.poll_engine.specs.Outcomes.{AreLeftBy, AreSeatsAt, IsLeftBy, IsThreadWith};
 
-use crate::pollers::{OwnThread, RunTasks};
-use napi_calls::{Caller, DropBomb};
 use crate::acts::Device;
-use crate::worker::InterruptWorker;
-use crate::opening::Loose;
 use crate::dealing::poller_of;
-use crate::poller::Poller;
-use crate::thread_poller::ThreadPoller;
-use crate::gate::Gate;
 use crate::driving::Tasks;
+use crate::gate::Gate;
+use crate::opening::Loose;
+use crate::poller::Poller;
+use crate::pollers::{OwnThread, RunTasks};
+use crate::thread_poller::ThreadPoller;
+use crate::worker::InterruptWorker;
+use napi_calls::{Caller, DropBomb};
 use std::sync::Wait;
 
 // What the threads of one instance hold of it.

@@ -5,12 +5,12 @@ ghost use Rattle.std.specs.Option.{ForSome};
 ghost use Rattle.napi_calls.specs.Instance.{IsSeatOf};
 ghost use Rattle.poll_runs.specs.Ranges.{IsMost, IsWeight};
 
+use crate::signals::Waker;
+use crate::trail::{Signal, Trail};
 use napi_calls::{Caller, Napi};
 use napi_model::Kind;
 use poll_runs::{Next, Once, ThreadReport};
 use poll_shared::{poll_instance, poll_instance_by_thread};
-use crate::trail::{Signal, Trail};
-use crate::signals::Waker;
 use rx_ring::Batch;
 use std::mem;
 use std::sync::Wait;

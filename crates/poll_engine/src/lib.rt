@@ -44,7 +44,11 @@ pub use list_ends::{ListBack, end_list, shared_list};
 pub use list_fault::ListFault;
 pub use list_in::ListIn;
 pub use numbers::have_distinct_numbers;
-pub use poll_runs::{Bench, BusyInstance, BusyReport, Instance, Next, Once, PlainList, PollList, RunReport, SoftList, ThreadReport, no_other_arrivals, plain_list_afterwards, poll_busy_of, poll_once_of, poll_thread_of, run_is_function, run_is_shown, run_softirq, runs_agree};
+pub use poll_runs::{
+    Bench, BusyInstance, BusyReport, Instance, Next, Once, PlainList, PollList, RunReport,
+    SoftList, ThreadReport, no_other_arrivals, plain_list_afterwards, poll_busy_of, poll_once_of,
+    poll_thread_of, run_is_function, run_is_shown, run_softirq, runs_agree,
+};
 pub use poll_shared::{busy_instance, poll_instance, poll_instance_by_thread};
 pub use run::run_workers;
 pub use shared::SharedList;

@@ -3,14 +3,14 @@
 ghost use Rattle.std.specs.Prelude.{◌≡◌, ◌==◌, ◌<◌, position, vec_capacity, vec_len};
 ghost use Rattle.poll_engine.specs.Limits.{IsLawful};
 
+use crate::context::PollLimits;
+use crate::gate::Gate;
 use crate::handle::PollHandle;
 use crate::poller::{Poller, Serves};
-use napi_calls::{Caller, DropBomb};
 use crate::shared::SharedList;
-use poll_runs::{Bench, BusyReport, Next, Once, RunReport, ThreadReport, run_softirq};
-use crate::gate::Gate;
-use crate::context::PollLimits;
 use crate::trail::{Signal, Trail};
+use napi_calls::{Caller, DropBomb};
+use poll_runs::{Bench, BusyReport, Next, Once, RunReport, ThreadReport, run_softirq};
 use rx_ring::Batch;
 use std::sync::Wait;
 

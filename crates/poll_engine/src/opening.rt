@@ -10,11 +10,11 @@ ghost use Rattle.poll_engine.specs.Tasks.{HasRoom};
 ghost use Rattle.poll_engine.specs.Closings.{IsCallersOf, IsClosedAs};
 ghost use Rattle.poll_engine.specs.Handles.{AreAtRest};
 
+use crate::signals::{IdleWait, Waker};
 use crate::station::{Closed, Finished, Station};
+use crate::trail::{Asked, Trail};
 use crate::worker::{ControllerState, WorkerHandles};
 use napi_calls::{Caller, DropBomb, Napi, NewBack};
-use crate::trail::{Asked, Trail};
-use crate::signals::{IdleWait, Waker};
 use rx_ring::{RxCtx, RxIn, finish, ring};
 use std::alloc::{AllocError, Global};
 use std::snapshot::Snapshot;

@@ -2,12 +2,12 @@
 
 ghost use Rattle.poll_engine.specs.Serving.{IsServed};
 
-use crate::trail::{Asked, Trail};
+use crate::context::RunContext;
+use crate::fault::WorkFault;
 use crate::gate::Gate;
 use crate::signals::{IdleWait, Waker};
-use crate::context::RunContext;
 use crate::tasks::Task;
-use crate::fault::WorkFault;
+use crate::trail::{Asked, Trail};
 use std::sync::Wait;
 
 /// What a poller polls: the instances on a list, or the one instance whose thread it is.

@@ -8,18 +8,18 @@ ghost use Rattle.poll_engine.specs.Limits.{IsLawful};
 ghost use Rattle.poll_engine.specs.Wakers.{Wakes};
 ghost use Rattle.poll_engine.specs.Spreads.{AreEndsOf, ArePollers, IsEndOf, IsNewEnd};
 
-use crate::worker::InterruptWorker;
-use crate::list_in::ListIn;
-use crate::shared::SharedList;
-use crate::list_ends::shared_list;
-use crate::list_poller::ListPoller;
-use crate::poller::Poller;
-use crate::thread_poller::ThreadPoller;
-use crate::gate::Gate;
-use crate::signals::{IdleWait, Waker};
 use crate::context::RunContext;
 use crate::driving::Tasks;
+use crate::gate::Gate;
+use crate::list_ends::shared_list;
+use crate::list_in::ListIn;
+use crate::list_poller::ListPoller;
+use crate::poller::Poller;
+use crate::shared::SharedList;
+use crate::signals::{IdleWait, Waker};
+use crate::thread_poller::ThreadPoller;
 use crate::trail::Trail;
+use crate::worker::InterruptWorker;
 use std::alloc::{AllocError, Global};
 use std::sync::Wait;
 

@@ -12,20 +12,20 @@ ghost use Rattle.poll_engine.specs.Spreads.{AreEndsOf, ArePollers, IsJobAt, IsJo
 ghost use Rattle.poll_engine.specs.Spreads.{IsSeatAt, IsSeatFor, IsThreadAt, IsThreadFor, IsWiredJob, IsWiredSide};
 ghost use Rattle.poll_engine.specs.Tasks.{HasRoom};
 
-use crate::pollers::{OwnThread, RunTasks, two_ends};
-use napi_calls::{Caller, DropBomb};
 use crate::acts::Device;
-use crate::worker::{InterruptHandler, InterruptWorker, Outbox};
-use crate::opening::{Loose, Placed};
-use crate::dealing::poller_of;
-use crate::list_in::ListIn;
-use crate::handle::PollHandle;
-use crate::poller::Poller;
-use crate::thread_poller::ThreadPoller;
-use crate::gate::Gate;
 use crate::context::RunContext;
-use crate::trail::Trail;
+use crate::dealing::poller_of;
+use crate::gate::Gate;
+use crate::handle::PollHandle;
+use crate::list_in::ListIn;
+use crate::opening::{Loose, Placed};
+use crate::poller::Poller;
+use crate::pollers::{OwnThread, RunTasks, two_ends};
 use crate::signals::Waker;
+use crate::thread_poller::ThreadPoller;
+use crate::trail::Trail;
+use crate::worker::{InterruptHandler, InterruptWorker, Outbox};
+use napi_calls::{Caller, DropBomb};
 use rx_ring::Batch;
 use std::sync::Wait;
 

@@ -4,8 +4,8 @@ ghost use Rattle.std.specs.Prelude.{[], ◌∷◌};
 ghost use Rattle.rx_ring.specs.declared.ends.RxCtx.{RxCtx};
 ghost use Rattle.napi_calls.specs.Closed.{IsClosed};
 
-use napi_calls::{Caller, Control, Napi, Off};
 use crate::trail::{Asked, Trail};
+use napi_calls::{Caller, Control, Napi, Off};
 use rx_ring::Totals;
 use std::snapshot::Snapshot;
 

@@ -6,15 +6,15 @@ ghost use Rattle.poll_engine.specs.Limits.{IsLawful};
 ghost use Rattle.poll_engine.specs.Trails.{signals_with, wakes_after};
 ghost use Rattle.poll_engine.specs.Polled.{handed_on};
 
+use crate::context::PollLimits;
 use crate::handle::PollHandle;
+use crate::list_in::ListIn;
 use crate::poller::Serves;
+use crate::signals::Waker;
+use crate::trail::{Signal, Trail};
 use napi_calls::DropBomb;
 use napi_model::Kind;
-use crate::list_in::ListIn;
 use poll_runs::Next;
-use crate::context::PollLimits;
-use crate::trail::{Signal, Trail};
-use crate::signals::Waker;
 use rx_ring::Batch;
 use std::sync::Wait;
 

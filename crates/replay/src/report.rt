@@ -7,9 +7,9 @@ ghost use Rattle.replay.specs.ThreadsStations.{IsStationEnd, end_lines};
 ghost use Rattle.replay.specs.ThreadsReport.{arrived_line, opened_devices, threads_report, threads_total_line};
 ghost use Rattle.text_io.specs.Lines.{with_newline};
 
-use replay_rows::add_transmit;
 use crate::script::ScriptDevice;
 use poll_engine::Finished;
+use replay_rows::add_transmit;
 use std::alloc::{AllocError, Global};
 
 // Appends the lines of a device: one, and a second one if its transmit side had a tx or done row.

@@ -7,8 +7,8 @@ ghost use Rattle.replay.specs.Script.{act_of, has_thread, is_rx, makes_threaded,
 ghost use Rattle.replay.specs.ScriptShown.{side_of};
 
 use crate::dealing::{is_act_of, opens};
-use device_rows::{Row, RowEvent, Trace};
 use device_bench::{Transmit, TxCounts};
+use device_rows::{Row, RowEvent, Trace};
 use poll_engine::{Act, Device};
 use rx_ring::Packet;
 use std::alloc::{AllocError, Global};

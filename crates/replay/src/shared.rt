@@ -7,12 +7,11 @@ ghost use Rattle.replay_rows.specs.Answer.{replay_of};
 ghost use Rattle.replay.specs.SharedRun.{RanShared};
 
 use device_shared::SharedBench;
-use text_io::ReplaySettings;
 use replay_rows::replay_on;
-use text_io::ReplayFault;
 use std::alloc::Global;
 use std::io::{Read, Write};
 use std::sync::Wait;
+use text_io::{ReplayFault, ReplaySettings};
 
 /// Replays a trace by one thread on instances that threads could share, and writes its report, which is that of serial mode.
 ///

@@ -18,16 +18,14 @@ ghost use Rattle.replay.specs.ThreadsStations.{AreRunBy, IsStationEnd, IsStation
 ghost use Rattle.text_io.specs.declared.fault.ReplayFault.TheVariants.{OutputFailed};
 ghost use Rattle.replay.specs.ThreadsReport.{is_opened, opened_devices};
 
-use device_rows::TABLE_LEN;
-use device_rows::Row;
-use crate::script::{ScriptDevice, opening_of};
 use crate::dealing::{openings_of, scripts_of, take_script};
+use crate::script::{ScriptDevice, opening_of};
+use device_rows::{Row, TABLE_LEN};
 use poll_engine::{Finished, Gate, Station, WorkFault, run_workers};
-use text_io::ReplaySettings;
-use text_io::ReplayFault;
 use std::alloc::{AllocError, Global};
 use std::sync::Wait;
 use std::thread::Threads;
+use text_io::{ReplayFault, ReplaySettings};
 
 // Returns the station of the device that this row opens, with the device's rows after it.
 fn station_of(

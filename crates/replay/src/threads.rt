@@ -15,16 +15,15 @@ ghost use Rattle.text_io.specs.Written.{AppendsPart, IsFaultBy, LeavesText, Writ
 
 use crate::polled::Polled;
 use crate::report::report_of;
+use crate::script::ScriptDevice;
 use crate::stations::run_rows;
 use device_rows::{Row, read_trace};
-use crate::script::ScriptDevice;
 use poll_engine::{Finished, Gate};
-use text_io::ReplaySettings;
-use text_io::{ReplayFault, write_text};
 use std::alloc::{AllocError, Global};
 use std::io::{Read, Write};
 use std::sync::Wait;
 use std::thread::Threads;
+use text_io::{ReplayFault, ReplaySettings, write_text};
 
 // Returns the counts of the polls of each device.
 fn all_polled(alloc: Global, ends: &[Finished<ScriptDevice>]) -> Result<Vec<Polled>, AllocError>

@@ -9,10 +9,9 @@ ghost use Rattle.text_io.specs.declared.fault.ReplayFault.TheVariants.{OutputFai
 use crate::raised::raise_rows;
 use crate::rows_text::trace_text;
 use device_rows::{Trace, read_trace};
-use text_io::ReplaySettings;
-use text_io::{ReplayFault, write_text};
 use std::alloc::Global;
 use std::io::{Read, Write};
+use text_io::{ReplayFault, ReplaySettings, write_text};
 
 // Returns the text of a trace with the added runs.
 fn text_of(

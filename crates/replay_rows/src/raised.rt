@@ -10,9 +10,8 @@ use crate::replay::{Replay, room_for_lines};
 use crate::softirq::is_softirq;
 use device_bench::SerialBench;
 use device_rows::{MOST_ROWS, Row, TraceFault};
-use text_io::ReplaySettings;
-use text_io::ReplayFault;
 use std::alloc::{AllocError, Global};
+use text_io::{ReplayFault, ReplaySettings};
 
 /// The rows so far, with those that were added, and a replay of them.
 #[derive(Drop)]

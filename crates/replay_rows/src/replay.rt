@@ -10,9 +10,8 @@ use device_bench::ReplayBench;
 use device_rows::{Row, RowEvent};
 use napi_model::Kind;
 use poll_runs::{Next, PlainList, PollList, run_softirq};
-use text_io::ReplaySettings;
-use text_io::ReplayFault;
 use std::alloc::{AllocError, Global};
+use text_io::{ReplayFault, ReplaySettings};
 
 /// The most polls that a kthread row makes. A trace has too few packets to reach this number.
 pub(crate) const MOST_THREAD_POLLS: u32 = 131072;

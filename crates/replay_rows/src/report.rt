@@ -9,17 +9,15 @@ ghost use Rattle.text_io.specs.Lines.{with_newline, flag};
 ghost use Rattle.text_io.specs.Outside.{IsReplayOutOfMemory};
 ghost use Rattle.text_io.specs.declared.fault.ReplayFault.TheVariants.{OutputFailed};
 
-use crate::transmit_line::add_transmit;
 use crate::line::PollRecord;
 use crate::replay::{Replay, room_for_lines};
+use crate::transmit_line::add_transmit;
 use device_bench::{DeviceCounts, DeviceState, ReplayBench};
-use device_rows::TABLE_LEN;
-use device_rows::Row;
+use device_rows::{Row, TABLE_LEN};
 use poll_runs::PollList;
-use text_io::ReplaySettings;
-use text_io::ReplayFault;
 use std::alloc::{AllocError, Global};
 use std::fmt;
+use text_io::{ReplayFault, ReplaySettings};
 
 // Appends the line of each row that polled.
 fn add_lines(text: &mut String, lines: &[PollRecord]) -> Result<(), AllocError>

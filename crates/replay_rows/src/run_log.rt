@@ -10,8 +10,8 @@ ghost use Rattle.replay_rows.specs.RunLog.{logged, polls_in};
 
 use device_bench::{DeviceCounts, ReplayBench};
 use poll_runs::{Once, PlainList, PollingRun, RunReport};
-use text_io::ReplaySettings;
 use std::alloc::{AllocError, Global};
+use text_io::ReplaySettings;
 
 /// One poll of a run, and its device after it.
 #[derive(Clone, Copy)]

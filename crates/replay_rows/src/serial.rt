@@ -7,10 +7,9 @@ ghost use Rattle.replay_rows.specs.Answer.{replay_of};
 
 use crate::whole::replay_on;
 use device_bench::SerialBench;
-use text_io::ReplaySettings;
-use text_io::ReplayFault;
 use std::alloc::Global;
 use std::io::{Read, Write};
+use text_io::{ReplayFault, ReplaySettings};
 
 /// Replays a trace on one thread, and writes its report.
 ///

@@ -5,9 +5,8 @@ use crate::replay::{Replay, room_for_lines};
 use crate::run_log::{RunLog, RunPoll, counts_of};
 use device_bench::{DeviceCounts, ReplayBench, SerialBench};
 use device_rows::Row;
-use text_io::ReplaySettings;
-use text_io::ReplayFault;
 use std::alloc::{AllocError, Global};
+use text_io::{ReplayFault, ReplaySettings};
 
 /// A replay on one thread that processes the rows one by one, and shows the state after each row.
 #[derive(Drop)]

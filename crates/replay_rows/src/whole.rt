@@ -9,10 +9,9 @@ ghost use Rattle.replay_rows.specs.Answer.{Plays, replay_of};
 use crate::report::report_on;
 use device_bench::ReplayBench;
 use device_rows::read_trace;
-use text_io::ReplaySettings;
-use text_io::{ReplayFault, write_text};
 use std::alloc::Global;
 use std::io::{Read, Write};
+use text_io::{ReplayFault, ReplaySettings, write_text};
 
 /// Replays a trace on a bench that has no devices yet, and writes its report. It returns the bench.
 ///

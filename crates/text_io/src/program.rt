@@ -11,9 +11,9 @@ ghost use Rattle.text_io.specs.Refusals.{IsArgsOutOfMemory};
 ghost use Rattle.text_io.specs.Args.{Text};
 ghost use Rattle.text_io.specs.declared.args.WordFault.TheVariants.{OutOfMemory, Usage};
 
+use crate::args::{WordFault, word_line, word_status};
 use crate::fault::ReplayFault;
 use crate::lines::write_out;
-use crate::args::{WordFault, word_line, word_status};
 use std::alloc::{AllocError, Global};
 use std::env::{self, Env, FillError};
 use std::io::{ErrorKind, Read, Write};

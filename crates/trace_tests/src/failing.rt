@@ -1,18 +1,20 @@
 //! The result of each mode if its reader or its writer fails, and the messages of errors that no run of the program shows.
 
+use crate::ends::{
+    FailingReader, FailingWriter, ONE_PACKET, ONE_PACKET_REPORT, ONE_PACKET_THREADS,
+};
 use device_model::TraceFault;
 use poll_engine::OpenGate;
 use replay::{
     Mode, ReplayFault, Settings, fault_line, replay_serial, replay_shared, replay_threads, status,
 };
-use text_io::{ProgramFault, end_by};
 use std::alloc::Global;
 use std::io::{Read, Write};
 use std::process::ExitCode;
 use std::sync::Wait;
 use std::test::Fail;
 use std::thread::Threads;
-use crate::ends::{FailingReader, FailingWriter, ONE_PACKET, ONE_PACKET_REPORT, ONE_PACKET_THREADS};
+use text_io::{ProgramFault, end_by};
 
 const MODES: [(Mode, &str); 3] = [
     (Mode::Serial, ONE_PACKET_REPORT),

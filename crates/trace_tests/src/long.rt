@@ -1,8 +1,8 @@
 //! How much is read of an input that has no end. `tests/inputs.sh` tries the built program with 70 MB of empty lines, and with a
 //! field of 70 MB.
 
-use device_model::{TraceFault, read_trace};
 use crate::ends::LongReader;
+use device_model::{TraceFault, read_trace};
 
 // the reader is asked for the header, for 100001 rows and what one read ahead takes, and for no more
 #[test]

@@ -1,9 +1,9 @@
 //! Tests of whole runs, and of each error of arrivals.
 
+use crate::ends::{FailingReader, FailingWriter};
 use machine::{MachineFault, MachineSettings, fault_line, parse_words, run_machine, status};
 use std::alloc::Global;
 use std::test::Fail;
-use crate::ends::{FailingReader, FailingWriter};
 
 // Arrivals whose report is worked by hand, by the rules of docs/FORMATS.md.
 const ARRIVALS: &str = "moment,device,bytes\n0,1,100\n0,1,100\n500,2,60\n9000,1,60\n";
