@@ -1,7 +1,7 @@
 #!/bin/sh
 # Times calls of the C library from C: pairs on a queue limit, compared with the plain C++ fold of bench/limits.cc, which is
 # inlined and has to count the same; cycles of a shared instance by one thread (schedule, hand, take, complete), compared with
-# the same cycles by the typed calls (crates/bench_word); packets that a driver (fq_driver_new) polls, one or 64 at each
+# the same cycles by the typed calls (crates/bench_calls); packets that a driver (fq_driver_new) polls, one or 64 at each
 # interrupt, reported and asked for in two calls or in one; and packets, put one by one and in bursts of 64, and polled 64 at a
 # time, and put and polled in bursts of 1, 8, 32 and 64. Three rounds of all in turn; the best time of each is printed, with C's
 # ratio to the other. Then nine rounds of looks by two threads at once, with handles that are adjacent or 128 bytes apart: the
@@ -23,7 +23,7 @@ work=$(mktemp -d)
 trap 'rm -rf "$work"' EXIT
 
 "$bench/../scripts/c_library.sh" "$work"
-"$bench/../scripts/build.sh" bench_word
+"$bench/../scripts/build.sh" bench_calls
 gcc -std=c11 -O2 -pthread -I "$bench/../include" "$bench/c_library.c" "$work/libfintaqush.a" -o "$work/c_library"
 g++ -O2 -o "$work/fold" "$bench/limits.cc"
 
@@ -36,7 +36,7 @@ for round in 1 2 3; do
         "$work/c_library" "$what" "$count" > "$work/$what.line" 2> "$work/spent"
         cut -d ' ' -f 1 "$work/spent" >> "$work/$what.times"
     done
-    "$bench/../crates/bench_word/out/bench_word" "$turns" > "$work/typed.line" 2> "$work/spent"
+    "$bench/../crates/bench_calls/out/bench_calls" "$turns" > "$work/typed.line" 2> "$work/spent"
     awk '$1 == "typed" { print $2 }' "$work/spent" >> "$work/typed.times"
     if ! cmp -s "$work/limits.line" "$work/fold.line"; then
         echo 'the library counts otherwise than the fold:' >&2

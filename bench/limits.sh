@@ -1,5 +1,5 @@
 #!/bin/sh
-# Times pairs of `queued` and `completed`: crates/bench_limits, compared with a plain C++ fold over the same rules, built by g++
+# Times pairs of `queued` and `completed`: crates/bench_rings, compared with a plain C++ fold over the same rules, built by g++
 # -O2 and, if it is installed, by clang++ -O3. Each makes the same calls and prints the same counts, which are compared. Three
 # rounds of all programs in turn; the best time of each is printed.
 #
@@ -16,8 +16,8 @@ is_tool g++
 work=$(mktemp -d)
 trap 'rm -rf "$work"' EXIT
 
-"$bench/../scripts/build.sh" bench_limits
-cp "$bench/../crates/bench_limits/out/bench_limits" "$work/dql_core"
+"$bench/../scripts/build.sh" bench_rings
+cp "$bench/../crates/bench_rings/out/bench_rings" "$work/dql_core"
 programs=dql_core
 g++ -O2 -o "$work/gcc" "$bench/limits.cc"
 programs="$programs gcc"
