@@ -26,46 +26,53 @@ use plain::pass_plainly;
 use rx_ring::ring;
 use shared::pass_shared;
 use std::env;
+use std::io::Eprint;
+use std::rt::Clock;
+use std::sync::Wait;
+use std::thread::Threads;
 use std::time::Instant;
 use tally::ReceivedCounts;
 use turns::{Tally, make_turns, make_turns_beside};
 use typed::{Round, make_typed_turns};
 
 // Times so many cycles by the steps on the state word.
-fn time_steps(rt: HostRuntime, turns: u64) -> Result<()> {
+fn time_steps(
+    rt: &(impl Clock + Print + Eprint + Threads + AllocGlobal),
+    turns: u64,
+) -> Result<()> {
     let (_input, ctx) = ring(rt.alloc(), 4)?;
     let mut opened = OpenedWord::enabled(rt.alloc(), ctx).context("no memory")?;
 
-    let start = Instant::now(&rt)?;
+    let start = Instant::now(rt)?;
     let Tally { polls, again, lost } = make_turns(&opened.table, &mut opened.poller, turns);
-    let spent = start.elapsed(&rt)?.as_nanos();
+    let spent = start.elapsed(rt)?.as_nanos();
     println!(rt; "one thread: turns {turns} polls {polls} again {again} lost {lost}")?;
     eprintln!(rt; "one {spent} ns")?;
 
-    let start = Instant::now(&rt)?;
+    let start = Instant::now(rt)?;
     let Tally { polls, again, lost } = make_turns_beside(
-        &rt,
+        rt,
         &opened.table,
         &mut opened.poller,
         &mut opened.scheduler,
         turns,
     );
-    let spent = start.elapsed(&rt)?.as_nanos();
+    let spent = start.elapsed(rt)?.as_nanos();
     println!(rt; "two threads: turns {turns}")?;
     eprintln!(rt; "two {spent} ns polls {polls} again {again} lost {lost}")?;
     Ok(())
 }
 
 // Times so many cycles by the typed calls.
-fn time_calls(rt: HostRuntime, turns: u64) -> Result<()> {
+fn time_calls(rt: &(impl Clock + Print + Eprint + Wait + AllocGlobal), turns: u64) -> Result<()> {
     for (name, short, round) in [
         ("typed calls", "typed", Round::Listed),
         ("busy polling", "busy", Round::Busy),
     ] {
         let (_input, ctx) = ring(rt.alloc(), 4)?;
-        let start = Instant::now(&rt)?;
-        let Tally { polls, again, lost } = make_typed_turns(&rt, rt.alloc(), ctx, round, turns)?;
-        let spent = start.elapsed(&rt)?.as_nanos();
+        let start = Instant::now(rt)?;
+        let Tally { polls, again, lost } = make_typed_turns(rt, rt.alloc(), ctx, round, turns)?;
+        let spent = start.elapsed(rt)?.as_nanos();
         println!(rt; "{name}: turns {turns} polls {polls} again {again} lost {lost}")?;
         eprintln!(rt; "{short} {spent} ns")?;
     }
@@ -73,7 +80,10 @@ fn time_calls(rt: HostRuntime, turns: u64) -> Result<()> {
 }
 
 // Times so many packets from one thread to another.
-fn time_packets(rt: HostRuntime, packets: u64) -> Result<()> {
+fn time_packets<R: Clock + Print + Eprint + AllocGlobal + Threads + Wait + Copy + Drop + Send>(
+    rt: R,
+    packets: u64,
+) -> Result<()> {
     let start = Instant::now(&rt)?;
     let ReceivedCounts { in_turn, bytes } = pass_shared(rt, rt.alloc(), packets)?;
     let spent = start.elapsed(&rt)?.as_nanos();
@@ -97,8 +107,8 @@ fn main(rt: HostRuntime) -> Result<()> {
         None => 0,
     };
     if turns > 0 {
-        time_steps(rt, turns)?;
-        time_calls(rt, turns)?;
+        time_steps(&rt, turns)?;
+        time_calls(&rt, turns)?;
     }
     if packets > 0 {
         time_packets(rt, packets)?;

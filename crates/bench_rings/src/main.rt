@@ -12,30 +12,32 @@ use anyhow::{Context, Result};
 use pattern::{LimitCounts, run_pairs};
 use rounds::{ReceiveTimes, time_polls, time_pops};
 use std::env;
+use std::io::Eprint;
+use std::rt::Clock;
 use std::time::Instant;
 
 // Times so many pairs.
-fn time_pairs(rt: HostRuntime, pairs: u64) -> Result<()> {
-    let start = Instant::now(&rt)?;
+fn time_pairs(rt: &(impl Clock + Print + Eprint), pairs: u64) -> Result<()> {
+    let start = Instant::now(rt)?;
     let LimitCounts {
         limits,
         over,
         queued,
         limit,
     } = run_pairs(pairs)?;
-    let spent = start.elapsed(&rt)?.as_nanos();
+    let spent = start.elapsed(rt)?.as_nanos();
     println!(rt; "pairs {pairs} limits {limits} over {over} queued {queued} limit {limit}")?;
     eprintln!(rt; "{spent} ns")?;
     Ok(())
 }
 
 // Times so many rounds of each kind.
-fn time_rounds(rt: HostRuntime, rounds: u32) -> Result<()> {
+fn time_rounds(rt: &(impl Clock + Print + Eprint + AllocGlobal), rounds: u32) -> Result<()> {
     for (name, spent) in [
-        ("pop", time_pops(&rt, rt.alloc(), rounds)?),
-        ("weight-1", time_polls(&rt, rt.alloc(), rounds, 1)?),
-        ("weight-16", time_polls(&rt, rt.alloc(), rounds, 16)?),
-        ("weight-64", time_polls(&rt, rt.alloc(), rounds, 64)?),
+        ("pop", time_pops(rt, rt.alloc(), rounds)?),
+        ("weight-1", time_polls(rt, rt.alloc(), rounds, 1)?),
+        ("weight-16", time_polls(rt, rt.alloc(), rounds, 16)?),
+        ("weight-64", time_polls(rt, rt.alloc(), rounds, 64)?),
     ] {
         let ReceiveTimes {
             nanos,
@@ -58,10 +60,10 @@ fn main(rt: HostRuntime) -> Result<()> {
         None => 0,
     };
     if pairs > 0 {
-        time_pairs(rt, pairs)?;
+        time_pairs(&rt, pairs)?;
     }
     if rounds > 0 {
-        time_rounds(rt, rounds)?;
+        time_rounds(&rt, rounds)?;
     }
     Ok(())
 }

@@ -1,7 +1,7 @@
 -- The whole program: which settings its arguments ask for, and its result for the bytes of its input.
 use Rattle.std.specs.Prelude.{◌≡◌, ℕ, List, Option, Some, Result, option_map}
 use Rattle.replay.specs.ThreadsAnswer.{RanBy, threads_of}
-use Rattle.replay.specs.ThreadsAnswer.IsThreadsOutside as IsOutsideThreads
+use Rattle.replay.specs.ThreadsAnswer.{IsThreadsOutside as IsOutsideThreads}
 use Rattle.replay.specs.SharedRun.{RanShared}
 use Rattle.replay.specs.declared.polled.Polled.{Polled}
 use Rattle.text_io.specs.Outside.{IsOutside}

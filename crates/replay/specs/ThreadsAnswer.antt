@@ -10,7 +10,7 @@ use Rattle.replay.specs.declared.polled.Polled.{Polled}
 use Rattle.poll_engine.specs.declared.fault.WorkFault.{WorkFault}
 use Rattle.replay.specs.ScriptShown.{Script}
 use Rattle.replay.specs.Script.{opening_of}
-use Rattle.text_io.specs.Outside.IsOutside as IsSerialOutside
+use Rattle.text_io.specs.Outside.{IsOutside as IsSerialOutside}
 use Rattle.text_io.specs.Outside.{IsReplayOutOfMemory}
 use Rattle.text_io.specs.declared.fault.ReplayFault.{ReplayFault}
 use Rattle.text_io.specs.declared.fault.ReplayFault.TheVariants.{GateShut, RingTooSmall, SpawnFailed, Trace}

@@ -3,7 +3,7 @@ use Rattle.std.specs.{Prelude.{ℕ, [], ◌∷◌, List, Option, Some, None, if�
 use Rattle.text_io.specs.Defaults.{usual_budget, usual_pollers, usual_weight, usual_window}
 use Rattle.text_io.specs.Given.{◌>>=◌, given_by, number_within}
 use Rattle.text_io.specs.Given.{or_usual, value_of}
-pub use Rattle.text_io.specs.Given.Text
+pub use Rattle.text_io.specs.Given.{Text}
 use Rattle.text_io.specs.declared.mode.ReplayMode.{ReplayMode}
 use Rattle.text_io.specs.declared.mode.ReplayMode.TheVariants.{Serial, Shared, Threads}
 use Rattle.text_io.specs.declared.settings.ReplaySettings.{ReplaySettings}

@@ -8,9 +8,9 @@ use Rattle.text_io.specs.Written.{AppendsPart, LeavesBy}
 use Rattle.text_io.specs.declared.program.ProgramFault.{ProgramFault}
 use Rattle.text_io.specs.declared.program.ProgramFault.TheVariants.{Args, Run}
 use Rattle.{device_rows.specs.Failures.IsTraceOutOfMemory}
-use Rattle.text_io.specs.Refusals.IsArgsOutOfMemory as IsRefusedArgs
-use Rattle.text_io.specs.Args.word_fault_line as word_line
-use Rattle.text_io.specs.Args.word_fault_status as word_status
+use Rattle.text_io.specs.Refusals.{IsArgsOutOfMemory as IsRefusedArgs}
+use Rattle.text_io.specs.Args.{word_fault_line as word_line}
+use Rattle.text_io.specs.Args.{word_fault_status as word_status}
 use Rattle.text_io.specs.declared.args.WordFault.TheVariants.{Usage, OutOfMemory}
 
 -- the message on standard error, and the exit status

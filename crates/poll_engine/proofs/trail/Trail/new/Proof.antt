@@ -31,7 +31,7 @@ use Rattle.std.specs.contracts.marker.PhantomData as Mark
 use Rattle.poll_engine.proofs.Walks.{none, one, one_made}
 use Rattle.poll_engine.specs.contracts.trail.Trail as Trail
 use Rattle.poll_engine.specs.contracts.trail.Trail.new as F
-use Rattle.poll_engine.specs.contracts.trail.Trail.new.Key.name as #self
+use Rattle.poll_engine.specs.contracts.trail.Trail.new.Key.{name as #self}
 use Rattle.poll_engine.proofs.trail.Trail.new.Statement as stated
 use Rattle.poll_engine.proofs.trail.Trail.new.Code as code
 

@@ -33,7 +33,7 @@ use Rattle.std.specs.contracts.marker.PhantomData as Mark
 use Rattle.poll_engine.proofs.Walks.{none, one, one_made}
 use Rattle.poll_engine.specs.contracts.trail.Trail as Trail
 use Rattle.poll_engine.specs.contracts.trail.Trail.with as F
-use Rattle.poll_engine.specs.contracts.trail.Trail.with.Key.name as #self
+use Rattle.poll_engine.specs.contracts.trail.Trail.with.Key.{name as #self}
 use Rattle.poll_engine.proofs.trail.Trail.with.Statement as stated
 use Rattle.poll_engine.proofs.trail.Trail.with.Code as code
 
