@@ -753,30 +753,32 @@ static inline const char *fq_fault_name(uint32_t fault) {
 /* ---- The machine (napi_machine): arrivals of packets in, a report of latencies, drops and processor time out, by Linux's rules and
  * timers. docs/FORMATS.md describes arrivals and report, docs/TIMING.md the rules. */
 
-/* Times are in nanoseconds, at most 1000000000. A flag is 0 or 1. */
+/* The members after `size` are the options of napi_machine, with their ranges and defaults. */
 struct fq_machine_settings {
-    size_t size;                /* sizeof(struct fq_machine_settings), which fq_machine_usual sets */
-    uint32_t processors;        /* 1 to 64; queue q belongs to processor (q - 1) mod processors */
-    uint32_t queues;            /* queues of a device, 1 to 64, chosen by the flow (ethtool -L) */
-    uint32_t ring;              /* packets that a ring holds, 1 to 65536 (ethtool -G); with a backlog net.core.netdev_max_backlog plus 1 */
-    uint32_t socket;            /* packets that a processor's socket holds, 1 to 65536 (SO_RCVBUF) */
-    uint32_t backlog;           /* flag: queues are processors' backlogs, as with RPS (process_backlog) */
-    uint32_t budget;            /* packets that a run polls before it is squeezed, 0 to 65535 (net.core.netdev_budget); 0: an interrupt for each packet */
-    uint32_t weight;            /* packets that one poll takes at most, 1 to 64; of a backlog net.core.dev_weight times dev_weight_rx_bias */
-    uint32_t window;            /* polls that a run makes before it is squeezed, 1 to 65535; Linux has no such limit */
-    uint32_t time_limit;        /* the time after which a run is squeezed, from 1 (net.core.netdev_budget_usecs, which is in us) */
-    uint32_t rx_nsecs;          /* how long a card delays its interrupt (ethtool -C rx-usecs, which is in us) */
-    uint32_t rx_frames;         /* packets at which the interrupt comes before that time, 0 to 65535; 0: none (ethtool -C rx-frames) */
-    uint32_t defer_hard_irqs;   /* polls without packets, one after each timeout, of which the last one unmasks, 0 to 65535 (napi_defer_hard_irqs) */
-    uint32_t gro_flush_timeout; /* the time until a queue that stays masked is polled again; 0: none does (gro_flush_timeout) */
-    uint32_t threaded;          /* flag: each queue is polled by its own thread (/sys/class/net/DEV/threaded) */
-    uint32_t apart;             /* flag: the application has a processor of its own (taskset) */
-    uint32_t app_wake;          /* the time to wake the application on its own processor */
-    uint32_t interrupt;         /* the time of an interrupt */
-    uint32_t poll;              /* the time of a poll before its first packet */
-    uint32_t packet;            /* the time of each packet of a poll */
-    uint32_t use_time;          /* the time that the application takes for a packet */
-    uint32_t wake;              /* the time to wake an idle processor */
+    size_t size; /* sizeof(struct fq_machine_settings), which fq_machine_default sets */
+    /* scripts/options.py: begin */
+    uint32_t processors;        /* processors that receive; queue q belongs to processor (q - 1) mod N, and each serves at most 64 queues, 1 to 64 (1) */
+    uint32_t queues;            /* queues of each device, chosen by the packet's flow (RSS: ethtool -L, -X), 1 to 64 (1) */
+    uint32_t ring;              /* packets that the ring of a queue holds (ethtool -G); of a backlog net.core.netdev_max_backlog plus 1, 1 to 65536 (256) */
+    uint32_t socket;            /* packets that the socket of a processor's application holds (SO_RCVBUF), 1 to 65536 (512) */
+    uint32_t backlog;           /* 1: polls take packets as a processor's backlog does (RPS: rps_cpus, process_backlog), 0 to 1 (0) */
+    uint32_t budget;            /* packets after which a run ends and is squeezed (net.core.netdev_budget); 0: no polls, an interrupt for each packet, 0 to 65535 (300) */
+    uint32_t weight;            /* packets that one poll takes at most (NAPI_POLL_WEIGHT for most cards; of a backlog net.core.dev_weight times dev_weight_rx_bias), 1 to 64 (64) */
+    uint32_t window;            /* polls after which a run ends and is squeezed; Linux has no such limit, 1 to 65535 (1024) */
+    uint32_t time_limit;        /* time after which a run ends and is squeezed (net.core.netdev_budget_usecs, in us there), 1 to 1000000000 ns (8000000) */
+    uint32_t rx_nsecs;          /* time by which a card delays its interrupt (ethtool -C rx-usecs, in us there), 0 to 1000000000 ns (0) */
+    uint32_t rx_frames;         /* packets at which the interrupt comes before that time (ethtool -C rx-frames); 0: never, 0 to 65535 (0) */
+    uint32_t defer_hard_irqs;   /* polls without packets, one after each timeout, of which the last unmasks the queue (napi_defer_hard_irqs), 0 to 65535 (0) */
+    uint32_t gro_flush_timeout; /* time until a queue that stays masked is polled again (gro_flush_timeout); 0: none does, 0 to 1000000000 ns (0) */
+    uint32_t threaded;          /* 1: each queue is polled by a thread of its own (/sys/class/net/DEV/threaded), 0 to 1 (0) */
+    uint32_t apart;             /* 1: the application has a processor of its own (taskset), 0 to 1 (0) */
+    uint32_t app_wake;          /* time from waking that application until it runs, 0 to 1000000000 ns (0) */
+    uint32_t interrupt;         /* time of an interrupt, or of an expired NAPI timer, 0 to 1000000000 ns (4000) */
+    uint32_t poll;              /* time of a poll before its first packet, 0 to 1000000000 ns (1000) */
+    uint32_t packet;            /* time of each packet of a poll, 0 to 1000000000 ns (1000) */
+    uint32_t use_time;          /* time that the application takes for a packet, 0 to 1000000000 ns (2000) */
+    uint32_t wake;              /* time to wake an idle processor, which counts as interrupt time, 0 to 1000000000 ns (0) */
+    /* scripts/options.py: end */
 };
 
 struct fq_machine_ran {
@@ -790,7 +792,7 @@ struct fq_machine_ran {
 
 /* Sets all settings to the defaults of napi_machine, in a struct of `size` bytes: call it with sizeof *settings, and then set others.
  * Returns FQ_OK; FQ_BAD_SIZE, and the struct is unchanged. */
-FQ_CHECKED enum fq_status fq_machine_usual(struct fq_machine_settings *settings, size_t size);
+FQ_CHECKED enum fq_status fq_machine_default(struct fq_machine_settings *settings, size_t size);
 /* Runs the machine on arrivals of `len` bytes, and writes its report to an array of `room` bytes. Returns FQ_BAD_SIZE if a struct's
  * `size` isn't set, and *ran is unchanged; FQ_BAD_SETTING, and ran->setting says which; FQ_OUT_OF_MEMORY; FQ_BAD_ARRIVALS, and
  * ran->fault, ran->row and ran->message say why; FQ_NO_ROOM, and ran->length is the room that the report needs; FQ_OK, and the first

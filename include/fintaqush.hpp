@@ -844,7 +844,7 @@ template <class Call>
 
 // The settings of the machine, at first the defaults of napi_machine.
 struct MachineSettings : fq_machine_settings {
-    MachineSettings() noexcept : fq_machine_settings{} { detail::made(fq_machine_usual(this, sizeof(fq_machine_settings))); }
+    MachineSettings() noexcept : fq_machine_settings{} { detail::made(fq_machine_default(this, sizeof(fq_machine_settings))); }
 };
 
 // Why the machine returned no report: its status; for FQ_BAD_SETTING the setting's number, from 1; for FQ_BAD_ARRIVALS the

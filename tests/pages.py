@@ -307,6 +307,11 @@ def commands(all_pages):
         copy.remove()
 
 
+def made_of_options():
+    """The parts that scripts/options.py makes are those of the table of the machine's options."""
+    return subprocess.run([TOP / "scripts/options.py", "--check"], capture_output=True, text=True).stdout.splitlines()
+
+
 def checks():
     """Pairs of a page and what is wrong with it."""
     for page in pages():
@@ -324,6 +329,7 @@ def checks():
     for check, name in ((lengths, "README.md"), (places, "docs/WORKING.md"), (scripts_told, "docs/WORKING.md"), (assurance, "docs/ASSURANCE.md"), (door_rules, "crates.txt"),
                         (crate_picture, "docs/pictures/crates.dot")):
         yield TOP / name, check(TOP / name)
+    yield TOP / "tools/options.json", made_of_options()
     yield from site_pages.checks(pages())
     yield from () if "--static" in sys.argv else commands(pages() + site_pages.MANUALS)
 

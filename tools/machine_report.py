@@ -1,40 +1,18 @@
 """The options of napi_machine, and a parser of its report: docs/FORMATS.md, "The machine's report"."""
 
+import json
+import os
+
 from toolbox import Refusal, is_number, shown
 
-LONGEST = 10**9  # ns
-# The minimum, maximum and default of each option.
-OPTIONS = {
-    "processors": (1, 64, 1), "queues": (1, 64, 1), "ring": (1, 65536, 256), "socket": (1, 65536, 512), "backlog": (0, 1, 0),
-    "budget": (0, 65535, 300), "weight": (1, 64, 64), "window": (1, 65535, 1024), "time-limit": (1, LONGEST, 8000000),
-    "rx-nsecs": (0, LONGEST, 0), "rx-frames": (0, 65535, 0), "defer-hard-irqs": (0, 65535, 0), "gro-flush-timeout": (0, LONGEST, 0),
-    "threaded": (0, 1, 0), "apart": (0, 1, 0), "app-wake": (0, LONGEST, 0),
-    "interrupt": (0, LONGEST, 4000), "poll": (0, LONGEST, 1000), "packet": (0, LONGEST, 1000), "use": (0, LONGEST, 2000), "wake": (0, LONGEST, 0)}
+# The options, made of their table by scripts/options.py: of each the name, the least and the greatest value, the default, the unit, and what it is.
+with open(f"{os.path.dirname(os.path.abspath(__file__))}/options.json", encoding="utf-8") as table:
+    TABLE = json.load(table)
+# The minimum, maximum and default of each option; what each is; and those that are times.
+OPTIONS = {option["name"]: (option["least"], option["most"], option["default"]) for option in TABLE}
+MEANS = {option["name"]: option["what"] for option in TABLE}
+IN_NS = tuple(option["name"] for option in TABLE if option["unit"] == "ns")
 COSTS = ("interrupt", "poll", "packet", "use", "wake", "app-wake")
-# What each option is, and how it is set in Linux.
-MEANS = {
-    "processors": "processors that receive; device d is on processor (d - 1) mod N",
-    "queues": "queues of a device, chosen by the flow (ethtool -L)",
-    "ring": "packets that a ring holds (ethtool -G rx); of a backlog net.core.netdev_max_backlog plus 1",
-    "socket": "packets that the socket holds (SO_RCVBUF)",
-    "backlog": "1: the backlog of a processor, as of RPS (rps_cpus)",
-    "budget": "packets after which a run ends (net.core.netdev_budget); 0: no polls, an interrupt for each packet",
-    "weight": "packets of a poll: 64 for most cards, of a backlog net.core.dev_weight times dev_weight_rx_bias",
-    "window": "polls after which a run ends; Linux has no such limit",
-    "time-limit": "the time after which a run ends (net.core.netdev_budget_usecs, in us there)",
-    "rx-nsecs": "the time from a packet to the interrupt (ethtool -C rx-usecs, in us there)",
-    "rx-frames": "packets after which the interrupt comes earlier (ethtool -C rx-frames); 0: none",
-    "defer-hard-irqs": "empty polls, of which the last one enables interrupts again (napi_defer_hard_irqs)",
-    "gro-flush-timeout": "the time between such polls (gro_flush_timeout)",
-    "threaded": "1: threads poll (threaded)",
-    "apart": "1: the application has a processor of its own (taskset)",
-    "app-wake": "what waking the application there takes",
-    "interrupt": "what an interrupt takes",
-    "poll": "what a poll takes without its packets",
-    "packet": "what a packet takes in a poll",
-    "use": "what the application takes for a packet",
-    "wake": "what waking an idle processor takes"}
-IN_NS = ("time-limit", "rx-nsecs", "gro-flush-timeout", *COSTS)
 LINES = ("device", "processor", "time", "application", "total")
 SHARES = ("interrupt", "poll", "use", "idle")
 PERCENTILES = {"p50": "wait50", "p99": "wait99", "p999": "wait999"}
@@ -104,4 +82,4 @@ def option_words(settings):
 
 def with_costs(settings, percent):
     """Returns the settings with each cost scaled to `percent`."""
-    return {name: min(LONGEST, (int(value) * percent + 50) // 100) if name in COSTS else value for name, value in settings.items()}
+    return {name: min(OPTIONS[name][1], (int(value) * percent + 50) // 100) if name in COSTS else value for name, value in settings.items()}

@@ -1,10 +1,9 @@
 """Formats what-if's results for people: a table with units that has only the columns that differ, and lines with conclusions."""
 
-from machine_report import VALUES, WAITS
+from machine_report import IN_NS, VALUES, WAITS
 
 HEADINGS = {"load": "load", "used_per_second": "used k/s", **{name: name.replace("_", " ") + " µs" for name in WAITS},
             **{name: name.replace("_percent", " %") for name in VALUES if name.endswith("_percent")}}
-US = ("rx-nsecs", "gro-flush-timeout", "time-limit", "interrupt", "poll", "packet", "use", "wake", "app-wake")  # options in ns, shown in µs
 P99 = "used_p99"
 QUIET = ("queues_of_a_processor", "late", "delivered_p999", "used_p999", "timers", "wakes")  # only in CSV or JSON
 
@@ -17,7 +16,7 @@ def digits(value):
 def cell(name, text):
     """Formats a value with the unit of its column."""
     value = float(text)
-    if name in WAITS or name in US:
+    if name in WAITS or name in IN_NS:
         return digits(value / 1000) if value else "0"
     if name == "used_per_second":
         return digits(value / 1000)
@@ -32,7 +31,7 @@ def shown_cell(name, row):
 
 
 def heading(name):
-    return HEADINGS.get(name, f"{name} µs" if name in US else name)
+    return HEADINGS.get(name, f"{name} µs" if name in IN_NS else name)
 
 
 def lines_of(columns):

@@ -231,7 +231,7 @@ static void machined(const char *arrivals, size_t room, uint32_t processors, uin
     static uint8_t report[4096];
     struct fq_machine_settings settings;
     struct fq_machine_ran ran = {.size = sizeof ran};
-    want(fq_machine_usual(&settings, sizeof settings) == FQ_OK, "the usual settings");
+    want(fq_machine_default(&settings, sizeof settings) == FQ_OK, "the default settings");
     settings.processors = processors, settings.threaded = 1;
     want(fq_machine(&settings, (const uint8_t *)arrivals, strlen(arrivals), report, room, &ran) == wanted, "a machine");
     nothing_is_left("of a machine");

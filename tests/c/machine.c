@@ -24,8 +24,13 @@ static bool is_untouched(const uint8_t *bytes, size_t from, size_t to) {
 
 /* Sets a setting by its name, as an option of napi_machine. */
 static void set(struct fq_machine_settings *settings, const char *word) {
-    static const char *const names[] = {"processors", "queues", "ring", "socket", "backlog", "budget", "weight", "window", "time-limit", "rx-nsecs",
-        "rx-frames", "defer-hard-irqs", "gro-flush-timeout", "threaded", "apart", "app-wake", "interrupt", "poll", "packet", "use", "wake"};
+    static const char *const names[] = {
+        /* scripts/options.py: begin */
+        "processors", "queues", "ring", "socket", "backlog", "budget", "weight", "window", "time-limit", "rx-nsecs",
+        "rx-frames", "defer-hard-irqs", "gro-flush-timeout", "threaded", "apart", "app-wake", "interrupt", "poll",
+        "packet", "use", "wake",
+        /* scripts/options.py: end */
+    };
     const size_t length = strcspn(word, "=");
     for (size_t i = 0; i < sizeof names / sizeof *names; i++)
         if (strlen(names[i]) == length && !strncmp(word, names[i], length)) {
@@ -39,7 +44,7 @@ static void refuses_sizes(struct fq_machine_settings settings, struct fq_machine
     uint8_t none = GUARD;
     const struct fq_machine_ran before = ran;
     struct fq_machine_settings kept = settings;
-    want(fq_machine_usual(&kept, sizeof kept - 1) == FQ_BAD_SIZE && !memcmp(&kept, &settings, sizeof kept), "settings of another size");
+    want(fq_machine_default(&kept, sizeof kept - 1) == FQ_BAD_SIZE && !memcmp(&kept, &settings, sizeof kept), "settings of another size");
     settings.size--;
     want(fq_machine(&settings, arrivals, 0, &none, 0, &ran) == FQ_BAD_SIZE && !memcmp(&before, &ran, sizeof ran), "settings that say another size");
     settings.size++, ran.size++;
@@ -58,7 +63,7 @@ int main(int count, char **words) {
     struct fq_machine_settings settings;
     struct fq_machine_ran ran = {.size = sizeof ran, .length = 1, .row = 2, .fault = 3, .setting = 4};
     uint8_t none = GUARD;
-    want(fq_machine_usual(&settings, sizeof settings) == FQ_OK, "the usual settings");
+    want(fq_machine_default(&settings, sizeof settings) == FQ_OK, "the default settings");
     refuses_sizes(settings, ran);
     for (int i = 1; i < count; i++) set(&settings, words[i]);
     const size_t len = fread(arrivals, 1, sizeof arrivals, stdin);

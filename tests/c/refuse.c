@@ -159,7 +159,7 @@ static uint8_t wanted_of_machine[ROOM];
 static uint32_t make_machine(void) {
     struct fq_machine_settings settings;
     struct fq_machine_ran ran = {.size = sizeof ran};
-    want(fq_machine_usual(&settings, sizeof settings) == FQ_OK, "the usual settings", refused_take);
+    want(fq_machine_default(&settings, sizeof settings) == FQ_OK, "the default settings", refused_take);
     settings.processors = 2, settings.threaded = 1, settings.apart = 1;
     memset(report, GUARD, ROOM);
     const uint32_t said = fq_machine(&settings, (const uint8_t *)arrivals, sizeof arrivals - 1, report, ROOM, &ran);

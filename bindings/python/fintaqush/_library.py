@@ -106,8 +106,12 @@ class Replayed(ctypes.Structure):
 
 class MachineSettings(ctypes.Structure):
     _fields_ = [("size", size)] + [(name, u32) for name in (
-        "processors", "queues", "ring", "socket", "backlog", "budget", "weight", "window", "time_limit", "rx_nsecs", "rx_frames",
-        "defer_hard_irqs", "gro_flush_timeout", "threaded", "apart", "app_wake", "interrupt", "poll", "packet", "use_time", "wake")]
+        # scripts/options.py: begin
+        "processors", "queues", "ring", "socket", "backlog", "budget", "weight", "window", "time_limit", "rx_nsecs",
+        "rx_frames", "defer_hard_irqs", "gro_flush_timeout", "threaded", "apart", "app_wake", "interrupt", "poll",
+        "packet", "use_time", "wake",
+        # scripts/options.py: end
+    )]
 
 
 class MachineRan(ctypes.Structure):
@@ -288,7 +292,7 @@ def differences() -> Iterator[str]:
     if (said, replayed.length, replayed.fault, replayed.row) != (Status.BAD_TRACE, 0, 1, 0):
         yield "fq_replayed"
     asked, out = MachineSettings(), MachineRan(ctypes.sizeof(MachineRan))
-    machine_usual(asked, ctypes.sizeof(asked))
+    machine_default(asked, ctypes.sizeof(asked))
     asked.wake = 10**9 + 1
     if (asked.weight, machine(asked, b"?", 1, b"", 0, out), out.setting) != (64, Status.BAD_SETTING, 21):
         yield "fq_machine_settings"

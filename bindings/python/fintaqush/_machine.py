@@ -83,7 +83,7 @@ def machine(arrivals: bytes, **settings: int) -> MachineReport:
     if not isinstance(arrivals, bytes):
         raise TypeError("arrivals are bytes")
     asked = c.MachineSettings()
-    c.machine_usual(asked, ctypes.sizeof(asked))
+    c.machine_default(asked, ctypes.sizeof(asked))
     for name, value in settings.items():
         if name not in SETTINGS:
             raise TypeError(f"the machine has no setting {name!r}")

@@ -11,34 +11,12 @@ impl Default for MachineSettings {
     /// Returns the defaults of `napi_machine`.
     fn default() -> MachineSettings {
         let size = std::mem::size_of::<MachineSettings>();
-        let mut usual = MachineSettings {
-            size,
-            processors: 0,
-            queues: 0,
-            ring: 0,
-            socket: 0,
-            backlog: 0,
-            budget: 0,
-            weight: 0,
-            window: 0,
-            time_limit: 0,
-            rx_nsecs: 0,
-            rx_frames: 0,
-            defer_hard_irqs: 0,
-            gro_flush_timeout: 0,
-            threaded: 0,
-            apart: 0,
-            app_wake: 0,
-            interrupt: 0,
-            poll: 0,
-            packet: 0,
-            use_time: 0,
-            wake: 0,
-        };
+        // SAFETY: all members are integers, for which 0 is a value.
+        let mut settings: MachineSettings = unsafe { std::mem::zeroed() };
         // SAFETY: the pointer leads to a whole struct of this size.
-        match unsafe { sys::fq_machine_usual(&mut usual, size) } {
-            sys::FQ_OK => usual,
-            said => crate::fault::unexpected("machine_usual", said),
+        match unsafe { sys::fq_machine_default(&mut settings, size) } {
+            sys::FQ_OK => settings,
+            said => crate::fault::unexpected("machine_default", said),
         }
     }
 }

@@ -409,48 +409,50 @@ pub struct fq_replayed {
 pub struct fq_machine_settings {
     /// The size of this struct.
     pub size: usize,
-    /// Processors, 1 to 64.
+    // scripts/options.py: begin
+    /// Processors that receive; queue q belongs to processor (q - 1) mod N, and each serves at most 64 queues, 1 to 64 (1).
     pub processors: u32,
-    /// Queues of a device, 1 to 64.
+    /// Queues of each device, chosen by the packet's flow (RSS: ethtool -L, -X), 1 to 64 (1).
     pub queues: u32,
-    /// Packets that a ring holds, 1 to 65536.
+    /// Packets that the ring of a queue holds (ethtool -G); of a backlog net.core.netdev_max_backlog plus 1, 1 to 65536 (256).
     pub ring: u32,
-    /// Packets that a processor's socket holds, 1 to 65536.
+    /// Packets that the socket of a processor's application holds (SO_RCVBUF), 1 to 65536 (512).
     pub socket: u32,
-    /// Flag: queues are processors' backlogs (`process_backlog`).
+    /// 1: polls take packets as a processor's backlog does (RPS: rps_cpus, process_backlog), 0 to 1 (0).
     pub backlog: u32,
-    /// Packets that a run polls before it is squeezed, 0 to 65535; 0 means an interrupt for each packet.
+    /// Packets after which a run ends and is squeezed (net.core.netdev_budget); 0: no polls, an interrupt for each packet, 0 to 65535 (300).
     pub budget: u32,
-    /// Packets that one poll takes at most, 1 to 64.
+    /// Packets that one poll takes at most (NAPI_POLL_WEIGHT for most cards; of a backlog net.core.dev_weight times dev_weight_rx_bias), 1 to 64 (64).
     pub weight: u32,
-    /// Polls that a run makes before it is squeezed, 1 to 65535.
+    /// Polls after which a run ends and is squeezed; Linux has no such limit, 1 to 65535 (1024).
     pub window: u32,
-    /// The time after which a run is squeezed, 1 or more.
+    /// Time after which a run ends and is squeezed (net.core.netdev_budget_usecs, in us there), 1 to 1000000000 ns (8000000).
     pub time_limit: u32,
-    /// How long a card delays its interrupt.
+    /// Time by which a card delays its interrupt (ethtool -C rx-usecs, in us there), 0 to 1000000000 ns (0).
     pub rx_nsecs: u32,
-    /// Packets at which the interrupt comes before that time, 0 to 65535.
+    /// Packets at which the interrupt comes before that time (ethtool -C rx-frames); 0: never, 0 to 65535 (0).
     pub rx_frames: u32,
-    /// Polls without packets, one after each timeout, of which the last unmasks the queue, 0 to 65535 (`napi_defer_hard_irqs`).
+    /// Polls without packets, one after each timeout, of which the last unmasks the queue (napi_defer_hard_irqs), 0 to 65535 (0).
     pub defer_hard_irqs: u32,
-    /// The time until a queue that stays masked is polled again (`gro_flush_timeout`).
+    /// Time until a queue that stays masked is polled again (gro_flush_timeout); 0: none does, 0 to 1000000000 ns (0).
     pub gro_flush_timeout: u32,
-    /// Flag: each queue is polled by its own thread.
+    /// 1: each queue is polled by a thread of its own (/sys/class/net/DEV/threaded), 0 to 1 (0).
     pub threaded: u32,
-    /// Flag: the application has a processor of its own.
+    /// 1: the application has a processor of its own (taskset), 0 to 1 (0).
     pub apart: u32,
-    /// The time to wake the application on its own processor.
+    /// Time from waking that application until it runs, 0 to 1000000000 ns (0).
     pub app_wake: u32,
-    /// The time of an interrupt.
+    /// Time of an interrupt, or of an expired NAPI timer, 0 to 1000000000 ns (4000).
     pub interrupt: u32,
-    /// The time of a poll before its first packet.
+    /// Time of a poll before its first packet, 0 to 1000000000 ns (1000).
     pub poll: u32,
-    /// The time of each packet of a poll.
+    /// Time of each packet of a poll, 0 to 1000000000 ns (1000).
     pub packet: u32,
-    /// The time that the application takes for a packet.
+    /// Time that the application takes for a packet, 0 to 1000000000 ns (2000).
     pub use_time: u32,
-    /// The time to wake an idle processor.
+    /// Time to wake an idle processor, which counts as interrupt time, 0 to 1000000000 ns (0).
     pub wake: u32,
+    // scripts/options.py: end
 }
 
 /// The result of a run of the machine besides its status.
@@ -633,7 +635,7 @@ extern "C" {
         replayed: *mut fq_replayed,
     ) -> u32;
 
-    pub fn fq_machine_usual(settings: *mut fq_machine_settings, size: usize) -> u32;
+    pub fn fq_machine_default(settings: *mut fq_machine_settings, size: usize) -> u32;
     pub fn fq_machine(
         settings: *const fq_machine_settings,
         arrivals: *const u8,

@@ -179,7 +179,9 @@ pub extern "C" fn fq_machine_usual(settings: &mut FqMachineSettings, size: usize
     if size != FqMachineSettings::SIZE {
         return status::BAD_SIZE;
     }
-    let usual = MachineSettings::default();
-    *settings = asking(&usual);
+    *settings = FqMachineSettings {
+        size: FqMachineSettings::SIZE,
+        values: MachineSettings::default().values(),
+    };
     status::OK
 }

@@ -3,8 +3,7 @@ pub mod Fates
 pub mod Times
 pub mod Deferrals
 pub mod Reports
-pub use Rattle.machine_model.specs.Usual
-pub use Rattle.machine_model.specs.Args
+pub use Rattle.machine_model.specs.Options
 pub use Rattle.machine_model.specs.declared.settings.MachineSettings
 pub use Rattle.machine_model.specs.Machine
 pub use Rattle.machine_model.specs.Processor

@@ -28,8 +28,8 @@ pub use laws::{
     timers_are_near, uses_in_order, works_within,
 };
 pub use machine_model::{
-    ApplicationReport, Machine, MachineSettings, ProcessorCounts, ProcessorReport, QueueCounts,
-    QueueReport, WaitCounts, parse_words,
+    ApplicationReport, Machine, MachineOption, MachineSettings, OPTION_COUNT, OPTIONS,
+    ProcessorCounts, ProcessorReport, QueueCounts, QueueReport, WaitCounts, parse_words,
 };
 pub use run::run_machine;
 pub use text_io::{WordFault, word_line, word_status};

@@ -10,3 +10,4 @@ pub mod WeightFacts
 pub mod LeftFacts
 pub mod PendingFacts
 pub mod TimerFacts
+pub mod OptionFacts

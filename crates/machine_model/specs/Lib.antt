@@ -1,5 +1,4 @@
-pub mod Usual
-pub mod Args
+pub mod Options
 pub mod Waits
 pub mod Device
 pub mod Devices

@@ -1,23 +1,68 @@
-//! The settings of the receiving machine: its processors and queues, their sizes, how it polls, and what each kind of work
-//! costs.
+//! The settings of the receiving machine, and the table of the options that set them: its processors and queues, their sizes, how
+//! it polls, and what each kind of work costs.
 
-/// The most processors.
-pub const MOST_PROCESSORS: u32 = 64;
+ghost use Rattle.std.specs.Prelude.{◌≤◌};
+ghost use Rattle.poll_runs.specs.Ranges.{IsWeight, IsWindow};
 
-/// The most queues of one device.
-pub const MOST_QUEUES: u32 = 64;
+/// An option of the machine, which sets one of its settings.
+#[derive(Clone, Copy, Debug, PartialEq, Eq)]
+pub struct MachineOption {
+    /// The name on the command line, without the hyphens before it. The setting has the same name, with `_` for each `-`; the
+    /// setting of `use` is `use_time`.
+    pub name: &'static str,
+    /// The least value.
+    pub least: u32,
+    /// The greatest value.
+    pub most: u32,
+    /// The value of an option that isn't given.
+    pub default: u32,
+    /// The unit of the value; empty for a number that has none, and for a flag, which is 0 or 1.
+    pub unit: &'static str,
+    /// What the value is, and how it is set in Linux.
+    pub what: &'static str,
+}
 
-/// The greatest capacity of a ring or a socket, in packets.
-pub const MOST_PLACES: u32 = 65536;
+macro_rules! options {
+    ($(($name:literal, $least:literal, $most:literal, $default:literal, $unit:literal, $what:literal),)*) => {
+        [$(MachineOption {
+            name: $name,
+            least: $least,
+            most: $most,
+            default: $default,
+            unit: $unit,
+            what: $what,
+        },)*]
+    };
+}
 
-/// The most frames that a card waits for before it interrupts.
-pub const MOST_FRAMES: u32 = 65535;
+/// The number of options.
+pub const OPTION_COUNT: usize = 21;
 
-/// The greatest number of times that a queue's interrupt is deferred.
-pub const MOST_DEFERRALS: u32 = 65535;
-
-/// The longest time that can be set, in nanoseconds: a second.
-pub const MOST_TIME: u32 = 1000000000;
+/// The options, in the order of the settings: name, least and greatest value, default, unit, and what it is. `scripts/options.py`
+/// reads this table, and writes what other languages, tools and pages have of it.
+pub const OPTIONS: [MachineOption; OPTION_COUNT] = options! {
+    ("processors", 1, 64, 1, "", "processors that receive; queue q belongs to processor (q - 1) mod N, and each serves at most 64 queues"),
+    ("queues", 1, 64, 1, "", "queues of each device, chosen by the packet's flow (RSS: ethtool -L, -X)"),
+    ("ring", 1, 65536, 256, "packets", "packets that the ring of a queue holds (ethtool -G); of a backlog net.core.netdev_max_backlog plus 1"),
+    ("socket", 1, 65536, 512, "packets", "packets that the socket of a processor's application holds (SO_RCVBUF)"),
+    ("backlog", 0, 1, 0, "", "1: polls take packets as a processor's backlog does (RPS: rps_cpus, process_backlog)"),
+    ("budget", 0, 65535, 300, "packets", "packets after which a run ends and is squeezed (net.core.netdev_budget); 0: no polls, an interrupt for each packet"),
+    ("weight", 1, 64, 64, "packets", "packets that one poll takes at most (NAPI_POLL_WEIGHT for most cards; of a backlog net.core.dev_weight times dev_weight_rx_bias)"),
+    ("window", 1, 65535, 1024, "polls", "polls after which a run ends and is squeezed; Linux has no such limit"),
+    ("time-limit", 1, 1000000000, 8000000, "ns", "time after which a run ends and is squeezed (net.core.netdev_budget_usecs, in us there)"),
+    ("rx-nsecs", 0, 1000000000, 0, "ns", "time by which a card delays its interrupt (ethtool -C rx-usecs, in us there)"),
+    ("rx-frames", 0, 65535, 0, "packets", "packets at which the interrupt comes before that time (ethtool -C rx-frames); 0: never"),
+    ("defer-hard-irqs", 0, 65535, 0, "polls", "polls without packets, one after each timeout, of which the last unmasks the queue (napi_defer_hard_irqs)"),
+    ("gro-flush-timeout", 0, 1000000000, 0, "ns", "time until a queue that stays masked is polled again (gro_flush_timeout); 0: none does"),
+    ("threaded", 0, 1, 0, "", "1: each queue is polled by a thread of its own (/sys/class/net/DEV/threaded)"),
+    ("apart", 0, 1, 0, "", "1: the application has a processor of its own (taskset)"),
+    ("app-wake", 0, 1000000000, 0, "ns", "time from waking that application until it runs"),
+    ("interrupt", 0, 1000000000, 4000, "ns", "time of an interrupt, or of an expired NAPI timer"),
+    ("poll", 0, 1000000000, 1000, "ns", "time of a poll before its first packet"),
+    ("packet", 0, 1000000000, 1000, "ns", "time of each packet of a poll"),
+    ("use", 0, 1000000000, 2000, "ns", "time that the application takes for a packet"),
+    ("wake", 0, 1000000000, 0, "ns", "time to wake an idle processor, which counts as interrupt time"),
+};
 
 /// The settings of a receiving machine. Times are in nanoseconds.
 #[derive(Clone, Copy, Debug, PartialEq, Eq)]
@@ -90,39 +135,137 @@ pub struct MachineSettings {
     ghost wake_in: { wake ≤ 1000000000 },
 }
 
-ghost use Rattle.std.specs.Prelude.{◌≤◌};
-ghost use Rattle.poll_runs.specs.Ranges.{IsWeight, IsWindow};
+impl MachineOption {
+    ghost use Rattle.std.specs.Prelude.{◌<◌, ◌↔◌, IsTrue, slice_index_or};
+    ghost use Rattle.machine_model.specs.Options.{IsOption, OptionRule, machine_options};
+
+    /// Returns the option at this position of [`OPTIONS`].
+    pub(crate) fn at(i: usize) -> MachineOption
+        requires { i < 21 }
+        ensures { (o : OptionRule) → IsOption result (slice_index_or machine_options i o) }
+    {
+        OPTIONS[i]
+    }
+
+    // Returns whether a value is in the range of this option.
+    fn admits(&self, value: u32) -> bool
+        ensures { IsTrue result ↔ ((self.now.least ≤ value) × (value ≤ self.now.most)) }
+    {
+        self.least <= value && value <= self.most
+    }
+}
+
+impl MachineSettings {
+    ghost use Rattle.std.specs.Prelude.{◌≡◌, IfErr, IfNone, IfOk, IfSome};
+    ghost use Rattle.machine_model.specs.Options.{AreInRange, IsFirstOut, option_defaults, values_of};
+
+    // Returns the number of the first value that is out of its range, counted from 1.
+    fn first_out(values: &[u32; OPTION_COUNT]) -> Option<u32>
+        ensures in_range { IfNone result (AreInRange values.now) }
+        ensures out { IfSome result (λ number. IsFirstOut values.now number) }
+    {
+        for (i, value) in values.iter().enumerate() {
+            if !MachineOption::at(i).admits(*value) {
+                return Some(i as u32 + 1);
+            }
+        }
+        None
+    }
+
+    // Returns the settings with these values.
+    fn of_values(values: &[u32; OPTION_COUNT]) -> MachineSettings
+        requires { AreInRange values.now }
+        ensures { values_of result ≡ values.now }
+    {
+        MachineSettings {
+            processors: values[0],
+            queues: values[1],
+            ring: values[2],
+            socket: values[3],
+            backlog: values[4] == 1,
+            budget: values[5],
+            weight: values[6],
+            window: values[7],
+            time_limit: values[8],
+            rx_nsecs: values[9],
+            rx_frames: values[10],
+            defer_hard_irqs: values[11],
+            gro_flush_timeout: values[12],
+            threaded: values[13] == 1,
+            apart: values[14] == 1,
+            app_wake: values[15],
+            interrupt: values[16],
+            poll: values[17],
+            packet: values[18],
+            use_time: values[19],
+            wake: values[20],
+        }
+    }
+
+    // Returns the defaults of the options.
+    fn defaults() -> [u32; OPTION_COUNT]
+        ensures { result ≡ option_defaults }
+    {
+        let mut values = [0; OPTION_COUNT];
+        for i in 0..OPTION_COUNT {
+            values[i] = MachineOption::at(i).default;
+        }
+        values
+    }
+
+    /// Returns the settings with these values, in the order of [`OPTIONS`]; a flag is 0 or 1.
+    ///
+    /// # Errors
+    ///
+    /// The number of the first value that is out of its range, counted from 1.
+    pub fn from_values(values: &[u32; OPTION_COUNT]) -> Result<MachineSettings, u32>
+        ensures settings { IfOk result (λ settings. values_of settings ≡ values.now) }
+        ensures out { IfErr result (λ number. IsFirstOut values.now number) }
+    {
+        match MachineSettings::first_out(values) {
+            Some(number) => Err(number),
+            None => Ok(MachineSettings::of_values(values)),
+        }
+    }
+
+    /// Returns the values of the settings, in the order of [`OPTIONS`]; a flag is 0 or 1.
+    pub fn values(&self) -> [u32; OPTION_COUNT]
+        ensures { result ≡ values_of self.now }
+    {
+        [
+            self.processors,
+            self.queues,
+            self.ring,
+            self.socket,
+            u32::from(self.backlog),
+            self.budget,
+            self.weight,
+            self.window,
+            self.time_limit,
+            self.rx_nsecs,
+            self.rx_frames,
+            self.defer_hard_irqs,
+            self.gro_flush_timeout,
+            u32::from(self.threaded),
+            u32::from(self.apart),
+            self.app_wake,
+            self.interrupt,
+            self.poll,
+            self.packet,
+            self.use_time,
+            self.wake,
+        ]
+    }
+}
 
 impl Default for MachineSettings {
-    ghost use Rattle.machine_model.specs.Usual.{IsUsual};
+    ghost use Rattle.machine_model.specs.Options.{IsDefault};
 
-    ghost is_default = { IsUsual };
+    ghost is_default = { IsDefault };
 
     /// One processor with the kernel's budget, weight and time limit, a ring of 256 packets, a socket of 512, costs of a few
     /// microseconds, and no coalescing, deferral, threads or second processor for the application.
     fn default() -> MachineSettings {
-        MachineSettings {
-            processors: 1,
-            queues: 1,
-            ring: 256,
-            socket: 512,
-            backlog: false,
-            budget: 300,
-            weight: 64,
-            window: 1024,
-            time_limit: 8000000,
-            rx_nsecs: 0,
-            rx_frames: 0,
-            defer_hard_irqs: 0,
-            gro_flush_timeout: 0,
-            threaded: false,
-            apart: false,
-            app_wake: 0,
-            interrupt: 4000,
-            poll: 1000,
-            packet: 1000,
-            use_time: 2000,
-            wake: 0,
-        }
+        MachineSettings::of_values(&MachineSettings::defaults())
     }
 }

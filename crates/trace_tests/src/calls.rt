@@ -1,8 +1,8 @@
 //! Tests of the options, of arrivals one by one, of a machine by its calls, and of a run without arrivals.
 
 use machine::{
-    Arrival, Arrivals, Machine, MachineFault, MachineSettings, WordFault, fault_line, parse_words,
-    run_machine, status, word_line,
+    Arrival, Arrivals, Machine, MachineFault, MachineSettings, OPTIONS, WordFault, fault_line,
+    parse_words, run_machine, status, word_line,
 };
 use std::alloc::Global;
 use std::test::Fail;
@@ -14,82 +14,10 @@ const ARRIVALS: &str = "moment,device,bytes\n5,1,100\n5,2,60\n4,1,60\n";
 const FLOWS: &str =
     "moment,device,bytes,flow\n5,1,100,0\n6,2,60,5\n7,1,60,99999999999999999999\n8,1,60\n";
 
-// The least and the greatest value of each option.
-const TAKEN: [&str; 42] = [
-    "--processors=1",
-    "--processors=64",
-    "--queues=1",
-    "--queues=64",
-    "--ring=1",
-    "--ring=65536",
-    "--socket=1",
-    "--socket=65536",
-    "--backlog=0",
-    "--backlog=1",
-    "--budget=0",
-    "--budget=65535",
-    "--weight=1",
-    "--weight=64",
-    "--window=1",
-    "--window=65535",
-    "--time-limit=1",
-    "--time-limit=1000000000",
-    "--rx-nsecs=0",
-    "--rx-nsecs=1000000000",
-    "--rx-frames=0",
-    "--rx-frames=65535",
-    "--defer-hard-irqs=0",
-    "--defer-hard-irqs=65535",
-    "--gro-flush-timeout=0",
-    "--gro-flush-timeout=1000000000",
-    "--threaded=0",
-    "--threaded=1",
-    "--apart=0",
-    "--apart=1",
-    "--app-wake=0",
-    "--app-wake=1000000000",
-    "--interrupt=0",
-    "--interrupt=1000000000",
-    "--poll=0",
-    "--poll=1000000000",
-    "--packet=0",
-    "--packet=1000000000",
-    "--use=0",
-    "--use=1000000000",
-    "--wake=0",
-    "--wake=1000000000",
-];
-
-// A value below or above the range of each option, former options, and values that no option accepts.
-const REFUSED: [&str; 35] = [
-    "--processors=0",
-    "--processors=65",
-    "--queues=0",
-    "--queues=65",
-    "--ring=0",
-    "--ring=65537",
-    "--socket=0",
-    "--socket=65537",
-    "--backlog=2",
-    "--budget=65536",
+// Values out of range, former options, and values that no option accepts.
+const REFUSED: [&str; 9] = [
     "--weight=0",
     "--weight=65",
-    "--window=0",
-    "--window=65536",
-    "--time-limit=0",
-    "--time-limit=1000000001",
-    "--rx-nsecs=1000000001",
-    "--rx-frames=65536",
-    "--defer-hard-irqs=65536",
-    "--gro-flush-timeout=1000000001",
-    "--threaded=2",
-    "--apart=2",
-    "--app-wake=1000000001",
-    "--interrupt=1000000001",
-    "--poll=1000000001",
-    "--packet=1000000001",
-    "--use=1000000001",
-    "--wake=1000000001",
     "--threaded",
     "--apart=yes",
     "--use=00000000001",
@@ -109,15 +37,19 @@ fn parse(alloc: Global, words: &[&str]) -> Result<Result<MachineSettings, WordFa
 }
 
 #[test]
-fn each_bound_is_taken(rt: HostRuntime) -> Result<(), Fail> {
-    for word in TAKEN {
-        assert!(rt; parse(rt.alloc(), &[word])?.is_ok(), "{word}");
-    }
+fn values_are_settings(rt: HostRuntime) -> Result<(), Fail> {
+    let settings = parse(rt.alloc(), &["--weight=3", "--apart", "1", "--wake=9"])??;
+    let mut values = settings.values();
+    assert_eq!(rt; (values[6], values[14], values[20]), (3, 1, 9));
+    assert_eq!(rt; MachineSettings::from_values(&values), Ok(settings));
+    values[6] = 65;
+    assert_eq!(rt; MachineSettings::from_values(&values), Err(7));
+    assert_eq!(rt; OPTIONS[6].name, "weight");
     Ok(())
 }
 
 #[test]
-fn what_is_beyond_is_refused(rt: HostRuntime) -> Result<(), Fail> {
+fn other_words_are_refused(rt: HostRuntime) -> Result<(), Fail> {
     for word in REFUSED {
         let fault = parse(rt.alloc(), &[word])?.err().ok_or("taken")?;
         assert_eq!(rt; word_line(&fault), "usage fault 64\n", "{word}");

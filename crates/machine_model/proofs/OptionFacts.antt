@@ -1,0 +1,170 @@
+-- The values of options: in their ranges, and as arguments give them.
+use Rattle.std.proofs.Common.{◌≡◌, ◌≤◌, ◌<◌, ◌+◌, ◌-◌, ℕ, zero, suc, List, [], ◌∷◌, length, map, set, slice_index_or, nat_eq}
+use Rattle.std.proofs.Common.{inl, inr, Option, Some, None, Result, Ok, Err, IfOk, IfErr, option_map}
+use Rattle.std.specs.Result.{result_ok}
+use Rattle.std.proofs.lemmas.Bool.{cases_eq}
+use Rattle.std.proofs.lemmas.List.{get_or-map, get_or-set_same, get_or-set_other, get_or_default}
+use Rattle.std.proofs.Common.{◌∙◌, ap, refl, subst, sym, arith, rules}
+use Rattle.std.specs.List.{AllZip, range_with_len}
+use Rattle.std.proofs.lemmas.List.FromFn.{fill_by_all}
+use Rattle.std.specs.Option.{option_and_then}
+use Rattle.text_io.specs.Given.{Text, number_within, or_usual}
+use Rattle.machine_model.specs.declared.settings.{MachineOption.MachineOption, MachineSettings.MachineSettings}
+use Rattle.machine_model.specs.Options.{OptionRule, machine_options, option_defaults, flag_number, rule}
+use Rattle.machine_model.specs.Options.{AreInRange, IsFirstOut, IsOption, IsOptionInRange, number_with, values_of, values_with}
+
+-- ---- lists
+
+pub all_zip_from : {A B : Type 0} (R : A → B → Type 0) (xs : List A) (ys : List B)
+    → length ys ≡ length xs → ((k : ℕ) (d : A) (e : B) → k < length xs → R (slice_index_or xs k d) (slice_index_or ys k e)) → AllZip R xs ys
+all_zip_from R [] [] n h = tt
+all_zip_from R [] (y ∷ ys) n h = absurd (omega (arith, n))
+all_zip_from R (x ∷ xs) [] n h = absurd (omega (arith, n))
+all_zip_from R (x ∷ xs) (y ∷ ys) n h =
+    (h 0 x y (omega arith), all_zip_from R xs ys (omega (arith, n)) (λ k d e l. h (suc k) d e (omega (arith, l))))
+
+same_length : {A B : Type 0} (R : A → B → Type 0) (xs : List A) (ys : List B) → AllZip R xs ys → length ys ≡ length xs
+same_length R [] [] h = refl
+same_length R [] (y ∷ ys) h = absurd h
+same_length R (x ∷ xs) [] h = absurd h
+same_length R (x ∷ xs) (y ∷ ys) h = ap suc (same_length R xs ys h.1)
+
+pub same_maps : {A B C : Type 0} (f : A → C) (g : B → C) (xs : List A) (ys : List B)
+    → AllZip (λ x y. g y ≡ f x) xs ys → map g ys ≡ map f xs
+same_maps f g [] [] h = refl
+same_maps f g [] (y ∷ ys) h = absurd h
+same_maps f g (x ∷ xs) [] h = absurd h
+same_maps f g (x ∷ xs) (y ∷ ys) h = ap (λ z. z ∷ map g ys) h.0 ∙ ap (λ zs. f x ∷ zs) (same_maps f g xs ys h.1)
+
+-- ---- the table
+
+pub length_options : length machine_options ≡ 21
+unfolding machine_options
+length_options = refl
+
+pub defaults_in_range : AreInRange option_defaults
+unfolding machine_options
+defaults_in_range = search (rules, arith)
+
+pub at : {A B : Type 0} (R : A → B → Type 0) (xs : List A) (ys : List B) (k : ℕ) (d : A) (e : B)
+    → AllZip R xs ys → k < length xs → R (slice_index_or xs k d) (slice_index_or ys k e)
+at R [] [] k d e h l = let bad : ⊥ = omega (arith, l) in absurd bad
+at R [] (y ∷ ys) k d e h l = absurd h
+at R (x ∷ xs) [] k d e h l = absurd h
+at R (x ∷ xs) (y ∷ ys) zero d e h l = h.0
+at R (x ∷ xs) (y ∷ ys) (suc k) d e h l = at R xs ys k d e h.1 (omega (arith, l))
+
+pub in_range_at : (values : List ℕ) (k : ℕ) (o : OptionRule) (d : ℕ)
+    → AreInRange values → k < 21 → IsOptionInRange (slice_index_or machine_options k o) (slice_index_or values k d)
+in_range_at values k o d h l = at IsOptionInRange machine_options values k o d h (omega (arith, l, length_options))
+
+abbrev Row : Type 0
+Row = Text × ℕ × ℕ × ℕ
+
+abbrev row_of : MachineOption → Row
+row_of m = (m.name.now, m.least, m.most, m.default)
+
+abbrev rule_row : OptionRule → Row
+rule_row o = (o.name, o.least, o.most, o.default)
+
+-- a table with the rows of the definition has its options
+pub option_at : (xs : List MachineOption) (k : ℕ) (d : MachineOption) (o : OptionRule) → length xs ≡ 21 → k < 21
+    → map row_of xs ≡ map rule_row machine_options → IsOption (slice_index_or xs k d) (slice_index_or machine_options k o)
+option_at xs k d o n l same =
+    let row : row_of (slice_index_or xs k d) ≡ rule_row (slice_index_or machine_options k o) =
+    sym (get_or-map row_of xs k d (row_of d) (omega (arith, n, l))) ∙ ap (λ rows. slice_index_or rows k (row_of d)) same
+    ∙ get_or-map rule_row machine_options k o (row_of d) (omega (arith, l, length_options)) in
+    record { name = ap (λ r. r.0) row; least = ap (λ r. r.1) row; most = ap (λ r. r.2) row; default = ap (λ r. r.3) row }
+
+pub no_option : OptionRule
+no_option = rule [] (λ s. 0) 0 0 0
+
+-- values in the order of their options, written out
+pub listed : (values : List ℕ) → AreInRange values → values ≡ map (λ k. slice_index_or values k 0) (range_with_len 0 21)
+listed values h =
+    fill_by_all (λ k. slice_index_or values k 0) values 21 0 (same_length IsOptionInRange machine_options values h ∙ length_options) (λ k l. refl)
+
+pub flag : (n : ℕ) → n ≤ 1 → flag_number (nat_eq n 1) ≡ n
+flag zero h = refl
+flag (suc zero) h = refl
+flag (suc (suc n)) h = let bad : ⊥ = omega (arith, h) in absurd bad
+
+-- an option of the table in the program, and the same option of the definition
+
+pub out_at : (values : List ℕ) (i : ℕ) (m : MachineOption) → ((o : OptionRule) → IsOption m (slice_index_or machine_options i o))
+    → i < length values → ¬ ((m.least ≤ slice_index_or values i 0) × (slice_index_or values i 0 ≤ m.most))
+    → (o : OptionRule) (d : ℕ) → ¬ IsOptionInRange (slice_index_or machine_options (i + 1 - 1) o) (slice_index_or values (i + 1 - 1) d)
+out_at values i m is l out o d =
+    let back : i + 1 - 1 ≡ i = omega arith in
+    let same = get_or_default values i d 0 l in
+    let here : ¬ IsOptionInRange (slice_index_or machine_options i o) (slice_index_or values i d) =
+    λ h. out (omega (arith, same, (is o).least, h.0), omega (arith, same, (is o).most, h.1)) in
+    subst (λ (n : ℕ). ¬ IsOptionInRange (slice_index_or machine_options n o) (slice_index_or values n d)) (sym back) here
+
+default_at : (k : ℕ) (o : OptionRule) → k < 21
+    → IsOptionInRange (slice_index_or machine_options k o) (slice_index_or machine_options k o).default
+default_at k o l =
+    let defaults = at IsOptionInRange machine_options option_defaults k o 0 defaults_in_range (omega (arith, l, length_options)) in
+    subst (λ (v : ℕ). IsOptionInRange (slice_index_or machine_options k o) v)
+    (get_or-map (λ (o : OptionRule). o.default) machine_options k o 0 (omega (arith, l, length_options))) defaults
+
+pub range_is : (k : ℕ) (o : OptionRule) (m : MachineOption) (n : ℕ) → k < 21 → IsOption m (slice_index_or machine_options k o)
+    → ((m.least ≤ m.default) × (m.default ≤ m.most) → (m.least ≤ n) × (n ≤ m.most)) → IsOptionInRange (slice_index_or machine_options k o) n
+range_is k o m n l is h =
+    let default = default_at k o l in
+    let range = h (omega (arith, is.least, is.default, default.0), omega (arith, is.most, is.default, default.1)) in
+    (omega (arith, is.least, range.0), omega (arith, is.most, range.1))
+
+pub number_is : (m : MachineOption) (o : OptionRule) (value : Text → Option Text) (n : Option ℕ) → IsOption m o
+    → n ≡ or_usual m.default (number_within 10 m.least m.most) (value m.name.now) → number_with value o ≡ n
+number_is m o value n is h = sym
+    (h ∙ ap (λ x. or_usual x (number_within 10 m.least m.most) (value m.name.now)) is.default
+    ∙ ap (λ x. or_usual o.default (number_within 10 x m.most) (value m.name.now)) is.least
+    ∙ ap (λ x. or_usual o.default (number_within 10 o.least x) (value m.name.now)) is.most
+    ∙ ap (λ x. or_usual o.default (number_within 10 o.least o.most) (value x)) is.name)
+
+-- one more value, of the option at this position
+pub one_more : (P : OptionRule → ℕ → Type 0) (values : List ℕ) (i v : ℕ) → i < length values
+    → ((k : ℕ) (o : OptionRule) (d : ℕ) → k < i → P (slice_index_or machine_options k o) (slice_index_or values k d))
+    → ((o : OptionRule) → P (slice_index_or machine_options i o) v)
+    → (k : ℕ) (o : OptionRule) (d : ℕ) → k < i + 1 → P (slice_index_or machine_options k o) (slice_index_or (set values i v) k d)
+one_more P values i v l before here k o d m = elim (cases_eq k i) [
+  | inl e ↦ subst (λ (n : ℕ). P (slice_index_or machine_options n o) (slice_index_or (set values i v) n d)) (sym e)
+      (subst (λ (x : ℕ). P (slice_index_or machine_options i o) x) (sym (get_or-set_same values i v d l)) (here o))
+  | inr e ↦ subst (λ (x : ℕ). P (slice_index_or machine_options k o) x) (sym (get_or-set_other values i k v d e))
+      (before k o d (omega (arith, m, e)))
+]
+
+-- ---- arguments
+
+pub asked_is : (r : Result MachineSettings ℕ) (values : List ℕ) → IfOk r (λ s. values_of s ≡ values)
+    → IfErr r (λ number. IsFirstOut values number) → AreInRange values → option_map values_of (result_ok r) ≡ Some values
+asked_is (Ok s) values ok err h = ap Some ok
+asked_is (Err n) values ok err h =
+    absurd (err.out no_option 0 (in_range_at values (n - 1) no_option 0 h (omega (arith, err.numbered.0, err.numbered.1, length_options))))
+
+abbrev nothing : Option (List ℕ)
+nothing = None
+
+then_none : {A : Type 0} (o : Option A) → option_and_then (λ (x : A). nothing) o ≡ nothing
+then_none None = refl
+then_none (Some x) = refl
+
+pub values_all : (options : List OptionRule) (values : List ℕ) (value : Text → Option Text)
+    → AllZip (λ o v. number_with value o ≡ Some v) options values → values_with options value ≡ Some values
+values_all [] [] value h = refl
+values_all [] (v ∷ values) value h = absurd h
+values_all (o ∷ options) [] value h = absurd h
+values_all (o ∷ options) (v ∷ values) value h =
+    ap (option_and_then (λ first. option_and_then (λ rest. Some (first ∷ rest)) (values_with options value))) h.0
+    ∙ ap (option_and_then (λ rest. Some (v ∷ rest))) (values_all options values value h.1)
+
+pub values_none : (options : List OptionRule) (k : ℕ) (d : OptionRule) (value : Text → Option Text)
+    → k < length options → number_with value (slice_index_or options k d) ≡ None → values_with options value ≡ None
+values_none [] k d value l h = let bad : ⊥ = omega (arith, l) in absurd bad
+values_none (o ∷ options) zero d value l h =
+    ap (option_and_then (λ first. option_and_then (λ rest. Some (first ∷ rest)) (values_with options value))) h
+values_none (o ∷ options) (suc k) d value l h =
+    ap (λ rests. option_and_then (λ first. option_and_then (λ rest. Some (first ∷ rest)) rests) (number_with value o))
+    (values_none options k d value (omega (arith, l)) h)
+    ∙ then_none (number_with value o)

@@ -1,0 +1,117 @@
+#!/usr/bin/env python3
+"""scripts/options.py [--check]: writes what other languages, tools and pages have of the options of napi_machine, from the table in
+crates/machine_model/src/settings.rt: tools/options.json, and in other files the lines between two comments. With --check it writes
+nothing, and prints each file that isn't so. Exit status: 0; 1 a file isn't so; 64 bad usage.
+"""
+
+import ast
+import json
+import re
+import sys
+from pathlib import Path
+
+TOP = Path(__file__).resolve().parent.parent
+TABLE = TOP / "crates/machine_model/src/settings.rt"
+FIELDS = ("name", "least", "most", "default", "unit", "what")
+MEMBERS = {"use": "use_time"}  # options whose name is a keyword of a language
+
+
+def table():
+    """Returns the options, each as an object; `member` is its name in structs and in JSON."""
+    rows = re.search(r"pub const OPTIONS: .* = options! \{(.*?)\n\};", TABLE.read_text(), re.S).group(1)
+    options = [dict(zip(FIELDS, row, strict=True)) for row in ast.literal_eval(f"[{rows}]")]
+    return [{**option, "member": MEMBERS.get(option["name"], option["name"].replace("-", "_"))} for option in options]
+
+
+def is_flag(option):
+    return (option["least"], option["most"], option["unit"]) == (0, 1, "")
+
+
+def described(option):
+    """Returns what an option is, with its range, its default, and the unit of times."""
+    ns = " ns" if option["unit"] == "ns" else ""
+    return f"{option['what']}, {option['least']} to {option['most']}{ns} ({option['default']})"
+
+
+def as_json(options):
+    return "[\n" + ",\n".join(f"  {json.dumps(option)}" for option in options) + "\n]\n"
+
+
+# ---- lines of a part
+
+def header(options):
+    wide = max(len(option["member"]) for option in options) + 1
+    return [f"    uint32_t {option['member'] + ';':{wide}} /* {described(option)} */" for option in options]
+
+
+def rust(options):
+    for option in options:
+        what = described(option)
+        yield from (f"    /// {what[0].upper()}{what[1:]}.", f"    pub {option['member']}: u32,")
+
+
+def names(options, key):
+    """Returns the names, quoted, with commas, in lines of at most 120 columns."""
+    lines = [""]
+    for option in options:
+        word = f'"{option[key]}", '
+        lines[-1:] = [lines[-1] + word] if len(lines[-1] + word) <= 112 else [lines[-1], word]
+    return [f"        {line.rstrip()}" for line in lines]
+
+
+def manual(options):
+    for option in options:
+        value = "0|1" if is_flag(option) else "NS" if option["unit"] == "ns" else "N"
+        yield from (".TP", f'.BI {escaped("--" + option["name"])} " {value}"', escaped(described(option)))
+
+
+def escaped(text):
+    return text.replace("\\", "\\e").replace("-", "\\-")
+
+
+def page(options):
+    yield from ("| Option | Range | Default | What it is, and the setting of Linux |", "|---|---|---|---|")
+    for option in options:
+        values = f"{option['least']} to {option['most']} {option['unit']}".rstrip()
+        yield f"| `--{option['name']}` | {values} | {option['default']} | {option['what']} |"
+
+
+# The files with such a part: how its two comments begin and end, and what makes its lines.
+PARTS = {
+    "include/fintaqush.h": ("    /* ", " */", header),
+    "bindings/rust/src/sys.rs": ("    // ", "", rust),
+    "bindings/python/fintaqush/_library.py": ("        # ", "", lambda options: names(options, "member")),
+    "tests/c/machine.c": ("        /* ", " */", lambda options: names(options, "name")),
+    "docs/man/napi_machine.1": ('.\\" ', "", manual),
+    "docs/TIMING.md": ("<!-- ", " -->", page),
+}
+
+
+def with_part(path, before, after, lines):
+    """Returns the text of a file with these lines in its part."""
+    first, last = (f"{before}scripts/options.py: {end}{after}\n" for end in ("begin", "end"))
+    head, _, rest = path.read_text().partition(first)
+    _, found, tail = rest.partition(last)
+    if not found:
+        sys.exit(f"{path}: no lines '{first.strip()}' and '{last.strip()}'")
+    return head + first + "".join(f"{line}\n" for line in lines) + last + tail
+
+
+def main():
+    if sys.argv[1:] not in ([], ["--check"]):
+        print("usage: scripts/options.py [--check]", file=sys.stderr)
+        return 64
+    options = table()
+    texts = {TOP / "tools/options.json": as_json(options)}
+    texts.update({TOP / name: with_part(TOP / name, before, after, lines(options)) for name, (before, after, lines) in PARTS.items()})
+    differ = [path for path, text in texts.items() if not path.exists() or path.read_text() != text]
+    for path in differ:
+        if sys.argv[1:]:
+            print(f"{path.relative_to(TOP)} doesn't have the options of {TABLE.relative_to(TOP)}: scripts/options.py writes them")
+        else:
+            path.write_text(texts[path])
+    return 1 if differ and sys.argv[1:] else 0
+
+
+if __name__ == "__main__":
+    sys.exit(main())
