@@ -1,3 +1,4 @@
 mod Outside
+mod FlagFacts
 mod MessageFacts
 mod OutsideFacts

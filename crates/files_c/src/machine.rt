@@ -57,6 +57,18 @@ impl FqMachineRan {
     }
 }
 
+// Returns the settings that the struct asks for, or the number of the first one that is out of its range.
+fn asked_by(asked: &FqMachineSettings) -> Result<MachineSettings, u32>
+    ensures asked { IfOk result (λ s. AsksMachine asked.now s) }
+    ensures out { IfErr result (λ number. IsSettingOut asked.now number) }
+{
+    let ranges = ranges_of(asked);
+    match first_out(&ranges) {
+        Some(number) => Err(number),
+        None => Ok(settings_of(asked)),
+    }
+}
+
 // Returns the report of arrivals.
 fn report_of(
     alloc: Global,
@@ -181,7 +193,7 @@ pub extern "C" fn fq_machine(
         return status::BAD_SIZE;
     }
     *ran = FqMachineRan::none();
-    match MachineSettings::from_values(&settings.values) {
+    match asked_by(settings) {
         Ok(asked) => match report_of(alloc, &asked, arrivals) {
             Ok(text) => put_report(text.as_slice(), report, ran),
             Err(fault) => report_fault(alloc, &fault, ran),

@@ -179,9 +179,7 @@ pub extern "C" fn fq_machine_usual(settings: &mut FqMachineSettings, size: usize
     if size != FqMachineSettings::SIZE {
         return status::BAD_SIZE;
     }
-    *settings = FqMachineSettings {
-        size: FqMachineSettings::SIZE,
-        values: MachineSettings::default().values(),
-    };
+    let usual = MachineSettings::default();
+    *settings = asking(&usual);
     status::OK
 }
