@@ -7,7 +7,7 @@ use Rattle.machine.specs.declared.fault.MachineFault.{MachineFault}
 use Rattle.files_c.specs.MachineFaults.{machine_c_status, machine_fault_row, with_zeros}
 use Rattle.files_c.specs.Settings.{AsksMachine}
 use Rattle.files_c.specs.MachineStatus.{MACHINE_OUT_OF_MEMORY}
-use Rattle.files_c.specs.declared.machine.FqMachineRan.{FqMachineRan}
+use Rattle.files_c.specs.declared.machine_calls.FqMachineRan.{FqMachineRan}
 use Rattle.files_c.specs.declared.settings.FqMachineSettings.{FqMachineSettings}
 
 -- both structs have this library's sizes

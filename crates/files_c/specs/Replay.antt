@@ -8,8 +8,8 @@ use Rattle.text_io.specs.declared.fault.ReplayFault.{ReplayFault}
 use Rattle.text_io.specs.declared.settings.ReplaySettings.{ReplaySettings}
 use Rattle.replay_rows.specs.{Answer.replay_of, RaisedTrace.raised_trace}
 use Rattle.files_c.specs.ReplayFaults.{fault_status, fault_row}
-use Rattle.files_c.specs.declared.replay.FqReplayed.{FqReplayed}
-use Rattle.files_c.specs.declared.replay.FqSettings.{FqSettings}
+use Rattle.files_c.specs.declared.replay_calls.FqReplayed.{FqReplayed}
+use Rattle.files_c.specs.declared.replay_calls.FqSettings.{FqSettings}
 
 -- these settings are asked for; a replay on one thread doesn't use the number of pollers
 pub record AreSettingsOf (asked : FqSettings) (s : ReplaySettings) : Type 0 where
