@@ -3,9 +3,8 @@
 
 mod machine_calls;
 mod machine_fault;
-mod machine_status;
 mod ranges;
 mod replay_calls;
 mod replay_fault;
-mod replay_status;
 mod settings;
+mod status;
