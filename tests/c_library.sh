@@ -53,10 +53,10 @@ header_numbers() {
         print w[1], w[2] } /^};/ { on = 0 }' "$header" | sort
 }
 
-proved_numbers() { awk '/^[A-Z_]+ = [0-9]+$/ { sub(/^(REPLAY|MACHINE)_/, "", $1); print $1, $3 }' "$top"/crates/{c_handles/specs/Status,files_c/specs/{Replay,Machine}Status}.antt | sort; }
+proved_numbers() { awk '/^[A-Z_]+ = [0-9]+$/ { sub(/^FILES_/, "", $1); print $1, $3 }' "$top"/crates/{c_handles,files_c}/specs/Status.antt | sort; }
 
 code_numbers() {
-    sed -n 's/^pub\((crate)\)\{0,1\} const \([A-Z_]*\): u32 = \([0-9]*\);$/\2 \3/p' "$top"/crates/{c_handles/src/status,files_c/src/{replay,machine}_status}.rt | sort -u
+    sed -n 's/^pub\((crate)\)\{0,1\} const \([A-Z_]*\): u32 = \([0-9]*\);$/\2 \3/p' "$top"/crates/{c_handles,files_c}/src/status.rt | sort -u
 }
 
 each_number_once() { ! header_numbers | awk '{ print $2 }' | sort | uniq -d | grep .; }

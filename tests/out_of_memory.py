@@ -18,7 +18,7 @@ PLACES = {
     "device_shared/src/opening.rt": (2, "the ring, the instance"),
     "device_bench/src/transmit.rt": (1, "the transmit ring"),
     "files_c/src/machine_fault.rt": (1, "an error of the machine, and the report's bytes, which a `Vec` takes"),
-    "files_c/src/machine.rt": (2, "an error that `fault_status` names so; the message of a fault"),
+    "files_c/src/machine_calls.rt": (2, "an error that `fault_status` names so; the message of a fault"),
     "machine/src/arrivals.rt": (2, "the next record: `NextRecord::OutOfMemory`"),
     "machine/src/fault.rt": (2, "`From<AllocError>`; `ReadError::OutOfMemory` of the reader"),
     "napi_c/src/driver.rt": (1, "the driver, or its box"),

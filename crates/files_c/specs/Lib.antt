@@ -1,8 +1,7 @@
 pub mod ReplayFaults
 pub mod Replay
-pub mod ReplayStatus
+pub mod Status
 pub mod MachineFaults
 pub mod Machine
 pub mod Ranges
 pub mod Settings
-pub mod MachineStatus

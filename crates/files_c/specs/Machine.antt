@@ -6,8 +6,8 @@ use Rattle.machine.specs.Fault.{IsMachineOutside, machine_fault_line, machine_fa
 use Rattle.machine.specs.declared.fault.MachineFault.{MachineFault}
 use Rattle.files_c.specs.MachineFaults.{machine_c_status, machine_fault_row, with_zeros}
 use Rattle.files_c.specs.Settings.{AsksMachine}
-use Rattle.files_c.specs.MachineStatus.{MACHINE_OUT_OF_MEMORY}
-use Rattle.files_c.specs.declared.machine.FqMachineRan.{FqMachineRan}
+use Rattle.files_c.specs.Status.{FILES_OUT_OF_MEMORY}
+use Rattle.files_c.specs.declared.machine_calls.FqMachineRan.{FqMachineRan}
 use Rattle.files_c.specs.declared.settings.FqMachineSettings.{FqMachineSettings}
 
 -- both structs have this library's sizes
@@ -24,7 +24,7 @@ IsMachineFault asked bytes fault = (s : MachineSettings) × AsksMachine asked s 
 
 -- an error with the status OUT_OF_MEMORY occurred: it came from outside the arrivals, or is the result for these arrivals
 abbrev pub MachineLacksMemory : FqMachineSettings → List ℕ → Type 0
-MachineLacksMemory asked bytes = (fault : MachineFault) × (machine_c_status fault ≡ MACHINE_OUT_OF_MEMORY)
+MachineLacksMemory asked bytes = (fault : MachineFault) × (machine_c_status fault ≡ FILES_OUT_OF_MEMORY)
     × (IsMachineOutside fault ⊎ IsMachineFault asked bytes fault)
 
 -- an error is reported by its number, its row and its message; there is no report then

@@ -3,14 +3,14 @@ use Rattle.std.specs.Prelude.{ℕ, ◌-◌, List, ◌++◌, length, replicate}
 use Rattle.machine.specs.declared.fault.MachineFault.{MachineFault}
 use Rattle.machine.specs.declared.fault.MachineFault.TheVariants.{BadFields, BadNumber, OutOfRange, Falls, ReadFailed}
 use Rattle.machine.specs.declared.fault.MachineFault.TheVariants.{OutOfMemory, OutputFailed}
-use Rattle.files_c.specs.MachineStatus.{MACHINE_BAD_ARRIVALS, MACHINE_OUT_OF_MEMORY}
+use Rattle.files_c.specs.Status.{FILES_BAD_ARRIVALS, FILES_OUT_OF_MEMORY}
 
 -- the status of an error: bad arrivals if the bytes cause it, otherwise out of memory
 abbrev pub machine_c_status : MachineFault → ℕ
-machine_c_status ReadFailed = MACHINE_OUT_OF_MEMORY
-machine_c_status OutOfMemory = MACHINE_OUT_OF_MEMORY
-machine_c_status OutputFailed = MACHINE_OUT_OF_MEMORY
-machine_c_status _ = MACHINE_BAD_ARRIVALS
+machine_c_status ReadFailed = FILES_OUT_OF_MEMORY
+machine_c_status OutOfMemory = FILES_OUT_OF_MEMORY
+machine_c_status OutputFailed = FILES_OUT_OF_MEMORY
+machine_c_status _ = FILES_BAD_ARRIVALS
 
 -- the row that an error names, or 0
 abbrev pub machine_fault_row : MachineFault → ℕ

@@ -2,21 +2,21 @@
 use Rattle.std.specs.Prelude.{ℕ}
 use Rattle.text_io.specs.declared.fault.ReplayFault.{ReplayFault}
 use Rattle.text_io.specs.declared.fault.ReplayFault.TheVariants.{Trace, Pending, OutputFailed}
-use Rattle.device_rows.specs.declared.fault.TraceFault.{TraceFault, TheVariants.{BadHeader, BadFields, BadNumber, BadEvent, OutOfRange}}
+use Rattle.device_rows.specs.declared.fault.TraceFault.{TraceFault, TheVariants.{BadFields, BadNumber, BadEvent, OutOfRange}}
 use Rattle.device_rows.specs.declared.fault.TraceFault.TheVariants.{UnknownDevice, OpenTwice, WrongState, TooManyRows, ReadFailed}
 use Rattle.{device_rows.specs.declared.fault.TraceFault.TheVariants.OutOfMemory}
-use Rattle.files_c.specs.ReplayStatus.{REPLAY_BAD_TRACE, REPLAY_OUT_OF_MEMORY}
+use Rattle.files_c.specs.Status.{FILES_BAD_TRACE, FILES_OUT_OF_MEMORY}
 
 -- the status of an error: bad trace if the trace causes it, otherwise out of memory
 abbrev pub trace_c_status : TraceFault → ℕ
-trace_c_status ReadFailed = REPLAY_OUT_OF_MEMORY
-trace_c_status OutOfMemory = REPLAY_OUT_OF_MEMORY
-trace_c_status _ = REPLAY_BAD_TRACE
+trace_c_status ReadFailed = FILES_OUT_OF_MEMORY
+trace_c_status OutOfMemory = FILES_OUT_OF_MEMORY
+trace_c_status _ = FILES_BAD_TRACE
 
 abbrev pub fault_status : ReplayFault → ℕ
 fault_status (Trace fault) = trace_c_status fault
-fault_status OutputFailed = REPLAY_OUT_OF_MEMORY
-fault_status _ = REPLAY_BAD_TRACE
+fault_status OutputFailed = FILES_OUT_OF_MEMORY
+fault_status _ = FILES_BAD_TRACE
 
 -- the row that an error names, or 0
 abbrev pub trace_row : TraceFault → ℕ

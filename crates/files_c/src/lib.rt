@@ -1,11 +1,10 @@
 //! Exports for C of the replay of a trace and of a run of the machine: bytes in, bytes out.
 #![tactic(auto)]
 
-mod machine;
+mod machine_calls;
 mod machine_fault;
-mod machine_status;
 mod ranges;
-mod replay;
+mod replay_calls;
 mod replay_fault;
-mod replay_status;
 mod settings;
+mod status;

@@ -3,7 +3,7 @@
 ghost use Rattle.std.specs.Prelude.{◌≡◌};
 ghost use Rattle.files_c.specs.MachineFaults.{machine_c_status, machine_fault_row};
 
-use crate::machine_status;
+use crate::status;
 use machine::MachineFault;
 
 /// Returns the status of an error. Arrivals are read from memory and the report is written to memory, so a reader or a writer

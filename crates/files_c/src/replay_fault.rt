@@ -1,10 +1,10 @@
 //! Errors of a trace, as the numbers that C gets.
 
 ghost use Rattle.std.specs.Prelude.{◌≡◌};
-ghost use Rattle.files_c.specs.ReplayStatus.{REPLAY_BAD_TRACE};
+ghost use Rattle.files_c.specs.Status.{FILES_BAD_TRACE};
 ghost use Rattle.files_c.specs.ReplayFaults.{fault_status, fault_row, trace_row};
 
-use crate::replay_status;
+use crate::status;
 use device_rows::TraceFault;
 use text_io::ReplayFault;
 

@@ -6,10 +6,10 @@ ghost use Rattle.machine_model.specs.declared.settings.MachineSettings.{MachineS
 ghost use Rattle.machine_model.specs.Usual.{IsUsual};
 ghost use Rattle.files_c.specs.Ranges.{IsIn};
 ghost use Rattle.files_c.specs.Settings.{AsksMachine, ranges_of};
-ghost use Rattle.files_c.specs.MachineStatus.{MACHINE_OK, MACHINE_BAD_SIZE};
+ghost use Rattle.files_c.specs.Status.{FILES_OK, FILES_BAD_SIZE};
 
-use crate::machine_status;
 use crate::ranges::{Range, within};
+use crate::status;
 use machine_model::{
     MOST_BUDGET, MOST_DEFERRALS, MOST_FRAMES, MOST_PLACES, MOST_PROCESSORS, MOST_QUEUES, MOST_TIME,
     MOST_WEIGHT, MOST_WINDOW, MachineSettings,
@@ -169,12 +169,12 @@ fn asking(settings: &MachineSettings) -> FqMachineSettings
 /// Returns OK, or BAD_SIZE and writes nothing.
 #[unsafe(no_mangle)]
 pub extern "C" fn fq_machine_usual(settings: &mut FqMachineSettings, size: usize) -> u32
-    ensures usual { result ≡ MACHINE_OK
+    ensures usual { result ≡ FILES_OK
         → (s : MachineSettings) × IsUsual s × AsksMachine settings.new s }
-    ensures size { result ≡ MACHINE_OK → settings.new.size ≡ 96 }
-    ensures status { result ≢ MACHINE_OK → result ≡ MACHINE_BAD_SIZE }
-    ensures when { (result ≡ MACHINE_OK) ↔ (size ≡ 96) }
-    ensures kept { result ≢ MACHINE_OK → settings.new ≡ settings.old }
+    ensures size { result ≡ FILES_OK → settings.new.size ≡ 96 }
+    ensures status { result ≢ FILES_OK → result ≡ FILES_BAD_SIZE }
+    ensures when { (result ≡ FILES_OK) ↔ (size ≡ 96) }
+    ensures kept { result ≢ FILES_OK → settings.new ≡ settings.old }
 {
     if size != FqMachineSettings::SIZE {
         return status::BAD_SIZE;

@@ -1,6 +1,6 @@
 use Rattle.std.proofs.Common.{ℕ, List, ◌++◌, refl, sym, subst, ap, ◌∙◌}
 use Rattle.machine.specs.Answer.{IsReportOf}
-use Rattle.files_c.proofs.machine.report_of.Goals as goal
+use Rattle.files_c.proofs.machine_calls.report_of.Goals as goal
 
 pub returns-in-Ok-clause-report : goal.returns-in-Ok-clause-report
 returns-in-Ok-clause-report c =

@@ -2,7 +2,7 @@ use Rattle.std.proofs.Common.{List, subst}
 use Rattle.std.specs.List.{All}
 use Rattle.files_c.specs.Ranges.{IsIn, IsOutAt}
 use Rattle.files_c.specs.declared.ranges.Range.{Range}
-use Rattle.files_c.proofs.machine.asked_by.Goals as goal
+use Rattle.files_c.proofs.machine_calls.asked_by.Goals as goal
 
 pub settings_of-requires : goal.settings_of-requires
 settings_of-requires c = subst (λ (ranges : List Range). All IsIn ranges) c.ranges_of-ranges.ensures c.in-None.ensures.all_in

@@ -5,12 +5,12 @@ ghost use Rattle.std.specs.Prelude.{◌≡◌, ◌≢◌, ◌<◌, ◌⊎◌, Ok
 ghost use Rattle.text_io.specs.Outside.{IsOutside};
 ghost use Rattle.replay_rows.specs.Answer.{replay_of};
 ghost use Rattle.replay_rows.specs.RaisedTrace.{raised_trace};
-ghost use Rattle.files_c.specs.ReplayStatus.{REPLAY_OK, REPLAY_NO_ROOM, REPLAY_BAD_TRACE};
+ghost use Rattle.files_c.specs.Status.{FILES_OK, FILES_NO_ROOM, FILES_BAD_TRACE};
 ghost use Rattle.files_c.specs.ReplayFaults.{fault_status};
 ghost use Rattle.files_c.specs.Replay.{IsCallResult, AreSettingsOf, HasWeight, HasBudget, Lacks, ReportsFault, computed_by};
 
 use crate::replay_fault::{fault_status, row_of};
-use crate::replay_status;
+use crate::status;
 use replay_rows::{raise_trace, replay_serial};
 use std::alloc::Global;
 use text_io::{ReplayFault, ReplaySettings};
@@ -106,12 +106,12 @@ fn text_of(
 
 // Copies a report to the caller's array, if that has room for all of it.
 fn put_report(text: &[u8], report: &mut [u8], replayed: &mut FqReplayed) -> u32
-    ensures ok { result ≡ REPLAY_OK → take replayed.new.length report.new ≡ text.now }
-    ensures no_room { result ≢ REPLAY_OK → (result ≡ REPLAY_NO_ROOM)
+    ensures ok { result ≡ FILES_OK → take replayed.new.length report.new ≡ text.now }
+    ensures no_room { result ≢ FILES_OK → (result ≡ FILES_NO_ROOM)
         × (length report.old < length text.now) }
     ensures rest { drop (length text.now) report.new ≡ drop (length text.now) report.old }
     ensures length { replayed.new.length ≡ length text.now }
-    ensures kept { result ≢ REPLAY_OK → report.new ≡ report.old }
+    ensures kept { result ≢ FILES_OK → report.new ≡ report.old }
     ensures faultless { (replayed.new.fault ≡ replayed.old.fault)
         × (replayed.new.row ≡ replayed.old.row) }
 {
@@ -126,8 +126,8 @@ fn put_report(text: &[u8], report: &mut [u8], replayed: &mut FqReplayed) -> u32
 // Reports an error of the trace by its numbers.
 fn report_fault(fault: &ReplayFault, replayed: &mut FqReplayed) -> u32
     ensures status { result ≡ fault_status fault.now }
-    ensures reported { result ≡ REPLAY_BAD_TRACE → ReportsFault fault.now replayed.new }
-    ensures unreported { result ≢ REPLAY_BAD_TRACE → replayed.new ≡ replayed.old }
+    ensures reported { result ≡ FILES_BAD_TRACE → ReportsFault fault.now replayed.new }
+    ensures unreported { result ≢ FILES_BAD_TRACE → replayed.new ≡ replayed.old }
 {
     let status = fault_status(fault);
     if status == status::BAD_TRACE {

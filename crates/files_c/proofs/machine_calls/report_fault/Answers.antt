@@ -3,7 +3,7 @@ use Rattle.std.proofs.lemmas.List.{length-replicate}
 use Rattle.machine.specs.Fault.{machine_fault_line}
 use Rattle.files_c.specs.MachineFaults.{machine_fault_row}
 use Rattle.files_c.proofs.MessageFacts.{fits, without-feed, copied}
-use Rattle.files_c.proofs.machine.report_fault.Goals as goal
+use Rattle.files_c.proofs.machine_calls.report_fault.Goals as goal
 
 pub returns-in-Ok-clause-reported : goal.returns-in-Ok-clause-reported
 returns-in-Ok-clause-reported c = λ _.

@@ -1,6 +1,6 @@
 use Rattle.std.proofs.Common.{◌≡◌, ℕ, List, Ok, ◌++◌, refl, sym, subst, ap, ◌∙◌}
 use Rattle.replay_rows.specs.Answer.{replay_of}
-use Rattle.files_c.proofs.replay.report_of.Goals as goal
+use Rattle.files_c.proofs.replay_calls.report_of.Goals as goal
 
 pub returns-in-Ok-clause-report : goal.returns-in-Ok-clause-report
 returns-in-Ok-clause-report c =

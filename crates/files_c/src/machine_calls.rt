@@ -6,13 +6,13 @@ ghost use Rattle.machine.specs.Fault.{IsMachineOutside, IsMachineOutOfMemory, ma
 ghost use Rattle.files_c.specs.MachineFaults.{machine_c_status, with_zeros};
 ghost use Rattle.files_c.specs.Machine.{HasSizes, IsMachineReport, IsMachineFault, MachineLacksMemory, Tells};
 ghost use Rattle.files_c.specs.Settings.{AsksMachine, IsSettingOut};
-ghost use Rattle.files_c.specs.MachineStatus.{MACHINE_OK, MACHINE_OUT_OF_MEMORY, MACHINE_NO_ROOM, MACHINE_BAD_SIZE, MACHINE_BAD_SETTING};
-ghost use Rattle.files_c.specs.MachineStatus.{MACHINE_BAD_ARRIVALS};
+ghost use Rattle.files_c.specs.Status.{FILES_OK, FILES_OUT_OF_MEMORY, FILES_NO_ROOM, FILES_BAD_SIZE, FILES_BAD_SETTING};
+ghost use Rattle.files_c.specs.Status.{FILES_BAD_ARRIVALS};
 
 use crate::machine_fault::{machine_c_status, machine_fault_row};
-use crate::machine_status;
 use crate::ranges::first_out;
 use crate::settings::{FqMachineSettings, ranges_of, settings_of};
+use crate::status;
 use machine::{MachineFault, fault_line, run_machine};
 use machine_model::MachineSettings;
 use std::alloc::Global;
@@ -88,12 +88,12 @@ fn report_of(
 
 // Copies a report to the caller's array, if that has room for all of it.
 fn put_report(text: &[u8], report: &mut [u8], ran: &mut FqMachineRan) -> u32
-    ensures ok { result ≡ MACHINE_OK → take ran.new.length report.new ≡ text.now }
-    ensures no_room { result ≢ MACHINE_OK
-        → (result ≡ MACHINE_NO_ROOM) × (length report.old < length text.now) }
+    ensures ok { result ≡ FILES_OK → take ran.new.length report.new ≡ text.now }
+    ensures no_room { result ≢ FILES_OK
+        → (result ≡ FILES_NO_ROOM) × (length report.old < length text.now) }
     ensures rest { drop (length text.now) report.new ≡ drop (length text.now) report.old }
     ensures length { ran.new ≡ record ran.old { length = length text.now } }
-    ensures kept { result ≢ MACHINE_OK → report.new ≡ report.old }
+    ensures kept { result ≢ FILES_OK → report.new ≡ report.old }
 {
     ran.length = text.len();
     if report.len() < text.len() {
@@ -125,12 +125,12 @@ fn message_of(alloc: Global, fault: &MachineFault) -> Result<String, MachineFaul
 
 // Reports an error of the arrivals: its numbers, and its message without the line feed.
 fn report_fault(alloc: Global, fault: &MachineFault, ran: &mut FqMachineRan) -> u32
-    ensures reported { result ≡ MACHINE_BAD_ARRIVALS
-        → (machine_c_status fault.now ≡ MACHINE_BAD_ARRIVALS) × Tells fault.now ran.new
+    ensures reported { result ≡ FILES_BAD_ARRIVALS
+        → (machine_c_status fault.now ≡ FILES_BAD_ARRIVALS) × Tells fault.now ran.new
         × (ran.new.setting ≡ 0) }
-    ensures unreported { result ≢ MACHINE_BAD_ARRIVALS
-        → (result ≡ MACHINE_OUT_OF_MEMORY) × (ran.new ≡ ran.old)
-        × ((machine_c_status fault.now ≡ MACHINE_OUT_OF_MEMORY)
+    ensures unreported { result ≢ FILES_BAD_ARRIVALS
+        → (result ≡ FILES_OUT_OF_MEMORY) × (ran.new ≡ ran.old)
+        × ((machine_c_status fault.now ≡ FILES_OUT_OF_MEMORY)
         ⊎ ((why : MachineFault) × IsMachineOutOfMemory why)) }
 {
     if machine_c_status(fault) != status::BAD_ARRIVALS {
@@ -161,32 +161,32 @@ pub extern "C" fn fq_machine(
     ran: &mut FqMachineRan,
 ) -> u32
     // The text that is written is the report of the arrivals with these settings, and an error that is reported is theirs.
-    ensures written { result ≡ MACHINE_OK
+    ensures written { result ≡ FILES_OK
         → IsMachineReport settings.now arrivals.now (take ran.new.length report.new) }
-    ensures rest { result ≡ MACHINE_OK
+    ensures rest { result ≡ FILES_OK
         → drop ran.new.length report.new ≡ drop ran.new.length report.old }
-    ensures no_room { result ≡ MACHINE_NO_ROOM → (text : List ℕ)
+    ensures no_room { result ≡ FILES_NO_ROOM → (text : List ℕ)
         × IsMachineReport settings.now arrivals.now text
         × (ran.new.length ≡ length text) × (length report.old < length text) }
-    ensures fault { result ≡ MACHINE_BAD_ARRIVALS → (fault : MachineFault)
+    ensures fault { result ≡ FILES_BAD_ARRIVALS → (fault : MachineFault)
         × IsMachineFault settings.now arrivals.now fault × Tells fault ran.new }
-    ensures setting { result ≡ MACHINE_BAD_SETTING → IsSettingOut settings.now ran.new.setting }
-    ensures memory { result ≢ MACHINE_OK → result ≢ MACHINE_NO_ROOM
-        → result ≢ MACHINE_BAD_ARRIVALS → result ≢ MACHINE_BAD_SETTING → result ≢ MACHINE_BAD_SIZE
-        → (result ≡ MACHINE_OUT_OF_MEMORY) × MachineLacksMemory settings.now arrivals.now }
+    ensures setting { result ≡ FILES_BAD_SETTING → IsSettingOut settings.now ran.new.setting }
+    ensures memory { result ≢ FILES_OK → result ≢ FILES_NO_ROOM
+        → result ≢ FILES_BAD_ARRIVALS → result ≢ FILES_BAD_SETTING → result ≢ FILES_BAD_SIZE
+        → (result ≡ FILES_OUT_OF_MEMORY) × MachineLacksMemory settings.now arrivals.now }
 
     // Structs of other sizes are rejected, and nothing is written; nor is a report after any other error.
-    ensures size { (result ≡ MACHINE_BAD_SIZE) ↔ ¬ HasSizes settings.now ran.old }
-    ensures same { result ≡ MACHINE_BAD_SIZE → ran.new ≡ ran.old }
-    ensures kept { result ≢ MACHINE_OK → report.new ≡ report.old }
+    ensures size { (result ≡ FILES_BAD_SIZE) ↔ ¬ HasSizes settings.now ran.old }
+    ensures same { result ≡ FILES_BAD_SIZE → ran.new ≡ ran.old }
+    ensures kept { result ≢ FILES_OK → report.new ≡ report.old }
     // The other results describe the report, the error or the setting; if there is none, they are 0.
-    ensures faultless { result ≢ MACHINE_BAD_SIZE → result ≢ MACHINE_BAD_ARRIVALS
+    ensures faultless { result ≢ FILES_BAD_SIZE → result ≢ FILES_BAD_ARRIVALS
         → (ran.new.fault ≡ 0) × (ran.new.row ≡ 0) }
-    ensures set { result ≢ MACHINE_BAD_SIZE → result ≢ MACHINE_BAD_SETTING
+    ensures set { result ≢ FILES_BAD_SIZE → result ≢ FILES_BAD_SETTING
         → ran.new.setting ≡ 0 }
-    ensures no_report { result ≢ MACHINE_BAD_SIZE → result ≢ MACHINE_OK
-        → result ≢ MACHINE_NO_ROOM → ran.new.length ≡ 0 }
-    ensures no_message { result ≢ MACHINE_BAD_SIZE → result ≢ MACHINE_BAD_ARRIVALS
+    ensures no_report { result ≢ FILES_BAD_SIZE → result ≢ FILES_OK
+        → result ≢ FILES_NO_ROOM → ran.new.length ≡ 0 }
+    ensures no_message { result ≢ FILES_BAD_SIZE → result ≢ FILES_BAD_ARRIVALS
         → ran.new.message ≡ with_zeros [] }
 {
     if settings.size != FqMachineSettings::SIZE || ran.size != FqMachineRan::SIZE {

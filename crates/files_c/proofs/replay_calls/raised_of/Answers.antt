@@ -1,6 +1,6 @@
 use Rattle.std.proofs.Common.{◌≡◌, ℕ, List, Ok, ◌++◌, refl, sym, subst, ap, ◌∙◌}
 use Rattle.replay_rows.specs.RaisedTrace.{raised_trace}
-use Rattle.files_c.proofs.replay.raised_of.Goals as goal
+use Rattle.files_c.proofs.replay_calls.raised_of.Goals as goal
 
 pub returns-in-Ok-clause-raised : goal.returns-in-Ok-clause-raised
 returns-in-Ok-clause-raised c =

@@ -2,7 +2,7 @@ use Rattle.std.proofs.Common.{◌≡◌, ◌⊎◌, ◌<◌, inl, inr, ℕ, List
 use Rattle.text_io.specs.Outside.{IsOutside}
 use Rattle.files_c.specs.Replay.{IsErrorOf, computed_by}
 use Rattle.files_c.proofs.Outside.{else-memory, theirs}
-use Rattle.files_c.proofs.replay.answer.Goals as goal
+use Rattle.files_c.proofs.replay_calls.answer.Goals as goal
 
 pub returns-in-Ok-text_of : goal.returns-in-Ok-text_of
 returns-in-Ok-text_of c =
