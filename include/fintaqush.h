@@ -720,7 +720,7 @@ struct fq_settings {
 };
 
 /* The default settings of napi_replay. */
-#define FQ_USUAL_SETTINGS {300, 64, 1024}
+#define FQ_DEFAULT_SETTINGS {300, 64, 1024}
 
 struct fq_replayed {
     size_t length;  /* the length of the report or trace in bytes, even if there is no room for it; 0 if there is none */
@@ -786,7 +786,7 @@ struct fq_machine_ran {
     size_t length;    /* the length of the report in bytes, even if there is no room for it; 0 if there is none */
     uint64_t row;     /* the row that the fault of the arrivals names, counted from 1; 0 if it names none */
     uint32_t fault;   /* the number of that fault, 1 to 8; 0 if they have none */
-    uint32_t setting; /* the setting that is out of its range: 1 for processors, 2 for queues and so on; 0 if none is */
+    uint32_t setting; /* the first setting that is out of its range: 1 for processors, 2 for queues and so on; 0 if none is */
     char message[64]; /* the message of the fault of the arrivals, as napi_machine prints it, with a terminating 0; otherwise empty */
 };
 

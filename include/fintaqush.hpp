@@ -831,13 +831,13 @@ template <class Call>
 } // namespace detail
 
 // Replays a whole trace on one thread (napi_replay --mode=serial), and returns its report.
-[[nodiscard]] inline std::variant<std::string, NoReport> replay(std::string_view trace, const fq_settings &settings = FQ_USUAL_SETTINGS) {
+[[nodiscard]] inline std::variant<std::string, NoReport> replay(std::string_view trace, const fq_settings &settings = FQ_DEFAULT_SETTINGS) {
     return detail::written(trace, [&](auto... to) { return fq_replay(&settings, to...); });
 }
 
 // Adds to a trace the runs that the kernel would make with these settings, at most `restarts` after a softirq row (fq_raise), and
 // returns the trace. Its replay is the raised replay. With more than 100000 rows it fails with fault 9.
-[[nodiscard]] inline std::variant<std::string, NoReport> raise_runs(std::string_view trace, const fq_settings &settings = FQ_USUAL_SETTINGS,
+[[nodiscard]] inline std::variant<std::string, NoReport> raise_runs(std::string_view trace, const fq_settings &settings = FQ_DEFAULT_SETTINGS,
                                                                     std::uint32_t restarts = FQ_UNTIL_EMPTY) {
     return detail::written(trace, [&](auto... to) { return fq_raise(&settings, restarts, to...); });
 }

@@ -23,7 +23,7 @@ KNOWN = {
     "fq_driver_new": ("driver", "a driver of up to 64 devices on one thread"),
     "fq_word_raise": ("word", "a word of pending bits"),
     "fq_replay": ("replay", "the replay of a trace, and the runs that the kernel would add"),
-    "fq_machine_usual": ("machine", "the receiving machine in time"),
+    "fq_machine_default": ("machine", "the receiving machine in time"),
 }
 BANNER = re.compile(r"/\* ---- (.*?)\*/", re.S)
 # A pattern for the comment of the first declaration that belongs to a group.

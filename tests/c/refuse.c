@@ -144,7 +144,7 @@ static uint8_t report[ROOM], wanted[ROOM];
 static struct fq_replayed replayed;
 
 static uint32_t make_replay(void) {
-    const struct fq_settings settings = FQ_USUAL_SETTINGS;
+    const struct fq_settings settings = FQ_DEFAULT_SETTINGS;
     memset(report, GUARD, ROOM);
     const uint32_t said = fq_replay(&settings, (const uint8_t *)trace, sizeof trace - 1, report, ROOM, &replayed);
     for (size_t i = said == FQ_OK ? replayed.length : 0; i < ROOM; i++)

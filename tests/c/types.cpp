@@ -337,7 +337,7 @@ static void steps_of_drivers() {
 
 static void machines() {
     MachineSettings settings;
-    want(settings.size == sizeof(fq_machine_settings) && settings.weight == 64 && settings.ring == 256, "the usual settings");
+    want(settings.size == sizeof(fq_machine_settings) && settings.weight == 64 && settings.ring == 256, "the default settings");
     const auto report = machine("moment,device,bytes\n1000,1,60\n", settings);
     want(std::get<std::string>(report).rfind("device 1 arrived 1 dropped 0 polled 1 ", 0) == 0, "a report");
     const auto fault = std::get<MachineFault>(machine("moment,device,bytes\n5,1,60\n4,1,60\n"));

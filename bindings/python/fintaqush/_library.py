@@ -237,7 +237,7 @@ replay = declare("replay", u32, _long, settings=Settings, trace=ctypes.c_char_p,
                  replayed=Replayed)
 raise_runs = declare("raise", u32, _long, settings=Settings, restarts=u32, trace=ctypes.c_char_p, len=size, out=ctypes.c_char_p, room=size,
                      replayed=Replayed)
-machine_usual = declare("machine_usual", settings=MachineSettings, size=size)
+machine_default = declare("machine_default", settings=MachineSettings, size=size)
 machine = declare("machine", u32, _long, settings=MachineSettings, arrivals=ctypes.c_char_p, len=size, report=ctypes.c_char_p, room=size,
                   ran=MachineRan)
 

@@ -467,7 +467,7 @@ pub struct fq_machine_ran {
     pub row: u64,
     /// The number of that fault; 0 if they have none.
     pub fault: u32,
-    /// The setting that is out of its range, counted from 1; 0 if none is.
+    /// The first setting that is out of its range, counted from 1; 0 if none is.
     pub setting: u32,
     /// The message of that fault, with a terminating 0.
     pub message: [c_char; 64],

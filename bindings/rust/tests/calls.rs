@@ -500,8 +500,8 @@ fn runs_that_the_kernel_would_add() {
         let raised = raise_runs(trace.as_bytes(), &ONE, restarts).unwrap();
         assert_eq!(raised, wanted.as_bytes());
     }
-    let usual = raise_runs(trace.as_bytes(), &Settings::default(), None).unwrap();
-    assert_eq!(usual, trace.as_bytes());
+    let default = raise_runs(trace.as_bytes(), &Settings::default(), None).unwrap();
+    assert_eq!(default, trace.as_bytes());
 }
 
 #[test]

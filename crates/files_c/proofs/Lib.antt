@@ -1,4 +1,3 @@
 mod Outside
-mod FlagFacts
 mod MessageFacts
 mod OutsideFacts

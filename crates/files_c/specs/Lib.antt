@@ -3,5 +3,4 @@ pub mod Replay
 pub mod Status
 pub mod MachineFaults
 pub mod Machine
-pub mod Ranges
 pub mod Settings

@@ -3,7 +3,6 @@
 
 mod machine_calls;
 mod machine_fault;
-mod ranges;
 mod replay_calls;
 mod replay_fault;
 mod settings;

@@ -5,13 +5,12 @@ ghost use Rattle.machine.specs.Answer.{IsReportOf, IsArrivalsFault};
 ghost use Rattle.machine.specs.Fault.{IsMachineOutside, IsMachineOutOfMemory, machine_fault_line};
 ghost use Rattle.files_c.specs.MachineFaults.{machine_c_status, with_zeros};
 ghost use Rattle.files_c.specs.Machine.{HasSizes, IsMachineReport, IsMachineFault, MachineLacksMemory, Tells};
-ghost use Rattle.files_c.specs.Settings.{AsksMachine, IsSettingOut};
+ghost use Rattle.files_c.specs.Settings.{IsSettingOut};
 ghost use Rattle.files_c.specs.Status.{FILES_OK, FILES_OUT_OF_MEMORY, FILES_NO_ROOM, FILES_BAD_SIZE, FILES_BAD_SETTING};
 ghost use Rattle.files_c.specs.Status.{FILES_BAD_ARRIVALS};
 
 use crate::machine_fault::{machine_c_status, machine_fault_row};
-use crate::ranges::first_out;
-use crate::settings::{FqMachineSettings, ranges_of, settings_of};
+use crate::settings::FqMachineSettings;
 use crate::status;
 use machine::{MachineFault, fault_line, run_machine};
 use machine_model::MachineSettings;
@@ -30,7 +29,7 @@ pub struct FqMachineRan {
     pub row: u64,
     /// The number of the error of the arrivals, 1 to 8; 0 if they have none.
     pub fault: u32,
-    /// The setting that is out of its range, 1 for the first of the struct; 0 if none is.
+    /// The first setting that is out of its range, 1 for the first of the struct; 0 if none is.
     pub setting: u32,
     /// The message of the error of the arrivals, with a 0 after it.
     pub message: [u8; 64],
@@ -54,18 +53,6 @@ impl FqMachineRan {
             setting: 0,
             message: [0; 64],
         }
-    }
-}
-
-// Returns the settings that the struct asks for, or the number of the first one that is out of its range.
-fn asked_by(asked: &FqMachineSettings) -> Result<MachineSettings, u32>
-    ensures asked { IfOk result (λ s. AsksMachine asked.now s) }
-    ensures out { IfErr result (λ number. IsSettingOut asked.now number) }
-{
-    let ranges = ranges_of(asked);
-    match first_out(&ranges) {
-        Some(number) => Err(number),
-        None => Ok(settings_of(asked)),
     }
 }
 
@@ -193,7 +180,7 @@ pub extern "C" fn fq_machine(
         return status::BAD_SIZE;
     }
     *ran = FqMachineRan::none();
-    match asked_by(settings) {
+    match MachineSettings::from_values(&settings.values) {
         Ok(asked) => match report_of(alloc, &asked, arrivals) {
             Ok(text) => put_report(text.as_slice(), report, ran),
             Err(fault) => report_fault(alloc, &fault, ran),

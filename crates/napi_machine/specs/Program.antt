@@ -3,12 +3,12 @@ use Rattle.std.specs.Prelude.{◌≡◌, ◌⊎◌, ℕ, List, Option, Result, O
 use Rattle.machine.specs.Answer.{IsArrivalsFault, IsReportOf}
 use Rattle.machine.specs.Fault.{IsMachineOutside}
 use Rattle.machine.specs.declared.fault.MachineFault.{MachineFault}
-use Rattle.machine_model.specs.{Args.{machine_asked_for, machine_args_of}, declared.settings.MachineSettings.MachineSettings}
+use Rattle.machine_model.specs.{Options.{machine_asked_for, values_of}, declared.settings.MachineSettings.MachineSettings}
 use Rattle.text_io.specs.Given.{Text}
 
 -- the arguments ask for this machine; for None if they are an error
 abbrev pub AskForMachine : List Text → Option MachineSettings → Type 0
-AskForMachine words asked = machine_asked_for words ≡ option_map machine_args_of asked
+AskForMachine words asked = machine_asked_for words ≡ option_map values_of asked
 
 -- the machine's report of these bytes, or their error; otherwise the reader, an allocation or the writer failed
 abbrev pub AnswersMachine : MachineSettings → List ℕ → Result (List ℕ) MachineFault → Type 0
