@@ -3,6 +3,7 @@ they show are compiled (snippets.py), commands do what they say (page_commands.p
 the site and the manual pages are complete (site_pages.py).
 """
 import functools
+import json
 import pathlib
 import re
 import subprocess
@@ -312,6 +313,16 @@ def made_of_options():
     return subprocess.run([TOP / "scripts/options.py", "--check"], capture_output=True, text=True).stdout.splitlines()
 
 
+def options_of_linux():
+    """Each option in OPERATORS' table of Linux's settings exists; and each that sets what Linux sets is there: all but the sizes of the
+    machine, the costs, and the window, which Linux doesn't have."""
+    known = {f"--{option['name']}" for option in json.loads((TOP / "tools/options.json").read_text())}
+    own = {"--processors", "--socket", "--window", "--app-wake", "--interrupt", "--poll", "--packet", "--use", "--wake"}
+    table = (TOP / "docs/OPERATORS.md").read_text().partition("## Which setting does what")[2].partition("\n## ")[0]
+    named = {option for row in table.splitlines() for option in re.findall(r"`(--[\w-]+)[ `]", row.rpartition(" | ")[2])}
+    return [f"no option {option}" for option in sorted(named - known)] + [f"no row with {option}" for option in sorted(known - own - named)]
+
+
 def checks():
     """Pairs of a page and what is wrong with it."""
     for page in pages():
@@ -330,6 +341,7 @@ def checks():
                         (crate_picture, "docs/pictures/crates.dot")):
         yield TOP / name, check(TOP / name)
     yield TOP / "tools/options.json", made_of_options()
+    yield TOP / "docs/OPERATORS.md", options_of_linux()
     yield from site_pages.checks(pages())
     yield from () if "--static" in sys.argv else commands(pages() + site_pages.MANUALS)
 

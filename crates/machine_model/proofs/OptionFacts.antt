@@ -82,7 +82,8 @@ no_option = rule [] (λ s. 0) 0 0 0
 -- values in the order of their options, written out
 pub listed : (values : List ℕ) → AreInRange values → values ≡ map (λ k. slice_index_or values k 0) (range_with_len 0 21)
 listed values h =
-    fill_by_all (λ k. slice_index_or values k 0) values 21 0 (same_length IsOptionInRange machine_options values h ∙ length_options) (λ k l. refl)
+    let all = same_length IsOptionInRange machine_options values h ∙ length_options in
+    fill_by_all (λ k. slice_index_or values k 0) values 21 0 all (λ k l. refl)
 
 pub flag : (n : ℕ) → n ≤ 1 → flag_number (nat_eq n 1) ≡ n
 flag zero h = refl

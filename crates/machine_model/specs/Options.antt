@@ -1,5 +1,6 @@
 -- The machine's options: the settings that arguments, or values for C, ask for.
-use Rattle.std.specs.Prelude.{◌≡◌, ◌≤◌, ◌<◌, ◌+◌, ◌-◌, ℕ, [], ◌∷◌, Bool, List, Option, Some, codes, length, map, slice_index_or, if◌then◌else◌}
+use Rattle.std.specs.Prelude.{◌≡◌, ◌≤◌, ◌<◌, ◌+◌, ◌-◌, ℕ, [], ◌∷◌, Bool, List, Option, Some, codes, if◌then◌else◌}
+use Rattle.std.specs.Prelude.{length, map, slice_index_or}
 use Rattle.std.specs.List.{AllZip}
 use Rattle.text_io.specs.Given.{◌>>=◌, Text, given_by, number_within, or_usual, value_of}
 use Rattle.machine_model.specs.declared.settings.{MachineOption.MachineOption, MachineSettings.MachineSettings}
@@ -18,8 +19,8 @@ rule name setting least most default = record { name = name; setting = setting; 
 abbrev pub flag_number : Bool → ℕ
 flag_number b = if b then 1 else 0
 
--- budget, weight and time limit are those of `net_rx_action` (`netdev_budget`, `NAPI_POLL_WEIGHT`, `netdev_budget_usecs`); times
--- are in nanoseconds
+-- The options, of which budget, weight and time limit have the kernel's defaults (`net_rx_action`: `netdev_budget`,
+-- NAPI_POLL_WEIGHT, `netdev_budget_usecs`, which is two jiffies at HZ 250). Times are in nanoseconds.
 unfoldable pub machine_options : List OptionRule
 machine_options =
     rule (codes "processors") (λ s. s.processors) 1 64 1
@@ -75,14 +76,18 @@ IsOptionInRange o value = (o.least ≤ value) × (value ≤ o.most)
 abbrev pub AreInRange : List ℕ → Type 0
 AreInRange values = AllZip IsOptionInRange machine_options values
 
--- the value at this position is in the range of its option
+-- the value at this position, counted from 0, is in the range of its option
 abbrev pub IsInRangeAt : List ℕ → ℕ → Type 0
 IsInRangeAt values k = (o : OptionRule) (d : ℕ) → IsOptionInRange (slice_index_or machine_options k o) (slice_index_or values k d)
+
+-- the value at this position is out of the range of its option
+abbrev pub IsOutAt : List ℕ → ℕ → Type 0
+IsOutAt values k = (o : OptionRule) (d : ℕ) → ¬ IsOptionInRange (slice_index_or machine_options k o) (slice_index_or values k d)
 
 -- the value with this number, counted from 1, is the first that is out of the range of its option
 pub record IsFirstOut (values : List ℕ) (number : ℕ) : Type 0 where
   pub numbered : (1 ≤ number) × (number ≤ length machine_options)
-  pub out : (o : OptionRule) (d : ℕ) → ¬ IsOptionInRange (slice_index_or machine_options (number - 1) o) (slice_index_or values (number - 1) d)
+  pub out : IsOutAt values (number - 1)
   pub first : (k : ℕ) → k + 1 < number → IsInRangeAt values k
 
 -- ---- arguments

@@ -1,4 +1,5 @@
-use Rattle.std.proofs.{Common.{◌≡◌, ◌∙◌, ℕ, List, Option, None, Some, Err, IfOk, ap, map, string_bytes, subst, sym}, lemmas.Result.err_from_is_err_and}
+use Rattle.std.proofs.Common.{◌≡◌, ◌∙◌, ℕ, List, Option, None, Some, Err, IfOk, ap, map, string_bytes, subst, sym}
+use Rattle.std.proofs.lemmas.Result.{err_from_is_err_and}
 use Rattle.std.specs.Option.{option_and_then}
 use Rattle.text_io.specs.declared.args.WordFault.TheVariants.{Usage}
 use Rattle.machine_model.specs.Options.{machine_options, values_of, values_with}
@@ -25,8 +26,8 @@ returns-clause-asked c =
     let given =
     c.in_ok-matches.ensures.given (map string_bytes c.args.words.now)
     (ap (map (λ s. s.now)) c.as_slice.ensures.value ∙ c.in_ok-words.ensures) in
-    subst (λ (names : List Text). IfOk c.ok_or.result (λ asked. asked_for names (map string_bytes c.args.words.now) ≡ Some (values_of asked)))
-    c.names.ensures
+    let words = map string_bytes c.args.words.now in
+    subst (λ (names : List Text). IfOk c.ok_or.result (λ asked. asked_for names words ≡ Some (values_of asked))) c.names.ensures
     (found_is values_of _ c.asked_by.result _ c.ok_or.ensures.ok_part
     (c.asked_by.ensures ∙ sym (asked-as (values_with machine_options) _ _ given)))
 

@@ -2,7 +2,8 @@ use Rattle.std.proofs.Common.{◌≡◌, ◌∙◌, ℕ, Some, sym, arith}
 use Rattle.std.proofs.lemmas.List.{length-set}
 use Rattle.text_io.specs.Options.{value_in}
 use Rattle.machine_model.specs.Options.{IsOptionInRange, OptionRule, machine_options, number_with}
-use Rattle.machine_model.proofs.OptionFacts.{all_zip_from, length_options, no_option, number_is, one_more, range_is, values_all, values_none}
+use Rattle.machine_model.proofs.OptionFacts.{all_zip_from, length_options, no_option}
+use Rattle.machine_model.proofs.OptionFacts.{number_is, one_more, range_is, values_all, values_none}
 use Rattle.machine_model.proofs.args.values_in.Goals as goal
 
 pub returns-in_err-values-clause-values : goal.returns-in_err-values-clause-values
