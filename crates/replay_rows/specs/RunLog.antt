@@ -1,5 +1,5 @@
 -- The polls of a run, each with its device after it.
-use Rattle.std.specs.Prelude.{ℕ, zero, suc, Bool, List, [], ◌∷◌, map, slice_get, take, Option, Some, None, Result, Ok, Err, if◌then◌else◌}
+use Rattle.std.specs.Prelude.{ℕ, zero, suc, List, [], ◌∷◌, map, slice_get, take, Option, Some, Result, Ok, if◌then◌else◌}
 use Rattle.device_bench.specs.Bench.{BenchDevices, counts_at, polled_at}
 use Rattle.device_rows.specs.Places.{at}
 use Rattle.device_bench.specs.Transmits.{Transmits, tx_counts_of}

@@ -1,4 +1,4 @@
-use Rattle.std.proofs.{Common.{◌≡◌, ◌∙◌, ◌+◌, ◌<◌, ◌≤◌, inl, inr, drop, get_or, length, sym, arith, rules}}
+use Rattle.std.proofs.{Common.{◌∙◌, ◌+◌, ◌<◌, inl, inr, drop, get_or, length, sym, arith}}
 use Rattle.std.proofs.lemmas.Result.{err_from_is_err_and}
 use Rattle.device_rows.{specs.declared.{event.RowEvent.TheVariants.Opened, row.Row.Row}, proofs.Accepted.accepted-at}
 use Rattle.replay_rows.{specs.Raising.raised_so_far, proofs.RaisedFacts.{loop-end, loop-fault, loop-next, raised-is-trace, with-again}}
