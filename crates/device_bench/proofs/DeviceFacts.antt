@@ -1,7 +1,8 @@
 -- What rows and polls preserve of a device: that its state is sound, whether a disable is pending, and whether it waits on the
 -- list.
 use Rattle.std.proofs.Common.{◌≡◌, ◌∙◌, ℕ, zero, suc, ◌+◌, ◌≤◌, Bool, true, false, Option, Some, None, [], ◌∷◌, ◌++◌, MatchBool, ap}
-use Rattle.{std.proofs.Common.{arith, length, refl, sum, sym, take}, std.specs.Prelude.{◌==◌, ◌||◌, nat_lt, not, if◌then◌else◌}}
+use Rattle.std.proofs.Common.{arith, length, refl, sum, sym, take}
+use Rattle.std.specs.Prelude.{◌==◌, ◌||◌, nat_lt, not, if◌then◌else◌}
 use Rattle.napi_model.specs.{Step.{is_handed, seen_of}, declared.event.Prep.TheVariants.{Granted, Missed, Disabled}}
 use Rattle.napi_model.specs.{declared.event.Done.Done, declared.state.Kind.Kind, declared.state.Place.Place, declared.state.State.State}
 use Rattle.poll_runs.specs.{Plan.{ends, ◌>>=◌}, Polls.{is_arrival, is_repoll}, Thread.{is_for_thread, last_next}}

@@ -1,8 +1,10 @@
 -- The devices of a bench are ended one by one, the last one first.
 use Rattle.std.proofs.Common.{◌≡◌, ◌≢◌, ◌∙◌, ◌<◌, ◌≤◌, ◌+◌, ℕ, zero, suc, Bool, true, false, Option, Some, None, [], ◌∷◌, ◌++◌, length}
-use Rattle.std.proofs.Common.{length-append, length-set, get_or-set_other, slice_set, ap, refl, arith}
-use Rattle.{std.proofs.lemmas.Bool.{eqb-true, eqb-false}, std.specs.Prelude.◌==◌, device_rows.specs.Places.{DeviceTable, at}}
-use Rattle.device_bench.specs.{Bench.BenchDevices, DeviceView.DeviceView, Ending.IsEndedAt, Receive.ReceiveView}
+use Rattle.std.proofs.{Common.{length-append, length-set, get_or-set_other, slice_set, ap, refl, arith}, lemmas.Bool.eqb-true}
+use Rattle.std.{proofs.lemmas.Bool.eqb-false, specs.Prelude.◌==◌}
+use Rattle.device_rows.specs.Places.{DeviceTable, at}
+use Rattle.device_bench.specs.Bench.{BenchDevices}
+use Rattle.device_bench.specs.{DeviceView.DeviceView, Ending.IsEndedAt, Receive.ReceiveView}
 
 -- the devices from this number on were ended, and those below it remain
 pub record EndedFrom {End : Type 0} (ended : ReceiveView → End → Type 0) (all left : BenchDevices) (ends : DeviceTable End) : Type

@@ -1,10 +1,11 @@
 -- How many devices wait on the poll list: each call changes this number as it changes the list.
-use Rattle.std.proofs.Common.{◌≡◌, ℕ, suc, ◌+◌, ◌<◌, ◌≤◌, Bool, true, false, Option, Some, None, [], ◌∷◌, length, get_or, slice_set}
-use Rattle.std.proofs.{Common.{map, ap, refl, arith}, lemmas.List.Sums.{sum_by-cons, sum_by-set}}
-use Rattle.{std.specs.Prelude.{sum_by, if◌then◌else◌}, napi_model.specs.{Step.is_handed, declared.state.Kind.Kind}}
-use Rattle.device_bench.specs.{Bench.{BenchDevices, all_settled, settled_at}, Device.new_device, DeviceView.DeviceView}
-use Rattle.device_bench.specs.{Kept.{IsKept, is_sound_at}, Waiting.{waiting, waits_on_list}}
-use Rattle.{device_bench.proofs.DeviceFacts.settle-keeps, device_rows.specs.Places.{at, empty}, device_rows.proofs.PlaceFacts.below-some}
+use Rattle.std.proofs.Common.{◌≡◌, ℕ, suc, ◌+◌, ◌<◌, ◌≤◌, Bool, true, false, Option, Some, None, [], ◌∷◌, length, get_or, slice_set, map}
+use Rattle.std.{proofs.{Common.{ap, refl, arith}, lemmas.List.Sums.{sum_by-cons, sum_by-set}}, specs.Prelude.{sum_by, if◌then◌else◌}}
+use Rattle.{napi_model.specs.{Step.is_handed, declared.state.Kind.Kind}, device_bench.specs.Bench.{BenchDevices, all_settled, settled_at}}
+use Rattle.device_bench.specs.{Device.new_device, DeviceView.DeviceView, Kept.{IsKept, is_sound_at}, Waiting.{waiting, waits_on_list}}
+use Rattle.device_bench.proofs.DeviceFacts.{settle-keeps}
+use Rattle.device_rows.specs.Places.{at, empty}
+use Rattle.device_rows.proofs.PlaceFacts.{below-some}
 
 pub waiting-empty : waiting empty ≡ 0
 unfolding waiting

@@ -2,7 +2,8 @@
 use Rattle.napi_word.specs.{Knowledge.{deliverers, own_deliveries, packets_of}, Slot.givers}
 use Rattle.poll_engine.specs.{Closings.{IsClosedAs, seats_in}, Runs.{IsEnded, controller_number}, declared.station.Closed.Closed}
 use Rattle.napi_calls.specs.{Closed.IsHistoryOf, Instance.{callers_of, first_of_instance}}
-use Rattle.{std.proofs.Common.{◌≡◌, ℕ, ◌<◌, List, [], ◌++◌, ap, ◌∙◌, subst}, napi_model.specs.Step.opening}
+use Rattle.std.proofs.Common.{◌≡◌, ℕ, ◌<◌, List, [], ◌++◌, ap, ◌∙◌, subst}
+use Rattle.napi_model.specs.Step.{opening}
 use Rattle.rx_ring.specs.{declared.ends.RxIn.RxIn, declared.ends.RxCtx.RxCtx, declared.packet.Packet.Packet}
 use Rattle.rx_ring.specs.{declared.packet.Totals.Totals, Ends.{put_list, received_list, ring_of}, ReceiveRing.{IsInOrder, totals_of}}
 use mathlib.Core.List.{IsPrefix}

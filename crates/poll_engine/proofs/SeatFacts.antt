@@ -1,6 +1,7 @@
 -- What polls, runs and turns preserve of a poller's handles. (Names with "seat" are about these handles.)
 use Rattle.std.proofs.Common.{◌≡◌, ◌⊎◌, ◌∙◌, ℕ, zero, suc, ◌<◌, Bool, false, List, [], ◌∷◌, Option, Some, None, length, inl, inr, refl}
-use Rattle.{std.proofs.Common.{sym, ap, subst, vec_items, set, get_or, arith}, std.specs.Prelude.{◌==◌, MatchOption, position}}
+use Rattle.std.proofs.Common.{sym, ap, subst, vec_items, set, get_or, arith}
+use Rattle.std.specs.Prelude.{◌==◌, MatchOption, position}
 use Rattle.{poll_runs.specs.{Polls.{At, Chain, Poll}, declared.bench.Once.Once}, poll_engine.proofs.ListFacts.{zip_both, zip_same}}
 use Rattle.napi_calls.specs.declared.kept.DropBomb.{DropBomb}
 use Rattle.poll_engine.specs.{SeatKeeping.{AreSameSeats, IsSameSeat}, declared.handle.PollHandle.PollHandle}

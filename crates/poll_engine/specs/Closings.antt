@@ -1,6 +1,7 @@
 -- The callers with which an instance was closed.
-use Rattle.{std.specs.Prelude.{◌≡◌, List, [], ◌∷◌, ◌++◌}, rx_ring.specs.declared.ends.RxCtx.RxCtx}
-use Rattle.{napi_word.specs.declared.table.Pass.Pass, napi_calls.specs.{declared.types.Caller.Caller, Closed.{IsClosed, seats_of}}}
+use Rattle.std.specs.Prelude.{◌≡◌, List, [], ◌∷◌, ◌++◌}
+use Rattle.{rx_ring.specs.declared.ends.RxCtx.RxCtx, napi_word.specs.declared.table.Pass.Pass}
+use Rattle.napi_calls.specs.{declared.types.Caller.Caller, Closed.{IsClosed, seats_of}}
 use Rattle.poll_engine.specs.{declared.station.Closed.Closed, declared.worker.WorkerHandles.WorkerHandles}
 use Rattle.poll_engine.specs.declared.worker.ControllerState.TheVariants.{Off}
 

@@ -1,5 +1,6 @@
 -- Which poller polls which station.
-use Rattle.{std.specs.Prelude.{ℕ, ◌-◌, ◌%◌, ◌==◌, Bool}, poll_engine.specs.declared.station.Station.Station}
+use Rattle.std.specs.Prelude.{ℕ, ◌-◌, ◌%◌, ◌==◌, Bool}
+use Rattle.poll_engine.specs.declared.station.Station.{Station}
 
 -- the number of the poller that polls station n: n - 1, modulo the count of pollers
 abbrev pub poller_by : ℕ → ℕ → ℕ

@@ -1,5 +1,6 @@
 -- How often the poller of a shared list found its queue empty.
-use Rattle.{std.specs.Prelude.{◌≡◌, ℕ, ◌+◌, ◌-◌, ◌^◌, ◌≤◌, min}, poll_engine.specs.declared.pops.Pops.Pops}
+use Rattle.std.specs.Prelude.{◌≡◌, ℕ, ◌+◌, ◌-◌, ◌^◌, ◌≤◌, min}
+use Rattle.poll_engine.specs.declared.pops.Pops.{Pops}
 
 -- how many pops found the queue empty, a count that saturates
 abbrev pub found_empty : Pops → ℕ

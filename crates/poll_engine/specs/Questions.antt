@@ -1,5 +1,6 @@
 -- What a worker asks its gate.
-use Rattle.{std.specs.Prelude.{ℕ, zero, suc, List, [], ◌∷◌, ◌++◌}, poll_engine.specs.Acts.after_acts}
+use Rattle.std.specs.Prelude.{ℕ, zero, suc, List, [], ◌∷◌, ◌++◌}
+use Rattle.poll_engine.specs.Acts.{after_acts}
 
 -- the questions before the first n acts: each act's exactly once, in order, and before the device is asked for the act
 abbrev pub all_questions : {D : Type 0} → (D → ℕ → D) → ℕ → D → ℕ → List (ℕ × ℕ × D)

@@ -1,8 +1,9 @@
 -- How one more row is added to the script of its device (the list of the device's rows).
 use Rattle.std.proofs.lemmas.Grind.{common_steps}
 use Rattle.std.proofs.Common.{◌≡◌, ℕ, ◌-◌, ◌≤◌, Bool, true, false, List, [], ◌∷◌, ◌++◌, length, slice_index_or, slice_set, arith}
-use Rattle.{std.specs.Prelude.◌==◌, device_rows.specs.declared.row.Row.Row}
-use Rattle.{replay.specs.{Script.{is_act_of, is_open, script_of}, Dealing.AreScripts}, replay.proofs.Rows.filter-one}
+use Rattle.std.specs.Prelude.{◌==◌}
+use Rattle.{device_rows.specs.declared.row.Row.Row, replay.specs.{Script.{is_act_of, is_open, script_of}, Dealing.AreScripts}}
+use Rattle.replay.proofs.Rows.{filter-one}
 
 script-other : (device : ℕ) (rows : List Row) (row : Row) → is_act_of device row ≡ false
     → script_of device (rows ++ row ∷ []) ≡ script_of device rows

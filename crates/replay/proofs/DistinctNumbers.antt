@@ -1,6 +1,7 @@
 -- Stations by increasing number.
 use Rattle.std.proofs.Common.{◌+◌, ◌<◌, Bool, true, false, List, [], ◌∷◌, ap, refl, arith, ◌≡◌, ◌∙◌, ℕ, zero, suc}
-use Rattle.{std.proofs.lemmas.Grind.common_steps, std.specs.{Prelude.{◌==◌, filter}, List.{AllZip, list_any, range_with_len}}}
+use Rattle.std.proofs.lemmas.Grind.{common_steps}
+use Rattle.std.specs.{Prelude.{◌==◌, filter}, List.{AllZip, list_any, range_with_len}}
 use Rattle.poll_engine.specs.{declared.station.Station.Station, Numbers.{are_distinct, have_distinct_numbers, numbers_of}}
 
 -- none of the numbers from this one on is lower

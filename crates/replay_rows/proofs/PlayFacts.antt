@@ -1,8 +1,8 @@
 -- How one more row advances a replay.
 use Rattle.std.proofs.Common.{◌≡◌, ◌∙◌, ℕ, zero, suc, ◌+◌, ◌<◌, Bool, true, false, Ok, Err, inl, inr, List, [], ◌∷◌, ◌++◌, length}
 use Rattle.std.proofs.{Common.{append_assoc, take, drop, get_or, ap, refl, sym, arith}, lemmas.List.{length-take, take_more}}
-use Rattle.{std.specs.Prelude.{◌⊎◌, IfErr, Result, if◌then◌else◌}, device_bench.specs.Transmits.Transmits}
-use Rattle.device_rows.specs.declared.row.Row.{Row}
+use Rattle.std.specs.Prelude.{◌⊎◌, IfErr, Result, if◌then◌else◌}
+use Rattle.{device_bench.specs.Transmits.Transmits, device_rows.specs.declared.row.Row.Row}
 use Rattle.replay_rows.specs.{Replay.{after_row, after_rows, is_early, start, after_all_rows}, Report.{report_of, serial_report}}
 use Rattle.replay_rows.specs.{Transmits.{after_transmit, after_transmits, transmits_of}, ReplayState.ReplayState}
 use Rattle.text_io.specs.{declared.fault.ReplayFault.ReplayFault, declared.fault.ReplayFault.TheVariants.{OutputFailed, Pending}}

@@ -1,4 +1,5 @@
-use Rattle.{std.proofs.Common.{Some, sym, ap, ◌∙◌, subst}, rx_ring.specs.{declared.ends.RxIn.RxIn, Ends.IsOneRing}}
+use Rattle.std.proofs.Common.{Some, sym, ap, ◌∙◌, subst}
+use Rattle.rx_ring.specs.{declared.ends.RxIn.RxIn, Ends.IsOneRing}
 use Rattle.core_tests.proofs.bed.make_bed.Goals as goal
 
 pub returns-clause-input : goal.returns-clause-input

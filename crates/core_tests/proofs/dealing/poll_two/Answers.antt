@@ -1,4 +1,5 @@
-use Rattle.{std.proofs.Common.◌∙◌, napi_calls.proofs.Dealing.turn_delivers}
+use Rattle.std.proofs.Common.{◌∙◌}
+use Rattle.napi_calls.proofs.Dealing.{turn_delivers}
 use Rattle.core_tests.proofs.dealing.poll_two.Goals as goal
 
 pub returns-in-Ok-clause-packets : goal.returns-in-Ok-clause-packets

@@ -1,4 +1,5 @@
-use Rattle.{std.proofs.Common.{ap, ◌∙◌}, poll_engine.proofs.{OrderSteps.learns, PushCounts.emptied}}
+use Rattle.std.proofs.Common.{ap, ◌∙◌}
+use Rattle.poll_engine.proofs.{OrderSteps.learns, PushCounts.emptied}
 use Rattle.poll_engine.proofs.list_ends.drain.Goals as goal
 
 pub learn_as-requires-clause-rule : goal.learn_as-requires-clause-rule

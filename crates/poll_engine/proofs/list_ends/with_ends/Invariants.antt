@@ -1,5 +1,6 @@
 use Rattle.poll_engine.specs.{declared.list_in.ListIn.ListIn, SharedLists.{pushed_by, end_number}, PushOrder.poller}
-use Rattle.{std.specs.Arc.arc_value, std.proofs.Common.{◌≡◌, ◌+◌, [], length, All, ℕ, ◌<◌, slice_index_or}}
+use Rattle.std.specs.Arc.{arc_value}
+use Rattle.std.proofs.Common.{◌≡◌, ◌+◌, [], length, All, ℕ, ◌<◌, slice_index_or}
 use Rattle.crossbeam_queue.specs.Passes.{view, IsPassOf}
 use Rattle.poll_engine.proofs.list_ends.with_ends.Given as goal
 

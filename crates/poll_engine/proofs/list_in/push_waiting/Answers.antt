@@ -1,4 +1,5 @@
-use Rattle.{std.proofs.Common.{ap, ◌∙◌}, poll_engine.proofs.OrderSteps.pushes}
+use Rattle.std.proofs.Common.{ap, ◌∙◌}
+use Rattle.poll_engine.proofs.OrderSteps.{pushes}
 use Rattle.poll_engine.proofs.list_in.push_waiting.Goals as goal
 
 pub push_as-requires-clause-rule : goal.push_as-requires-clause-rule

@@ -1,4 +1,5 @@
-use Rattle.{std.proofs.Common.◌≡◌, crossbeam_queue.specs.Passes.{view, IsPassOf}}
+use Rattle.std.proofs.Common.{◌≡◌}
+use Rattle.crossbeam_queue.specs.Passes.{view, IsPassOf}
 use Rattle.poll_engine.proofs.list_in.push_waiting.Given as goal
 
 abbrev pub invariant-loop : goal.invariant-loop

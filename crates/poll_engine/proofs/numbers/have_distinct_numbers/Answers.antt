@@ -1,4 +1,5 @@
-use Rattle.{std.proofs.Common.{◌∙◌, ap, sym, refl, arith}, poll_engine.specs.Numbers.have_distinct_numbers}
+use Rattle.std.proofs.Common.{◌∙◌, ap, sym, refl, arith}
+use Rattle.poll_engine.specs.Numbers.{have_distinct_numbers}
 use Rattle.poll_engine.proofs.numbers.have_distinct_numbers.Goals as goal
 
 pub loop-preserved : goal.loop-preserved

@@ -1,4 +1,5 @@
-use Rattle.{std.proofs.Common.{◌≡◌, ◌+◌, length}, poll_engine.specs.Numbers.have_distinct_numbers}
+use Rattle.std.proofs.Common.{◌≡◌, ◌+◌, length}
+use Rattle.poll_engine.specs.Numbers.{have_distinct_numbers}
 use Rattle.poll_engine.proofs.numbers.have_distinct_numbers.Given as goal
 
 abbrev pub invariant-loop : goal.invariant-loop

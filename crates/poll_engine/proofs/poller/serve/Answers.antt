@@ -1,4 +1,5 @@
-use Rattle.{std.proofs.Common.{◌∷◌, ◌++◌, []}, poll_runs.proofs.PollFacts.chain-push}
+use Rattle.std.proofs.Common.{◌∷◌, ◌++◌, []}
+use Rattle.poll_runs.proofs.PollFacts.{chain-push}
 use Rattle.poll_engine.proofs.poller.serve.Goals as goal
 
 pub loop-preserved-then-turn : goal.loop-preserved-then-turn

@@ -1,4 +1,5 @@
-use Rattle.{std.proofs.Common.{◌≡◌, length, vec_items}, std.specs.List.AllZip, poll_engine.specs.Wakers.Wakes}
+use Rattle.std.{proofs.Common.{◌≡◌, length, vec_items}, specs.List.AllZip}
+use Rattle.poll_engine.specs.Wakers.{Wakes}
 use Rattle.poll_engine.proofs.pollers.wakers_of.Given as goal
 
 abbrev pub invariant-loop : goal.invariant-loop

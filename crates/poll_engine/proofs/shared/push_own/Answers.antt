@@ -1,4 +1,5 @@
-use Rattle.{std.proofs.Common.{ap, ◌∙◌}, poll_engine.proofs.OrderSteps.{pushes, pops}}
+use Rattle.std.proofs.Common.{ap, ◌∙◌}
+use Rattle.poll_engine.proofs.OrderSteps.{pushes, pops}
 use Rattle.poll_engine.proofs.shared.push_own.Goals as goal
 
 pub force_push_as-requires-clause-push : goal.force_push_as-requires-clause-push

@@ -1,4 +1,5 @@
-use Rattle.{std.proofs.Common.{◌≡◌, ◌-◌, [], replicate}, replay.specs.Dealing.lists}
+use Rattle.std.proofs.Common.{◌≡◌, ◌-◌, [], replicate}
+use Rattle.replay.specs.Dealing.{lists}
 use Rattle.replay.proofs.dealing.no_scripts.Given as goal
 
 abbrev pub invariant-loop : goal.invariant-loop

@@ -1,4 +1,5 @@
-use Rattle.{std.proofs.Common.{◌≡◌, take}, replay.specs.Script.openings_of}
+use Rattle.std.proofs.Common.{◌≡◌, take}
+use Rattle.replay.specs.Script.{openings_of}
 use Rattle.replay.proofs.dealing.openings_of.Given as goal
 
 abbrev pub invariant-loop-row : goal.invariant-loop-row

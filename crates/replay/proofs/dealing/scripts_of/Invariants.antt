@@ -1,4 +1,5 @@
-use Rattle.{std.proofs.Common.{◌≡◌, take, vec_len}, replay.specs.Dealing.{AreScripts, lists}}
+use Rattle.std.proofs.Common.{◌≡◌, take, vec_len}
+use Rattle.replay.specs.Dealing.{AreScripts, lists}
 use Rattle.replay.proofs.dealing.scripts_of.Given as goal
 
 abbrev pub invariant-loop-row : goal.invariant-loop-row

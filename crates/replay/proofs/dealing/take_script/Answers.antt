@@ -1,4 +1,5 @@
-use Rattle.{std.proofs.{Common.{◌∙◌, ap, slice_set, vec_items}, lemmas.List.map-set}, replay.specs.Dealing.lists}
+use Rattle.std.proofs.{Common.{◌∙◌, ap, slice_set, vec_items}, lemmas.List.map-set}
+use Rattle.replay.specs.Dealing.{lists}
 use Rattle.replay.proofs.dealing.take_script.Goals as goal
 
 pub returns-clause-scripts : goal.returns-clause-scripts

@@ -1,4 +1,5 @@
-use Rattle.{std.proofs.Common.{◌≡◌, ◌++◌, take, string_bytes, flat_map}, replay.specs.ThreadsStations.end_lines}
+use Rattle.std.proofs.Common.{◌≡◌, ◌++◌, take, string_bytes, flat_map}
+use Rattle.replay.specs.ThreadsStations.{end_lines}
 use Rattle.replay.proofs.report.add_ends.Given as goal
 
 abbrev pub invariant-loop-end : goal.invariant-loop-end

@@ -1,4 +1,5 @@
-use Rattle.{std.proofs.Common.{◌≡◌, ◌≤◌, length, take}, replay.specs.Script.rx_of}
+use Rattle.std.proofs.Common.{◌≡◌, ◌≤◌, length, take}
+use Rattle.replay.specs.Script.{rx_of}
 use Rattle.replay.proofs.script.count_rx.Given as goal
 
 abbrev pub invariant-loop-row : goal.invariant-loop-row

@@ -1,4 +1,5 @@
-use Rattle.{std.proofs.Common.{◌≡◌, None, take}, std.specs.List.find, replay.specs.Script.makes_threaded}
+use Rattle.std.{proofs.Common.{◌≡◌, None, take}, specs.List.find}
+use Rattle.replay.specs.Script.{makes_threaded}
 use Rattle.replay.proofs.script.has_thread.Given as goal
 
 abbrev pub invariant-loop-row : goal.invariant-loop-row

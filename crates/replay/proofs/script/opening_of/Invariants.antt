@@ -1,4 +1,5 @@
-use Rattle.{std.proofs.Common.{◌≡◌, None, take}, std.specs.List.find, replay.specs.Script.opens}
+use Rattle.std.{proofs.Common.{◌≡◌, None, take}, specs.List.find}
+use Rattle.replay.specs.Script.{opens}
 use Rattle.replay.proofs.script.opening_of.Given as goal
 
 abbrev pub invariant-loop-row : goal.invariant-loop-row

@@ -1,4 +1,5 @@
-use Rattle.{std.proofs.Common.{◌≡◌, take}, std.specs.Prelude.filter, replay.specs.Script.is_act_of}
+use Rattle.std.{proofs.Common.{◌≡◌, take}, specs.Prelude.filter}
+use Rattle.replay.specs.Script.{is_act_of}
 use Rattle.replay.proofs.script.script_of.Given as goal
 
 abbrev pub invariant-loop-row : goal.invariant-loop-row

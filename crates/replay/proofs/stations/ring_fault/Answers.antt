@@ -1,4 +1,5 @@
-use Rattle.{std.proofs.Common.{◌∙◌, sym}, replay.proofs.StationFacts.{small-here, small-later}}
+use Rattle.std.proofs.Common.{◌∙◌, sym}
+use Rattle.replay.proofs.StationFacts.{small-here, small-later}
 use Rattle.replay.proofs.stations.ring_fault.Goals as goal
 
 pub returns-then-is_small : goal.returns-then-is_small

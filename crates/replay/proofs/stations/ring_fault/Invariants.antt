@@ -1,4 +1,5 @@
-use Rattle.{std.proofs.Common.{◌≡◌, None, take}, std.specs.List.find, replay.specs.ThreadsStations.is_small}
+use Rattle.std.{proofs.Common.{◌≡◌, None, take}, specs.List.find}
+use Rattle.replay.specs.ThreadsStations.{is_small}
 use Rattle.replay.proofs.stations.ring_fault.Given as goal
 
 abbrev pub invariant-loop-station : goal.invariant-loop-station

@@ -1,4 +1,5 @@
-use Rattle.{std.proofs.Common.{◌∙◌, Err, ap}, replay.proofs.StationFacts.{told-outside, told-unwritten}}
+use Rattle.std.proofs.Common.{◌∙◌, Err, ap}
+use Rattle.replay.proofs.StationFacts.{told-outside, told-unwritten}
 use Rattle.replay.proofs.stations.run_stations.Goals as goal
 
 pub returns-in-Err-clause-fault : goal.returns-in-Err-clause-fault

@@ -1,4 +1,5 @@
-use Rattle.{std.proofs.Common.{◌≡◌, take}, std.specs.Prelude.map, replay.specs.ThreadsStations.polled_of}
+use Rattle.std.{proofs.Common.{◌≡◌, take}, specs.Prelude.map}
+use Rattle.replay.specs.ThreadsStations.{polled_of}
 use Rattle.replay.proofs.threads.all_polled.Given as goal
 
 abbrev pub invariant-loop-end : goal.invariant-loop-end

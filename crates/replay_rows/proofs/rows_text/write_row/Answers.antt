@@ -1,5 +1,4 @@
-use Rattle.std.proofs.Common.{arith, rules}
-use Rattle.std.proofs.lemmas.Fmt.{length-decimal-le}
+use Rattle.std.proofs.{Common.{arith, rules}, lemmas.Fmt.length-decimal-le}
 use Rattle.replay_rows.proofs.rows_text.write_row.Goals as goal
 
 pub write_digits-at-requires : goal.write_digits-at-requires

@@ -1,5 +1,6 @@
-use Rattle.{std.proofs.Common.{◌∙◌, ap, arith}, device_bench.specs.{Device.is_pending, Kept.is_sound}}
-use Rattle.device_bench.proofs.{BenchFacts.{kept-set, pending-off, here-at, sound-at}, DeviceFacts.{settle-keeps, settled-same}}
+use Rattle.std.proofs.Common.{◌∙◌, ap, arith}
+use Rattle.device_bench.{specs.{Device.is_pending, Kept.is_sound}, proofs.BenchFacts.kept-set}
+use Rattle.device_bench.proofs.{BenchFacts.{pending-off, here-at, sound-at}, DeviceFacts.{settle-keeps, settled-same}}
 use Rattle.device_rows.proofs.PlaceFacts.{below-some}
 use Rattle.device_bench.proofs.bench.DeviceBench.settle_one.Goals as goal
 
