@@ -1,4 +1,5 @@
-use Rattle.{std.proofs.Common.{◌≡◌, ◌+◌, ◌*◌, ◌≤◌, ◌++◌, length, drop, flat_map}, text_io.specs.Lines.with_newline}
+use Rattle.std.proofs.Common.{◌≡◌, ◌+◌, ◌*◌, ◌≤◌, ◌++◌, length, drop, flat_map}
+use Rattle.text_io.specs.Lines.{with_newline}
 use Rattle.replay_rows.specs.TraceText.{row_line}
 use Rattle.replay_rows.proofs.rows_text.write_rows.Given as goal
 
