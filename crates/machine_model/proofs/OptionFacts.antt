@@ -10,6 +10,7 @@ use Rattle.std.proofs.lemmas.List.FromFn.{fill_by_all}
 use Rattle.std.specs.Option.{option_and_then}
 use Rattle.text_io.specs.Given.{Text, number_within, or_usual}
 use Rattle.machine_model.specs.declared.settings.{MachineOption.MachineOption, MachineSettings.MachineSettings}
+use Rattle.machine_model.specs.declared.settings.TheConstants.{OPTION_COUNT}
 use Rattle.machine_model.specs.Options.{OptionRule, machine_options, option_defaults, flag_number, rule}
 use Rattle.machine_model.specs.Options.{AreInRange, IsFirstOut, IsOption, IsOptionInRange, number_with, values_of, values_with}
 
@@ -38,7 +39,7 @@ same_maps f g (x ∷ xs) (y ∷ ys) h = ap (λ z. z ∷ map g ys) h.0 ∙ ap (λ
 
 -- ---- the table
 
-pub length_options : length machine_options ≡ 21
+pub length_options : length machine_options ≡ OPTION_COUNT
 unfolding machine_options
 length_options = refl
 
@@ -55,7 +56,7 @@ at R (x ∷ xs) (y ∷ ys) zero d e h l = h.0
 at R (x ∷ xs) (y ∷ ys) (suc k) d e h l = at R xs ys k d e h.1 (omega (arith, l))
 
 pub in_range_at : (values : List ℕ) (k : ℕ) (o : OptionRule) (d : ℕ)
-    → AreInRange values → k < 21 → IsOptionInRange (slice_index_or machine_options k o) (slice_index_or values k d)
+    → AreInRange values → k < OPTION_COUNT → IsOptionInRange (slice_index_or machine_options k o) (slice_index_or values k d)
 in_range_at values k o d h l = at IsOptionInRange machine_options values k o d h (omega (arith, l, length_options))
 
 abbrev Row : Type 0
@@ -68,7 +69,7 @@ abbrev rule_row : OptionRule → Row
 rule_row o = (o.name, o.least, o.most, o.default)
 
 -- a table with the rows of the definition has its options
-pub option_at : (xs : List MachineOption) (k : ℕ) (d : MachineOption) (o : OptionRule) → length xs ≡ 21 → k < 21
+pub option_at : (xs : List MachineOption) (k : ℕ) (d : MachineOption) (o : OptionRule) → length xs ≡ OPTION_COUNT → k < OPTION_COUNT
     → map row_of xs ≡ map rule_row machine_options → IsOption (slice_index_or xs k d) (slice_index_or machine_options k o)
 option_at xs k d o n l same =
     let row : row_of (slice_index_or xs k d) ≡ rule_row (slice_index_or machine_options k o) =
@@ -80,10 +81,10 @@ pub no_option : OptionRule
 no_option = rule [] (λ s. 0) 0 0 0
 
 -- values in the order of their options, written out
-pub listed : (values : List ℕ) → AreInRange values → values ≡ map (λ k. slice_index_or values k 0) (range_with_len 0 21)
+pub listed : (values : List ℕ) → AreInRange values → values ≡ map (λ k. slice_index_or values k 0) (range_with_len 0 OPTION_COUNT)
 listed values h =
     let all = same_length IsOptionInRange machine_options values h ∙ length_options in
-    fill_by_all (λ k. slice_index_or values k 0) values 21 0 all (λ k l. refl)
+    fill_by_all (λ k. slice_index_or values k 0) values OPTION_COUNT 0 all (λ k l. refl)
 
 pub flag : (n : ℕ) → n ≤ 1 → flag_number (nat_eq n 1) ≡ n
 flag zero h = refl
@@ -102,14 +103,14 @@ out_at values i m is l out o d =
     λ h. out (omega (arith, same, (is o).least, h.0), omega (arith, same, (is o).most, h.1)) in
     subst (λ (n : ℕ). ¬ IsOptionInRange (slice_index_or machine_options n o) (slice_index_or values n d)) (sym back) here
 
-default_at : (k : ℕ) (o : OptionRule) → k < 21
+default_at : (k : ℕ) (o : OptionRule) → k < OPTION_COUNT
     → IsOptionInRange (slice_index_or machine_options k o) (slice_index_or machine_options k o).default
 default_at k o l =
     let defaults = at IsOptionInRange machine_options option_defaults k o 0 defaults_in_range (omega (arith, l, length_options)) in
     subst (λ (v : ℕ). IsOptionInRange (slice_index_or machine_options k o) v)
     (get_or-map (λ (o : OptionRule). o.default) machine_options k o 0 (omega (arith, l, length_options))) defaults
 
-pub range_is : (k : ℕ) (o : OptionRule) (m : MachineOption) (n : ℕ) → k < 21 → IsOption m (slice_index_or machine_options k o)
+pub range_is : (k : ℕ) (o : OptionRule) (m : MachineOption) (n : ℕ) → k < OPTION_COUNT → IsOption m (slice_index_or machine_options k o)
     → ((m.least ≤ m.default) × (m.default ≤ m.most) → (m.least ≤ n) × (n ≤ m.most)) → IsOptionInRange (slice_index_or machine_options k o) n
 range_is k o m n l is h =
     let default = default_at k o l in

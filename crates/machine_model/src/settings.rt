@@ -141,7 +141,7 @@ impl MachineOption {
 
     /// Returns the option at this position of [`OPTIONS`].
     pub(crate) fn at(i: usize) -> MachineOption
-        requires { i < 21 }
+        requires { i < OPTION_COUNT }
         ensures { (o : OptionRule) → IsOption result (slice_index_or machine_options i o) }
     {
         OPTIONS[i]

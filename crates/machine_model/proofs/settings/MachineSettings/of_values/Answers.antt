@@ -1,4 +1,5 @@
 use Rattle.std.proofs.Common.{◌<◌, ℕ, slice_index_or, arith}
+use Rattle.machine_model.specs.declared.settings.TheConstants.{OPTION_COUNT}
 use Rattle.machine_model.specs.Options.{machine_options}
 use Rattle.machine_model.proofs.OptionFacts.{flag, in_range_at, listed, no_option}
 use Rattle.machine_model.proofs.settings.MachineSettings.of_values.Goals as goal
@@ -6,7 +7,7 @@ use Rattle.machine_model.proofs.settings.MachineSettings.of_values.Goals as goal
 pub invariant_of-result : goal.invariant_of-result
 unfolding machine_options
 invariant_of-result c =
-    let at = λ (k : ℕ) (l : k < 21). in_range_at c.args.values.now k no_option 0 c.requires l in
+    let at = λ (k : ℕ) (l : k < OPTION_COUNT). in_range_at c.args.values.now k no_option 0 c.requires l in
     record {
       processors_in = at 0 (omega arith);
       queues_in = at 1 (omega arith);
