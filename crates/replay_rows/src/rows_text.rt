@@ -1,4 +1,4 @@
-//! Rows as the text of a trace. It is written from its end to its start, as the digits of a number are.
+//! Rows as the text of a trace. Each line is written from its end to its start, as the digits of a number are.
 
 ghost use Rattle.std.specs.Prelude.{◌≡◌, ◌+◌, ◌*◌, ◌≤◌, ◌++◌, IfOk, codes, flat_map, length, drop};
 ghost use Rattle.replay_rows.specs.TraceText.{event_word, row_line, titles, trace_text};
@@ -11,6 +11,11 @@ use std::alloc::{AllocError, Global};
 // The bytes of the longest line: 20 digits for the time, 10 for the device and 10 for the value, the longest event with its
 // commas, another comma, and a line feed.
 const MOST_LINE: usize = 52;
+
+// So many lines are written at once, from the last to the first.
+const LINES: usize = 32;
+
+const MOST_LINES: usize = LINES * MOST_LINE;
 
 // The bytes of the longer titles.
 const MOST_TITLES: usize = 28;
@@ -96,9 +101,15 @@ pub(crate) fn trace_text(alloc: Global, version: u32, rows: &[Row]) -> Result<Ve
     requires { length rows.now ≤ 100000 }
     ensures { IfOk result (λ text. text.items ≡ trace_text version rows.now) }
 {
-    let room = MOST_TITLES + MOST_LINE * rows.len();
-    let mut bytes = vec![in alloc; 0; room]?;
-    let at = write_rows(rows, bytes.as_mut_slice(), room);
-    let start = write_word(titles(version).as_bytes(), bytes.as_mut_slice(), at);
-    Vec::from_slice(alloc, &bytes[start..])
+    let mut text = Vec::with_capacity(alloc, MOST_TITLES + MOST_LINE * rows.len())?;
+    text.extend_from_slice(titles(version).as_bytes())?;
+    let mut lines = [0; MOST_LINES];
+    let mut done = 0;
+    while done < rows.len() {
+        let next = done + LINES.min(rows.len() - done);
+        let at = write_rows(&rows[done..next], &mut lines, MOST_LINES);
+        text.extend_from_slice(&lines[at..])?;
+        done = next;
+    }
+    Ok(text)
 }
