@@ -1,5 +1,5 @@
 """scripts/gate.py proofs ROOM [CRATE ..]: passes these crates with those below them, or all, by `rt ci` on a copy in the folder ROOM,
-which hasn't their must-fail edits; what it built scripts/build.py keeps.
+which hasn't their must-fail edits; what it built tools/fintaqush_tools/builds.py keeps.
 scripts/gate.py edits [CRATE ..]: tries the edits of these crates, or of all, over the libraries that stand. After `proofs` nothing is
 built again, even where `rt ci` has taken a proof from an earlier run. What a plain `rt ci` leaves in a checkout isn't used: `rt check` writes
 to the same folders, and nothing there says of which sources a library was made.
@@ -20,7 +20,9 @@ import subprocess
 import sys
 import tempfile
 
-from build import BUILT, TOP, build, child, crates, end_by, read, sums
+TOP = os.path.dirname(os.path.dirname(os.path.realpath(__file__)))
+sys.path.insert(0, f"{TOP}/tools")
+from fintaqush_tools.builds import BUILT, build, child, crates, read, run, sums  # noqa: E402
 
 GONE = "has no field|is not in scope|has no `|was not admitted"  # of what an edit takes away, and a proof names
 HEAD = re.compile(r"^( *)(?:pub(?:\([a-z]+\))? )?(?:const |unsafe |extern \"C\" )*fn (\w+)", re.M)
@@ -262,4 +264,4 @@ def gate(words):
 
 
 if __name__ == "__main__":
-    end_by(gate)
+    run(gate, sys.argv[1:])

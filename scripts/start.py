@@ -1,13 +1,14 @@
-"""What the programs in Python begin with: the Python that they need, and the version of Fintaqush. Any Python 3 can parse this file, so that
-one which is too old can say so. As a program it starts a file of this folder, in this process.
+"""Starts the command, the launcher or the build, with a Python that is new enough. Any Python 3 can parse this file, so that one which is
+too old can say so.
 
-    start.py replay|build [ARGUMENT ..]
+    start.py fintaqush|replay|build [ARGUMENT ..]
 """
 import os
 import sys
 
 OLDEST = (3, 9)
 TOP = os.path.dirname(os.path.dirname(os.path.realpath(__file__)))
+TOO_OLD = {"fintaqush": 1, "replay": 69, "build": 69}  # the exit statuses
 
 
 def lacking():
@@ -16,28 +17,29 @@ def lacking():
     return "" if now >= OLDEST else "it needs Python %d.%d or later, and python3 is %d.%d" % (OLDEST + now)
 
 
-def version():
-    """Returns the version: an installation has it in a file, a checkout in the C header."""
-    kept = os.path.join(TOP, "version")
-    if os.path.exists(kept):
-        with open(kept) as file:
-            return file.read().strip()
-    with open(os.path.join(TOP, "include", "fintaqush.h")) as file:
-        return next(line.split('"')[1] for line in file if line.startswith("#define FQ_VERSION "))
+def end(status, line):
+    """Ends with a message on standard error."""
+    if sys.stderr is not None:
+        sys.stderr.write(line + "\n")
+    sys.exit(status)
 
 
-def main():
+def main(what, words):
+    called = "fintaqush" if what == "fintaqush" else os.environ.get("FINTAQUSH_NAME", "replay")
     if lacking():
-        sys.stderr.write("%s: %s\n" % (os.environ.get("FINTAQUSH_NAME", "replay"), lacking()))
-        sys.exit(69)
-    sys.path.insert(0, os.path.join(TOP, "scripts"))  # which `python3 -I` leaves out
-    if sys.argv.pop(1) == "replay":
-        import replay
-        replay.main()
-    else:
-        import build
-        build.main()
+        end(TOO_OLD[what], "%s: %s" % (called, lacking()))
+    sys.path.insert(0, os.path.join(TOP, "tools"))
+    try:
+        if what == "fintaqush":
+            from fintaqush_tools import cli as program
+        elif what == "replay":
+            from fintaqush_tools import replay as program
+        else:
+            from fintaqush_tools import builds as program
+    except (ImportError, MemoryError) as error:
+        end(1, "%s: %s" % (called, "there isn't enough memory" if isinstance(error, MemoryError) or "map" in str(error) else error))
+    program.start(words)
 
 
 if __name__ == "__main__":
-    main()
+    main(sys.argv[1], sys.argv[2:])

@@ -293,7 +293,7 @@ class Modelled(InFolder):
         chance = random.Random(1)
         done = run("costs", "-", text=made(lambda work: 20_000 // work))
         self.assertEqual((done.returncode, done.stdout), (1, ""))
-        self.assertEqual(done.stderr, "costs: -: what a packet costs isn't known: over 200 polls of 1 to 3 packets the time doesn't grow with them (the line explains "
+        self.assertEqual(done.stderr, "fintaqush costs: -: what a packet costs isn't known: over 200 polls of 1 to 3 packets the time doesn't grow with them (the line explains "
                          "0 % of how the times differ): record more varied traffic, on a processor that does nothing else\n")
         done = run("costs", "-", text=made(lambda work: chance.randrange(1000, 90_000)))
         self.assertTrue("doesn't grow with them" in done.stderr or "can't be distinguished from 0" in done.stdout)

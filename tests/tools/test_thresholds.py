@@ -3,13 +3,11 @@
 import argparse
 import contextlib
 import io
-import sys
 import unittest
 
-from tooltest import TOP
+import tooltest  # noqa: F401
 
-sys.path.insert(0, str(TOP / "tools"))
-import thresholds  # noqa: E402
+from fintaqush_tools import thresholds
 
 
 class Conditions(unittest.TestCase):
