@@ -27,6 +27,7 @@ tries() {
 }
 replay() { timeout --foreground 300 "$launcher" "$@"; }
 judged() { PYTHONPATH=$top/tools python3 -Bc 'import sys; from fintaqush_tools import settings; print(settings.judge(sys.argv[1:]))' "$@"; }
+# shellcheck disable=SC2120 # called by eval
 built() { replay trace.csv "$@" > made 2>&1; }
 on_terminal() { python3 -c 'import os, pty, sys; sys.exit(os.waitstatus_to_exitcode(pty.spawn(sys.argv[1:])))' "$@" < /dev/null; }
 as_nobody() { if [ "$(id -u)" = 0 ]; then setpriv --reuid=65534 --regid=65534 --clear-groups "$@"; else "$@"; fi; }

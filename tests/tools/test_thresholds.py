@@ -5,9 +5,11 @@ import contextlib
 import io
 import unittest
 
-import tooltest  # noqa: F401
+import tooltest
 
 from fintaqush_tools import thresholds
+
+assert tooltest.TOP  # it finds the package
 
 
 class Conditions(unittest.TestCase):

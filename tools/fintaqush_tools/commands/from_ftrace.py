@@ -274,11 +274,11 @@ class Trace:
         )
 
     def open_devices(self, places: int, by_thread: set[str]) -> None:
-        for number, name in enumerate(self.devices, 1):
-            self.add(self.start, number, "open", places)
+        for device, name in enumerate(self.devices, 1):
+            self.add(self.start, device, "open", places)
             if name in by_thread:
-                self.add(self.start, number, "threaded", 1)
-            self.notes.append(f"device {number} is {name}" + (", polled by a thread" if name in by_thread else ""))
+                self.add(self.start, device, "threaded", 1)
+            self.notes.append(f"device {device} is {name}" + (", polled by a thread" if name in by_thread else ""))
 
     def ends_without_polls(self) -> set[str]:
         """Returns the senders whose packets NAPI of the other end never polls in this recording, although it polls other ends: the backlog of a
