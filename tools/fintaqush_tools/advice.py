@@ -107,6 +107,21 @@ def rings_of(head: Head, device: str, options: Mapping[str, int]) -> list[int]:
 
 def candidates(head: Head, device: str, options: dict[str, int], has_program: bool) -> list[dict[str, int]]:
     """Returns all settings to try, the recorded one first."""
+    places: list[dict[str, int]] = [{}, {"apart": 0}, {"apart": 1}] if has_program else [{}]
+    rings: list[dict[str, int]] = [{}, *({"ring": ring} for ring in rings_of(head, device, options))]
+    tried = [options]
+    for changes in itertools.product(*of_interrupts(head, device, options), places, rings):
+        chosen = {**options, **{name: value for change in changes for name, value in change.items()}}
+        is_both = (
+            chosen.get("gro-flush-timeout") and chosen.get("rx-nsecs") and chosen["rx-nsecs"] != options.get("rx-nsecs")
+        )
+        if chosen not in tried and not is_both:
+            tried.append(chosen)
+    return tried
+
+
+def of_interrupts(head: Head, device: str, options: Mapping[str, int]) -> list[list[dict[str, int]]]:
+    """Returns the settings of deferral, of coalescing and of threads to try; a backlog has none."""
     deferrals: list[dict[str, int]] = [{}]
     coalescing: list[dict[str, int]] = [{}]
     threads: list[dict[str, int]] = [{}]
@@ -122,18 +137,7 @@ def candidates(head: Head, device: str, options: dict[str, int], has_program: bo
             and head.get(f"device.{device}.ethtool.coalesce.adaptive-rx") != "on"
         ):
             coalescing += [{"rx-nsecs": time} for time in COALESCED]
-    places: list[dict[str, int]] = [{}, {"apart": 0}, {"apart": 1}] if has_program else [{}]
-    rings = [{"ring": ring} for ring in rings_of(head, device, options)]
-    tried = [options]
-    parts: list[list[dict[str, int]]] = [deferrals, coalescing, threads, places, [{}, *rings]]
-    for changes in itertools.product(*parts):
-        chosen = {**options, **{name: value for change in changes for name, value in change.items()}}
-        is_both = (
-            chosen.get("gro-flush-timeout") and chosen.get("rx-nsecs") and chosen["rx-nsecs"] != options.get("rx-nsecs")
-        )
-        if chosen not in tried and not is_both:
-            tried.append(chosen)
-    return tried
+    return [deferrals, coalescing, threads]
 
 
 # ---- how settings are applied

@@ -73,9 +73,21 @@ class Event:
 NEXT = re.compile(r"next_comm=(.*) next_pid=(\d{1,9}) ")
 
 
+def event_of(number: int, found: re.Match[str], names: dict[str, str]) -> Event:
+    """Returns the event of a line. `names` are the names of tasks by their numbers, so far."""
+    task, pid, cpu, flags, whole, fraction, name, call, is_exit, said = found.groups()
+    # Ftrace writes `sys_read(..` and `sys_read -> ..`.
+    name = name or ("sys_exit_" if is_exit else "sys_enter_") + call
+    if name == "sched_switch" and (named := NEXT.search(said)):
+        names[named[2]] = named[1]
+    if task == "<...>":
+        task = names.get(pid, task)
+    return Event(number, task, int(cpu), flags or "", seconds(whole, fraction), name, said.rstrip(), int(pid))
+
+
 def events_of(lines: Iterable[str], lost: list[str], first: int = 1) -> Iterator[Event]:
     """Yields the events of these lines; `first` is the number of the first line. If the kernel lost events, a note is added to `lost`."""
-    names = {}  # task names by number: ftrace keeps only a few, and writes `<...>` for the others
+    names: dict[str, str] = {}  # task names by number: ftrace keeps only a few, and writes `<...>` for the others
     for number, line in enumerate(lines, first):
         found = LINE.match(line)
         if not line.endswith("\n") and (first > 1 or not found):
@@ -83,14 +95,7 @@ def events_of(lines: Iterable[str], lost: list[str], first: int = 1) -> Iterator
         if ("LOST" in line or "DROPPED" in line) and (loss := LOST.search(line)):
             lost.append(f"line {number} of the recording: the kernel lost {loss[1] or loss[2] or loss[3]} events")
         elif found:
-            task, pid, cpu, flags, whole, fraction, name, call, is_exit, said = found.groups()
-            # Ftrace writes `sys_read(..` and `sys_read -> ..`.
-            name = name or ("sys_exit_" if is_exit else "sys_enter_") + call
-            if name == "sched_switch" and (named := NEXT.search(said)):
-                names[named[2]] = named[1]
-            if task == "<...>":
-                task = names.get(pid, task)
-            yield Event(number, task, int(cpu), flags or "", seconds(whole, fraction), name, said.rstrip(), int(pid))
+            yield event_of(number, found, names)
         elif not NO_EVENT.match(line):
             raise Refusal(
                 f"line {number}: no line of ftrace, `trace-cmd report` or `perf script`: {line.strip()[:60]!r}"

@@ -76,6 +76,24 @@ def for_bash(name: str) -> str:
     )
 
 
+def cause_of(fault: int, line: str, fields: int) -> str:
+    """Returns the likely cause of a fault at a line with so many fields."""
+    known = (why for pattern, why in CAUSES.items() if re.match(pattern, f"{fault} {line}"))
+    why = next(known, "see the faults in docs/FORMATS.md")
+    return why.format(fields=fields, others="semicolons" if ";" in line else "tabs")
+
+
+def record_in(lines: Sequence[str], row: int) -> tuple[int, int, int, int] | None:
+    """Returns of a row that isn't empty how many fields it has, how many empty ones are above it, and its first and its last line."""
+    csv.field_size_limit(1 << 30)
+    reader, empty, at = csv.reader(lines), 0, 0
+    for record, fields in enumerate(reader):
+        if fields and record - empty == row:
+            return len(fields), empty, at, reader.line_num
+        empty, at = empty + (not fields), reader.line_num
+    return None
+
+
 def about() -> str:
     """Returns what --version prints."""
     sources, of_kit = (
@@ -322,33 +340,25 @@ class Call:
         """Prints the line of the trace that the error names, its text and the likely cause. Rows count records, so nothing is printed if
         the line isn't known for sure."""
         data = bytes(self.kept)
-        if packed := next((packed for first, packed in PACKED.items() if fault == 1 and re.match(first, data)), ""):
-            return f": the file is {packed}{' ' + shlex.quote(self.name) if self.name else ''} | {CALLED}"
+        packed = [packed for first, packed in PACKED.items() if fault == 1 and re.match(first, data)]
+        if packed:
+            return f": the file is {packed[0]}{' ' + shlex.quote(self.name) if self.name else ''} | {CALLED}"
         text = data.decode("latin-1").removeprefix("\xef\xbb\xbf")
         by_cr = "\n" not in text and re.search("\r[^\r]", text)
         lines = [f"{it.rstrip(chr(13))}\n" for it in re.split("\r" if by_cr else "\n", text)]
-        csv.field_size_limit(1 << 30)
-        reader, empty, at = csv.reader(lines), 0, 0
         try:
-            for record, fields in enumerate(reader):
-                if fields and record - empty == row:
-                    break
-                empty, at = empty + (not fields), reader.line_num
-            else:
-                return f": there is no line with text in it: the first one has to be {HEADER}" if row == 0 else ""
+            found = record_in(lines, row)
         except csv.Error:
             return ""  # a CR inside a line ends a record too, and what is a line of such a file is anybody's guess
+        if not found:
+            return f": there is no line with text in it: the first one has to be {HEADER}" if row == 0 else ""
+        fields, empty, at, end = found
         line = lines[at].rstrip("\n")
-        why = next(
-            (why for pattern, why in CAUSES.items() if re.match(pattern, f"{fault} {line}")),
-            "see the faults in docs/FORMATS.md",
-        )
-        if reader.line_num == len(lines) and re.search(r'(^|,)"[^"]*\Z', "".join(lines[at:])):
+        why = cause_of(fault, line, fields)
+        if end == len(lines) and re.search(r'(^|,)"[^"]*\Z', "".join(lines[at:])):
             why = "a quote that it opens isn't closed, so all that follows is one field"
-        why += "; the empty lines above it are no rows" * bool(
-            empty
-        ) + "; its lines end by CR alone, and are counted so" * bool(by_cr)
-        why = why.format(fields=len(fields), others="semicolons" if ";" in line else "tabs")
+        why += "; the empty lines above it are no rows" if empty else ""
+        why += "; its lines end by CR alone, and are counted so" if by_cr else ""
         return f" line {at + 1}, {quoted(line, 60)}: {why}"
 
 

@@ -125,30 +125,29 @@ def objects_of(text: str) -> list[Line]:
 
 def check_whole(objects: Sequence[Line]) -> None:
     """Fails unless the lines are as many as the total line says, in order."""
-    of = {
-        kind: [told for told in objects if told["line"] == kind] for kind in (*ROWS, "device", "napi", "list", "total")
-    }
-    total = of["total"][0]
+    total = objects[-1]
     with_threads = "runs" not in total
-    rows = [told["row"] for told in objects if told["line"] in ROWS]
-    numbers = [told["device"] for told in of["device"]]
-    wanted = [] if with_threads else numbers
-    is_whole = (
-        len(numbers) == total["devices"]
-        and numbers == sorted(set(numbers))
-        and rows == sorted(set(rows))
-        and [told["device"] for told in of["napi"]] == wanted
-        and len(of["list"]) == (0 if with_threads else 1)
-        and all(("state" in told) != with_threads for told in of["device"])
-    )
-    if with_threads:
-        is_whole = is_whole and not rows
-    else:
-        runs = of["softirq"]
-        is_whole = (
-            is_whole
-            and len(runs) == total["runs"]
-            and all(sum(run[name] for run in runs) == total[name] for name in ("polls", "work", "squeezed"))
-        )
-    if not is_whole:
+    devices, rows = of_kind(objects, "device"), of_kind(objects, *ROWS)
+    numbers, places = [told["device"] for told in devices], [told["row"] for told in rows]
+    wholes = [
+        len(numbers) == total["devices"],
+        numbers == sorted(set(numbers)),
+        places == sorted(set(places)),
+        [told["device"] for told in of_kind(objects, "napi")] == ([] if with_threads else numbers),
+        len(of_kind(objects, "list")) == (0 if with_threads else 1),
+        all(("state" in told) != with_threads for told in devices),
+        not rows if with_threads else has_sums(total, of_kind(objects, "softirq")),
+    ]
+    if not all(wholes):
         raise Refusal("the report is cut: its lines don't match its total line")
+
+
+def of_kind(objects: Sequence[Line], *kinds: str) -> list[Line]:
+    """Returns the lines of these kinds."""
+    return [told for told in objects if told["line"] in kinds]
+
+
+def has_sums(total: Line, runs: Sequence[Line]) -> bool:
+    """Returns whether the total line has the number of these runs, and their sums."""
+    names = ("polls", "work", "squeezed")
+    return len(runs) == total["runs"] and all(sum(run[name] for run in runs) == total[name] for name in names)

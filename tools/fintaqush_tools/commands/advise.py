@@ -340,30 +340,36 @@ class Advice:
         if self.end == "used" and "used_p99" not in self.measured:
             self.end = "delivered"
             self.notes.append("which read had which packet isn't known, so waits are those to delivery")
-        self.check = [
-            row
-            for row in predicting.compared(self.measured, Predictions(made, self.costs, whole).of(self.options))
-            if self.end == "used" or not row[0].startswith("used")
-        ]
+        self.check = self.compared(self.measured, Predictions(made, self.costs, whole).of(self.options))
         self.grade = predicting.grade_of(self.check) if self.is_measured() else "unknown"
         self.machine = Machine(head, recording.device, recording.seen.processor)
-        self.notes += [f"{each}, which isn't modelled" for each in unmodelled_in(head, recording.device)]
+        self.others, self.others_apart = recording.disturbing(), {}
+        if self.told["apart"]:
+            self.reads_on = max(self.told["reads_on"], key=lambda each: int(each["reads"]))["processor"]
+            self.others_apart = recording.disturbing(self.reads_on)
+        self.note_recording()
+        self.predictions, self.choice = Predictions(made, self.costs, first), None
+        if self.grade in ("good", "fair"):
+            self.choose(len(first.splitlines()) - 1)
+
+    def compared(self, measured: Mapping[str, float], values: Values) -> list[Compared]:
+        """Returns the measured values with the predicted ones, without those of use if it is unknown."""
+        rows = predicting.compared(measured, values)
+        return [row for row in rows if self.end == "used" or not row[0].startswith("used")]
+
+    def note_recording(self) -> None:
+        """Notes what the recording lacks."""
+        recording, words = self.recording, self.words
+        self.notes += [f"{each}, which isn't modelled" for each in unmodelled_in(recording.head, recording.device)]
         if recording.by and not words.arrivals:
             self.notes.append(
                 f"arrivals are when polls took the packets ({recording.by}), so waits in the card's ring before the interrupt aren't in these values; "
                 "--arrivals uses those of a capture with the card's timestamps"
             )
-        self.others, self.others_apart = recording.disturbing(), {}
-        if self.told["apart"]:
-            self.reads_on = max(self.told["reads_on"], key=lambda each: int(each["reads"]))["processor"]
-            self.others_apart = recording.disturbing(self.reads_on)
         if self.measured["sent"] < FEWEST:
             self.notes.append(
                 f"{self.measured['sent']} packets are few for a 99th percentile, which needs {FEWEST}: record for longer"
             )
-        self.predictions, self.choice = Predictions(made, self.costs, first), None
-        if self.grade in ("good", "fair"):
-            self.choose(len(first.splitlines()) - 1)
 
     def is_measured(self) -> bool:
         """Returns whether what the goal is about was measured: a wait isn't, if packets and polls of the recording don't match."""
@@ -619,6 +625,16 @@ def parser() -> Parser:
     return parser
 
 
+def print_verified(advice: Advice) -> None:
+    """Verifies the advice, if that is asked for, and prints the result; as JSON with the advice."""
+    is_verified = advice.words.verify and advice.choice and advice.choice.best and advice.changes
+    rows, packets = verified(advice) if is_verified else (None, 0)
+    if advice.words.json:
+        print(json.dumps({**advice.object(), "verified": rows and objects_in(rows, packets)}))
+    elif rows:
+        print(f"{'the advised setting':36} {'measured':>12} {'predicted':>12}", *check_lines(rows, packets), sep="\n")
+
+
 def main(given: Sequence[str]) -> int:
     options = parser()
     words = options.parse_args(given)
@@ -634,12 +650,7 @@ def main(given: Sequence[str]) -> int:
         raise Refusal(f"{shown(words.recording)}: {error}") from None
     if not words.json:
         print("\n".join(advice.lines()), flush=True)
-    is_verified = words.verify and advice.choice and advice.choice.best and advice.changes
-    rows, packets = verified(advice) if is_verified else (None, 0)
-    if words.json:
-        print(json.dumps({**advice.object(), "verified": rows and objects_in(rows, packets)}))
-    elif rows:
-        print(f"{'the advised setting':36} {'measured':>12} {'predicted':>12}", *check_lines(rows, packets), sep="\n")
+    print_verified(advice)
     if words.plot and advice.choice:
         draw(advice, advice.choice, words.plot)
     if advice.grade == "poor":

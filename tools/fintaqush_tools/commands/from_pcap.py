@@ -63,6 +63,10 @@ class Kind(NamedTuple):
         """Returns whether it is a broadcast or a multicast."""
         return int(self.to[:2] or "0", 16) & 1 == 1
 
+    def receivers(self, names: Sequence[str]) -> list[str]:
+        """Returns those of these link addresses at which it arrives."""
+        return [name for name in names if self.to == name or self.is_for_many() and self.sender != name]
+
 
 def lines_of(capture: str, count: int | None, cut: list[str]) -> Iterator[str]:
     """Yields tcpdump's lines for a capture, which may be such text itself. tcpdump's message on a cut capture goes to a list."""
@@ -182,6 +186,14 @@ def own_address(kinds: Iterable[Kind]) -> str:
     return common[0] if len(common) == 1 else ""
 
 
+def by_packets(counted: Mapping[Kind, int]) -> list[str]:
+    """Returns the interfaces, that with the most packets first."""
+    of: Counter[str] = Counter()
+    for kind, count in counted.items():
+        of[kind.interface] += count
+    return sorted(of, key=lambda name: (-of[name], name))
+
+
 def devices_of(
     counted: Mapping[Kind, int], wanted: list[str]
 ) -> tuple[list[str], list[str], Callable[[Kind], list[str]]]:
@@ -190,16 +202,9 @@ def devices_of(
     if wanted and has_interfaces:
         return wanted, [], lambda kind: [kind.interface] if kind.interface in wanted else []
     if wanted:
-
-        def arrives(kind: Kind) -> list[str]:
-            return [name for name in wanted if kind.to == name or kind.is_for_many() and kind.sender != name]
-
-        return wanted, [], arrives
+        return wanted, [], lambda kind: kind.receivers(wanted)
     if has_interfaces:
-        of: Counter[str] = Counter()
-        for kind, count in counted.items():
-            of[kind.interface] += count
-        return sorted(of, key=lambda name: (-of[name], name)), [], lambda kind: [kind.interface]
+        return by_packets(counted), [], lambda kind: [kind.interface]
     own = own_address(counted)
     name = own or "the interface of the capture"
     note = (

@@ -19,7 +19,7 @@ import os
 import re
 import shlex
 from collections import Counter
-from collections.abc import Iterator, Sequence
+from collections.abc import Iterable, Iterator, Sequence
 from pathlib import Path
 from typing import Any, Optional
 
@@ -52,11 +52,8 @@ class Series:
     def __init__(self, rows: Sequence[Line], words: Words) -> None:
         if not rows:
             raise Refusal("the series has no rows")
-        devices = {row["device"] for row in rows if row["device"]}
-        if words.device is not None and words.device not in devices:
-            raise Refusal(
-                f"there is no device {words.device}; these are: {', '.join(map(str, sorted(devices))) or 'none'}"
-            )
+        if words.device is not None:
+            check_device(rows, words.device)
         self.device = words.device or busiest(rows)
         first, last = words.rows or (-math.inf, math.inf)
         inside = [row for row in rows if first <= row["row"] < last + 1]
@@ -64,27 +61,43 @@ class Series:
             raise Refusal(f"none of the rows {first}:{last} is there")
         axis = "moment" if words.time else "row"
         self.span = min(row[axis] for row in inside), max(row[axis] for row in inside)
-        self.limits = [
-            (row[axis], row["limit"], row["in_flight"])
-            for row in inside
-            if row["device"] == self.device and row["limit"] is not None
-        ]
-        if words.device and not any(row["limit"] is not None for row in rows if row["device"] == words.device):
-            raise Refusal(f"device {words.device} has no tx or done row, so no limit")
-        self.waiting = [(row[axis], count) for row, count in waiting_of(rows) if first <= row["row"] < last + 1]
-        self.work = [
-            (row[axis], row["work"], row["work"] if row["squeezed"] else 0)
-            for row in inside
-            if row["polls"] is not None
-        ]
-        self.waits = [(row[axis], *row["waits"]) for row in inside if "waits" in row]
-        runs = [row["squeezed"] for row in inside if row["squeezed"] is not None]
-        self.squeezes = f"{sum(runs)} of {len(runs)} runs squeezed" if runs else ""
-        by_place = operator.itemgetter(0)  # times need not rise
-        self.limits.sort(key=by_place)
-        self.waiting.sort(key=by_place)
-        self.work.sort(key=by_place)
-        self.waits.sort(key=by_place)
+        limited = limited_of(inside, self.device)
+        self.limits = placed((row[axis], row["limit"], row["in_flight"]) for row in limited)
+        self.waiting = placed((row[axis], count) for row, count in waiting_of(rows) if first <= row["row"] < last + 1)
+        self.work = placed(work_of(inside, axis))
+        self.waits = placed((row[axis], *row["waits"]) for row in inside if "waits" in row)
+        self.squeezes = squeezes_of(inside)
+
+
+def work_of(rows: Sequence[Line], axis: str) -> list[Point]:
+    """Returns the work of each row that polls, and that of a squeezed run."""
+    polling = [row for row in rows if row["polls"] is not None]
+    return [(row[axis], row["work"], row["work"] if row["squeezed"] else 0) for row in polling]
+
+
+def squeezes_of(rows: Sequence[Line]) -> str:
+    """Returns how many runs were squeezed, for the title."""
+    runs = [row["squeezed"] for row in rows if row["squeezed"] is not None]
+    return f"{sum(runs)} of {len(runs)} runs squeezed" if runs else ""
+
+
+def placed(points: Iterable[Point]) -> list[Point]:
+    """Returns points by their places on the axis, because times need not rise."""
+    return sorted(points, key=operator.itemgetter(0))
+
+
+def limited_of(rows: Sequence[Line], device: int) -> list[Line]:
+    """Returns the rows that have a limit of a device."""
+    return [row for row in rows if row["device"] == device and row["limit"] is not None]
+
+
+def check_device(rows: Sequence[Line], device: int) -> None:
+    """Fails if the limit of a device can't be drawn."""
+    devices = sorted({row["device"] for row in rows if row["device"]})
+    if device not in devices:
+        raise Refusal(f"there is no device {device}; these are: {', '.join(map(str, devices)) or 'none'}")
+    if not limited_of(rows, device):
+        raise Refusal(f"device {device} has no tx or done row, so no limit")
 
 
 def busiest(rows: Sequence[Line]) -> int:

@@ -185,20 +185,23 @@ def name_of(key: Key, names: Iterable[str]) -> str:
     return ", ".join(f"{name} {value}" for name, value in zip(VARIED, key[2:]) if name in names)
 
 
+def grouped(keys: Sequence[Key], chosen: set[str]) -> dict[Key, list[Key]]:
+    """Groups the combinations that differ only in these options."""
+    groups: dict[Key, list[Key]] = {}
+    for key in keys:
+        others = tuple(value for name, value in zip(VARIED, key[2:]) if name not in chosen)
+        groups.setdefault(others, []).append(key)
+    return groups
+
+
 def orders_that_change(
     rows: Sequence[Row], keys: Sequence[Key], percent: int
 ) -> Iterator[tuple[str, list[tuple[int, int]], str]]:
     """Yields the combinations whose order changes within the band of costs: lines, and for each line the index pairs of their keys."""
-    by_key = {
-        TABLE.key_of({**row, **{name: str(row[name]) for name in VARIED}}): row
-        for row in rows
-        if str(row["status"]) == "0"
-    }
+    told = [row for row in rows if str(row["status"]) == "0"]
+    by_key = {TABLE.key_of({**row, **{name: str(row[name]) for name in VARIED}}): row for row in told}
     varied = {name for name, values in zip(VARIED, zip(*(key[2:] for key in keys))) if len(set(values)) > 1}
-    chosen = varied - {"load", *COSTS}
-    groups: dict[Key, list[Key]] = {}
-    for key in keys:
-        groups.setdefault(tuple(value for name, value in zip(VARIED, key[2:]) if name not in chosen), []).append(key)
+    groups = grouped(keys, varied - {"load", *COSTS})
     for what, of in ORDERS.items():
         changed = [
             (one, other, side)
@@ -385,23 +388,20 @@ def line(points: Sequence[tuple[float, float]], place: int, name: str = "", is_d
     return {"kind": "line", "color": COLORS[place], "shape": place, "dashed": is_dashed, "name": name, "points": points}
 
 
+def waits_of(rows: Sequence[Row], axis: str, column: str) -> list[tuple[float, float]]:
+    """Returns the points of a curve of waits, in ms."""
+    return [(float(row[axis]), int(row[column]) / 10**6) for row in rows if int(row[column])]
+
+
 def described(rows: Sequence[Row], title: str) -> Picture:
     """Returns the picture: waits, losses and the application's share, with a curve for each combination."""
     axis, curves = curves_of(rows)
     waits, lost_of, shares = [], [], []
     for place, (name, points) in enumerate(curves.items()):
-        x = [float(row[axis]) for row in points]
-        for column, is_dashed in (("delivered_p99", True), ("used_p99", False)):
-            waits.append(
-                line(
-                    [(at, int(row[column]) / 10**6) for at, row in zip(x, points) if int(row[column])],
-                    place,
-                    f"{name}, to delivery" if is_dashed else name,
-                    is_dashed,
-                )
-            )
-        lost_of.append(line(list(zip(x, map(lost_percent, points))), place, name))
-        shares.append(line(list(zip(x, (float(row["use_percent"]) for row in points))), place, name))
+        waits.append(line(waits_of(points, axis, "delivered_p99"), place, f"{name}, to delivery", True))
+        waits.append(line(waits_of(points, axis, "used_p99"), place, name))
+        lost_of.append(line([(float(row[axis]), lost_percent(row)) for row in points], place, name))
+        shares.append(line([(float(row[axis]), float(row["use_percent"])) for row in points], place, name))
     panels = [
         ("99th percentile of waits, ms", "to delivery dashed, to the end of use", waits, True),
         ("dropped and refused, %", "", lost_of, False),
@@ -511,10 +511,11 @@ def check_together(options: Parser, words: Words) -> None:
         options.error("no arrivals" if not words.arrivals else "--traffic makes arrivals, so none are named")
     if words.seeds and not words.traffic:
         options.error("--seeds goes with --traffic")
+    is_spread = words.out or words.part or words.sshloginfile
     for name, value in (("--traffic", words.traffic), ("--until", words.until)):
-        if value and (words.out or words.part or words.sshloginfile):
+        if value and is_spread:
             options.error(f"{name} doesn't go with --out, --part and --sshloginfile")
-    if words.until and (words.traffic or words.plot or words.fail_if or words.load != ["1"]):
+    if words.until and any((words.traffic, words.plot, words.fail_if, words.load != ["1"])):
         options.error(
             "--until searches the load, of one file, so it doesn't go with --load, --traffic, --plot and --fail-if"
         )
