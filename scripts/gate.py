@@ -150,6 +150,20 @@ class Round:
         return True
 
 
+def rounds_of(edits: Sequence[Edit], texts: Texts) -> tuple[list[Round], list[Edit]]:
+    """Returns the rounds of these edits, and the edits that have to be tried alone."""
+    rounds: list[Round] = []
+    alone: list[Edit] = []
+    for edit in edits:
+        function = edit.function(texts)
+        if not function or not function.in_body:
+            alone.append(edit)
+        elif not any(it.takes(edit, function) for it in rounds):
+            rounds.append(Round(texts))
+            rounds[-1].takes(edit, function)
+    return rounds, alone
+
+
 def check(crate: Crate, texts: Texts, names: Sequence[str]) -> tuple[str, bool | None]:
     """Runs the prover on these functions of the crate, or on all, with these texts. Returns what it says, and whether it proves them, if it
     says so."""
@@ -180,19 +194,10 @@ def texts_of(crate: Crate) -> Texts:
 
 def try_edits(crate: Crate) -> list[Tried]:
     """Yields for each edit of the crate: its name, whether it passed, and what to print."""
-    texts, folder = texts_of(crate), f"{crate.folder}/must-fail"
-    rounds: list[Round] = []
-    alone: list[Edit] = []
-    is_seen = False
+    texts, folder, is_seen = texts_of(crate), f"{crate.folder}/must-fail", False
     names = sorted(os.listdir(folder))
     told = [(it, False, "BAD EDIT: its name doesn't end in .edit") for it in names if not it.endswith((".edit", ".md"))]
-    for edit in (Edit(crate, f"{folder}/{it}") for it in names if it.endswith(".edit")):
-        function = edit.function(texts)
-        if not function or not function.in_body:
-            alone.append(edit)
-        elif not any(it.takes(edit, function) for it in rounds):
-            rounds.append(Round(texts))
-            rounds[-1].takes(edit, function)
+    rounds, alone = rounds_of([Edit(crate, f"{folder}/{it}") for it in names if it.endswith(".edit")], texts)
     for it in rounds:
         said, proved = check(crate, it.texts, [function.name for _, function in it.edits])
         is_seen |= bool(re.search(r"^fn \S+: proved$", said, re.M))
@@ -262,6 +267,16 @@ def all_texts() -> tuple[int, int]:
     return try_all([functools.partial(try_text, *it) for it in files], [it for it, _ in files], "must-not-compile")
 
 
+def keep(crate: Crate, out: str, times: dict[str, int]) -> None:
+    """Keeps what was built of a crate in this folder, from sources of these times."""
+    built = f"{out}/rlib/{crate.name}.rlib" if crate.is_library else f"{out}/{crate.name}"
+    if os.path.exists(built):
+        subprocess.run(["rm", "-rf", crate.made], check=True)
+        os.makedirs(os.path.dirname(crate.made), exist_ok=True)
+        shutil.move(built, crate.made)
+        crate.stands(times)
+
+
 def prove_all(room: str, names: Sequence[str]) -> tuple[int, int]:
     """Runs `rt ci` on a copy of these crates and those below them, or of all, and keeps the libraries that it builds."""
     asked = [*dict.fromkeys(below for crate in named(names) for below in crate.all)]
@@ -286,13 +301,7 @@ def prove_all(room: str, names: Sequence[str]) -> tuple[int, int]:
         for last in ran.stdout:
             print(last, end="", flush=True)
     for crate in asked:
-        out = f"{room}/crates/{crate.name}/out"
-        built = f"{out}/rlib/{crate.name}.rlib" if crate.is_library else f"{out}/{crate.name}"
-        if os.path.exists(built):
-            subprocess.run(["rm", "-rf", crate.made], check=True)
-            os.makedirs(os.path.dirname(crate.made), exist_ok=True)
-            shutil.move(built, crate.made)
-            crate.stands(times[crate])
+        keep(crate, f"{room}/crates/{crate.name}/out", times[crate])
     sums().keep()
     told = re.match(r"(\d+) passed, (\d+) failed", last)
     passed, failed = map(int, told.groups()) if told else (0, 1)

@@ -1,4 +1,4 @@
-"""Tests of how tools/from-pcap reads captures: reading records gives the same result as tcpdump's text."""
+"""Tests of how fintaqush from-pcap reads captures: reading records gives the same result as tcpdump's text."""
 
 import os
 import random

@@ -1,4 +1,4 @@
-"""Tests of tools/costs, on recordings generated from given costs, and on real ones with plain searches in their lines."""
+"""Tests of fintaqush costs, on recordings generated from given costs, and on real ones with plain searches in their lines."""
 
 import json
 import random
@@ -135,7 +135,7 @@ class Costs(InFolder):
         self.assertIn("polls of several devices are combined: eth0, eth1; --device takes those of one\n", more)
 
     def test_the_interrupts_of_another_card(self):
-        """A disk's interrupt ends 20 ns before each softirq; the card's, 50 ns earlier, requested it. tools/record knows the card's."""
+        """A disk's interrupt ends 20 ns before each softirq; the card's, 50 ns earlier, requested it. fintaqush record knows the card's."""
         text = "".join(line if "softirq_entry: vec=3" not in line else self.disk(line) + line for line in recorded(2100, 1500, 330).splitlines(True))
         lines = [line for line in text.splitlines(True)]
         head = "fintaqush-recording 1\nlost 0\nlines {}\ndevice eth0\npolled eth0\ndevice.eth0.irq.25.name eth0-rx-0\n{}trace\n"

@@ -1,4 +1,4 @@
-"""Tests of tools/plot."""
+"""Tests of fintaqush plot."""
 
 import html
 import json

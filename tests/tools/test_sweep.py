@@ -1,4 +1,4 @@
-"""Tests of tools/sweep."""
+"""Tests of fintaqush sweep."""
 
 import csv
 import itertools

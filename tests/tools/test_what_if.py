@@ -1,4 +1,4 @@
-"""Tests of tools/what-if. Expected values are computed by hand, or by the plain model of the machine."""
+"""Tests of fintaqush what-if. Expected values are computed by hand, or by the plain model of the machine."""
 
 import csv
 import io

@@ -11,6 +11,7 @@ import hashlib
 import io
 import itertools
 import os
+import re
 import shlex
 import shutil
 import subprocess
@@ -26,7 +27,7 @@ from fintaqush_tools.options import Parser, Words, add_program, number, pair
 from fintaqush_tools.places import TOP
 from fintaqush_tools.processes import begun, read_now
 from fintaqush_tools.progress import Program, Progress, can_be_shown, say, share_of
-from fintaqush_tools.texts import shown
+from fintaqush_tools.texts import last_line, shown
 
 Key = tuple[str, ...]
 Row = dict[str, Any]
@@ -94,6 +95,16 @@ def locked(path: str) -> Iterator[IO[bytes]]:
             if os.path.samestat(os.fstat(file.fileno()), os.stat(path)):
                 yield file
                 return
+
+
+def fault_of(made: str, status: int, said: bytes, faults: re.Pattern[str]) -> str:
+    """Returns the fault of the input of a program that ended so; nothing after a success. Fails on any other outcome."""
+    if status == 0:
+        return ""
+    fault = last_line(said, "no line")
+    if status != 2 or not faults.match(fault):
+        raise Refusal(f"{shown(made)} ended with status {status}: {fault[:200]}")
+    return fault
 
 
 class Counted:

@@ -9,12 +9,16 @@ TEMPLATES = os.path.dirname(os.path.realpath(__file__))
 
 
 def version() -> str:
-    """Returns the version: an installation has it in a file, a checkout in the C header."""
+    """Returns the version: an installation has it in a file, a checkout in the C header, and what pip installed in its metadata."""
     if os.path.exists(f"{TOP}/version"):
         with open(f"{TOP}/version", encoding="ascii") as file:
             return file.read().strip()
-    with open(f"{TOP}/include/fintaqush.h", encoding="ascii") as file:
-        return next(line.split('"')[1] for line in file if line.startswith("#define FQ_VERSION "))
+    if os.path.exists(f"{TOP}/include/fintaqush.h"):
+        with open(f"{TOP}/include/fintaqush.h", encoding="ascii") as file:
+            return next(line.split('"')[1] for line in file if line.startswith("#define FQ_VERSION "))
+    from importlib import metadata
+
+    return metadata.version("fintaqush-tools")
 
 
 def usage_text(called: str) -> str:

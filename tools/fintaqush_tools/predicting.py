@@ -12,7 +12,7 @@ from fintaqush_tools.machine import option_words, values_of
 from fintaqush_tools.processes import ran
 from fintaqush_tools.receiving import Receiving
 from fintaqush_tools.recording import Head
-from fintaqush_tools.texts import shown
+from fintaqush_tools.texts import last_line, shown
 
 Compared = tuple[str, float, float, float]  # name, measured value, predicted value, error in %
 
@@ -82,8 +82,7 @@ def predicted(made: str, arrivals: str | bytes, settings: Mapping[str, Any]) -> 
         [made, *option_words(settings)], arrivals if isinstance(arrivals, bytes) else arrivals.encode()
     )
     if status != 0:
-        told = (said.decode("utf-8", "replace").splitlines() or [f"status {status}"])[-1]
-        raise Refusal(f"{shown(made)} failed: {shown(told)[:200]}")
+        raise Refusal(f"{shown(made)} failed: {last_line(said, f'status {status}')[:200]}")
     return values_of(out.decode("ascii", "replace"))
 
 

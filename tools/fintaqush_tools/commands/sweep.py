@@ -25,7 +25,7 @@ from collections.abc import Iterable, Sequence
 from pathlib import Path
 from typing import Any
 
-from fintaqush_tools.combinations import Combinations, Key, Row, add_words, check_words, choices, sum_of
+from fintaqush_tools.combinations import Combinations, Key, Row, add_words, check_words, choices, fault_of, sum_of
 from fintaqush_tools.errors import Refusal
 from fintaqush_tools.files import read_bytes
 from fintaqush_tools.options import Parser, Words, add_raise, number, parser_of
@@ -98,12 +98,8 @@ def series() -> str:
 def outcome(made: str, settings: Sequence[str], text: bytes) -> tuple[dict[str, Any], bytes]:
     """Returns a program's status with the trace's fault, and its output. Fails on any other outcome."""
     status, out, said = ran([made, *settings], text)
-    if status == 0:
-        return {"status": 0, "fault": ""}, out
-    fault = (said.decode("ascii", "replace").splitlines() or ["no line"])[-1]
-    if status != 2 or not FAULT.match(fault):
-        raise Refusal(f"{shown(made)} ended with status {status}: {shown(fault)[:200]}")
-    return {"status": status, "fault": fault}, b""
+    fault = fault_of(made, status, said, FAULT)
+    return {"status": status, "fault": fault}, b"" if fault else out
 
 
 def row_of(made: str, key: Key) -> Row:

@@ -45,7 +45,7 @@ from fractions import Fraction
 from pathlib import Path
 
 from fintaqush_tools import breaking, repeats, tables
-from fintaqush_tools.combinations import Combinations, Key, Row, add_words, check_words, choices, sum_of
+from fintaqush_tools.combinations import Combinations, Key, Row, add_words, check_words, choices, fault_of, sum_of
 from fintaqush_tools.errors import Refusal, unfinished, unlink
 from fintaqush_tools.files import WholeFile, check_regular, check_target, write_out, write_whole
 from fintaqush_tools.machine import (
@@ -149,13 +149,8 @@ def row_of(made: str, key: Key) -> Row:
         name = path if Fraction(load) == 1 and has_flows(path) == with_flows else rewritten(path, load, with_flows)
     with open(name, "rb") as file:
         status, out, said = ran([made, *option_words(settings)], stdin=file)
-    row: Row = {**dict(zip(KEY, key)), "status": status, "fault": ""}
-    if status == 0:
-        return {**row, **values_of(out.decode("ascii", "replace"))}
-    fault = (said.decode("ascii", "replace").splitlines() or ["no line"])[-1]
-    if status != 2 or not FAULT.match(fault):
-        raise Refusal(f"{shown(made)} ended with status {status}: {shown(fault)[:200]}")
-    return {**row, "fault": fault}
+    row: Row = {**dict(zip(KEY, key)), "status": status, "fault": fault_of(made, status, said, FAULT)}
+    return {**row, **(values_of(out.decode("ascii", "replace")) if status == 0 else {})}
 
 
 TABLE = Combinations("what-if", KEY, ["status", "fault", *VALUES], row_of)
