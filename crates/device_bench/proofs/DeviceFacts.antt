@@ -1,20 +1,18 @@
 -- What rows and polls preserve of a device: that its state is sound, whether a disable is pending, and whether it waits on the
 -- list.
-use Rattle.std.proofs.Common.{◌≡◌, ◌∙◌, ℕ, zero, suc, ◌+◌, ◌≤◌, Bool, true, false, Option, Some, None, [], ◌∷◌, ◌++◌, MatchBool}
-use Rattle.std.proofs.Common.{ap, arith, length, refl, sum, sym, take}
+use Rattle.std.proofs.Common.{◌≡◌, ◌∙◌, ℕ, zero, suc, ◌+◌, ◌≤◌, Bool, true, false, Option, Some, None, [], ◌∷◌, ◌++◌, MatchBool, ap}
+use Rattle.std.proofs.Common.{arith, length, refl, sum, sym, take}
 use Rattle.std.specs.Prelude.{◌==◌, ◌||◌, nat_lt, not, if◌then◌else◌}
-use Rattle.napi_model.specs.Step.{is_handed, seen_of}
-use Rattle.napi_model.specs.declared.event.{Prep.TheVariants.{Granted, Missed, Disabled}, Done.Done}
-use Rattle.napi_model.specs.declared.state.{Kind.Kind, Place.Place, State.State}
+use Rattle.napi_model.specs.{Step.{is_handed, seen_of}, declared.event.Prep.TheVariants.{Granted, Missed, Disabled}}
+use Rattle.napi_model.specs.{declared.event.Done.Done, declared.state.Kind.Kind, declared.state.Place.Place, declared.state.State.State}
 use Rattle.poll_runs.specs.{Plan.{ends, ◌>>=◌}, Polls.{is_arrival, is_repoll}, Thread.{is_for_thread, last_next}}
-use Rattle.poll_runs.specs.declared.bench.{BusyReport.BusyReport, Next.{Next, TheVariants.{Again, Repoll}}}
-use Rattle.{poll_runs.proofs.PollingFacts.last-snoc, device_bench.proofs.InstanceFacts.carried-then}
-use Rattle.device_bench.specs.{Waiting.{one_when, is_left_to_list, is_listed, leaves, waits_on_list}}
-use Rattle.device_bench.specs.{Device.{acted, after_disable, after_enable}}
-use Rattle.device_bench.specs.Device.{device_after_packet, after_reply, after_request, after_threaded, carried_out, disabled_from}
-use Rattle.device_bench.specs.Device.{enabled_from}
-use Rattle.device_bench.specs.Device.{is_pending, operated, device_polled, polled_busily, polled_by_thread, polled_once, settled}
-use Rattle.device_bench.specs.Device.{device_state, with_napi}
+use Rattle.poll_runs.specs.{declared.bench.BusyReport.BusyReport, declared.bench.Next.Next}
+use Rattle.{poll_runs.specs.declared.bench.Next.TheVariants.{Again, Repoll}, poll_runs.proofs.PollingFacts.last-snoc}
+use Rattle.device_bench.proofs.InstanceFacts.{carried-then}
+use Rattle.device_bench.specs.Waiting.{one_when, is_left_to_list, is_listed, leaves, waits_on_list}
+use Rattle.device_bench.specs.Device.{acted, after_disable, after_enable, device_after_packet, after_reply, after_request}
+use Rattle.device_bench.specs.Device.{after_threaded, carried_out, disabled_from, enabled_from, is_pending, operated, device_polled}
+use Rattle.device_bench.specs.Device.{polled_busily, polled_by_thread, polled_once, settled, device_state, with_napi}
 use Rattle.device_bench.specs.{DeviceView.DeviceView, Kept.{is_held, is_sound}, declared.counts.DeviceState.DeviceState}
 use Rattle.device_bench.specs.{declared.device.TheConstants.INTERRUPT, Receive.{ring_has_place, is_control, put_if, tried_by}}
 use Rattle.device_bench.specs.Counter.{raised}

@@ -1,14 +1,12 @@
 -- The devices of a bench, and the effect of its calls and polls on them.
 use Rattle.std.specs.Prelude.{◌≡◌, ℕ, ◌+◌, ◌≤◌, List, [], Option, Some, None, is_some, filter, length, map}
-use Rattle.{napi_model.specs.declared.state.Kind.Kind, poll_runs.specs.{Polling.no_report, Thread.last_next}}
-use Rattle.poll_runs.specs.declared.bench.{BusyReport.BusyReport, Next.TheVariants.Absent, Once.Once}
+use Rattle.napi_model.specs.declared.state.Kind.{Kind}
+use Rattle.poll_runs.specs.{Polling.no_report, Thread.last_next, declared.bench.BusyReport.BusyReport}
+use Rattle.poll_runs.specs.{declared.bench.Next.TheVariants.Absent, declared.bench.Once.Once}
 use Rattle.device_bench.specs.{Counts.device_counts, Device.{device_after_packet, polled_busily, polled_by_thread, polled_once, settled}}
 use Rattle.device_bench.specs.{DeviceView.DeviceView, Waiting.{one_when, is_left_to_list, leaves}}
-use Rattle.device_bench.specs.{declared.counts.DeviceCounts.DeviceCounts}
-use Rattle.device_rows.specs.Places.{DeviceTable, at, changed}
-use Rattle.device_bench.specs.declared.transmit.TxCounts.{TxCounts}
-use Rattle.device_bench.specs.Transmits.{KeepsTransmits}
-use Rattle.device_bench.specs.Transmits.{Transmits}
+use Rattle.device_bench.specs.{declared.counts.DeviceCounts.DeviceCounts, declared.transmit.TxCounts.TxCounts}
+use Rattle.{device_bench.specs.Transmits.{KeepsTransmits, Transmits}, device_rows.specs.Places.{DeviceTable, at, changed}}
 
 abbrev pub BenchDevices : Type 0
 BenchDevices = DeviceTable DeviceView

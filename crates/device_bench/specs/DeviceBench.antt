@@ -1,9 +1,7 @@
 -- What a bench shows: its devices, and their transmit sides.
-use Rattle.{std.specs.Prelude.ℕ}
-use Rattle.{device_bench.specs.{Bench.{BenchDevices, HaveSides}, Waiting.waiting, declared.bench.DeviceBench.DeviceBench}}
-use Rattle.device_bench.specs.declared.receive_side.ReceiveSide.{Ghosts}
-use Rattle.device_bench.specs.Transmits.{Transmits}
-use Rattle.device_bench.specs.Sides.{ShowsSides}
+use Rattle.std.specs.Prelude.{ℕ}
+use Rattle.device_bench.specs.{Bench.{BenchDevices, HaveSides}, Waiting.waiting, declared.bench.DeviceBench.DeviceBench}
+use Rattle.device_bench.specs.{declared.receive_side.ReceiveSide.Ghosts, Transmits.Transmits, Sides.ShowsSides}
 
 module _ {S O : Type 0} {g : Ghosts S} where
   -- the devices of the bench, by number

@@ -1,8 +1,6 @@
 -- The end of a bench whose receive sides are linear.
-use Rattle.std.specs.Prelude.{ℕ, Option, Some, None}
-use Rattle.device_rows.specs.Places.{DeviceTable, at}
-use Rattle.device_bench.specs.Bench.{BenchDevices}
-use Rattle.device_bench.specs.{DeviceView.DeviceView, Receive.ReceiveView}
+use Rattle.{std.specs.Prelude.{ℕ, Option, Some, None}, device_rows.specs.Places.{DeviceTable, at}}
+use Rattle.device_bench.specs.{Bench.BenchDevices, DeviceView.DeviceView, Receive.ReceiveView}
 
 -- the device of an entry was ended, and left this; an empty entry left nothing
 abbrev pub IsEndedAt : {End : Type 0} → (ReceiveView → End → Type 0) → Option DeviceView → Option End → Type 0

@@ -1,9 +1,7 @@
 -- The transmit side of a device: its queue, and the counts of its tx and done rows. It doesn't depend on polls.
 use Rattle.std.specs.Prelude.{◌≡◌, ℕ, Bool, true, false, Option, Some, None}
 use Rattle.dql_core.specs.{Bounds.DQL_MAX_LIMIT, Limit.new_limit}
-use Rattle.device_bench.specs.Counter.{raised}
-use Rattle.device_bench.specs.declared.transmit.Transmit.{Transmit}
-use Rattle.device_bench.specs.declared.transmit.TxCounts.{TxCounts}
+use Rattle.device_bench.specs.{Counter.raised, declared.transmit.Transmit.Transmit, declared.transmit.TxCounts.TxCounts}
 use Rattle.tx_ring.specs.{Queue.{TransmitQueue, after_done, after_send, done_fault, opening_queue, send_fault, tx_state}, Ring.ShowsQueue}
 use Rattle.tx_ring.specs.declared.event.TxFault.{TxFault}
 

@@ -1,8 +1,7 @@
 -- The poll list as the devices see it: how many of them wait on it, and what puts them there.
 use Rattle.std.specs.Prelude.{ℕ, Bool, true, false, Option, Some, None, ◌||◌, if◌then◌else◌, sum_by}
-use Rattle.napi_model.specs.Step.{is_handed}
-use Rattle.{napi_model.specs.declared.state.Kind.Kind, poll_runs.specs.{Polls.{is_arrival, is_repoll}, declared.bench.Next.Next}}
-use Rattle.device_bench.specs.DeviceView.{DeviceView}
+use Rattle.napi_model.specs.{Step.is_handed, declared.state.Kind.Kind}
+use Rattle.{poll_runs.specs.{Polls.{is_arrival, is_repoll}, declared.bench.Next.Next}, device_bench.specs.DeviceView.DeviceView}
 use Rattle.device_rows.specs.Places.{DeviceTable}
 use Rattle.napi_model.specs.declared.state.Kind.TheVariants as kind
 

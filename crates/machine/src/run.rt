@@ -86,7 +86,7 @@ pub fn run_machine<R: Read + Drop, W: Write>(
         (R.remaining reader) (W.contents writer.old) (W.contents writer.new)) }
 {
     match text_of_all(alloc, reader, settings) {
-        Ok(text) => write_text(writer, &text).map_err(|_| MachineFault::OutputFailed),
+        Ok(text) => write_text(writer, text.as_bytes()).map_err(|_| MachineFault::OutputFailed),
         Err(fault) => Err(fault),
     }
 }

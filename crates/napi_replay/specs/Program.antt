@@ -1,17 +1,11 @@
 -- The whole program: which settings its arguments ask for, and its result for the bytes of its input.
 use Rattle.std.specs.Prelude.{◌≡◌, ℕ, List, Option, Some, Result, option_map}
-use Rattle.replay.specs.ThreadsAnswer.{RanBy, threads_of}
-use Rattle.replay.specs.ThreadsAnswer.{IsThreadsOutside as IsOutsideThreads}
-use Rattle.replay.specs.SharedRun.{RanShared}
-use Rattle.replay.specs.declared.polled.Polled.{Polled}
-use Rattle.text_io.specs.Outside.{IsOutside}
-use Rattle.text_io.specs.Program.{AnswersBy}
+use Rattle.replay.specs.{ThreadsAnswer.{RanBy, threads_of}, SharedRun.RanShared, declared.polled.Polled.Polled}
+use Rattle.text_io.specs.{Outside.IsOutside, Program.AnswersBy, declared.fault.ReplayFault.ReplayFault}
+use Rattle.text_io.specs.{Args.{Text, replay_asked_for, replay_args_of}, declared.mode.ReplayMode.ReplayMode}
+use Rattle.text_io.specs.{declared.mode.ReplayMode.TheVariants.{Serial, Shared, Threads}, declared.settings.ReplaySettings.ReplaySettings}
 use Rattle.replay_rows.specs.Answer.{replay_of}
-use Rattle.text_io.specs.declared.fault.ReplayFault.{ReplayFault}
-use Rattle.text_io.specs.Args.{Text, replay_asked_for, replay_args_of}
-use Rattle.text_io.specs.declared.mode.ReplayMode.{ReplayMode}
-use Rattle.text_io.specs.declared.mode.ReplayMode.TheVariants.{Serial, Shared, Threads}
-use Rattle.text_io.specs.declared.settings.ReplaySettings.{ReplaySettings}
+use Rattle.replay.specs.ThreadsAnswer.{IsThreadsOutside as IsOutsideThreads}
 
 -- the arguments ask for this mode and these settings; for None if they are an error
 abbrev pub AskForReplay : List Text → Option (ReplayMode × ReplaySettings) → Type 0

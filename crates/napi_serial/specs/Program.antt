@@ -1,12 +1,8 @@
 -- The serial tool: which settings its arguments ask for, and its result for the bytes of its input.
 use Rattle.std.specs.Prelude.{◌≡◌, ℕ, List, Option, Result, option_map}
-use Rattle.text_io.specs.Outside.{IsOutside}
-use Rattle.text_io.specs.Program.{AnswersBy}
-use Rattle.text_io.specs.declared.fault.ReplayFault.{ReplayFault}
-use Rattle.text_io.specs.Args.{Text, replay_args_of, serial_asked_for}
-use Rattle.text_io.specs.declared.mode.ReplayMode.TheVariants.{Serial}
-use Rattle.text_io.specs.declared.settings.ReplaySettings.{ReplaySettings}
-use Rattle.replay_rows.specs.Answer.{replay_of}
+use Rattle.text_io.specs.{Outside.IsOutside, Program.AnswersBy, declared.fault.ReplayFault.ReplayFault}
+use Rattle.text_io.specs.{Args.{Text, replay_args_of, serial_asked_for}, declared.mode.ReplayMode.TheVariants.Serial}
+use Rattle.{text_io.specs.declared.settings.ReplaySettings.ReplaySettings, replay_rows.specs.Answer.replay_of}
 
 -- the arguments ask for serial mode and these settings; for None if they are an error
 abbrev pub AskForSerial : List Text → Option ReplaySettings → Type 0

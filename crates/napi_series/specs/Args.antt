@@ -1,8 +1,7 @@
 -- The command line: the options of a series in any order, each at most once, and then the arguments of napi_replay.
 use Rattle.std.specs.Prelude.{ℕ, [], ◌∷◌, ◌==◌, Bool, true, false, ◌&&◌, ◌||◌, not, List, Option, Some, None, if◌then◌else◌, codes}
 use Rattle.std.specs.{Prelude.{is_some, option_map}, Str.bytes_eq, List.{after_first, before_first}}
-use Rattle.text_io.specs.Given.{◌>>=◌, number_within}
-use Rattle.text_io.specs.Args.{ReplayArgs, Text, number_up_to, serial_asked_for}
+use Rattle.text_io.specs.{Given.{◌>>=◌, number_within}, Args.{ReplayArgs, Text, number_up_to, serial_asked_for}}
 use Rattle.napi_series.specs.declared.settings.SeriesOptions.{SeriesOptions}
 
 abbrev pub no_options : SeriesOptions

@@ -1,12 +1,7 @@
 -- The whole program: which settings its arguments ask for, and its result for the bytes of its input.
 use Rattle.std.specs.Prelude.{◌≡◌, ℕ, List, Option, Result, option_map}
-use Rattle.napi_series.specs.Series.{series_by}
-use Rattle.napi_series.specs.Args.{series_asked_for}
-use Rattle.napi_series.specs.declared.settings.SeriesSettings.{SeriesSettings}
-use Rattle.text_io.specs.Outside.{IsOutside}
-use Rattle.text_io.specs.Program.{AnswersBy}
-use Rattle.text_io.specs.declared.fault.ReplayFault.{ReplayFault}
-use Rattle.text_io.specs.Args.{Text, replay_args_of}
+use Rattle.napi_series.specs.{Series.series_by, Args.series_asked_for, declared.settings.SeriesSettings.SeriesSettings}
+use Rattle.text_io.specs.{Outside.IsOutside, Program.AnswersBy, declared.fault.ReplayFault.ReplayFault, Args.{Text, replay_args_of}}
 use Rattle.text_io.specs.declared.mode.ReplayMode.TheVariants.{Serial}
 
 -- the arguments ask for these settings; for None if they are an error

@@ -1,25 +1,19 @@
 -- The series of a trace: CSV with a line after each row, or after each Nth row. A line has the values that the report of the
 -- rows so far would show. A run can also have a line for each of its polls.
 use Rattle.std.specs.Prelude.{ℕ, zero, suc, ◌+◌, ◌%◌, ◌==◌, ◌&&◌, not, Bool, true, false, List, [], ◌∷◌, ◌++◌, Option, Some, None}
-use Rattle.std.specs.Prelude.{Result, Ok, Err, codes, decimal, drop, if◌then◌else◌, length, sum_by, take, unwrap_or}
-use Rattle.std.specs.{Fmt.signed_decimal, List.slice_get}
-use Rattle.device_rows.specs.Trace.{records_of, trace_of, version_in}
-use Rattle.device_bench.specs.declared.counts.DeviceCounts.{DeviceCounts}
-use Rattle.device_rows.specs.declared.{fault.TraceFault.TraceFault, row.Row.Row}
-use Rattle.dql_core.specs.Counter.{distance_of}
+use Rattle.std.specs.{Prelude.{Result, Ok, Err, codes, decimal, drop, if◌then◌else◌, length, sum_by, take, unwrap_or}, Fmt.signed_decimal}
+use Rattle.std.specs.List.{slice_get}
+use Rattle.device_rows.specs.{Trace.{records_of, trace_of, version_in}, declared.fault.TraceFault.TraceFault, declared.row.Row.Row}
+use Rattle.{device_bench.specs.declared.counts.DeviceCounts.DeviceCounts, dql_core.specs.Counter.distance_of}
 use Rattle.napi_series.specs.declared.settings.SeriesSettings.{SeriesSettings}
-use Rattle.poll_runs.specs.Polls.{queued_by, repolled}
-use Rattle.poll_runs.specs.declared.bench.Next.{Next, TheVariants.{Absent, Gone, Again, Repoll}}
-use Rattle.text_io.specs.declared.settings.ReplaySettings.{ReplaySettings}
-use Rattle.replay_rows.specs.After.{counts_after, is_used_after, list_after, polled_after}
-use Rattle.replay_rows.specs.{RaisedTrace.{raised_trace, with_added_runs}, Replay.after_all_rows, TraceText.fields}
-use Rattle.replay_rows.specs.{Report.{lines_below, spaced, state_word}, ReplayState.ReplayState}
-use Rattle.replay_rows.specs.{RunLog.{list_before, polls_in, polls_of_row}}
-use Rattle.text_io.specs.Lines.{flag}
-use Rattle.text_io.specs.declared.fault.ReplayFault.{ReplayFault}
+use Rattle.poll_runs.specs.{Polls.{queued_by, repolled}, declared.bench.Next.Next}
+use Rattle.poll_runs.specs.declared.bench.Next.TheVariants.{Absent, Gone, Again, Repoll}
+use Rattle.text_io.specs.{declared.settings.ReplaySettings.ReplaySettings, Lines.flag, declared.fault.ReplayFault.ReplayFault}
 use Rattle.text_io.specs.declared.fault.ReplayFault.TheVariants.{Trace}
-use Rattle.replay_rows.specs.declared.line.PollRecord.{PollRecord, TheVariants.{Softirq, Kthread, Busy}}
-use Rattle.replay_rows.specs.declared.run_log.RunPoll.{RunPoll}
+use Rattle.replay_rows.specs.{After.{counts_after, is_used_after, list_after, polled_after}, RaisedTrace.{raised_trace, with_added_runs}}
+use Rattle.replay_rows.specs.{Replay.after_all_rows, TraceText.fields, Report.{lines_below, spaced, state_word}, ReplayState.ReplayState}
+use Rattle.replay_rows.specs.{RunLog.{list_before, polls_in, polls_of_row}, declared.line.PollRecord.PollRecord}
+use Rattle.replay_rows.specs.{declared.line.PollRecord.TheVariants.{Softirq, Kthread, Busy}, declared.run_log.RunPoll.RunPoll}
 
 abbrev pub names : List ℕ
 names = codes "row,moment,device,state,waiting,arrived,dropped,polled,in_flight,limit,avail,stopped,polls,work,squeezed,word,list,gave"

@@ -177,5 +177,5 @@ pub(crate) fn write_series<R: Read + Drop, W: Write>(
     }
     let trace = read_trace(alloc, reader)?;
     let text = raised_series(alloc, settings, &trace)?;
-    write_text(writer, &text)
+    write_text(writer, text.as_bytes())
 }

@@ -1,14 +1,9 @@
 -- The effect of one more act.
 use Rattle.std.proofs.lemmas.Grind.{common_steps}
 use Rattle.std.proofs.Common.{◌≡◌, ℕ, ◌+◌, ◌≤◌, length, List, [], ◌∷◌, ◌++◌, sym, arith, add-one, ap, subst, Bool}
-use Rattle.rx_ring.specs.declared.packet.Packet.{Packet}
-use Rattle.rx_ring.specs.declared.ends.RxIn.{RxIn}
-use Rattle.rx_ring.specs.Ends.{SameIn}
-use Rattle.poll_engine.specs.declared.acts.Act.{Act}
-use Rattle.poll_engine.specs.declared.worker.WorkerHandles.{WorkerHandles}
-use Rattle.poll_engine.specs.Acts.{after_acts, arrivals, brings}
-use Rattle.poll_engine.specs.Calls.{Acts, AllActs}
-use Rattle.poll_engine.specs.Questions.{all_questions}
+use Rattle.rx_ring.specs.{declared.packet.Packet.Packet, declared.ends.RxIn.RxIn, Ends.SameIn}
+use Rattle.poll_engine.specs.{declared.acts.Act.Act, declared.worker.WorkerHandles.WorkerHandles, Acts.{after_acts, arrivals, brings}}
+use Rattle.poll_engine.specs.{Calls.{Acts, AllActs}, Questions.all_questions}
 
 pub after_acts-more : {D : Type 0} (after : D → ℕ → D) (d : D) (n : ℕ) → after_acts after d (n + 1) ≡ after (after_acts after d n) n
 after_acts-more after d n = ap (λ m. after_acts after d m) (add-one n)

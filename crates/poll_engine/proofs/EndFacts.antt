@@ -1,17 +1,12 @@
 -- What the pollers of a run hold of its instances.
-use Rattle.poll_engine.specs.Outcomes.{AreSeatsAt, IsSeatWith, Outcome}
+use Rattle.poll_engine.specs.{Outcomes.{AreSeatsAt, IsSeatWith, Outcome}, Tasks.EachAt, Deals.is_own}
+use Rattle.poll_engine.specs.{declared.worker.InterruptWorker.InterruptWorker, declared.handle.PollHandle.PollHandle}
+use Rattle.poll_engine.specs.{declared.poller.Poller.Poller, declared.list_poller.ListPoller.ListPoller}
 use Rattle.napi_calls.specs.declared.kept.DropBomb.{DropBomb}
-use Rattle.std.proofs.Common.{◌≡◌, ◌≢◌, ℕ, suc, ◌-◌, ◌%◌, ◌<◌, Bool, true, false, cond, List, [], ◌∷◌, ◌++◌, ap, ◌∙◌, subst}
-use Rattle.std.proofs.Common.{length, map, vec_items, sym, refl, append-nil, append_assoc, arith, get_or, set}
-use Rattle.std.proofs.lemmas.{Bool.{eqb-true, ne_eqb}, List.{get_or_default, map-append, Elements.filter-append}, Slice.Zip.AllZip-long}
-use Rattle.std.specs.{List.{AllByRecursion, AllZip}, Prelude.filter}
-use Rattle.poll_engine.specs.Tasks.{EachAt}
-use Rattle.poll_engine.proofs.ListFacts.{each_set, zip_empty}
-use Rattle.poll_engine.specs.Deals.{is_own}
-use Rattle.poll_engine.specs.declared.worker.InterruptWorker.{InterruptWorker}
-use Rattle.poll_engine.specs.declared.handle.PollHandle.{PollHandle}
-use Rattle.poll_engine.specs.declared.poller.Poller.{Poller}
-use Rattle.poll_engine.specs.declared.list_poller.ListPoller.{ListPoller}
+use Rattle.std.proofs.Common.{◌≡◌, ◌≢◌, ℕ, suc, ◌-◌, ◌%◌, ◌<◌, Bool, true, false, cond, List, [], ◌∷◌, ◌++◌, ap, ◌∙◌, subst, length}
+use Rattle.std.proofs.{Common.{map, vec_items, sym, refl, append-nil, append_assoc, arith, get_or, set}, lemmas.Bool.{eqb-true, ne_eqb}}
+use Rattle.std.proofs.{lemmas.List.{get_or_default, map-append}, lemmas.List.Elements.filter-append, lemmas.Slice.Zip.AllZip-long}
+use Rattle.{std.specs.{List.{AllByRecursion, AllZip}, Prelude.filter}, poll_engine.proofs.ListFacts.{each_set, zip_empty}}
 
 pub each_push : {A : Type 0} (P : A → Type 0) (xs : List A) (x : A) → AllByRecursion P xs → P x → AllByRecursion P (xs ++ x ∷ [])
 each_push P [] x h p = (p, tt)

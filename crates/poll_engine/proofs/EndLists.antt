@@ -1,9 +1,8 @@
 -- The lists that the ends know, by index, and the pushes of one end.
-use Rattle.std.proofs.{lemmas.{Grind.common_steps, List.Sums.sum_by-cons}, Common.{◌≡◌, ◌≢◌, ℕ, zero, suc, ◌+◌, ◌<◌, ◌≤◌, ◌⊎◌, Bool, List}}
-use Rattle.std.proofs.Common.{[], ◌∷◌, ◌++◌, length, set, cond, sym, refl, ap, subst, inl, inr, ⊎_elim, eq-eqb, ne_eqb, arith}
-use Rattle.std.specs.List.{sum_by}
-use Rattle.crossbeam_queue.proofs.Lists.{at_set}
-use Rattle.poll_engine.specs.PushOrder.{Push, push_of, ids_of, pushes_by}
+use Rattle.std.proofs.{lemmas.Grind.common_steps, lemmas.List.Sums.sum_by-cons}
+use Rattle.std.proofs.Common.{◌≡◌, ◌≢◌, ℕ, zero, suc, ◌+◌, ◌<◌, ◌≤◌, ◌⊎◌, Bool, List, [], ◌∷◌, ◌++◌, length, set, cond, sym, refl, ap}
+use Rattle.{std.proofs.Common.{subst, inl, inr, ⊎_elim, eq-eqb, ne_eqb, arith}, std.specs.List.sum_by}
+use Rattle.{crossbeam_queue.proofs.Lists.at_set, poll_engine.specs.PushOrder.{Push, push_of, ids_of, pushes_by}}
 use mathlib.Core.Option.{some, some-ne-none, some-injective}
 use lib.ListN.{get_elem?}
 

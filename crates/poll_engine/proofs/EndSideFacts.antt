@@ -1,14 +1,11 @@
 -- What a closed instance implies for the calls made on it.
 use Rattle.napi_word.specs.{Knowledge.{deliverers, own_deliveries, packets_of}, Slot.givers}
-use Rattle.poll_engine.specs.Closings.{IsClosedAs, seats_in}
-use Rattle.poll_engine.specs.Runs.{IsEnded}
+use Rattle.poll_engine.specs.{Closings.{IsClosedAs, seats_in}, Runs.{IsEnded, controller_number}, declared.station.Closed.Closed}
 use Rattle.napi_calls.specs.{Closed.IsHistoryOf, Instance.{callers_of, first_of_instance}}
 use Rattle.std.proofs.Common.{◌≡◌, ℕ, ◌<◌, List, [], ◌++◌, ap, ◌∙◌, subst}
 use Rattle.napi_model.specs.Step.{opening}
-use Rattle.rx_ring.specs.declared.{ends.{RxIn.RxIn, RxCtx.RxCtx}, packet.Packet.Packet}
+use Rattle.rx_ring.specs.{declared.ends.RxIn.RxIn, declared.ends.RxCtx.RxCtx, declared.packet.Packet.Packet}
 use Rattle.rx_ring.specs.{declared.packet.Totals.Totals, Ends.{put_list, received_list, ring_of}, ReceiveRing.{IsInOrder, totals_of}}
-use Rattle.poll_engine.specs.declared.station.Closed.{Closed}
-use Rattle.poll_engine.specs.Runs.{controller_number}
 use mathlib.Core.List.{IsPrefix}
 
 pub ended_of : (closed : Closed) (rx : RxIn) (ctx : RxCtx) (totals : Totals) → callers_of closed.napi.value ≡ controller_number

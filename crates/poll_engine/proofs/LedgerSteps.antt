@@ -1,21 +1,17 @@
 -- What the calls by a worker's handles add to its ledger (`Ledger` of `specs/Runs.antt`).
-use Rattle.std.proofs.Common.{arith, rules, ◌≡◌, ℕ, zero, suc, ◌≤◌, Bool, true, false, List, [], ◌∷◌, ◌++◌, length, inl, inr, ⊎_elim, refl}
-use Rattle.std.{proofs.{Common.{sym, ap, ◌∙◌, subst, append_assoc}, lemmas.Grind.common_steps}, specs.Prelude.{flat_map, if◌then◌else◌}}
-use Rattle.rx_ring.specs.{declared.{ends.RxIn.RxIn, packet.Packet.Packet}, Ends.{capacity_of, put_list}}
+use Rattle.std.proofs.Common.{arith, rules, ◌≡◌, ℕ, zero, suc, ◌≤◌, Bool, true, false, List, [], ◌∷◌, ◌++◌, length, inl, inr, ⊎_elim}
+use Rattle.std.proofs.{Common.{refl, sym, ap, ◌∙◌, subst, append_assoc}, lemmas.Grind.common_steps}
+use Rattle.std.specs.Prelude.{flat_map, if◌then◌else◌}
+use Rattle.rx_ring.specs.{declared.ends.RxIn.RxIn, declared.packet.Packet.Packet, Ends.{capacity_of, put_list}}
 use Rattle.{napi_model.specs.declared.event.Operation.Operation, napi_word.specs.declared.table.Pass.Pass}
-use Rattle.napi_calls.specs.{declared.{answers.Sched.Sched, types.Caller.Caller}, Calls.{Disables, Enables, Schedules}, Made.{Made, events}}
-use Rattle.napi_calls.specs.Made.{looks}
-use Rattle.napi_calls.specs.Seats.{pass_number, own_list}
-use Rattle.poll_engine.specs.declared.acts.Act.{Act}
-use Rattle.poll_engine.specs.declared.worker.WorkerHandles.{WorkerHandles}
-use Rattle.poll_engine.specs.declared.worker.ControllerState.{ControllerState}
-use Rattle.poll_engine.specs.declared.worker.ControllerState.TheVariants.{On, Off}
-use Rattle.poll_engine.specs.Acts.{after_acts}
-use Rattle.poll_engine.specs.Handles.{AreSameHandles, is_on, pass_of}
+use Rattle.napi_calls.specs.{declared.answers.Sched.Sched, declared.types.Caller.Caller, Calls.{Disables, Enables, Schedules}}
+use Rattle.napi_calls.specs.{Made.{Made, events, looks}, Seats.{pass_number, own_list}}
+use Rattle.poll_engine.specs.{declared.acts.Act.Act, declared.worker.WorkerHandles.WorkerHandles}
+use Rattle.poll_engine.specs.{declared.worker.ControllerState.ControllerState, declared.worker.ControllerState.TheVariants.{On, Off}}
+use Rattle.poll_engine.specs.{Acts.after_acts, Handles.{AreSameHandles, is_on, pass_of}}
 use Rattle.poll_engine.specs.Calls.{Acts, AllActs, Arrives, GoesOn, HandsOver, Interrupts, TurnsOff, TurnsOn}
-use Rattle.poll_engine.specs.Runs.{Adds, AllAdd, IsDisabling, IsEnabling, IsHandingOver, IsInterrupt, Ledger}
-use Rattle.poll_engine.specs.Runs.{SwitchesOff, SwitchesOn, Whose, WorksBy}
-use Rattle.poll_engine.specs.Works.{ledger_of, whose}
+use Rattle.poll_engine.specs.Runs.{Adds, AllAdd, IsDisabling, IsEnabling, IsHandingOver, IsInterrupt, Ledger, SwitchesOff, SwitchesOn}
+use Rattle.poll_engine.specs.{Runs.{Whose, WorksBy}, Works.{ledger_of, whose}}
 use Rattle.napi_model.specs.declared.state.Kind.TheVariants as kind
 use Rattle.napi_model.specs.declared.event.Prep.TheVariants as prep
 use Rattle.napi_model.specs.declared.event.Operation.TheVariants as operation

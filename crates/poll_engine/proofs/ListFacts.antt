@@ -1,10 +1,9 @@
 -- Two lists whose items are related index by index, and properties of an item and its index.
-use Rattle.std.proofs.Common.{◌≡◌, ◌≢◌, ◌<◌, ◌≤◌, ℕ, zero, suc, Bool, true, false, cond, List, [], ◌∷◌, ◌++◌, length, ⊎_elim}
-use Rattle.std.proofs.Common.{sym, refl, ap, ◌∙◌, subst, arith, append-nil, append_assoc, length-append, get_or, set}
-use Rattle.std.proofs.{Common.{get_or-set_other, get_or-set_same}, lemmas.{Bool.cases_eq, Grind.common_steps, Slice.Zip.AllZip-long}}
+use Rattle.std.proofs.Common.{◌≡◌, ◌≢◌, ◌<◌, ◌≤◌, ℕ, zero, suc, Bool, true, false, cond, List, [], ◌∷◌, ◌++◌, length, ⊎_elim, sym, refl}
+use Rattle.std.proofs.Common.{ap, ◌∙◌, subst, arith, append-nil, append_assoc, length-append, get_or, set, get_or-set_other}
+use Rattle.std.proofs.{Common.get_or-set_same, lemmas.Bool.cases_eq, lemmas.Grind.common_steps, lemmas.Slice.Zip.AllZip-long}
 use Rattle.std.proofs.lemmas.List.{get_or_at, get_or-map, length-map, length-set, nil_from_length}
-use Rattle.std.specs.{Prelude.{filter, map}, List.{AllByRecursion, AllZip, remove}}
-use Rattle.poll_engine.specs.Tasks.{EachAt, IsAt}
+use Rattle.{std.specs.{Prelude.{filter, map}, List.{AllByRecursion, AllZip, remove}}, poll_engine.specs.Tasks.{EachAt, IsAt}}
 
 -- ---- the items that were yielded, and the rest
 

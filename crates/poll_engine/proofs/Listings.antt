@@ -1,13 +1,10 @@
 -- What is pushed on the list for an instance that is queued, and which pollers are woken.
 use Rattle.std.proofs.{Common.{arith, ◌≡◌, ◌∙◌, ℕ, Bool, List, [], ◌∷◌, ◌++◌, refl, sym, ap, append-nil}, lemmas.Grind.common_steps}
 use Rattle.std.specs.Prelude.{Option, Some, None, MatchOption, flat_map}
-use Rattle.napi_model.specs.declared.event.{Event.Event, Operation.Operation}
+use Rattle.napi_model.specs.{declared.event.Event.Event, declared.event.Operation.Operation}
 use Rattle.{napi_calls.specs.{Seats.{pass_number, own_list}, Made.{Lost, Made, events, looks}}, napi_word.specs.declared.table.Pass.Pass}
-use Rattle.poll_engine.specs.Hands.{Lists, ThreadWakes, listings, thread_wakes, thread_wakes_after}
-use Rattle.poll_engine.specs.SharedLists.{pushed_by}
-use Rattle.poll_engine.specs.declared.signals.Waker.{Waker}
-use Rattle.poll_engine.specs.Trails.{wakes_after}
-use Rattle.poll_engine.specs.declared.worker.InterruptHandler.{InterruptHandler}
+use Rattle.poll_engine.specs.{Hands.{Lists, ThreadWakes, listings, thread_wakes, thread_wakes_after}, SharedLists.pushed_by}
+use Rattle.poll_engine.specs.{declared.signals.Waker.Waker, Trails.wakes_after, declared.worker.InterruptHandler.InterruptHandler}
 use Rattle.poll_engine.specs.declared.worker.Outbox.{Outbox}
 use Rattle.napi_model.specs.declared.event.Call.TheVariants as call
 

@@ -1,11 +1,10 @@
 -- Stations with distinct numbers: there are at most 16 of them.
-use Rattle.std.proofs.lemmas.{Grind.common_steps, Map.{Steps.length-le_from_distinct_below, Keys.IsDistinct-cons}, Bool.{eqb-true, ne_eqb}}
-use Rattle.std.{proofs.Common.{◌≡◌, ℕ, ◌<◌, ◌≤◌, Bool, true, false, List, [], ◌∷◌, refl, arith, length, All, eqb}, specs.Prelude.◌==◌}
-use Rattle.poll_engine.specs.Opens.{IsStation}
-use Rattle.poll_engine.specs.declared.station.Station.{Station}
+use Rattle.std.proofs.{lemmas.Grind.common_steps, lemmas.Map.Steps.length-le_from_distinct_below, lemmas.Map.Keys.IsDistinct-cons}
+use Rattle.std.proofs.lemmas.Bool.{eqb-true, ne_eqb}
+use Rattle.std.proofs.Common.{◌≡◌, ℕ, ◌<◌, ◌≤◌, Bool, true, false, List, [], ◌∷◌, refl, arith, length, All, eqb}
 use Rattle.std.proofs.lemmas.List.Elements.{All-head, All-tail}
-use Rattle.std.specs.{Prelude.◌||◌, List.{AllByRecursion, IsDistinct, list_any}}
-use Rattle.poll_engine.specs.Numbers.{are_distinct, numbers_of}
+use Rattle.std.specs.{Prelude.{◌==◌, ◌||◌}, List.{AllByRecursion, IsDistinct, list_any}}
+use Rattle.poll_engine.specs.{Opens.IsStation, declared.station.Station.Station, Numbers.{are_distinct, numbers_of}}
 
 -- a number that isn't in a list differs from each of the list
 apart : (n : ℕ) (ns : List ℕ) → list_any (λ m. m == n) ns ≡ false → AllByRecursion (λ m. eqb n m ≡ false) ns

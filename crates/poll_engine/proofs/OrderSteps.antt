@@ -1,15 +1,13 @@
 -- Each step on the queue preserves the order of all pushes: a push, a pop, making an end, returning an end, and a read.
-use Rattle.std.proofs.Common.{◌≡◌, ◌≢◌, ℕ, ◌+◌, ◌<◌, Bool, true, false, true≢false, List, [], ◌∷◌, ◌++◌, length, set, cond, sym, refl, ap}
-use Rattle.std.proofs.{Common.{◌∙◌, subst, inl, inr, ⊎_elim, append_assoc, length-append, lt_of_not-le, arith}, lemmas.List.length-set}
-use Rattle.{std.proofs.lemmas.List.Sums.sum_by_push, crossbeam_queue.specs.Fifo.{Pushes, Pops, Forks, Merges, Learns}}
-use Rattle.crossbeam_queue.proofs.Lists.{at_set, at_longer, at_last}
-use Rattle.poll_engine.specs.declared.list_rule.Returned.{Returned}
-use Rattle.poll_engine.specs.declared.list_rule.EndView.{EndView}
-use Rattle.poll_engine.specs.PushOrder.{Push, push_of, pushes_by, returned_end, pusher, poller}
-use Rattle.poll_engine.specs.PushOrder.{spent_end, live_count, IsReturned, FitsEnd, InOneOrder, KnowsOrder}
-use Rattle.poll_engine.proofs.EndLists.{in_range}
-use Rattle.poll_engine.proofs.EndLists.{at_push, total_set, one_weight, two_weights, EachAt, all_set, by_mine, by_other, ids_push}
-use Rattle.poll_engine.proofs.EndLists.{one_there}
+use Rattle.std.proofs.Common.{◌≡◌, ◌≢◌, ℕ, ◌+◌, ◌<◌, Bool, true, false, true≢false, List, [], ◌∷◌, ◌++◌, length, set, cond, sym, refl}
+use Rattle.std.proofs.Common.{ap, ◌∙◌, subst, inl, inr, ⊎_elim, append_assoc, length-append, lt_of_not-le, arith}
+use Rattle.std.proofs.{lemmas.List.length-set, lemmas.List.Sums.sum_by_push}
+use Rattle.{crossbeam_queue.specs.Fifo.{Pushes, Pops, Forks, Merges, Learns}, crossbeam_queue.proofs.Lists.{at_set, at_longer, at_last}}
+use Rattle.poll_engine.specs.{declared.list_rule.Returned.Returned, declared.list_rule.EndView.EndView}
+use Rattle.poll_engine.specs.PushOrder.{Push, push_of, pushes_by, returned_end, pusher, poller, spent_end, live_count, IsReturned}
+use Rattle.poll_engine.specs.PushOrder.{FitsEnd, InOneOrder, KnowsOrder}
+use Rattle.poll_engine.proofs.EndLists.{in_range, at_push, total_set, one_weight, two_weights, EachAt, all_set, by_mine, by_other}
+use Rattle.poll_engine.proofs.EndLists.{ids_push, one_there}
 use mathlib.Core.{Option.{some, some-ne-none}, Logic.dite}
 use native.Mathlib.Decide.{dec_le, ℕ_discrete}
 use lib.ListN.{get_elem?}

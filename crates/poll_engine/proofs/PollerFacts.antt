@@ -1,24 +1,13 @@
 -- Pollers receive their handles. (Names with "seat" are about these handles.)
-use Rattle.std.proofs.Common.{◌≡◌, ◌∙◌, ℕ, ◌+◌, ◌<◌, ◌≤◌, Bool, true, false, List, [], ◌∷◌, ◌++◌, length, ap, sym, subst}
-use Rattle.std.proofs.Common.{get_or, arith, append-nil, cond, map, vec_items, All, Some, set}
-use Rattle.std.{specs.{Global.Vec, Prelude.{filter, vec_capacity}}, proofs.lemmas.Bool.eqb-true}
-use Rattle.std.proofs.lemmas.List.{length-set, map-set, set-get_or, Elements.{All-pop, filter-append}}
-use Rattle.std.proofs.lemmas.List.Sums.{count_by-le-length, length-filter}
-use Rattle.poll_engine.proofs.ListFacts.{each_set}
-use Rattle.poll_engine.proofs.EndFacts.{not_other}
-use Rattle.napi_calls.specs.declared.kept.DropBomb.{DropBomb}
-use Rattle.poll_engine.specs.HandleBenches.{HasOneMore}
-use Rattle.poll_engine.specs.declared.handle.PollHandle.{PollHandle}
-use Rattle.poll_engine.specs.declared.poller.Poller.{Poller}
-use Rattle.poll_engine.specs.declared.list_poller.ListPoller.{ListPoller}
-use Rattle.poll_engine.specs.Spreads.{AreEndsOf, ArePollers, IsEndOf, IsPoller, own_seats}
-use Rattle.poll_engine.specs.SharedLists.{IsNewList}
-use Rattle.poll_engine.specs.declared.list_in.ListIn.{ListIn}
-use Rattle.poll_engine.specs.declared.shared.SharedList.{SharedList}
-use Rattle.poll_engine.specs.Tasks.{IsAt}
-use Rattle.poll_engine.specs.declared.signals.Waker.{Waker}
-use Rattle.poll_engine.specs.declared.context.RunContext.{RunContext}
-use Rattle.poll_engine.specs.Deals.{is_own, poller_by}
+use Rattle.std.proofs.Common.{◌≡◌, ◌∙◌, ℕ, ◌+◌, ◌<◌, ◌≤◌, Bool, true, false, List, [], ◌∷◌, ◌++◌, length, ap, sym, subst, get_or, arith}
+use Rattle.std.proofs.{Common.{append-nil, cond, map, vec_items, All, Some, set}, lemmas.Bool.eqb-true}
+use Rattle.std.proofs.{lemmas.List.{length-set, map-set, set-get_or}, lemmas.List.Elements.{All-pop, filter-append}}
+use Rattle.{std.proofs.lemmas.List.Sums.{count_by-le-length, length-filter}, std.specs.{Global.Vec, Prelude.{filter, vec_capacity}}}
+use Rattle.{poll_engine.proofs.{ListFacts.each_set, EndFacts.not_other}, napi_calls.specs.declared.kept.DropBomb.DropBomb}
+use Rattle.poll_engine.specs.{HandleBenches.HasOneMore, declared.handle.PollHandle.PollHandle, declared.poller.Poller.Poller}
+use Rattle.poll_engine.specs.{declared.list_poller.ListPoller.ListPoller, Spreads.{AreEndsOf, ArePollers, IsEndOf, IsPoller, own_seats}}
+use Rattle.poll_engine.specs.{SharedLists.IsNewList, declared.list_in.ListIn.ListIn, declared.shared.SharedList.SharedList, Tasks.IsAt}
+use Rattle.poll_engine.specs.{declared.signals.Waker.Waker, declared.context.RunContext.RunContext, Deals.{is_own, poller_by}}
 
 -- a poller among those of a run
 module _ {R G : Type 0} (context : RunContext R G) (wakers : List Waker) (count : ℕ) (sat : List (DropBomb R PollHandle))

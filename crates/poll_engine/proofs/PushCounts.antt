@@ -1,16 +1,12 @@
 -- After all ends were returned, the order has only the pushes of these ends and of the poller.
-use Rattle.std.proofs.Common.{◌≡◌, ℕ, zero, suc, ◌+◌, ◌<◌, ◌≤◌, ◌⊎◌, Bool, true, false, List, [], ◌∷◌, ◌++◌, length, map, cond, eqb, sym}
-use Rattle.std.proofs.Common.{refl, ap, ◌∙◌, subst, inl, inr, ⊎_elim, length-append, append-nil, eq-eqb, lt_of_not-le, arith}
-use Rattle.std.{proofs.lemmas.List.{length-map, nil_from_length, Sums.sum_by-cons, Elements.{All-nil, All-cons}}, specs.List.{sum_by, All}}
-use Rattle.crossbeam_queue.specs.Passes.{view}
-use Rattle.poll_engine.specs.declared.list_rule.Returned.{Returned}
-use Rattle.poll_engine.specs.declared.list_rule.EndView.{EndView}
-use Rattle.poll_engine.specs.declared.list_in.ListIn.{ListIn}
+use Rattle.std.proofs.Common.{◌≡◌, ℕ, zero, suc, ◌+◌, ◌<◌, ◌≤◌, ◌⊎◌, Bool, true, false, List, [], ◌∷◌, ◌++◌, length, map, cond, eqb}
+use Rattle.std.proofs.Common.{sym, refl, ap, ◌∙◌, subst, inl, inr, ⊎_elim, length-append, append-nil, eq-eqb, lt_of_not-le, arith}
+use Rattle.std.proofs.{lemmas.List.{length-map, nil_from_length}, lemmas.List.Sums.sum_by-cons, lemmas.List.Elements.{All-nil, All-cons}}
+use Rattle.{std.specs.List.{sum_by, All}, crossbeam_queue.specs.Passes.view}
+use Rattle.poll_engine.specs.{declared.list_rule.Returned.Returned, declared.list_rule.EndView.EndView, declared.list_in.ListIn.ListIn}
 use Rattle.poll_engine.specs.declared.shared.SharedList.{SharedList}
-use Rattle.poll_engine.specs.PushOrder.{Push, ids_of, poller, pushes_by}
-use Rattle.poll_engine.specs.PushOrder.{IsReturned, KnowsOrder, PopsMore, WasEmpty, returned_pushes}
-use Rattle.poll_engine.specs.SharedLists.{as_returned, end_number}
-use Rattle.poll_engine.specs.SharedLists.{own_pushes, popped_by, pushed_by, IsOneOrder}
+use Rattle.poll_engine.specs.PushOrder.{Push, ids_of, poller, pushes_by, IsReturned, KnowsOrder, PopsMore, WasEmpty, returned_pushes}
+use Rattle.poll_engine.specs.SharedLists.{as_returned, end_number, own_pushes, popped_by, pushed_by, IsOneOrder}
 use mathlib.Core.{Option.{some, some-ne-none, some-injective}, Logic.dite}
 use native.Mathlib.Decide.{dec_le}
 use lib.ListN.{get_elem?}

@@ -1,58 +1,34 @@
 -- What the parts of a run imply for its stations.
-use Rattle.std.proofs.lemmas.{Bool.ne_eqb, Grind.common_steps, List.{get_or_default, nil_from_length, Elements.recursion_from_All}}
-use Rattle.std.proofs.lemmas.Option.{same_Some}
-use Rattle.std.proofs.Common.{◌≡◌, ◌≢◌, ℕ, zero, suc, ◌≤◌, ◌<◌, Bool, true, false, None, is_some, List, [], ◌∷◌, ◌++◌, sym}
-use Rattle.std.{proofs.Common.{ap, ◌∙◌, refl, subst, Some, All, arith, rules, get_or, length}, specs.Prelude.{filter, map}}
-use Rattle.std.specs.{Prelude.{not, vec_items, vec_len}, List.{AllByRecursion, AllZip}, Global.Vec}
-use Rattle.poll_engine.specs.Asks.{WasLet}
-use Rattle.poll_engine.specs.Trails.{questions}
-use Rattle.poll_engine.specs.Acts.{after_acts, arrivals}
-use Rattle.poll_engine.specs.Questions.{all_questions}
-use Rattle.poll_engine.specs.Runs.{HasRun}
-use Rattle.poll_engine.specs.Deals.{is_dealt, is_own, poller_by}
-use Rattle.poll_engine.specs.Hands.{listings}
-use Rattle.poll_engine.specs.Ends.{IsFinishOf, IsKeptFinishOf}
-use Rattle.poll_engine.specs.Runs.{Ledger, Whose, WorksBy, IsEnded, blank, controller_number, worker_number}
-use Rattle.poll_engine.specs.declared.station.Station.{Station}
-use Rattle.poll_engine.specs.declared.station.Finished.{Finished}
-use Rattle.poll_engine.specs.declared.worker.InterruptWorker.{InterruptWorker}
-use Rattle.poll_engine.specs.declared.worker.InterruptHandler.{InterruptHandler}
-use Rattle.poll_engine.specs.declared.worker.WorkerHandles.{WorkerHandles}
-use Rattle.poll_engine.specs.declared.opening.Loose.{Loose}
-use Rattle.poll_engine.specs.declared.opening.Placed.{Placed}
-use Rattle.poll_engine.specs.declared.acts.Act.{Act}
-use Rattle.poll_engine.specs.Works.{IsDoneBy, IsWorked, ledger_of, whose}
-use Rattle.poll_engine.specs.Handles.{AreAtRest, is_on, pass_of}
-use Rattle.poll_engine.specs.Opens.{IsHome, IsInputOf, IsKeptLoose, IsKeptPartOf, IsKeptSideOf, IsLoose}
-use Rattle.poll_engine.specs.declared.list_in.ListIn.{ListIn}
-use Rattle.poll_engine.specs.declared.shared.SharedList.{SharedList}
-use Rattle.poll_engine.proofs.ListFacts.{at_mapped, at_place, each_zip, zip_and, zip_both, zip_empty, zip_filtered}
-use Rattle.poll_engine.proofs.ListFacts.{zip_flip, zip_right, zip_same}
-use Rattle.poll_engine.specs.Tasks.{EachAt, IsAt}
-use Rattle.poll_engine.specs.Asks.{IsAsked}
-use Rattle.poll_engine.specs.declared.signals.Waker.{Waker}
-use Rattle.poll_engine.specs.declared.context.RunContext.{RunContext}
-use Rattle.poll_engine.specs.declared.context.PollLimits.{PollLimits}
-use Rattle.rx_ring.specs.{Ends.{SameIn, capacity_of, put_list}}
-use Rattle.rx_ring.specs.{ReceiveRing.{bytes_of, capped}, declared.{ends.RxIn.RxIn, packet.Packet.Packet}}
-use Rattle.poll_engine.specs.SeatKeeping.{AreSameSeats, IsSameSeat}
-use Rattle.poll_engine.specs.Turns.{TurnsAlone, TurnsByRun, has_no_seat, has_no_thread}
-use Rattle.poll_engine.specs.declared.handle.PollHandle.{PollHandle}
-use Rattle.poll_engine.specs.declared.poller.Poller.{Poller}
-use Rattle.poll_engine.specs.declared.list_poller.ListPoller.{ListPoller}
-use Rattle.poll_engine.specs.declared.thread_poller.ThreadPoller.{ThreadPoller}
+use Rattle.std.proofs.{lemmas.Bool.ne_eqb, lemmas.Grind.common_steps, lemmas.List.{get_or_default, nil_from_length}}
+use Rattle.std.proofs.{lemmas.List.Elements.recursion_from_All, lemmas.Option.same_Some}
+use Rattle.std.proofs.Common.{◌≡◌, ◌≢◌, ℕ, zero, suc, ◌≤◌, ◌<◌, Bool, true, false, None, is_some, List, [], ◌∷◌, ◌++◌, sym, ap, ◌∙◌}
+use Rattle.std.proofs.Common.{refl, subst, Some, All, arith, rules, get_or, length}
+use Rattle.std.specs.{Prelude.{filter, map, not, vec_items, vec_len}, List.{AllByRecursion, AllZip}, Global.Vec}
+use Rattle.poll_engine.specs.{Asks.{WasLet, IsAsked}, Trails.questions, Acts.{after_acts, arrivals}, Questions.all_questions}
+use Rattle.poll_engine.specs.Runs.{HasRun, Ledger, Whose, WorksBy, IsEnded, blank, controller_number, worker_number}
+use Rattle.poll_engine.specs.{Deals.{is_dealt, is_own, poller_by}, Hands.listings, Ends.{IsFinishOf, IsKeptFinishOf}}
+use Rattle.poll_engine.specs.{declared.station.Station.Station, declared.station.Finished.Finished}
+use Rattle.poll_engine.specs.{declared.worker.InterruptWorker.InterruptWorker, declared.worker.InterruptHandler.InterruptHandler}
+use Rattle.poll_engine.specs.{declared.worker.WorkerHandles.WorkerHandles, declared.opening.Loose.Loose, declared.opening.Placed.Placed}
+use Rattle.poll_engine.specs.{declared.acts.Act.Act, Works.{IsDoneBy, IsWorked, ledger_of, whose}, Handles.{AreAtRest, is_on, pass_of}}
+use Rattle.poll_engine.specs.{Opens.{IsHome, IsInputOf, IsKeptLoose, IsKeptPartOf, IsKeptSideOf, IsLoose}, declared.list_in.ListIn.ListIn}
+use Rattle.poll_engine.specs.{declared.shared.SharedList.SharedList, Tasks.{EachAt, IsAt}, declared.signals.Waker.Waker}
+use Rattle.poll_engine.specs.{declared.context.RunContext.RunContext, declared.context.PollLimits.PollLimits}
+use Rattle.poll_engine.specs.{SeatKeeping.{AreSameSeats, IsSameSeat}, Turns.{TurnsAlone, TurnsByRun, has_no_seat, has_no_thread}}
+use Rattle.poll_engine.specs.{declared.handle.PollHandle.PollHandle, declared.poller.Poller.Poller}
+use Rattle.poll_engine.specs.{declared.list_poller.ListPoller.ListPoller, declared.thread_poller.ThreadPoller.ThreadPoller}
 use Rattle.poll_engine.specs.Gives.{IsPolled}
-use Rattle.poll_engine.proofs.SeatFacts.{served_alone, served_keeps}
-use Rattle.napi_calls.specs.declared.{kept.DropBomb.DropBomb, types.{Caller.Caller, Napi.Napi}}
-use Rattle.napi_calls.specs.{Instance.IsSeatOf, Seats.{pass_number, own_list}}
 use Rattle.poll_engine.specs.Courses.{ArePolled, Course, HasPolled, HasTurned, HaveRun, IsCourse, IsCrew, IsFreshSeat, Pushes}
-use Rattle.poll_engine.specs.Courses.{TakesTurns}
-use Rattle.poll_engine.specs.Courses.{TurnsIfThread}
-use Rattle.poll_engine.specs.Finishes.{IsFinished, IsWorkedOf}
-use Rattle.poll_engine.specs.Spreads.{AreEndsOf, ArePollers, IsEndOf}
-use Rattle.poll_engine.specs.Spreads.{IsJobAt, IsKeptJobOf, IsKeptSeatFor, IsKeptThreadFor, IsNewEnd, IsPoller, IsSeatAt, IsThreadAt}
-use Rattle.poll_engine.specs.Spreads.{IsWiredJob, IsWiredSide, own_seats}
+use Rattle.poll_engine.specs.{Courses.{TakesTurns, TurnsIfThread}, Finishes.{IsFinished, IsWorkedOf}}
+use Rattle.poll_engine.specs.Spreads.{AreEndsOf, ArePollers, IsEndOf, IsJobAt, IsKeptJobOf, IsKeptSeatFor, IsKeptThreadFor, IsNewEnd}
+use Rattle.poll_engine.specs.Spreads.{IsPoller, IsSeatAt, IsThreadAt, IsWiredJob, IsWiredSide, own_seats}
 use Rattle.poll_engine.specs.Outcomes.{AreLeftBy, AreSeatsAt, IsLeftBy, IsSeatWith, IsThreadWith, Outcome}
+use Rattle.poll_engine.proofs.ListFacts.{at_mapped, at_place, each_zip, zip_and, zip_both, zip_empty, zip_filtered, zip_flip, zip_right}
+use Rattle.poll_engine.proofs.{ListFacts.zip_same, SeatFacts.{served_alone, served_keeps}}
+use Rattle.rx_ring.specs.{Ends.{SameIn, capacity_of, put_list}, ReceiveRing.{bytes_of, capped}, declared.ends.RxIn.RxIn}
+use Rattle.rx_ring.specs.declared.packet.Packet.{Packet}
+use Rattle.napi_calls.specs.{declared.kept.DropBomb.DropBomb, declared.types.Caller.Caller, declared.types.Napi.Napi, Instance.IsSeatOf}
+use Rattle.napi_calls.specs.Seats.{pass_number, own_list}
 
 -- the types of the pollers with a list, and of the threads of instances
 abbrev OwnPoller : Type 0 → Type 0 → Type 0

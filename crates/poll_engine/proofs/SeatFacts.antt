@@ -1,18 +1,13 @@
 -- What polls, runs and turns preserve of a poller's handles. (Names with "seat" are about these handles.)
-use Rattle.std.proofs.Common.{◌≡◌, ◌⊎◌, ◌∙◌, ℕ, zero, suc, ◌<◌, Bool, false, List, [], ◌∷◌, Option, Some, None, length, inl, inr}
-use Rattle.std.{proofs.Common.{refl, sym, ap, subst, vec_items, set, get_or, arith}, specs.Prelude.{◌==◌, MatchOption, position}}
-use Rattle.poll_runs.specs.{Polls.{At, Chain, Poll}, declared.bench.Once.Once}
-use Rattle.poll_engine.proofs.ListFacts.{zip_both, zip_same}
+use Rattle.std.proofs.Common.{◌≡◌, ◌⊎◌, ◌∙◌, ℕ, zero, suc, ◌<◌, Bool, false, List, [], ◌∷◌, Option, Some, None, length, inl, inr, refl}
+use Rattle.std.proofs.Common.{sym, ap, subst, vec_items, set, get_or, arith}
+use Rattle.std.specs.Prelude.{◌==◌, MatchOption, position}
+use Rattle.{poll_runs.specs.{Polls.{At, Chain, Poll}, declared.bench.Once.Once}, poll_engine.proofs.ListFacts.{zip_both, zip_same}}
 use Rattle.napi_calls.specs.declared.kept.DropBomb.{DropBomb}
-use Rattle.poll_engine.specs.SeatKeeping.{AreSameSeats, IsSameSeat}
-use Rattle.poll_engine.specs.declared.handle.PollHandle.{PollHandle}
-use Rattle.poll_engine.specs.declared.list_poller.HandleBench.{HandleBench}
-use Rattle.poll_engine.specs.declared.list_poller.ListPoller.{ListPoller}
-use Rattle.poll_engine.specs.declared.thread_poller.ThreadPoller.{ThreadPoller}
-use Rattle.poll_engine.specs.HandleBenches.{IsNowhere, IsPolledAt}
-use Rattle.poll_engine.specs.HandleBenches.{PollsSeat}
-use Rattle.poll_engine.specs.Serving.{IsServed}
-use Rattle.poll_engine.specs.Turns.{TurnsAlone, TurnsByRun}
+use Rattle.poll_engine.specs.{SeatKeeping.{AreSameSeats, IsSameSeat}, declared.handle.PollHandle.PollHandle}
+use Rattle.poll_engine.specs.{declared.list_poller.HandleBench.HandleBench, declared.list_poller.ListPoller.ListPoller}
+use Rattle.poll_engine.specs.{declared.thread_poller.ThreadPoller.ThreadPoller, HandleBenches.{IsNowhere, IsPolledAt, PollsSeat}}
+use Rattle.poll_engine.specs.{Serving.IsServed, Turns.{TurnsAlone, TurnsByRun}}
 
 -- ---- what each step preserves is preserved over all steps
 

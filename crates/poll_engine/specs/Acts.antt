@@ -1,8 +1,6 @@
 -- The effect of a device's acts.
 use Rattle.std.specs.Prelude.{ℕ, zero, suc, List, [], ◌∷◌, ◌++◌}
-use Rattle.rx_ring.specs.declared.packet.Packet.{Packet}
-use Rattle.poll_engine.specs.declared.acts.Act.{Act}
-use Rattle.poll_engine.specs.declared.acts.Act.TheVariants.{Arrive}
+use Rattle.{rx_ring.specs.declared.packet.Packet.Packet, poll_engine.specs.{declared.acts.Act.Act, declared.acts.Act.TheVariants.Arrive}}
 
 -- the device after it was asked for its first n acts, each once and in order
 abbrev pub after_acts : {D : Type 0} → (D → ℕ → D) → D → ℕ → D

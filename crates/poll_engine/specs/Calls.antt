@@ -1,15 +1,11 @@
 -- The effect of acts on a worker's handles on its instance.
 use Rattle.std.specs.Prelude.{◌≡◌, ◌⊎◌, ◌≤◌, ℕ, zero, suc, Bool, true, false, List, [], ◌∷◌, ◌++◌, length, if◌then◌else◌}
-use Rattle.rx_ring.specs.{declared.{ends.RxIn.RxIn, packet.Packet.Packet}, Ends.{SameIn, capacity_of, put_list}}
+use Rattle.rx_ring.specs.{declared.ends.RxIn.RxIn, declared.packet.Packet.Packet, Ends.{SameIn, capacity_of, put_list}}
 use Rattle.{napi_model.specs.declared.state.Seen.Seen, napi_word.specs.declared.table.Pass.Pass}
 use Rattle.napi_calls.specs.{declared.answers.Sched.Sched, Calls.{Disables, Enables, Schedules}, Made.Made}
-use Rattle.poll_engine.specs.declared.acts.Act.{Act}
-use Rattle.poll_engine.specs.declared.acts.Act.TheVariants.{Arrive, Disable, Enable, SetThreaded, Nothing}
-use Rattle.poll_engine.specs.declared.worker.WorkerHandles.{WorkerHandles}
-use Rattle.poll_engine.specs.declared.worker.ControllerState.{ControllerState}
-use Rattle.poll_engine.specs.declared.worker.ControllerState.TheVariants.{On, Off}
-use Rattle.poll_engine.specs.Acts.{after_acts}
-use Rattle.poll_engine.specs.Handles.{is_on, pass_of}
+use Rattle.poll_engine.specs.{declared.acts.Act.Act, declared.acts.Act.TheVariants.{Arrive, Disable, Enable, SetThreaded, Nothing}}
+use Rattle.poll_engine.specs.{declared.worker.WorkerHandles.WorkerHandles, declared.worker.ControllerState.ControllerState}
+use Rattle.poll_engine.specs.{declared.worker.ControllerState.TheVariants.{On, Off}, Acts.after_acts, Handles.{is_on, pass_of}}
 use Rattle.napi_model.specs.declared.state.Kind.TheVariants as kind
 use Rattle.napi_model.specs.declared.event.Operation.TheVariants as operation
 use Rattle.napi_calls.specs.declared.answers.Sched.TheVariants as sched

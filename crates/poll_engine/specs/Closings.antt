@@ -2,8 +2,7 @@
 use Rattle.std.specs.Prelude.{◌≡◌, List, [], ◌∷◌, ◌++◌}
 use Rattle.{rx_ring.specs.declared.ends.RxCtx.RxCtx, napi_word.specs.declared.table.Pass.Pass}
 use Rattle.napi_calls.specs.{declared.types.Caller.Caller, Closed.{IsClosed, seats_of}}
-use Rattle.poll_engine.specs.declared.station.Closed.{Closed}
-use Rattle.poll_engine.specs.declared.worker.WorkerHandles.{WorkerHandles}
+use Rattle.poll_engine.specs.{declared.station.Closed.Closed, declared.worker.WorkerHandles.WorkerHandles}
 use Rattle.poll_engine.specs.declared.worker.ControllerState.TheVariants.{Off}
 
 -- its three callers: the worker's, the poller's and its own thread's

@@ -1,32 +1,17 @@
 -- Which poller polled which station in a run, and with which limits.
-use Rattle.poll_engine.specs.Asks.{IsAsked}
-use Rattle.poll_engine.specs.Tasks.{EachAt, IsAt}
-use Rattle.poll_engine.specs.declared.context.PollLimits.{PollLimits}
-use Rattle.poll_engine.specs.declared.context.RunContext.{RunContext}
-use Rattle.poll_engine.specs.Finishes.{IsWorkedOf}
-use Rattle.poll_engine.specs.Outcomes.{AreLeftBy}
-use Rattle.poll_engine.specs.Spreads.{IsEndOf, IsKeptSeatFor}
-use Rattle.poll_engine.specs.declared.handle.PollHandle.{PollHandle}
-use Rattle.poll_engine.specs.Gives.{IsPolledAlone, IsPolledBy}
-use Rattle.poll_engine.specs.declared.poller.Poller.{Poller}
-use Rattle.poll_engine.specs.declared.list_poller.ListPoller.{ListPoller}
-use Rattle.poll_engine.specs.declared.thread_poller.ThreadPoller.{ThreadPoller}
-use Rattle.poll_engine.specs.declared.worker.InterruptWorker.{InterruptWorker}
-use Rattle.poll_engine.specs.SharedLists.{IsInOf, IsNewList, pushed_by}
-use Rattle.poll_engine.specs.declared.list_in.ListIn.{ListIn}
-use Rattle.poll_engine.specs.declared.shared.SharedList.{SharedList}
+use Rattle.poll_engine.specs.{Asks.IsAsked, Tasks.{EachAt, IsAt}, declared.context.PollLimits.PollLimits}
+use Rattle.poll_engine.specs.{declared.context.RunContext.RunContext, Finishes.IsWorkedOf, Outcomes.AreLeftBy}
+use Rattle.poll_engine.specs.{Spreads.{IsEndOf, IsKeptSeatFor}, declared.handle.PollHandle.PollHandle, Gives.{IsPolledAlone, IsPolledBy}}
+use Rattle.poll_engine.specs.{declared.poller.Poller.Poller, declared.list_poller.ListPoller.ListPoller}
+use Rattle.poll_engine.specs.{declared.thread_poller.ThreadPoller.ThreadPoller, declared.worker.InterruptWorker.InterruptWorker}
+use Rattle.poll_engine.specs.{SharedLists.{IsInOf, IsNewList, pushed_by}, declared.list_in.ListIn.ListIn}
+use Rattle.poll_engine.specs.{declared.shared.SharedList.SharedList, Handles.IsUnused, Hands.listings}
+use Rattle.poll_engine.specs.{Deals.{is_dealt, is_own, poller_by}, declared.opening.Loose.Loose, declared.acts.Act.Act}
+use Rattle.poll_engine.specs.{declared.station.Finished.Finished, declared.station.Station.Station}
+use Rattle.poll_engine.specs.Runs.{HasRun, poller_number, thread_number}
 use Rattle.std.specs.Prelude.{◌≡◌, ◌≢◌, ℕ, ◌<◌, Bool, List, [], ◌∷◌, Some, None, filter, is_some, length, map, MatchBool, vec_items}
-use Rattle.{std.specs.List.{All, AllByRecursion, AllZip}}
-use Rattle.{napi_calls.specs.{Seats.own_list, declared.{kept.DropBomb.DropBomb, types.Caller.Caller}}}
-use Rattle.poll_engine.specs.Handles.{IsUnused}
-use Rattle.poll_engine.specs.Hands.{listings}
-use Rattle.poll_engine.specs.Deals.{is_dealt, is_own, poller_by}
-use Rattle.poll_engine.specs.declared.opening.Loose.{Loose}
-use Rattle.poll_engine.specs.declared.acts.Act.{Act}
-use Rattle.poll_engine.specs.declared.station.Finished.{Finished}
-use Rattle.poll_engine.specs.declared.station.Station.{Station}
-use Rattle.poll_engine.specs.Runs.{HasRun}
-use Rattle.poll_engine.specs.Runs.{poller_number, thread_number}
+use Rattle.std.specs.List.{All, AllByRecursion, AllZip}
+use Rattle.napi_calls.specs.{Seats.own_list, declared.kept.DropBomb.DropBomb, declared.types.Caller.Caller}
 
 abbrev pub limits_of : ℕ → ℕ → ℕ → PollLimits
 limits_of budget weight window = record { budget = budget; weight = weight; window = window }

@@ -1,22 +1,10 @@
 -- What holds after a finished run.
-use Rattle.std.specs.Prelude.{◌≡◌, ℕ, ◌+◌, ◌≤◌, Bool, length}
-use Rattle.poll_engine.specs.Asks.{WasLet}
-use Rattle.poll_engine.specs.Trails.{questions}
-use Rattle.rx_ring.specs.ReceiveRing.{bytes_of, capped}
-use Rattle.{napi_calls.specs.declared.{kept.DropBomb.DropBomb, types.Napi.Napi}}
-use Rattle.poll_engine.specs.declared.acts.Act.{Act}
-use Rattle.poll_engine.specs.declared.opening.Loose.{Loose}
-use Rattle.poll_engine.specs.declared.worker.InterruptWorker.{InterruptWorker}
-use Rattle.poll_engine.specs.declared.station.Finished.{Finished}
-use Rattle.poll_engine.specs.declared.station.Station.{Station}
-use Rattle.poll_engine.specs.Acts.{after_acts, arrivals}
-use Rattle.poll_engine.specs.Questions.{all_questions}
-use Rattle.poll_engine.specs.Runs.{HasRun}
-use Rattle.poll_engine.specs.Works.{IsDoneBy}
-use Rattle.poll_engine.specs.Deals.{poller_by}
-use Rattle.poll_engine.specs.declared.shared.SharedList.{SharedList}
-use Rattle.poll_engine.specs.Spreads.{IsEndOf}
-use Rattle.std.specs.Prelude.{List}
+use Rattle.std.specs.Prelude.{◌≡◌, ℕ, ◌+◌, ◌≤◌, Bool, length, List}
+use Rattle.poll_engine.specs.{Asks.WasLet, Trails.questions, declared.acts.Act.Act, declared.opening.Loose.Loose}
+use Rattle.poll_engine.specs.{declared.worker.InterruptWorker.InterruptWorker, declared.station.Finished.Finished}
+use Rattle.poll_engine.specs.{declared.station.Station.Station, Acts.{after_acts, arrivals}, Questions.all_questions, Runs.HasRun}
+use Rattle.poll_engine.specs.{Works.IsDoneBy, Deals.poller_by, declared.shared.SharedList.SharedList, Spreads.IsEndOf}
+use Rattle.{rx_ring.specs.ReceiveRing.{bytes_of, capped}, napi_calls.specs.{declared.kept.DropBomb.DropBomb, declared.types.Napi.Napi}}
 
 module _ {D : Type 0} (acts : D → ℕ) (answer : D → ℕ → Act) (after : D → ℕ → D) (answers : ℕ → ℕ → Bool → Type 0) where
   -- The station's device made its acts, each once and in order. Each packet that was put was polled or is still in the ring. If

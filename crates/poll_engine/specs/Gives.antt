@@ -1,19 +1,10 @@
 -- What the thread of a poller, and the thread of an instance, return.
-use Rattle.poll_engine.specs.declared.shared.SharedList.{SharedList}
-use Rattle.napi_calls.specs.declared.kept.DropBomb.{DropBomb}
-use Rattle.napi_calls.specs.declared.types.Caller.{Caller}
-use Rattle.poll_engine.specs.Asks.{IsAsked}
-use Rattle.poll_engine.specs.Stops.{IsStop}
-use Rattle.poll_engine.specs.Trails.{questions}
-use Rattle.poll_engine.specs.declared.context.PollLimits.{PollLimits}
-use Rattle.poll_engine.specs.declared.list_in.ListIn.{ListIn}
+use Rattle.poll_engine.specs.{declared.shared.SharedList.SharedList, Asks.IsAsked, Stops.IsStop, Trails.questions}
+use Rattle.poll_engine.specs.{declared.context.PollLimits.PollLimits, declared.list_in.ListIn.ListIn, declared.poller.Poller.Poller}
+use Rattle.poll_engine.specs.{declared.handle.PollHandle.PollHandle, declared.list_poller.ListPoller.ListPoller}
+use Rattle.poll_engine.specs.{declared.thread_poller.ThreadPoller.ThreadPoller, Turns.{TurnsAlone, TurnsByRun}, Serving.IsServed}
+use Rattle.napi_calls.specs.{declared.kept.DropBomb.DropBomb, declared.types.Caller.Caller}
 use Rattle.std.specs.Prelude.{◌≡◌, ◌⊎◌, ℕ, ◌+◌, ◌++◌, ◌∷◌, [], Bool, true, false, List, Some, None, IfSome, IsSome, vec_items}
-use Rattle.poll_engine.specs.declared.poller.Poller.{Poller}
-use Rattle.poll_engine.specs.declared.handle.PollHandle.{PollHandle}
-use Rattle.poll_engine.specs.declared.list_poller.ListPoller.{ListPoller}
-use Rattle.poll_engine.specs.declared.thread_poller.ThreadPoller.{ThreadPoller}
-use Rattle.poll_engine.specs.Turns.{TurnsAlone, TurnsByRun}
-use Rattle.poll_engine.specs.Serving.{IsServed}
 
 -- the numbers by which a poller of lists and the thread of an instance identify themselves to a gate
 abbrev pub poller_name : ℕ → ℕ

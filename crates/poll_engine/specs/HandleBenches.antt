@@ -1,16 +1,11 @@
 -- The effect of a poll on a poller's handles. (Names with "seat" are about these handles.)
-use Rattle.std.specs.Prelude.{◌≡◌, ◌==◌, ◌<◌, ◌++◌, ◌∷◌, [], ℕ, length, get_or, set, position, is_some, vec_items, MatchOption}
-use Rattle.poll_runs.specs.declared.bench.Next.TheVariants.{Absent}
-use Rattle.poll_runs.specs.declared.bench.Once.{Once}
-use Rattle.poll_engine.specs.declared.handle.PollHandle.{PollHandle}
-use Rattle.std.specs.Prelude.{◌≤◌, List, IsSome, Some, vec_capacity, vec_len}
-use Rattle.napi_calls.specs.{declared.{kept.DropBomb.DropBomb, types.Caller.Caller}, Instance.IsSeatOf}
-use Rattle.poll_engine.specs.declared.list_poller.HandleBench.{HandleBench}
-use Rattle.poll_engine.specs.declared.list_poller.ListPoller.{ListPoller}
-use Rattle.poll_engine.specs.Polled.{Polls}
-use Rattle.poll_engine.specs.SeatKeeping.{IsSameSeat}
-use Rattle.poll_engine.specs.Woken.{WakesThread}
+use Rattle.std.specs.Prelude.{◌≡◌, ◌==◌, ◌<◌, ◌++◌, ◌∷◌, [], ℕ, length, get_or, set, position, is_some, vec_items, MatchOption, ◌≤◌}
+use Rattle.std.specs.Prelude.{List, IsSome, Some, vec_capacity, vec_len}
+use Rattle.poll_runs.specs.{declared.bench.Next.TheVariants.Absent, declared.bench.Once.Once}
+use Rattle.poll_engine.specs.{declared.handle.PollHandle.PollHandle, declared.list_poller.HandleBench.HandleBench}
+use Rattle.poll_engine.specs.{declared.list_poller.ListPoller.ListPoller, Polled.Polls, SeatKeeping.IsSameSeat, Woken.WakesThread}
 use Rattle.poll_engine.specs.declared.poller.Poller.{Poller}
+use Rattle.napi_calls.specs.{declared.kept.DropBomb.DropBomb, declared.types.Caller.Caller, Instance.IsSeatOf}
 
 module _ {R : Type 0} where
   -- only the handle at this index was polled, once, with this weight and this result

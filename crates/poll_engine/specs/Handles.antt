@@ -1,11 +1,9 @@
 -- The instance to which a worker's handles belong.
 use Rattle.std.specs.Prelude.{◌≡◌, ℕ, Bool, true, false, []}
-use Rattle.napi_calls.specs.{declared.types.{Caller.Caller, Napi.Napi}, Instance.IsSeatOf, Seats.{pass_number, own_list}}
+use Rattle.napi_calls.specs.{declared.types.Caller.Caller, declared.types.Napi.Napi, Instance.IsSeatOf, Seats.{pass_number, own_list}}
 use Rattle.napi_word.specs.declared.table.Pass.{Pass}
-use Rattle.poll_engine.specs.Runs.{controller_number, worker_number}
-use Rattle.poll_engine.specs.declared.worker.ControllerState.{ControllerState}
-use Rattle.poll_engine.specs.declared.worker.ControllerState.TheVariants.{On, Off}
-use Rattle.poll_engine.specs.declared.worker.WorkerHandles.{WorkerHandles}
+use Rattle.poll_engine.specs.{Runs.{controller_number, worker_number}, declared.worker.ControllerState.ControllerState}
+use Rattle.poll_engine.specs.{declared.worker.ControllerState.TheVariants.{On, Off}, declared.worker.WorkerHandles.WorkerHandles}
 
 abbrev pub pass_of : ControllerState → Pass
 pass_of (On control) = control.pass

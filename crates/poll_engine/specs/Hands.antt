@@ -1,16 +1,10 @@
 -- What a worker pushes on the list, and which pollers it wakes, for the hand-overs among the events of its caller.
 use Rattle.std.specs.Prelude.{◌≡◌, ℕ, Bool, true, false, List, [], ◌∷◌, ◌++◌, MatchOption, if◌then◌else◌}
-use Rattle.{napi_model.specs.declared.event.{Event.Event, Operation.Operation}, napi_word.specs.declared.table.Pass.Pass}
-use Rattle.napi_calls.specs.Seats.{own_list}
-use Rattle.poll_engine.specs.declared.list_in.ListIn.{ListIn}
-use Rattle.poll_engine.specs.SharedLists.{pushed_by}
-use Rattle.poll_engine.specs.Trails.{signals_with, wakes_after}
-use Rattle.poll_engine.specs.declared.signals.Waker.{Waker}
-use Rattle.poll_engine.specs.declared.trail.Trail.{Trail}
-use Rattle.poll_engine.specs.declared.trail.Signal.{Signal}
-use Rattle.napi_calls.specs.declared.types.Caller.{Caller}
-use Rattle.poll_engine.specs.declared.worker.InterruptHandler.{InterruptHandler}
-use Rattle.poll_engine.specs.declared.worker.Outbox.{Outbox}
+use Rattle.{napi_model.specs.{declared.event.Event.Event, declared.event.Operation.Operation}, napi_word.specs.declared.table.Pass.Pass}
+use Rattle.napi_calls.specs.{Seats.own_list, declared.types.Caller.Caller}
+use Rattle.poll_engine.specs.{declared.list_in.ListIn.ListIn, SharedLists.pushed_by, Trails.{signals_with, wakes_after}}
+use Rattle.poll_engine.specs.{declared.signals.Waker.Waker, declared.trail.Trail.Trail, declared.trail.Signal.Signal}
+use Rattle.poll_engine.specs.{declared.worker.InterruptHandler.InterruptHandler, declared.worker.Outbox.Outbox}
 use Rattle.napi_model.specs.declared.state.Kind.TheVariants as kind
 use Rattle.napi_model.specs.declared.event.Operation.TheVariants as operation
 use Rattle.poll_engine.specs.SharedLists as list

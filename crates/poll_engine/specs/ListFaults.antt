@@ -1,6 +1,5 @@
 -- The numbers of the errors of a shared list.
-use Rattle.std.specs.Prelude.{ℕ}
-use Rattle.poll_engine.specs.declared.list_fault.ListFault.{ListFault}
+use Rattle.{std.specs.Prelude.ℕ, poll_engine.specs.declared.list_fault.ListFault.ListFault}
 use Rattle.poll_engine.specs.declared.list_fault.ListFault.TheVariants.{BadSize, OutOfMemory, NotAll}
 
 -- the number of an error

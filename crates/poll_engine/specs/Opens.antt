@@ -1,15 +1,12 @@
 -- The instances of stations.
-use Rattle.poll_engine.specs.Runs.{controller_number, poller_number, thread_number}
-use Rattle.poll_engine.specs.declared.station.Station.{Station}
-use Rattle.poll_engine.specs.declared.opening.Placed.{Placed}
-use Rattle.poll_engine.specs.declared.opening.Loose.{Loose}
-use Rattle.poll_engine.specs.Handles.{AreAtRest, AreUnused, IsUnused, pass_of}
+use Rattle.poll_engine.specs.{Runs.{controller_number, poller_number, thread_number}, declared.station.Station.Station}
+use Rattle.poll_engine.specs.{declared.opening.Placed.Placed, declared.opening.Loose.Loose}
+use Rattle.poll_engine.specs.{Handles.{AreAtRest, AreUnused, IsUnused, pass_of}, Trails.questions, Wakers.Wakes}
 use Rattle.std.specs.Prelude.{◌≡◌, ◌≤◌, [], vec_len, vec_capacity}
-use Rattle.poll_engine.specs.Trails.{questions}
-use Rattle.poll_engine.specs.Wakers.{Wakes}
-use Rattle.napi_calls.specs.declared.{types.Napi.Napi, kept.DropBomb.DropBomb}
-use Rattle.napi_calls.specs.{Seats.pass_number, Instance.{IsSeatOf, callers_of, first_of_instance, ring_of_instance}}
-use Rattle.rx_ring.specs.{Ends.{IsOneRing, capacity_of, put_list, received_list, ring_name}, declared.ends.{RxCtx.RxCtx, RxIn.RxIn}}
+use Rattle.napi_calls.specs.{declared.types.Napi.Napi, declared.kept.DropBomb.DropBomb, Seats.pass_number}
+use Rattle.napi_calls.specs.Instance.{IsSeatOf, callers_of, first_of_instance, ring_of_instance}
+use Rattle.rx_ring.specs.{Ends.{IsOneRing, capacity_of, put_list, received_list, ring_name}, declared.ends.RxCtx.RxCtx}
+use Rattle.rx_ring.specs.declared.ends.RxIn.{RxIn}
 
 -- a station's number is 1 to 16, and its ring holds 1 to 65536 packets
 pub record IsStation {D : Type 0} (station : Station D) : Type 0 where

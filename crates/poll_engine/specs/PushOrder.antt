@@ -2,9 +2,7 @@
 -- `____napi_schedule` adds only to the poll_list of its own processor, with interrupts disabled (`net/core/dev.c`). Here
 -- several threads push, and the steps of the queue determine the order.
 use Rattle.std.specs.Prelude.{◌≡◌, ℕ, ◌+◌, ◌<◌, ◌≤◌, true, false, List, [], ◌∷◌, ◌++◌, map, length, nat_eq, if◌then◌else◌, ◌⊎◌}
-use Rattle.std.specs.List.{sum_by}
-use Rattle.poll_engine.specs.declared.list_rule.Returned.{Returned}
-use Rattle.poll_engine.specs.declared.list_rule.EndView.{EndView}
+use Rattle.{std.specs.List.sum_by, poll_engine.specs.{declared.list_rule.Returned.Returned, declared.list_rule.EndView.EndView}}
 use mathlib.Core.Option.{some}
 use lib.ListN.{get_elem?}
 

@@ -1,17 +1,14 @@
 -- What a worker's run adds: the events that each act adds, and the history of the instance that contains them.
-use Rattle.std.specs.Prelude.{◌≡◌, ◌⊎◌, ◌≤◌, ℕ, ◌<◌, zero, suc, Bool, true, false, List, [], ◌∷◌, ◌++◌, length, flat_map}
-use Rattle.std.specs.Prelude.{if◌then◌else◌, Option}
-use Rattle.rx_ring.specs.{declared.packet.{Packet.Packet, Totals.Totals}, ReceiveRing.totals_of}
-use Rattle.napi_model.specs.declared.{state.Seen.Seen, event.{Prep.Prep, Event.Event, Operation.{Operation, TheVariants.{Look, Schedule}}}}
-use Rattle.napi_model.specs.declared.event.Operation.TheVariants.{Hand, MarkDisable, TakeDisable, Unmark, Enable, SetThreaded}
-use Rattle.{napi_model.specs.Step.opening, napi_calls.specs.{Made.Lost, Packets.own_delivered, Seats.{pass_number, own_list}}}
-use Rattle.napi_word.specs.{declared.history.Delivery.Delivery, Knowledge.{deliverers, own_deliveries, packets_of}, Slot.givers}
+use Rattle.std.specs.Prelude.{◌≡◌, ◌⊎◌, ◌≤◌, ℕ, ◌<◌, zero, suc, Bool, true, false, List, [], ◌∷◌, ◌++◌, length, flat_map, if◌then◌else◌}
+use Rattle.{std.specs.Prelude.Option, rx_ring.specs.{declared.packet.Packet.Packet, declared.packet.Totals.Totals, ReceiveRing.totals_of}}
+use Rattle.napi_model.specs.{declared.state.Seen.Seen, declared.event.Prep.Prep, declared.event.Event.Event}
+use Rattle.napi_model.specs.declared.event.Operation.{Operation}
+use Rattle.napi_model.specs.declared.event.Operation.TheVariants.{Look, Schedule, Hand, MarkDisable, TakeDisable, Unmark, Enable}
+use Rattle.napi_model.specs.{declared.event.Operation.TheVariants.SetThreaded, Step.opening}
+use Rattle.napi_calls.specs.{Made.{Lost, events, looks, take_attempt}, Packets.own_delivered, Seats.{pass_number, own_list}}
 use Rattle.napi_calls.specs.Closed.{Each, IsHistoryOf}
-use Rattle.napi_calls.specs.Made.{events, looks, take_attempt}
-use Rattle.poll_engine.specs.Closings.{seats_in}
-use Rattle.poll_engine.specs.declared.acts.Act.{Act}
-use Rattle.poll_engine.specs.declared.station.Closed.{Closed}
-use Rattle.poll_engine.specs.Acts.{after_acts}
+use Rattle.napi_word.specs.{declared.history.Delivery.Delivery, Knowledge.{deliverers, own_deliveries, packets_of}, Slot.givers}
+use Rattle.poll_engine.specs.{Closings.seats_in, declared.acts.Act.Act, declared.station.Closed.Closed, Acts.after_acts}
 use mathlib.Core.List.{IsPrefix}
 use Rattle.napi_model.specs.declared.state.Kind.TheVariants as kind
 use Rattle.napi_model.specs.declared.event.Prep.TheVariants as prep

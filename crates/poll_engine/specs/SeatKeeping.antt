@@ -1,7 +1,6 @@
 -- A poller's handles stay on their instances. (Names with "seat" are about these handles.)
 use Rattle.std.specs.{Prelude.{◌≡◌, List, IsSome}, List.AllZip}
-use Rattle.napi_calls.specs.declared.kept.DropBomb.{DropBomb}
-use Rattle.poll_engine.specs.declared.handle.PollHandle.{PollHandle}
+use Rattle.{napi_calls.specs.declared.kept.DropBomb.DropBomb, poll_engine.specs.declared.handle.PollHandle.PollHandle}
 
 -- the handle is still on the same instance, with the same waker, and its caller is present again
 pub record IsSameSeat (a b : PollHandle) : Type 0 where

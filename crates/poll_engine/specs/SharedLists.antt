@@ -1,10 +1,7 @@
 -- A shared poll list and the ends that push to it, as contracts see them.
-use Rattle.std.specs.Prelude.{◌≡◌, ℕ, ◌+◌, ◌<◌, ◌≤◌, List, [], ◌++◌, map, length, slice_index_or, ◌⊎◌}
+use Rattle.std.specs.{Prelude.{◌≡◌, ℕ, ◌+◌, ◌<◌, ◌≤◌, List, [], ◌++◌, map, length, slice_index_or, ◌⊎◌}, List.All}
 use Rattle.crossbeam_queue.specs.Passes.{view}
-use Rattle.std.specs.List.{All}
-use Rattle.poll_engine.specs.declared.list_in.ListIn.{ListIn}
-use Rattle.poll_engine.specs.declared.shared.SharedList.{SharedList}
-use Rattle.poll_engine.specs.declared.list_rule.Returned.{Returned}
+use Rattle.poll_engine.specs.{declared.list_in.ListIn.ListIn, declared.shared.SharedList.SharedList, declared.list_rule.Returned.Returned}
 use Rattle.poll_engine.specs.PushOrder.{Push, returned_end, ids_of, pushes_by, IsReturned, WasEmpty, returned_pushes}
 use Rattle.poll_engine.specs.EmptyPops.{CountsMore, CountsOne}
 

@@ -1,23 +1,13 @@
 -- The parts of stations, as they are distributed over the threads. (Names with "seat" are about the handles of pollers.)
 use Rattle.std.specs.{Prelude.{◌≡◌, ℕ, ◌≤◌, List, [], IfSome, IsSome, Some, filter, is_some, length, vec_items, vec_capacity}, Global.Vec}
-use Rattle.poll_engine.specs.SharedLists.{IsInOf, IsNewList, pushed_by}
-use Rattle.poll_engine.specs.declared.list_in.ListIn.{ListIn}
-use Rattle.poll_engine.specs.declared.shared.SharedList.{SharedList}
-use Rattle.{std.specs.List.All}
-use Rattle.poll_engine.specs.Deals.{is_own, poller_by}
-use Rattle.poll_engine.specs.Tasks.{EachAt, IsAt}
-use Rattle.poll_engine.specs.Wakers.{Wakes}
-use Rattle.poll_engine.specs.declared.context.RunContext.{RunContext}
-use Rattle.poll_engine.specs.declared.signals.Waker.{Waker}
-use Rattle.napi_calls.specs.declared.{kept.DropBomb.DropBomb, types.Caller.Caller}
-use Rattle.poll_engine.specs.declared.opening.Placed.{Placed}
-use Rattle.poll_engine.specs.declared.opening.Loose.{Loose}
-use Rattle.poll_engine.specs.declared.worker.InterruptWorker.{InterruptWorker}
-use Rattle.poll_engine.specs.declared.handle.PollHandle.{PollHandle}
-use Rattle.poll_engine.specs.declared.poller.Poller.{Poller}
-use Rattle.poll_engine.specs.declared.list_poller.ListPoller.{ListPoller}
-use Rattle.poll_engine.specs.declared.thread_poller.ThreadPoller.{ThreadPoller}
+use Rattle.{std.specs.List.All, poll_engine.specs.{SharedLists.{IsInOf, IsNewList, pushed_by}, declared.list_in.ListIn.ListIn}}
+use Rattle.poll_engine.specs.{declared.shared.SharedList.SharedList, Deals.{is_own, poller_by}, Tasks.{EachAt, IsAt}, Wakers.Wakes}
+use Rattle.poll_engine.specs.{declared.context.RunContext.RunContext, declared.signals.Waker.Waker, declared.opening.Placed.Placed}
+use Rattle.poll_engine.specs.{declared.opening.Loose.Loose, declared.worker.InterruptWorker.InterruptWorker}
+use Rattle.poll_engine.specs.{declared.handle.PollHandle.PollHandle, declared.poller.Poller.Poller}
+use Rattle.poll_engine.specs.{declared.list_poller.ListPoller.ListPoller, declared.thread_poller.ThreadPoller.ThreadPoller}
 use Rattle.poll_engine.specs.Gives.{poller_name, thread_name}
+use Rattle.napi_calls.specs.{declared.kept.DropBomb.DropBomb, declared.types.Caller.Caller}
 
 module _ {R D G : Type 0} where
   -- the worker has the context that all threads share, the device with its number, its end of the ring, its handles, and the

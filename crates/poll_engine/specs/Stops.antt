@@ -1,7 +1,5 @@
 -- Why a thread's work ended early, or a run failed.
-use Rattle.poll_engine.specs.WorkFaults.{IsWantOfMemory}
-use Rattle.poll_engine.specs.Refusals.{IsRefused}
-use Rattle.poll_engine.specs.declared.fault.WorkFault.{WorkFault}
+use Rattle.poll_engine.specs.{WorkFaults.IsWantOfMemory, Refusals.IsRefused, declared.fault.WorkFault.WorkFault}
 use Rattle.poll_engine.specs.declared.fault.WorkFault.TheVariants.{OutOfMemory, GateShut, SpawnFailed}
 
 -- an allocation failed, or a thread could not be started, or the gate returned false, which implies the given property of the

@@ -1,7 +1,6 @@
 -- A task that was started.
 use Rattle.std.specs.{Prelude.{◌≡◌, ℕ, ◌<◌, ◌≤◌, List, length, slice_index_or, vec_len, vec_capacity}, Global.Vec}
-use Rattle.poll_engine.specs.declared.tasks.Spawned.{Spawned}
-use Rattle.poll_engine.specs.declared.tasks.Spawned.TheVariants.{Running, Ended}
+use Rattle.poll_engine.specs.{declared.tasks.Spawned.Spawned, declared.tasks.Spawned.TheVariants.{Running, Ended}}
 
 -- a task's thread was started, or the task was run without one
 abbrev pub IsSpawned : {J : Type 0} → (J → J → Type 0) → J → Spawned J → Type 0

@@ -1,8 +1,6 @@
 -- What a thread did that its results don't show: the questions to its gate, and the uses of its wakers, in order.
 use Rattle.std.specs.Prelude.{ℕ, Bool, false, List, [], ◌∷◌, ◌++◌, map}
-use Rattle.poll_engine.specs.declared.signals.Waker.{Waker}
-use Rattle.poll_engine.specs.declared.trail.Trail.{Trail}
-use Rattle.poll_engine.specs.declared.trail.Asked.{Asked}
+use Rattle.poll_engine.specs.{declared.signals.Waker.Waker, declared.trail.Trail.Trail, declared.trail.Asked.Asked}
 use Rattle.poll_engine.specs.declared.trail.Signal.{Signal}
 
 -- for each question: the thread's number, the act's number, and the thread's state

@@ -1,14 +1,10 @@
 -- A turn of a poller with a list, and of the thread of an instance.
 use Rattle.std.specs.Prelude.{◌≡◌, ◌++◌, ◌==◌, not, is_some, Bool, List, nat_lt, vec_len}
-use Rattle.poll_engine.specs.SharedLists.{IsAllPopped, PopsCame, in_hand, pushed_by}
-use Rattle.poll_runs.specs.{Polls.{At, Chain, Poll}, Run.IsRun, declared.{bench.ThreadReport.ThreadReport, run.RunReport.RunReport}}
-use Rattle.poll_engine.specs.declared.list_poller.ListPoller.{ListPoller}
-use Rattle.poll_engine.specs.declared.thread_poller.ThreadPoller.{ThreadPoller}
-use Rattle.poll_engine.specs.Trails.{signals_with, wakes_after}
-use Rattle.poll_engine.specs.HandleBenches.{PollsSeat}
-use Rattle.poll_engine.specs.Polled.{PollsByThread}
-use Rattle.poll_engine.specs.Polled.{handed_on}
-use Rattle.poll_engine.specs.SeatKeeping.{IsSameSeat}
+use Rattle.poll_engine.specs.{SharedLists.{IsAllPopped, PopsCame, in_hand, pushed_by}, declared.list_poller.ListPoller.ListPoller}
+use Rattle.poll_engine.specs.{declared.thread_poller.ThreadPoller.ThreadPoller, Trails.{signals_with, wakes_after}}
+use Rattle.poll_engine.specs.{HandleBenches.PollsSeat, Polled.{PollsByThread, handed_on}, SeatKeeping.IsSameSeat}
+use Rattle.poll_runs.specs.{Polls.{At, Chain, Poll}, Run.IsRun, declared.bench.ThreadReport.ThreadReport}
+use Rattle.poll_runs.specs.declared.run.RunReport.{RunReport}
 
 module _ {R : Type 0} where
   -- the poller has nothing to poll: it has no handle, or it is the thread of an instance that has no thread

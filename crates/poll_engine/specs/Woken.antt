@@ -1,12 +1,9 @@
 -- When a poller wakes the thread of an instance.
-use Rattle.std.specs.Prelude.{◌≡◌, false, Bool, true, Option, List, [], ◌∷◌, ◌++◌, MatchOption, if◌then◌else◌}
-use Rattle.{napi_calls.specs.declared.types.Caller.Caller, poll_runs.specs.declared.bench.Next.{Next, TheVariants.Again}}
-use Rattle.poll_engine.specs.Trails.{signals}
-use Rattle.poll_engine.specs.declared.signals.Waker.{Waker}
-use Rattle.poll_engine.specs.declared.trail.Trail.{Trail}
-use Rattle.poll_engine.specs.declared.trail.Signal.{Signal}
+use Rattle.std.specs.{Prelude.{◌≡◌, false, Bool, true, Option, List, [], ◌∷◌, ◌++◌, MatchOption, if◌then◌else◌}, Borrow.Bor}
+use Rattle.napi_calls.specs.declared.types.Caller.{Caller}
+use Rattle.poll_runs.specs.{declared.bench.Next.Next, declared.bench.Next.TheVariants.Again}
+use Rattle.poll_engine.specs.{Trails.signals, declared.signals.Waker.Waker, declared.trail.Trail.Trail, declared.trail.Signal.Signal}
 use Rattle.napi_model.specs.declared.state.Kind.TheVariants as kind
-use Rattle.std.specs.Borrow.{Bor}
 
 -- a poll from the list queued the instance for its own thread
 abbrev pub moves_to_thread : Next → Bool

@@ -1,20 +1,11 @@
 -- The contract of a worker, for its own station.
 use Rattle.std.specs.Prelude.{◌≡◌, ℕ, ◌+◌, ◌≤◌, ◌++◌, Bool, None, IfSome, is_some, length}
-use Rattle.poll_engine.specs.Asks.{WasLet}
-use Rattle.poll_engine.specs.Stops.{IsStop}
-use Rattle.poll_engine.specs.Trails.{questions}
-use Rattle.rx_ring.specs.declared.ends.RxIn.{RxIn}
-use Rattle.rx_ring.specs.Ends.{SameIn}
-use Rattle.{rx_ring.specs.Ends.{capacity_of, put_list}, napi_calls.specs.{declared.types.Napi.Napi, Seats.{pass_number, own_list}}}
-use Rattle.poll_engine.specs.declared.acts.Act.{Act}
-use Rattle.poll_engine.specs.declared.worker.WorkerHandles.{WorkerHandles}
-use Rattle.poll_engine.specs.declared.worker.InterruptWorker.{InterruptWorker}
-use Rattle.poll_engine.specs.Acts.{after_acts}
-use Rattle.poll_engine.specs.Acts.{arrivals}
-use Rattle.poll_engine.specs.Hands.{ThreadWakesAndClose, Lists}
-use Rattle.poll_engine.specs.Questions.{all_questions}
-use Rattle.poll_engine.specs.Runs.{Ledger, Whose, WorksBy}
-use Rattle.poll_engine.specs.Handles.{AreAtRest, AreSameHandles, is_on, pass_of}
+use Rattle.poll_engine.specs.{Asks.WasLet, Stops.IsStop, Trails.questions, declared.acts.Act.Act}
+use Rattle.poll_engine.specs.{declared.worker.WorkerHandles.WorkerHandles, declared.worker.InterruptWorker.InterruptWorker}
+use Rattle.poll_engine.specs.{Acts.{after_acts, arrivals}, Hands.{ThreadWakesAndClose, Lists}, Questions.all_questions}
+use Rattle.poll_engine.specs.{Runs.{Ledger, Whose, WorksBy}, Handles.{AreAtRest, AreSameHandles, is_on, pass_of}}
+use Rattle.rx_ring.specs.{declared.ends.RxIn.RxIn, Ends.{SameIn, capacity_of, put_list}}
+use Rattle.napi_calls.specs.{declared.types.Napi.Napi, Seats.{pass_number, own_list}}
 
 -- the ledger of a worker, read off its handles and the ring's input
 abbrev pub ledger_of : WorkerHandles → RxIn → Ledger

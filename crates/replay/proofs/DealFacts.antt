@@ -1,9 +1,8 @@
 -- How one more row is added to the script of its device (the list of the device's rows).
-use Rattle.std.proofs.{lemmas.Grind.common_steps, Common.{◌≡◌, ℕ, ◌-◌, ◌≤◌, Bool, true, false, List, [], ◌∷◌, ◌++◌, length, slice_index_or}}
-use Rattle.std.{proofs.Common.{slice_set, arith}, specs.Prelude.◌==◌}
-use Rattle.device_rows.specs.declared.row.Row.{Row}
-use Rattle.replay.specs.Script.{is_act_of, is_open, script_of}
-use Rattle.replay.specs.Dealing.{AreScripts}
+use Rattle.std.proofs.lemmas.Grind.{common_steps}
+use Rattle.std.proofs.Common.{◌≡◌, ℕ, ◌-◌, ◌≤◌, Bool, true, false, List, [], ◌∷◌, ◌++◌, length, slice_index_or, slice_set, arith}
+use Rattle.std.specs.Prelude.{◌==◌}
+use Rattle.{device_rows.specs.declared.row.Row.Row, replay.specs.{Script.{is_act_of, is_open, script_of}, Dealing.AreScripts}}
 use Rattle.replay.proofs.Rows.{filter-one}
 
 script-other : (device : ℕ) (rows : List Row) (row : Row) → is_act_of device row ≡ false

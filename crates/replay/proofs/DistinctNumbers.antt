@@ -1,9 +1,8 @@
 -- Stations by increasing number.
-use Rattle.std.{proofs.Common.{◌+◌, ◌<◌, Bool, true, false, List, [], ◌∷◌, ap, refl, arith}, specs.{Prelude.{◌==◌, filter}, List.AllZip}}
-use Rattle.std.proofs.{lemmas.Grind.common_steps, Common.{◌≡◌, ◌∙◌, ℕ, zero, suc}}
-use Rattle.poll_engine.specs.declared.station.Station.{Station}
-use Rattle.std.specs.List.{list_any, range_with_len}
-use Rattle.poll_engine.specs.Numbers.{are_distinct, have_distinct_numbers, numbers_of}
+use Rattle.std.proofs.Common.{◌+◌, ◌<◌, Bool, true, false, List, [], ◌∷◌, ap, refl, arith, ◌≡◌, ◌∙◌, ℕ, zero, suc}
+use Rattle.std.proofs.lemmas.Grind.{common_steps}
+use Rattle.std.specs.{Prelude.{◌==◌, filter}, List.{AllZip, list_any, range_with_len}}
+use Rattle.poll_engine.specs.{declared.station.Station.Station, Numbers.{are_distinct, have_distinct_numbers, numbers_of}}
 
 -- none of the numbers from this one on is lower
 none-below : (p : ℕ → Bool) (n a k : ℕ) → k < a → list_any (λ m. m == k) (filter p (range_with_len a n)) ≡ false

@@ -1,15 +1,12 @@
 -- How one more act advances a script, and what all its acts deliver.
-use Rattle.std.proofs.{Common.{[], ◌∷◌, ◌++◌, length, length-append, take, get_or, ap, refl, sym, arith}, lemmas.Bool.eq-eqb}
-use Rattle.std.{proofs.lemmas.{Grind.common_steps, List.{take_more, Sums.sum_by-append, Elements.filter-append}}, specs.Prelude.sum_by}
-use Rattle.device_rows.{proofs.Accepted.get-at, specs.declared.{row.Row.Row, event.RowEvent.{RowEvent, TheVariants.Opened}}}
-use Rattle.poll_engine.specs.Acts.{after_acts, arrivals, brings}
-use Rattle.poll_engine.specs.declared.acts.Act.{Act}
-use Rattle.replay.proofs.Rows.{filter-long}
-use Rattle.rx_ring.specs.declared.packet.Packet.{Packet}
-use Rattle.rx_ring.specs.ReceiveRing.{bytes_of}
-use Rattle.device_bench.specs.declared.transmit.Transmit.{Transmit}
-use Rattle.std.proofs.Common.{◌≡◌, ◌∙◌, ℕ, zero, suc, ◌+◌, ◌<◌, ◌≤◌, List}
-use Rattle.device_bench.specs.Transmit.{ShowsTransmit, TransmitView}
+use Rattle.std.proofs.Common.{[], ◌∷◌, ◌++◌, length, length-append, take, get_or, ap, refl, sym, arith, ◌≡◌, ◌∙◌, ℕ, zero, suc, ◌+◌}
+use Rattle.std.proofs.{Common.{◌<◌, ◌≤◌, List}, lemmas.Bool.eq-eqb, lemmas.Grind.common_steps, lemmas.List.take_more}
+use Rattle.{std.proofs.{lemmas.List.Sums.sum_by-append, lemmas.List.Elements.filter-append}, std.specs.Prelude.sum_by}
+use Rattle.device_rows.proofs.Accepted.{get-at}
+use Rattle.device_rows.specs.{declared.row.Row.Row, declared.event.RowEvent.RowEvent, declared.event.RowEvent.TheVariants.Opened}
+use Rattle.{poll_engine.specs.{Acts.{after_acts, arrivals, brings}, declared.acts.Act.Act}, replay.proofs.Rows.filter-long}
+use Rattle.rx_ring.specs.{declared.packet.Packet.Packet, ReceiveRing.bytes_of}
+use Rattle.device_bench.specs.{declared.transmit.Transmit.Transmit, Transmit.{ShowsTransmit, TransmitView}}
 use Rattle.replay.specs.ScriptShown.{IsScriptKept, Script, script_after, answer}
 use Rattle.replay.specs.Script.{act_at, act_of, rx_of, transmit_after, transmit_by}
 

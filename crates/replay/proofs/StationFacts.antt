@@ -1,30 +1,23 @@
 -- From the rows of a trace to its stations, and from the result of a run on these to the report.
-use Rattle.std.proofs.lemmas.{Grind.common_steps, List.{take_all, Elements.All-filter, Sums.sum_by-le}, Slice.Zip.all_zipped_more}
-use Rattle.std.proofs.Common.{◌≡◌, ◌∙◌, ℕ, ◌+◌, ◌-◌, ◌<◌, ◌≤◌, ap, sym, subst}
-use Rattle.std.proofs.Common.{Bool, true, false, Some, None, List, [], ◌∷◌, ◌++◌, length, slice_index_or, take, get_or, refl}
-use Rattle.std.{proofs.{Common.{arith, flat_map}, Math.Nat.min-eq_left}, specs.{List.{All, AllZip, find, range_with_len}, Prelude.◌==◌}}
-use Rattle.std.specs.{Prelude.{Result, IfOk, OnOk, vec_items, filter, map, nat_lt, option_map, sum_by}, Global.Vec}
-use Rattle.poll_engine.specs.Runs.{HasRun}
-use Rattle.poll_engine.specs.declared.station.Station.{Station}
-use Rattle.poll_engine.specs.declared.station.Finished.{Finished}
-use Rattle.device_rows.{proofs.Accepted.accepted-at}
-use Rattle.device_rows.{specs.{Row.value_fits, Trace.AcceptedAfter, declared.{row.Row.Row, event.RowEvent.RowEvent}}}
-use Rattle.poll_engine.specs.Refusals.{IsRefused}
+use Rattle.std.proofs.{lemmas.Grind.common_steps, lemmas.List.take_all, lemmas.List.Elements.All-filter, lemmas.List.Sums.sum_by-le}
+use Rattle.std.proofs.lemmas.Slice.Zip.{all_zipped_more}
+use Rattle.std.proofs.Common.{◌≡◌, ◌∙◌, ℕ, ◌+◌, ◌-◌, ◌<◌, ◌≤◌, ap, sym, subst, Bool, true, false, Some, None, List, [], ◌∷◌, ◌++◌}
+use Rattle.std.proofs.{Common.{length, slice_index_or, take, get_or, refl, arith, flat_map}, Math.Nat.min-eq_left}
+use Rattle.std.specs.List.{All, AllZip, find, range_with_len}
+use Rattle.std.specs.{Prelude.{◌==◌, Result, IfOk, OnOk, vec_items, filter, map, nat_lt, option_map, sum_by}, Global.Vec}
+use Rattle.poll_engine.specs.{Runs.HasRun, declared.station.Station.Station, declared.station.Finished.Finished, Refusals.IsRefused}
+use Rattle.poll_engine.specs.{declared.fault.WorkFault.WorkFault, Finishes.IsFinished, Courses.{ArePolled, limits_of}}
+use Rattle.device_rows.proofs.Accepted.{accepted-at}
+use Rattle.device_rows.specs.{Row.value_fits, Trace.AcceptedAfter, declared.row.Row.Row, declared.event.RowEvent.RowEvent}
 use Rattle.rx_ring.specs.ReceiveRing.{capped}
-use Rattle.replay.proofs.Rows.{filter-long, find-among, find-here, find-more, range-more}
-use Rattle.replay.proofs.ScriptFacts.{acts-made, arrivals-are}
+use Rattle.replay.proofs.{Rows.{filter-long, find-among, find-here, find-more, range-more}, ScriptFacts.{acts-made, arrivals-are}}
 use Rattle.replay.specs.Script.{has_thread, is_act_of, is_open, is_rx, opening_of, openings_of, rx_of, script_of}
 use Rattle.replay.specs.ScriptShown.{Script, acts, script_after, answer}
-use Rattle.poll_engine.specs.declared.fault.WorkFault.{WorkFault}
-use Rattle.poll_engine.specs.Finishes.{IsFinished}
-use Rattle.poll_engine.specs.Courses.{ArePolled, limits_of}
-use Rattle.text_io.specs.declared.settings.ReplaySettings.{ReplaySettings}
-use Rattle.text_io.specs.declared.fault.ReplayFault.{ReplayFault}
-use Rattle.text_io.specs.declared.fault.ReplayFault.TheVariants.{OutputFailed, RingTooSmall}
 use Rattle.replay.specs.ThreadsReport.{arrived, bytes, threads_device_lines, is_opened, opened_devices}
-use Rattle.replay.specs.ThreadsStations.{AreRunBy, IsStationEnd, IsStationOf}
-use Rattle.replay.specs.ThreadsStations.{end_lines, is_small, polled_of, small_fault}
+use Rattle.replay.specs.ThreadsStations.{AreRunBy, IsStationEnd, IsStationOf, end_lines, is_small, polled_of, small_fault}
 use Rattle.replay.specs.ThreadsAnswer.{IsPolledDevice, IsReportedAs, IsThreadsOutside, overflows}
+use Rattle.text_io.specs.{declared.settings.ReplaySettings.ReplaySettings, declared.fault.ReplayFault.ReplayFault}
+use Rattle.text_io.specs.declared.fault.ReplayFault.TheVariants.{OutputFailed, RingTooSmall}
 use Rattle.poll_engine.specs.declared.fault.WorkFault.TheVariants as work
 
 -- ---- the ranges of a row's numbers, if it is accepted

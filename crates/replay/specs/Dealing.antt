@@ -1,7 +1,6 @@
 -- The scripts of all devices (the list of each device's rows), in one list.
 use Rattle.std.specs.{Prelude.{◌≡◌, ℕ, ◌+◌, ◌<◌, List, [], map, slice_index_or, vec_items}, Global.Vec}
-use Rattle.device_rows.specs.declared.row.Row.{Row}
-use Rattle.replay.specs.Script.{script_of}
+use Rattle.{device_rows.specs.declared.row.Row.Row, replay.specs.Script.script_of}
 
 abbrev pub lists : Vec (Vec Row) → List (List Row)
 lists scripts = map (λ script. vec_items script) (vec_items scripts)

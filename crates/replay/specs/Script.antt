@@ -1,11 +1,8 @@
 -- The rows of one device in a trace: filters over the rows, which don't depend on polls.
-use Rattle.poll_engine.specs.declared.acts.Act.{Act}
-use Rattle.device_rows.specs.declared.row.Row.{Row}
-use Rattle.device_rows.specs.declared.event.RowEvent.{RowEvent}
-use Rattle.{std.specs.List.find}
+use Rattle.{poll_engine.specs.declared.acts.Act.Act, device_rows.specs.{declared.row.Row.Row, declared.event.RowEvent.RowEvent}}
+use Rattle.std.specs.List.{find}
 use Rattle.std.specs.Prelude.{is_some, ℕ, ◌+◌, ◌==◌, ◌&&◌, Bool, true, false, not, List, [], ◌∷◌, Option, Some, None, filter, length}
-use Rattle.std.specs.Prelude.{slice_get, take}
-use Rattle.device_bench.specs.Transmit.{TransmitView, after_finish, after_tx, opened_transmit}
+use Rattle.{std.specs.Prelude.{slice_get, take}, device_bench.specs.Transmit.{TransmitView, after_finish, after_tx, opened_transmit}}
 use Rattle.device_rows.specs.declared.event.RowEvent.TheVariants as event
 use Rattle.poll_engine.specs.declared.acts.Act.TheVariants as act
 

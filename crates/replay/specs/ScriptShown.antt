@@ -1,10 +1,7 @@
 -- A device whose acts are a script (the list of its rows), as contracts see it.
 use Rattle.std.specs.Prelude.{◌≡◌, ◌≤◌, ℕ, ◌+◌, ◌==◌, List, if◌then◌else◌, length, take}
-use Rattle.device_bench.specs.Transmit.{ShowsTransmit}
-use Rattle.device_bench.specs.Transmit.{TransmitView}
-use Rattle.device_bench.specs.declared.transmit.Transmit.{Transmit}
-use Rattle.device_rows.specs.declared.row.Row.{Row}
-use Rattle.poll_engine.specs.declared.acts.Act.{Act}
+use Rattle.device_bench.specs.{Transmit.{ShowsTransmit, TransmitView}, declared.transmit.Transmit.Transmit}
+use Rattle.{device_rows.specs.declared.row.Row.Row, poll_engine.specs.declared.acts.Act.Act}
 use Rattle.replay.specs.Script.{act_at, rx_of, side_after}
 use Rattle.poll_engine.specs.declared.acts.Act.TheVariants as act
 

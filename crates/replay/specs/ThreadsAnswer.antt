@@ -1,19 +1,14 @@
 -- The result of a replay of a text with threads: the report of its rows in threads mode, or its first error.
-use Rattle.std.specs.{Prelude.{◌≡◌, ℕ, ◌+◌, List, Bool, Option, Some, None, Result, Ok, Err, map, nat_lt, option_map}, List.{AllZip, find}}
-use Rattle.poll_engine.specs.declared.station.Finished.{Finished}
-use Rattle.text_io.specs.declared.settings.ReplaySettings.{ReplaySettings}
-use Rattle.device_rows.specs.{Trace.{records_of, trace_of}, declared.{TraceFault.TraceFault, row.Row.Row}}
-use Rattle.poll_engine.specs.Refusals.{IsRefused}
-use Rattle.replay.specs.ThreadsReport.{arrived, opened_devices, threads_report}
-use Rattle.replay.specs.ThreadsStations.{AreRunBy, IsStationEnd, polled_of}
-use Rattle.replay.specs.declared.polled.Polled.{Polled}
-use Rattle.poll_engine.specs.declared.fault.WorkFault.{WorkFault}
-use Rattle.replay.specs.ScriptShown.{Script}
-use Rattle.replay.specs.Script.{opening_of}
-use Rattle.text_io.specs.Outside.{IsOutside as IsSerialOutside}
-use Rattle.text_io.specs.Outside.{IsReplayOutOfMemory}
+use Rattle.std.specs.Prelude.{◌≡◌, ℕ, ◌+◌, List, Bool, Option, Some, None, Result, Ok, Err, map, nat_lt, option_map}
+use Rattle.std.specs.List.{AllZip, find}
+use Rattle.poll_engine.specs.{declared.station.Finished.Finished, Refusals.IsRefused, declared.fault.WorkFault.WorkFault}
+use Rattle.text_io.specs.{declared.settings.ReplaySettings.ReplaySettings, Outside.IsReplayOutOfMemory}
 use Rattle.text_io.specs.declared.fault.ReplayFault.{ReplayFault}
 use Rattle.text_io.specs.declared.fault.ReplayFault.TheVariants.{GateShut, RingTooSmall, SpawnFailed, Trace}
+use Rattle.device_rows.specs.{Trace.{records_of, trace_of}, declared.TraceFault.TraceFault, declared.row.Row.Row}
+use Rattle.replay.specs.{ThreadsReport.{arrived, opened_devices, threads_report}, ThreadsStations.{AreRunBy, IsStationEnd, polled_of}}
+use Rattle.replay.specs.{declared.polled.Polled.Polled, ScriptShown.Script, Script.opening_of}
+use Rattle.text_io.specs.Outside.{IsOutside as IsSerialOutside}
 use Rattle.poll_engine.specs.declared.fault.WorkFault.TheVariants as work
 
 -- the capacity of a device's receive ring

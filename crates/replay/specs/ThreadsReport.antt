@@ -1,11 +1,9 @@
 -- The report of a replay with threads, as a function of the rows: what arrived at each device, and its transmit side. It
 -- doesn't depend on polls, and so not on the threads. See docs/FORMATS.md, "The report".
 use Rattle.replay_rows.specs.TransmitLine.{tx_lines}
-use Rattle.std.specs.Prelude.{ℕ, Bool, List, [], ◌∷◌, ◌++◌, Option, Some, None, codes, decimal, filter, flat_map, is_some, length, sum_by}
-use Rattle.std.specs.List.{range_with_len}
-use Rattle.device_rows.specs.declared.row.Row.{Row}
-use Rattle.device_bench.specs.Transmit.{TransmitView, tx_counts}
-use Rattle.text_io.specs.Lines.{with_newline, words}
+use Rattle.std.specs.Prelude.{ℕ, Bool, List, [], ◌∷◌, ◌++◌, Option, Some, None, codes, decimal, filter, flat_map, is_some, length}
+use Rattle.{std.specs.{Prelude.sum_by, List.range_with_len}, device_rows.specs.declared.row.Row.Row}
+use Rattle.{device_bench.specs.Transmit.{TransmitView, tx_counts}, text_io.specs.Lines.{with_newline, words}}
 use Rattle.replay.specs.Script.{opening_of, rx_of, script_of, side_after}
 
 abbrev pub is_opened : List Row → ℕ → Bool

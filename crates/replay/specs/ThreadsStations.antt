@@ -1,18 +1,11 @@
 -- The stations of the devices that the rows open, and the result of a run on them.
-use Rattle.poll_engine.specs.Runs.{HasRun}
-use Rattle.poll_engine.specs.declared.station.Finished.{Finished}
-use Rattle.poll_engine.specs.declared.station.Station.{Station}
-use Rattle.text_io.specs.Lines.{with_newline}
-use Rattle.text_io.specs.declared.fault.ReplayFault.{ReplayFault}
-use Rattle.text_io.specs.declared.fault.ReplayFault.TheVariants.{RingTooSmall}
-use Rattle.device_rows.specs.declared.row.Row.{Row}
-use Rattle.replay.specs.ThreadsReport.{arrived, arrived_line, bytes, opened_devices, side_lines}
-use Rattle.replay.specs.declared.polled.Polled.{Polled}
-use Rattle.std.specs.{List.{AllZip, find}, Prelude.{◌≡◌, ℕ, ◌+◌, ◌++◌, Bool, List, Option, Some, length, nat_lt, option_map}}
-use Rattle.text_io.specs.declared.settings.ReplaySettings.{ReplaySettings}
+use Rattle.poll_engine.specs.{Runs.HasRun, declared.station.Finished.Finished, declared.station.Station.Station}
 use Rattle.poll_engine.specs.Courses.{ArePolled, limits_of}
-use Rattle.replay.specs.ScriptShown.{Script, acts, script_after, answer, side_of}
-use Rattle.replay.specs.Script.{has_thread, opening_of, rx_of, script_of}
+use Rattle.text_io.specs.{Lines.with_newline, declared.fault.ReplayFault.ReplayFault, declared.fault.ReplayFault.TheVariants.RingTooSmall}
+use Rattle.{text_io.specs.declared.settings.ReplaySettings.ReplaySettings, device_rows.specs.declared.row.Row.Row}
+use Rattle.replay.specs.{ThreadsReport.{arrived, arrived_line, bytes, opened_devices, side_lines}, declared.polled.Polled.Polled}
+use Rattle.replay.specs.{ScriptShown.{Script, acts, script_after, answer, side_of}, Script.{has_thread, opening_of, rx_of, script_of}}
+use Rattle.std.specs.{List.{AllZip, find}, Prelude.{◌≡◌, ℕ, ◌+◌, ◌++◌, Bool, List, Option, Some, length, nat_lt, option_map}}
 
 -- the station of a device, before its acts
 pub record IsStationOf (rows : List Row) (device : ℕ) (station : Station Script) : Type 0 where

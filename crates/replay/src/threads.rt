@@ -74,7 +74,7 @@ where
     let ends = run_rows(rt, alloc, rows, settings, gate)?;
     let text = report_of(alloc, ends.as_slice())?;
     let polled = all_polled(alloc, ends.as_slice())?;
-    write_text(writer, &text)?;
+    write_text(writer, text.as_bytes())?;
     Ok(polled)
 }
 

@@ -2,15 +2,11 @@
 use Rattle.std.proofs.Common.{◌≡◌, ◌∙◌, ℕ, zero, suc, ◌+◌, ◌<◌, Bool, true, false, Ok, Err, inl, inr, List, [], ◌∷◌, ◌++◌, length}
 use Rattle.std.proofs.{Common.{append_assoc, take, drop, get_or, ap, refl, sym, arith}, lemmas.List.{length-take, take_more}}
 use Rattle.std.specs.Prelude.{◌⊎◌, IfErr, Result, if◌then◌else◌}
-use Rattle.device_bench.specs.Transmits.{Transmits}
-use Rattle.{device_rows.specs.declared.row.Row.Row, replay_rows.specs.Replay.{after_row, after_rows, is_early, start, after_all_rows}}
-use Rattle.replay_rows.specs.{Report.{report_of, serial_report}, Transmits.{after_transmit, after_transmits, transmits_of}}
-use Rattle.replay_rows.specs.ReplayState.{ReplayState}
-use Rattle.text_io.specs.declared.fault.ReplayFault.{ReplayFault}
-use Rattle.text_io.specs.declared.fault.ReplayFault.TheVariants.{OutputFailed}
-use Rattle.text_io.specs.declared.fault.ReplayFault.TheVariants.{Pending}
-use Rattle.text_io.specs.Outside.{IsReplayOutOfMemory}
-use Rattle.text_io.specs.declared.settings.ReplaySettings.{ReplaySettings}
+use Rattle.{device_bench.specs.Transmits.Transmits, device_rows.specs.declared.row.Row.Row}
+use Rattle.replay_rows.specs.{Replay.{after_row, after_rows, is_early, start, after_all_rows}, Report.{report_of, serial_report}}
+use Rattle.replay_rows.specs.{Transmits.{after_transmit, after_transmits, transmits_of}, ReplayState.ReplayState}
+use Rattle.text_io.specs.{declared.fault.ReplayFault.ReplayFault, declared.fault.ReplayFault.TheVariants.{OutputFailed, Pending}}
+use Rattle.text_io.specs.{Outside.IsReplayOutOfMemory, declared.settings.ReplaySettings.ReplaySettings}
 
 -- the state after the remaining rows, if those before them were processed
 then_rows : ReplaySettings → ℕ → List Row → Result ReplayState ReplayFault → Result ReplayState ReplayFault

@@ -1,22 +1,20 @@
 -- The rows with the added runs are rows of a trace that can be played.
-use Rattle.std.proofs.Common.{◌≡◌, ◌∙◌, ℕ, zero, suc, ◌+◌, ◌-◌, ◌<◌, ◌≤◌, Bool, true, false, Ok, Err}
-use Rattle.std.proofs.Common.{List, [], ◌∷◌, ◌++◌, length, drop, get_or}
-use Rattle.std.proofs.{Common.{ap, arith, inl, inr, length-append, refl, subst, sym, take}, lemmas.{Bool.ltb-true, List.take_rest}}
-use Rattle.std.proofs.Math.{ListN.drop_of_length-le, Seq.drop-cons}
+use Rattle.std.proofs.Common.{◌≡◌, ◌∙◌, ℕ, zero, suc, ◌+◌, ◌-◌, ◌<◌, ◌≤◌, Bool, true, false, Ok, Err, List, [], ◌∷◌, ◌++◌, length, drop}
+use Rattle.std.proofs.{Common.{get_or, ap, arith, inl, inr, length-append, refl, subst, sym, take}, lemmas.Bool.ltb-true}
+use Rattle.std.proofs.{lemmas.List.take_rest, Math.ListN.drop_of_length-le, Math.Seq.drop-cons}
 use Rattle.std.specs.Prelude.{Result, ◌⊎◌, None, if◌then◌else◌, nat_lt, not, ◌&&◌, ◌==◌}
 use Rattle.device_rows.specs.{Row.{device_fits, value_fits}, Switch.{refusal, switch_of}, Trace.{AcceptedAfter, IsAccepted}}
-use Rattle.device_rows.specs.declared.{event.RowEvent.RowEvent, fault.TraceFault.TheVariants.TooManyRows, row.Row.Row}
-use Rattle.device_rows.specs.declared.event.RowEvent.TheVariants.{Opened, Rx, Tx, Finish, Softirq, Kthread, Disable, Enable, Threaded, Busy}
-use Rattle.device_rows.specs.declared.switch.Switch.{Switch, TheVariants.{Unopened, On, Off}}
+use Rattle.device_rows.specs.{declared.event.RowEvent.RowEvent, declared.fault.TraceFault.TheVariants.TooManyRows, declared.row.Row.Row}
+use Rattle.device_rows.specs.declared.event.RowEvent.TheVariants.{Opened, Rx, Tx, Finish, Softirq, Kthread, Disable, Enable, Threaded}
+use Rattle.device_rows.specs.{declared.event.RowEvent.TheVariants.Busy, declared.switch.Switch.Switch}
+use Rattle.device_rows.specs.declared.switch.Switch.TheVariants.{Unopened, On, Off}
 use Rattle.device_rows.proofs.{Accepted.accepted-push, SwitchFacts.{switch_of-append, switch_of-other, switch_of-same}}
 use Rattle.replay_rows.specs.Raised.{Raised, RaisedIsTrace, ◌>>=◌, and_again, and_row, and_rows, is_last_run, is_run_at, no_rows}
 use Rattle.replay_rows.specs.{Raised.{raised_rows, rows_in, row_and_runs}, ReplayState.ReplayState}
-use Rattle.replay_rows.specs.Replay.{after_all_rows, after_row, is_early}
-use Rattle.replay_rows.{specs.Softirq.is_softirq, proofs.PlayFacts.played-push}
-use Rattle.text_io.specs.declared.fault.ReplayFault.{ReplayFault}
-use Rattle.text_io.specs.declared.fault.ReplayFault.TheVariants.{OutputFailed, Pending, Trace}
-use Rattle.text_io.specs.Outside.{IsReplayOutOfMemory}
-use Rattle.text_io.specs.declared.settings.ReplaySettings.{ReplaySettings}
+use Rattle.replay_rows.specs.{Replay.{after_all_rows, after_row, is_early}, Softirq.is_softirq}
+use Rattle.replay_rows.proofs.PlayFacts.{played-push}
+use Rattle.text_io.specs.{declared.fault.ReplayFault.ReplayFault, declared.fault.ReplayFault.TheVariants.{OutputFailed, Pending, Trace}}
+use Rattle.text_io.specs.{Outside.IsReplayOutOfMemory, declared.settings.ReplaySettings.ReplaySettings}
 
 pub softirq-is : (e : RowEvent) → is_softirq e ≡ true → e ≡ Softirq
 softirq-is Opened h = cc h

@@ -1,13 +1,10 @@
 -- How one more poll and one more row advance a log.
-use Rattle.std.proofs.{Common.{◌≡◌, ◌∙◌, ◌+◌, ◌<◌, ℕ, suc, List, [], ◌∷◌, ◌++◌, Ok, Some, append_assoc, append-nil, length, take, get_or}}
-use Rattle.std.proofs.{Common.{ap, arith, refl, sym}, lemmas.List.map-append}
-use Rattle.device_bench.specs.Bench.{BenchDevices, counts_at, polled_at}
-use Rattle.device_rows.specs.Places.{at}
-use Rattle.device_rows.{specs.declared.row.Row.Row, proofs.Accepted.get-at}
-use Rattle.device_bench.specs.Transmits.{Transmits, tx_counts_of}
-use Rattle.poll_runs.specs.{Polls.Poll, declared.bench.Once.Once}
-use Rattle.replay_rows.specs.RunLog.{list_before, logged, polls_in, polls_of_row, row_list, row_polls}
-use Rattle.replay_rows.specs.{Replay.after_all_rows, ReplayState.ReplayState, Transmits.transmits_of, declared.run_log.RunPoll.RunPoll}
+use Rattle.std.proofs.Common.{◌≡◌, ◌∙◌, ◌+◌, ◌<◌, ℕ, suc, List, [], ◌∷◌, ◌++◌, Ok, append_assoc, length, take, get_or, ap, arith, refl}
+use Rattle.std.proofs.{Common.sym, lemmas.List.map-append}
+use Rattle.device_bench.specs.{Bench.{BenchDevices, counts_at, polled_at}, Transmits.{Transmits, tx_counts_of}}
+use Rattle.{device_rows.specs.{Places.at, declared.row.Row.Row}, device_rows.proofs.Accepted.get-at, poll_runs.specs.Polls.Poll}
+use Rattle.replay_rows.specs.{RunLog.{list_before, logged, polls_in, polls_of_row, row_list, row_polls}, Replay.after_all_rows}
+use Rattle.replay_rows.specs.{ReplayState.ReplayState, Transmits.transmits_of, declared.run_log.RunPoll.RunPoll}
 use Rattle.text_io.specs.declared.settings.ReplaySettings.{ReplaySettings}
 
 polls-push : (log : List RunPoll) (entry : RunPoll) (more : List Poll)

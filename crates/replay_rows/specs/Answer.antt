@@ -1,10 +1,9 @@
 -- The result of a replay of a text: the report of its rows in serial mode, or its first error.
 use Rattle.std.specs.Prelude.{◌≡◌, ℕ, List, Option, Some, Result, Ok, Err}
-use Rattle.device_rows.specs.Trace.{records_of, trace_of, version_in}
-use Rattle.{device_rows.specs.declared.{fault.TraceFault.TraceFault, row.Row.Row}, replay_rows.specs.Report.serial_report}
-use Rattle.{device_bench.specs.Bench.BenchDevices, replay_rows.specs.{Replay.after_all_rows, ReplayState.ReplayState}}
-use Rattle.text_io.specs.declared.fault.ReplayFault.{ReplayFault}
-use Rattle.text_io.specs.declared.fault.ReplayFault.TheVariants.{Trace}
+use Rattle.device_rows.specs.{Trace.{records_of, trace_of, version_in}, declared.fault.TraceFault.TraceFault, declared.row.Row.Row}
+use Rattle.replay_rows.specs.{Report.serial_report, Replay.after_all_rows, ReplayState.ReplayState}
+use Rattle.device_bench.specs.Bench.{BenchDevices}
+use Rattle.text_io.specs.{declared.fault.ReplayFault.ReplayFault, declared.fault.ReplayFault.TheVariants.Trace}
 use Rattle.text_io.specs.declared.settings.ReplaySettings.{ReplaySettings}
 
 abbrev pub serial_result : ReplaySettings → ℕ → Result (List Row) TraceFault → Result (List ℕ) ReplayFault

@@ -1,11 +1,10 @@
 -- The rows of a trace with the runs that the kernel adds: a run that leaves instances on the poll list raises the softirq again
 -- (`if (!list_empty(&sd->poll_list)) __raise_softirq_irqoff(NET_RX_SOFTIRQ)` in `net_rx_action`, Linux 6.6, net/core/dev.c).
-use Rattle.std.specs.Prelude.{◌≡◌, ◌≤◌, ℕ, zero, suc, ◌+◌, ◌==◌, ◌&&◌, not, nat_lt, Bool, false, if◌then◌else◌}
-use Rattle.std.specs.Prelude.{List, [], ◌∷◌, ◌++◌, length, Result, Ok, Err}
-use Rattle.device_rows.specs.{Trace.AcceptedAfter, declared.{fault.TraceFault.TheVariants.TooManyRows, row.Row.Row}}
+use Rattle.std.specs.Prelude.{◌≡◌, ◌≤◌, ℕ, zero, suc, ◌+◌, ◌==◌, ◌&&◌, not, nat_lt, Bool, false, if◌then◌else◌, List, [], ◌∷◌, ◌++◌}
+use Rattle.std.specs.Prelude.{length, Result, Ok, Err}
+use Rattle.device_rows.specs.{Trace.AcceptedAfter, declared.fault.TraceFault.TheVariants.TooManyRows, declared.row.Row.Row}
 use Rattle.replay_rows.specs.{Replay.{after_all_rows, after_row, is_early, start}, ReplayState.ReplayState, Softirq.is_softirq}
-use Rattle.text_io.specs.declared.fault.ReplayFault.{ReplayFault}
-use Rattle.text_io.specs.declared.fault.ReplayFault.TheVariants.{Pending, Trace}
+use Rattle.text_io.specs.{declared.fault.ReplayFault.ReplayFault, declared.fault.ReplayFault.TheVariants.{Pending, Trace}}
 use Rattle.text_io.specs.declared.settings.ReplaySettings.{ReplaySettings}
 
 -- the rows so far, with those that were added, and the state after them

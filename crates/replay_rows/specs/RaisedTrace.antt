@@ -1,10 +1,8 @@
 -- A trace with the runs that the kernel adds, as a function of the bytes of a trace.
 use Rattle.std.specs.Prelude.{ℕ, List, Option, Some, None, Result, Ok, Err}
-use Rattle.device_rows.specs.Trace.{records_of, trace_of, version_in}
-use Rattle.device_rows.specs.declared.{fault.TraceFault.TraceFault, row.Row.Row}
+use Rattle.device_rows.specs.{Trace.{records_of, trace_of, version_in}, declared.fault.TraceFault.TraceFault, declared.row.Row.Row}
 use Rattle.replay_rows.specs.{Raised.raised_rows, TraceText.trace_text}
-use Rattle.text_io.specs.declared.fault.ReplayFault.{ReplayFault}
-use Rattle.text_io.specs.declared.fault.ReplayFault.TheVariants.{Trace}
+use Rattle.text_io.specs.{declared.fault.ReplayFault.ReplayFault, declared.fault.ReplayFault.TheVariants.Trace}
 use Rattle.text_io.specs.declared.settings.ReplaySettings.{ReplaySettings}
 
 -- the rows, with at most this many added runs after each softirq row; without a number there are none

@@ -1,11 +1,9 @@
 -- Why the rows of a trace have no report.
 use Rattle.std.specs.Prelude.{◌≡◌, ◌⊎◌, ℕ, true, List, Err}
-use Rattle.device_rows.specs.declared.{event.RowEvent.TheVariants.Enable, row.Row.Row}
-use Rattle.{replay_rows.specs.{Replay.is_early, Report.serial_report, ReplayState.ReplayState}}
-use Rattle.text_io.specs.Outside.{IsReplayOutOfMemory}
-use Rattle.text_io.specs.declared.fault.ReplayFault.{ReplayFault}
-use Rattle.text_io.specs.declared.fault.ReplayFault.TheVariants.{Pending}
-use Rattle.text_io.specs.declared.settings.ReplaySettings.{ReplaySettings}
+use Rattle.device_rows.specs.{declared.event.RowEvent.TheVariants.Enable, declared.row.Row.Row}
+use Rattle.replay_rows.specs.{Replay.is_early, Report.serial_report, ReplayState.ReplayState}
+use Rattle.text_io.specs.{Outside.IsReplayOutOfMemory, declared.fault.ReplayFault.ReplayFault}
+use Rattle.text_io.specs.{declared.fault.ReplayFault.TheVariants.Pending, declared.settings.ReplaySettings.ReplaySettings}
 
 -- an allocation failed, or the rows have an error: an enable row met a pending disable
 abbrev pub IsSerialFault : ReplaySettings → List Row → ReplayFault → Type 0

@@ -1,21 +1,15 @@
 -- The text of the report. See docs/FORMATS.md, "The report".
-use Rattle.replay_rows.specs.TransmitLine.{tx_lines}
-use Rattle.std.specs.Prelude.{ℕ, zero, suc, ◌-◌, ◌==◌, Bool, length, slice_get, List, [], ◌∷◌, ◌++◌, Option, Some, None, Result, Ok, Err}
-use Rattle.std.specs.Prelude.{codes, decimal, flat_map, if◌then◌else◌, sum_by}
-use Rattle.device_bench.specs.Transmits.{Transmits, is_used}
-use Rattle.device_rows.specs.Places.{at}
-use Rattle.device_bench.specs.Transmits.{tx_counts_of}
-use Rattle.device_bench.specs.Bench.{attached, counts_at}
-use Rattle.device_bench.specs.declared.counts.{DeviceCounts.DeviceCounts, DeviceState.{DeviceState, TheVariants.{On, Off, Pending}}}
-use Rattle.{device_rows.specs.declared.row.Row.Row, replay_rows.specs.{Replay.after_all_rows, Transmits.transmits_of}}
-use Rattle.replay_rows.specs.ReplayState.{ReplayState}
-use Rattle.replay_rows.specs.declared.{report.RunTotals.RunTotals, line.PollRecord.{PollRecord, TheVariants.{Softirq, Kthread}}}
-use Rattle.{replay_rows.specs.declared.line.PollRecord.TheVariants.Busy}
-use Rattle.text_io.specs.declared.fault.ReplayFault.{ReplayFault}
-use Rattle.text_io.specs.Lines.{with_newline}
-use Rattle.text_io.specs.Lines.{flag, words}
-use Rattle.poll_runs.specs.declared.run.RunReport.{RunReport}
-use Rattle.text_io.specs.declared.settings.ReplaySettings.{ReplaySettings}
+use Rattle.replay_rows.specs.{TransmitLine.tx_lines, Replay.after_all_rows, Transmits.transmits_of, ReplayState.ReplayState}
+use Rattle.replay_rows.specs.{declared.report.RunTotals.RunTotals, declared.line.PollRecord.PollRecord}
+use Rattle.replay_rows.specs.declared.line.PollRecord.TheVariants.{Softirq, Kthread, Busy}
+use Rattle.std.specs.Prelude.{ℕ, zero, suc, ◌-◌, ◌==◌, Bool, length, slice_get, List, [], ◌∷◌, ◌++◌, Option, Some, None, Result, Ok}
+use Rattle.std.specs.Prelude.{Err, codes, decimal, flat_map, if◌then◌else◌, sum_by}
+use Rattle.device_bench.specs.{Transmits.{Transmits, is_used, tx_counts_of}, Bench.{attached, counts_at}}
+use Rattle.device_bench.specs.{declared.counts.DeviceCounts.DeviceCounts, declared.counts.DeviceState.DeviceState}
+use Rattle.device_bench.specs.declared.counts.DeviceState.TheVariants.{On, Off, Pending}
+use Rattle.device_rows.specs.{Places.at, declared.row.Row.Row}
+use Rattle.text_io.specs.{declared.fault.ReplayFault.ReplayFault, Lines.{with_newline, flag, words}}
+use Rattle.{text_io.specs.declared.settings.ReplaySettings.ReplaySettings, poll_runs.specs.declared.run.RunReport.RunReport}
 
 -- the line of a row that polled
 abbrev pub poll_line : PollRecord → List ℕ

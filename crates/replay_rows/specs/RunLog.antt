@@ -1,14 +1,10 @@
 -- The polls of a run, each with its device after it.
-use Rattle.std.specs.Prelude.{ℕ, zero, suc, Bool, List, [], ◌∷◌, map, slice_get, take, Option, Some, None, Result, Ok, Err, if◌then◌else◌}
-use Rattle.device_bench.specs.Bench.{BenchDevices, counts_at, polled_at}
-use Rattle.device_rows.specs.Places.{at}
-use Rattle.device_bench.specs.Transmits.{Transmits, tx_counts_of}
-use Rattle.device_rows.specs.declared.row.Row.{Row}
-use Rattle.poll_runs.specs.Polls.{Poll}
+use Rattle.std.specs.Prelude.{ℕ, zero, suc, List, [], ◌∷◌, map, slice_get, take, Option, Some, Result, Ok, if◌then◌else◌}
+use Rattle.device_bench.specs.{Bench.{BenchDevices, counts_at, polled_at}, Transmits.{Transmits, tx_counts_of}}
+use Rattle.{device_rows.specs.{Places.at, declared.row.Row.Row}, poll_runs.specs.Polls.Poll}
 use Rattle.replay_rows.specs.{Replay.after_all_rows, ReplayState.ReplayState, Run.replay_run, Softirq.is_softirq, Transmits.transmits_of}
 use Rattle.replay_rows.specs.declared.run_log.RunPoll.{RunPoll}
-use Rattle.text_io.specs.declared.fault.ReplayFault.{ReplayFault}
-use Rattle.text_io.specs.declared.settings.ReplaySettings.{ReplaySettings}
+use Rattle.text_io.specs.{declared.fault.ReplayFault.ReplayFault, declared.settings.ReplaySettings.ReplaySettings}
 
 -- the polls of a log
 abbrev pub polls_in : List RunPoll → List Poll

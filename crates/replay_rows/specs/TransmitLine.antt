@@ -1,7 +1,6 @@
 -- The report's line of a device's transmit side. See docs/FORMATS.md, "The report".
 use Rattle.std.specs.{Prelude.{ℕ, Bool, List, [], ◌∷◌, codes, decimal, if◌then◌else◌}, Fmt.signed_decimal}
-use Rattle.device_bench.specs.declared.transmit.TxCounts.{TxCounts}
-use Rattle.text_io.specs.Lines.{words, with_newline, flag}
+use Rattle.{device_bench.specs.declared.transmit.TxCounts.TxCounts, text_io.specs.Lines.{words, with_newline, flag}}
 
 -- the line of a device's transmit side
 abbrev pub tx_line : ℕ → TxCounts → List ℕ

@@ -1,10 +1,8 @@
 -- The transmit sides of all devices, computed from the open, tx and done rows. Polls don't affect them.
 use Rattle.std.specs.Prelude.{List, [], ◌∷◌}
-use Rattle.device_bench.specs.Transmits.{Transmits}
-use Rattle.device_bench.specs.Transmit.{after_finish, after_tx}
-use Rattle.device_bench.specs.Transmit.{opened_transmit}
-use Rattle.device_rows.specs.Places.{added, changed, empty}
-use Rattle.device_rows.specs.declared.{event.RowEvent.{RowEvent, TheVariants.{Opened, Tx, Finish}}, row.Row.Row}
+use Rattle.device_bench.specs.{Transmits.Transmits, Transmit.{after_finish, after_tx, opened_transmit}}
+use Rattle.device_rows.specs.{Places.{added, changed, empty}, declared.event.RowEvent.RowEvent}
+use Rattle.device_rows.specs.{declared.event.RowEvent.TheVariants.{Opened, Tx, Finish}, declared.row.Row.Row}
 
 -- the effect of a row, by its event
 abbrev pub transmits_by : RowEvent → Row → Transmits → Transmits

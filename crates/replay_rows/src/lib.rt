@@ -22,7 +22,6 @@ pub use line::PollRecord;
 pub use raise::raise_trace;
 pub use raised::{raise_rows, raised_is_trace};
 pub use report::{add_numbers, state_word};
-pub use rows_text::trace_text;
 pub use run_log::RunPoll;
 pub use serial::replay_serial;
 pub use serial_replay::SerialReplay;

@@ -1,6 +1,6 @@
 //! A trace with the runs that the kernel adds, from the bytes of a trace to the bytes of another.
 
-ghost use Rattle.std.specs.Prelude.{◌≡◌, ◌≢◌, ◌⊎◌, Ok, Err, IfErr, IfOk, OnOk, string_bytes};
+ghost use Rattle.std.specs.Prelude.{◌≡◌, ◌≢◌, ◌⊎◌, Ok, Err, IfErr, IfOk, OnOk};
 ghost use Rattle.text_io.specs.Outside.{IsOutside, IsReplayOutOfMemory};
 ghost use Rattle.text_io.specs.Written.{IsFaultBy, LeavesText, Writes};
 ghost use Rattle.replay_rows.specs.RaisedTrace.{raised_trace, with_added_runs, text_in};
@@ -19,9 +19,9 @@ fn text_of(
     settings: &ReplaySettings,
     restarts: Option<u32>,
     trace: &Trace,
-) -> Result<String, ReplayFault>
+) -> Result<Vec<u8>, ReplayFault>
     ensures text { IfOk result (λ text. text_in trace.now.version
-        (with_added_runs settings.now restarts trace.now.rows) ≡ Ok (string_bytes text)) }
+        (with_added_runs settings.now restarts trace.now.rows) ≡ Ok (text.items)) }
     ensures fault { IfErr result (λ fault. IsReplayOutOfMemory fault
         ⊎ (text_in trace.now.version (with_added_runs settings.now restarts trace.now.rows)
         ≡ Err fault)) }
@@ -65,5 +65,5 @@ pub fn raise_trace<R: Read + Drop, W: Write>(
 {
     let trace = read_trace(alloc, reader)?;
     let text = text_of(alloc, settings, restarts, &trace)?;
-    write_text(writer, &text)
+    write_text(writer, text.as_slice())
 }

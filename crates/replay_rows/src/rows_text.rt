@@ -1,33 +1,93 @@
-//! Rows as the text of a trace.
+//! Rows as the text of a trace. Each line is written from its end to its start, as the digits of a number are.
 
-ghost use Rattle.std.specs.Prelude.{◌≡◌, ◌++◌, IfOk, OnOk, flat_map, string_bytes};
+ghost use Rattle.std.specs.Prelude.{◌≡◌, ◌+◌, ◌*◌, ◌≤◌, ◌++◌, IfOk, codes, flat_map, length, drop};
 ghost use Rattle.replay_rows.specs.TraceText.{event_word, row_line, titles, trace_text};
 ghost use Rattle.text_io.specs.Lines.{with_newline};
 
 use device_rows::{Row, RowEvent};
+use itoa::write_digits;
 use std::alloc::{AllocError, Global};
 
-// Returns the name of an event.
-fn event_word(event: RowEvent) -> &'static str
-    ensures { result.now ≡ event_word event }
+// The bytes of the longest line: 20 digits for the time, 10 for the device and 10 for the value, the longest event with its
+// commas, another comma, and a line feed.
+const MOST_LINE: usize = 52;
+
+// So many lines are written at once, from the last to the first.
+const LINES: usize = 32;
+
+const MOST_LINES: usize = LINES * MOST_LINE;
+
+// The bytes of the longer titles.
+const MOST_TITLES: usize = 28;
+
+// Writes a word so that it ends at `end`, and returns where it starts.
+#[inline(always)]
+fn write_word(word: &[u8], buf: &mut [u8], end: usize) -> usize
+    requires { (length word.now ≤ end) × (end ≤ length buf.old) }
+    ensures start { result + length word.now ≡ end }
+    ensures written { drop result buf.new ≡ word.now ++ drop end buf.old }
+{
+    let start = end - word.len();
+    buf[start..end].copy_from_slice(word);
+    start
+}
+
+// Writes the name of an event between two commas so that it ends at `end`, and returns where it starts.
+#[inline(always)]
+fn write_event(event: RowEvent, buf: &mut [u8], end: usize) -> usize
+    requires { (10 ≤ end) × (end ≤ length buf.old) }
+    ensures start { (result ≤ end) × (end ≤ result + 10) }
+    ensures written { drop result buf.new
+        ≡ codes "," ++ (event_word event ++ (codes "," ++ drop end buf.old)) }
 {
     match event {
-        RowEvent::Opened => "open",
-        RowEvent::Rx => "rx",
-        RowEvent::Tx => "tx",
-        RowEvent::Finish => "done",
-        RowEvent::Softirq => "softirq",
-        RowEvent::Kthread => "kthread",
-        RowEvent::Disable => "disable",
-        RowEvent::Enable => "enable",
-        RowEvent::Threaded => "threaded",
-        RowEvent::Busy => "busy",
+        RowEvent::Opened => write_word(b",open,", buf, end),
+        RowEvent::Rx => write_word(b",rx,", buf, end),
+        RowEvent::Tx => write_word(b",tx,", buf, end),
+        RowEvent::Finish => write_word(b",done,", buf, end),
+        RowEvent::Softirq => write_word(b",softirq,", buf, end),
+        RowEvent::Kthread => write_word(b",kthread,", buf, end),
+        RowEvent::Disable => write_word(b",disable,", buf, end),
+        RowEvent::Enable => write_word(b",enable,", buf, end),
+        RowEvent::Threaded => write_word(b",threaded,", buf, end),
+        RowEvent::Busy => write_word(b",busy,", buf, end),
     }
+}
+
+// Writes the line of a row so that it ends at `end`, and returns where it starts.
+fn write_row(row: &Row, buf: &mut [u8], end: usize) -> usize
+    requires { (52 ≤ end) × (end ≤ length buf.old) }
+    ensures start { (result ≤ end) × (end ≤ result + 52) }
+    ensures written { drop result buf.new ≡ with_newline (row_line row.now) ++ drop end buf.old }
+{
+    let at = write_word(b"\n", buf, end);
+    let at = write_digits(u64::from(row.value), buf, at);
+    let at = write_event(row.event, buf, at);
+    let at = write_digits(u64::from(row.device), buf, at);
+    let at = write_word(b",", buf, at);
+    write_digits(row.moment, buf, at)
+}
+
+// Writes the lines of the rows so that they end at `end`, and returns where they start.
+fn write_rows(rows: &[Row], buf: &mut [u8], end: usize) -> usize
+    requires { (52 * length rows.now ≤ end) × (end ≤ length buf.old) }
+    ensures start { (result ≤ end) × (end ≤ result + 52 * length rows.now) }
+    ensures written { drop result buf.new
+        ≡ flat_map (λ row. with_newline (row_line row)) rows.now ++ drop end buf.old }
+{
+    let mut at = end;
+    let mut left = rows.len();
+    while left > 0 {
+        left -= 1;
+        at = write_row(&rows[left], buf, at);
+    }
+    at
 }
 
 // Returns the first line of a trace of this version.
 fn titles(version: u32) -> &'static str
-    ensures { result.now ≡ titles version }
+    ensures titles { result.now ≡ titles version }
+    ensures short { length result.now ≤ 28 }
 {
     if version == 2 {
         "moment,device,event,value,2\n"
@@ -36,38 +96,20 @@ fn titles(version: u32) -> &'static str
     }
 }
 
-fn add_row(text: &mut String, row: &Row) -> Result<(), AllocError>
-    ensures { OnOk result
-        (string_bytes text.new ≡ string_bytes text.old ++ with_newline (row_line row.now)) }
+// Returns the text of a trace of this version with these rows: the titles, and a line for each row with its numbers in decimal.
+pub(crate) fn trace_text(alloc: Global, version: u32, rows: &[Row]) -> Result<Vec<u8>, AllocError>
+    requires { length rows.now ≤ 100000 }
+    ensures { IfOk result (λ text. text.items ≡ trace_text version rows.now) }
 {
-    writeln!(
-        text,
-        "{},{},{},{}",
-        row.moment,
-        row.device,
-        event_word(row.event),
-        row.value
-    )?;
-    Ok(())
-}
-
-fn add_rows(text: &mut String, rows: &[Row]) -> Result<(), AllocError>
-    ensures { OnOk result
-        (string_bytes text.new ≡ string_bytes text.old
-        ++ flat_map (λ row. with_newline (row_line row)) rows.now) }
-{
-    for row in rows {
-        add_row(text, row)?;
+    let mut text = Vec::with_capacity(alloc, MOST_TITLES + MOST_LINE * rows.len())?;
+    text.extend_from_slice(titles(version).as_bytes())?;
+    let mut lines = [0; MOST_LINES];
+    let mut done = 0;
+    while done < rows.len() {
+        let next = done + LINES.min(rows.len() - done);
+        let at = write_rows(&rows[done..next], &mut lines, MOST_LINES);
+        text.extend_from_slice(&lines[at..])?;
+        done = next;
     }
-    Ok(())
-}
-
-/// Returns the text of a trace of this version with these rows: the titles, and a line for each row with its numbers in
-/// decimal.
-pub fn trace_text(alloc: Global, version: u32, rows: &[Row]) -> Result<String, AllocError>
-    ensures { IfOk result (λ text. string_bytes text ≡ trace_text version rows.now) }
-{
-    let mut text = String::from_str(alloc, titles(version))?;
-    add_rows(&mut text, rows)?;
     Ok(text)
 }

@@ -50,7 +50,7 @@ pub fn replay_on<B: ReplayBench, R: Read + Drop, W: Write>(
     let (bench, text) = report_on(alloc, bench, settings, trace.version(), trace.rows());
     match text {
         Ok(text) => {
-            let written = write_text(writer, &text);
+            let written = write_text(writer, text.as_bytes());
             (bench, written)
         }
         Err(fault) => (bench, Err(fault)),

@@ -1,6 +1,6 @@
 //! Writing a report.
 
-ghost use Rattle.std.specs.Prelude.{◌≡◌, IfErr, OnErr, OnOk, false, string_bytes, true};
+ghost use Rattle.std.specs.Prelude.{◌≡◌, IfErr, OnErr, OnOk, false, true};
 ghost use Rattle.std.specs.Io.KnownBytes.{Appends};
 ghost use Rattle.text_io.specs.Stops.{HasStopped};
 ghost use Rattle.text_io.specs.Written.{AppendsPart};
@@ -37,16 +37,16 @@ pub(crate) fn write_out<W: Write>(writer: &mut W, bytes: &[u8]) -> bool
     rest.is_empty()
 }
 
-/// Writes the whole text of a report. Fails only with [`OutputFailed`](ReplayFault::OutputFailed); then only a part of the text
+/// Writes the whole text of a report or a trace. Fails only with [`OutputFailed`](ReplayFault::OutputFailed); then only a part of the text
 /// was written.
-pub fn write_text<W: Write>(writer: &mut W, text: &String) -> Result<(), ReplayFault>
+pub fn write_text<W: Write>(writer: &mut W, text: &[u8]) -> Result<(), ReplayFault>
     ensures written { OnOk result
-        (Appends (W.contents writer.old) (W.contents writer.new) (string_bytes text.now)) }
+        (Appends (W.contents writer.old) (W.contents writer.new) text.now) }
     ensures fault { IfErr result (λ fault. (fault ≡ OutputFailed) × HasStopped) }
     ensures cut { OnErr result
-        (AppendsPart (W.contents writer.old) (W.contents writer.new) (string_bytes text.now)) }
+        (AppendsPart (W.contents writer.old) (W.contents writer.new) text.now) }
 {
-    if write_out(writer, text.as_bytes()) {
+    if write_out(writer, text) {
         Ok(())
     } else {
         Err(ReplayFault::OutputFailed)

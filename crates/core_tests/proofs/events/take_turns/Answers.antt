@@ -1,7 +1,6 @@
 use Rattle.std.proofs.Common.{[], ◌∷◌, subst, true, false}
 use Rattle.napi_model.specs.declared.event.Operation.TheVariants.{Look, Schedule, Hand, Take, Complete}
-use Rattle.{napi_word.specs.declared.table.Pass.Pass, napi_calls.specs.Made.Made}
-use Rattle.napi_calls.proofs.Making.{more}
+use Rattle.{napi_word.specs.declared.table.Pass.Pass, napi_calls.specs.Made.Made, napi_calls.proofs.Making.more}
 use Rattle.napi_model.specs.declared.state.Kind.TheVariants as kind
 use Rattle.napi_model.specs.declared.event.Prep.TheVariants as prep
 use Rattle.napi_model.specs.declared.event.Done.TheVariants as done

@@ -1,6 +1,5 @@
 use Rattle.std.proofs.Common.{◌≡◌, ap}
-use Rattle.text_io.specs.declared.fault.ReplayFault.TheVariants.{OutputFailed}
-use Rattle.text_io.specs.declared.program.ProgramFault.TheVariants.{Run}
+use Rattle.text_io.specs.{declared.fault.ReplayFault.TheVariants.OutputFailed, declared.program.ProgramFault.TheVariants.Run}
 use Rattle.napi_replay.proofs.program.run_program.Goals as goal
 
 pub returns-in-Ok-replay_in-clause-written : goal.returns-in-Ok-replay_in-clause-written

@@ -1,6 +1,5 @@
 use Rattle.std.proofs.Common.{◌≡◌, ◌++◌, List, take, string_bytes}
-use Rattle.device_rows.specs.declared.row.Row.{Row}
-use Rattle.napi_series.specs.{RunList.IsListAfter, Series.poll_lines}
+use Rattle.{device_rows.specs.declared.row.Row.Row, napi_series.specs.{RunList.IsListAfter, Series.poll_lines}}
 use Rattle.text_io.specs.declared.settings.ReplaySettings.{ReplaySettings}
 use Rattle.replay_rows.specs.{After.{IsAfter, is_used_after}, RunLog.{list_before, polls_of_row}}
 use Rattle.napi_series.proofs.polls.add_polls.Given as goal

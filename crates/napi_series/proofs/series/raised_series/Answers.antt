@@ -1,11 +1,9 @@
 use Rattle.std.proofs.{Common.{◌≡◌, ◌⊎◌, Err, IfErr, Ok, inl, inr, ℕ, List}, lemmas.Result.err_from_is_err_and}
-use Rattle.std.specs.Prelude.{Result}
-use Rattle.replay_rows.{specs.Replay.after_all_rows, proofs.{PlayFacts.{report-early, unwritten}, RaisedFacts.raised-unwritten}}
-use Rattle.text_io.specs.Outside.{IsReplayOutOfMemory}
-use Rattle.text_io.specs.declared.fault.ReplayFault.{ReplayFault}
-use Rattle.text_io.specs.declared.fault.ReplayFault.TheVariants.{OutputFailed}
+use Rattle.{std.specs.Prelude.Result, replay_rows.specs.Replay.after_all_rows}
+use Rattle.replay_rows.proofs.{PlayFacts.{report-early, unwritten}, RaisedFacts.raised-unwritten}
+use Rattle.text_io.specs.{Outside.IsReplayOutOfMemory, declared.fault.ReplayFault.ReplayFault}
+use Rattle.text_io.specs.{declared.fault.ReplayFault.TheVariants.OutputFailed, declared.settings.ReplaySettings.ReplaySettings}
 use Rattle.device_rows.specs.declared.row.Row.{Row}
-use Rattle.text_io.specs.declared.settings.ReplaySettings.{ReplaySettings}
 use Rattle.napi_series.proofs.series.raised_series.Goals as goal
 
 -- an error of a row is never OutputFailed

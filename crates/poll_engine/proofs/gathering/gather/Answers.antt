@@ -1,11 +1,8 @@
 use Rattle.std.proofs.Common.{◌≡◌, ℕ, ◌<◌, ◌∷◌, ◌++◌, ◌∙◌, [], true, ap, sym, subst, refl, length, vec_items, arith}
-use Rattle.std.proofs.lemmas.{Grind.common_steps, List.{length-set, map-append, nil_from_length}}
-use Rattle.std.specs.Vec.Iter.{into_iter_items}
-use Rattle.poll_engine.proofs.ListFacts.{before_more, none_left, zip_empty}
+use Rattle.std.proofs.{lemmas.Grind.common_steps, lemmas.List.{length-set, map-append, nil_from_length}}
+use Rattle.{std.specs.Vec.Iter.into_iter_items, poll_engine.proofs.ListFacts.{before_more, none_left, zip_empty}}
 use Rattle.poll_engine.proofs.EndFacts.{all_given, each_push, given_at, given_more, next_at, none_given, some_left}
-use Rattle.poll_engine.specs.Outcomes.{IsThreadWith, Outcome}
-use Rattle.poll_engine.specs.Deals.{is_own}
-use Rattle.napi_calls.specs.Instance.{IsSeatOf}
+use Rattle.{poll_engine.specs.{Outcomes.{IsThreadWith, Outcome}, Deals.is_own}, napi_calls.specs.Instance.IsSeatOf}
 use Rattle.poll_engine.proofs.gathering.gather.Goals as goal
 
 pub loop-worker-init : goal.loop-worker-init

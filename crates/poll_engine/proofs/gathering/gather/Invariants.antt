@@ -1,9 +1,6 @@
 use Rattle.std.proofs.Common.{◌≡◌, ◌+◌, ◌≤◌, ◌++◌, vec_len, vec_capacity, vec_items, length, List, map}
-use Rattle.std.specs.Vec.Iter.{into_iter_items, into_iter_len}
-use Rattle.std.specs.List.{AllByRecursion, AllZip}
-use Rattle.poll_engine.specs.Tasks.{EachAt}
-use Rattle.poll_engine.specs.Outcomes.{IsLeftBy, IsThreadWith, Outcome}
-use Rattle.poll_engine.proofs.EndFacts.{HasGiven}
+use Rattle.std.specs.{Vec.Iter.{into_iter_items, into_iter_len}, List.{AllByRecursion, AllZip}}
+use Rattle.{poll_engine.specs.{Tasks.EachAt, Outcomes.{IsLeftBy, IsThreadWith, Outcome}}, poll_engine.proofs.EndFacts.HasGiven}
 use Rattle.poll_engine.proofs.gathering.gather.Given as goal
 
 abbrev pub invariant-loop-worker : goal.invariant-loop-worker

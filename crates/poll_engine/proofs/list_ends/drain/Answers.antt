@@ -1,6 +1,5 @@
 use Rattle.std.proofs.Common.{ap, ◌∙◌}
-use Rattle.poll_engine.proofs.OrderSteps.{learns}
-use Rattle.poll_engine.proofs.PushCounts.{emptied}
+use Rattle.poll_engine.proofs.{OrderSteps.learns, PushCounts.emptied}
 use Rattle.poll_engine.proofs.list_ends.drain.Goals as goal
 
 pub learn_as-requires-clause-rule : goal.learn_as-requires-clause-rule

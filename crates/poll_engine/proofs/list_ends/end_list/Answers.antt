@@ -1,7 +1,5 @@
-use Rattle.std.proofs.{Common.{◌≤◌, ◌+◌, length, map, arith}, lemmas.{Grind.common_steps, List.length-map}}
-use Rattle.crossbeam_queue.specs.Passes.{view}
-use Rattle.poll_engine.specs.SharedLists.{as_returned}
-use Rattle.poll_engine.proofs.PushCounts.{read_off}
+use Rattle.std.proofs.{Common.{◌≤◌, ◌+◌, length, map, arith}, lemmas.Grind.common_steps, lemmas.List.length-map}
+use Rattle.{crossbeam_queue.specs.Passes.view, poll_engine.specs.SharedLists.as_returned, poll_engine.proofs.PushCounts.read_off}
 use Rattle.poll_engine.proofs.list_ends.end_list.Goals as goal
 
 pub returns-clause-ok : goal.returns-clause-ok

@@ -1,5 +1,4 @@
-use Rattle.std.proofs.Common.{ap}
-use Rattle.poll_engine.proofs.OrderSteps.{merges}
+use Rattle.{std.proofs.Common.ap, poll_engine.proofs.OrderSteps.merges}
 use Rattle.poll_engine.proofs.list_ends.take_back.Goals as goal
 
 pub absorb-requires-clause-rule : goal.absorb-requires-clause-rule

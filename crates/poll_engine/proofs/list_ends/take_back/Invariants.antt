@@ -1,7 +1,5 @@
 use Rattle.std.proofs.Common.{◌≡◌, ◌++◌, map}
-use Rattle.crossbeam_queue.specs.Passes.{view, IsPassOf}
-use Rattle.poll_engine.specs.PushOrder.{poller}
-use Rattle.poll_engine.specs.SharedLists.{as_returned}
+use Rattle.{crossbeam_queue.specs.Passes.{view, IsPassOf}, poll_engine.specs.{PushOrder.poller, SharedLists.as_returned}}
 use Rattle.poll_engine.proofs.list_ends.take_back.Given as goal
 
 abbrev pub invariant-loop-end : goal.invariant-loop-end

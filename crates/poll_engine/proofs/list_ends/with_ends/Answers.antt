@@ -1,5 +1,4 @@
-use Rattle.std.proofs.Common.{ap}
-use Rattle.poll_engine.proofs.OrderSteps.{begins, forks}
+use Rattle.{std.proofs.Common.ap, poll_engine.proofs.OrderSteps.{begins, forks}}
 use Rattle.poll_engine.proofs.list_ends.with_ends.Goals as goal
 
 pub ruled-requires-clause-rule : goal.ruled-requires-clause-rule

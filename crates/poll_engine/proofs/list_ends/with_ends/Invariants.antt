@@ -1,6 +1,4 @@
-use Rattle.poll_engine.specs.declared.list_in.ListIn.{ListIn}
-use Rattle.poll_engine.specs.SharedLists.{pushed_by, end_number}
-use Rattle.poll_engine.specs.PushOrder.{poller}
+use Rattle.poll_engine.specs.{declared.list_in.ListIn.ListIn, SharedLists.{pushed_by, end_number}, PushOrder.poller}
 use Rattle.std.specs.Arc.{arc_value}
 use Rattle.std.proofs.Common.{◌≡◌, ◌+◌, [], length, All, ℕ, ◌<◌, slice_index_or}
 use Rattle.crossbeam_queue.specs.Passes.{view, IsPassOf}

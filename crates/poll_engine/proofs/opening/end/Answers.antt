@@ -1,8 +1,6 @@
 use Rattle.std.proofs.Common.{◌∙◌, ap, refl}
-use Rattle.rx_ring.specs.declared.packet.Totals.{Totals}
-use Rattle.napi_calls.specs.declared.types.Napi.{Napi}
-use Rattle.napi_calls.specs.Instance.{callers_of, first_of_instance}
-use Rattle.rx_ring.specs.Ends.{received_list}
+use Rattle.rx_ring.specs.{declared.packet.Totals.Totals, Ends.received_list}
+use Rattle.napi_calls.specs.{declared.types.Napi.Napi, Instance.{callers_of, first_of_instance}}
 use Rattle.poll_engine.proofs.EndSideFacts.{ended_of}
 use Rattle.poll_engine.proofs.opening.end.Goals as goal
 

@@ -1,8 +1,6 @@
 use Rattle.std.proofs.Common.{◌≡◌, ◌+◌, ◌≤◌, ◌++◌, List, vec_len, vec_capacity, vec_items}
 use Rattle.{std.specs.{Vec.Iter.{into_iter_items, into_iter_len}, List.AllZip}, napi_calls.specs.declared.kept.DropBomb.DropBomb}
-use Rattle.poll_engine.specs.Opens.{IsKeptPartOf}
-use Rattle.poll_engine.specs.Ends.{IsKeptFinishOf}
-use Rattle.poll_engine.specs.declared.opening.Loose.{Loose}
+use Rattle.poll_engine.specs.{Opens.IsKeptPartOf, Ends.IsKeptFinishOf, declared.opening.Loose.Loose}
 use Rattle.poll_engine.proofs.opening.end_all.Given as goal
 
 abbrev pub invariant-loop-other : goal.invariant-loop-other

@@ -1,6 +1,5 @@
-use Rattle.std.proofs.{Common.{◌≡◌, [], length, ◌<◌, get_or, vec_items, rules, arith}}
-use Rattle.std.proofs.lemmas.{Grind.common_steps, List.nil_from_length, Slice.Zip.all_zipped_more}
-use Rattle.std.specs.Vec.Iter.{into_iter_items}
+use Rattle.std.proofs.{Common.{◌≡◌, [], length, ◌<◌, get_or, vec_items, rules, arith}, lemmas.Grind.common_steps}
+use Rattle.{std.proofs.{lemmas.List.nil_from_length, lemmas.Slice.Zip.all_zipped_more}, std.specs.Vec.Iter.into_iter_items}
 use Rattle.poll_engine.proofs.ListFacts.{before_more, none_left}
 use Rattle.poll_engine.proofs.opening.open_all.Goals as goal
 

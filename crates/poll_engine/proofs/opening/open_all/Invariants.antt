@@ -1,7 +1,5 @@
 use Rattle.std.proofs.Common.{◌≡◌, ◌+◌, ◌≤◌, ◌++◌, vec_len, vec_capacity, vec_items, length}
-use Rattle.std.specs.Vec.Iter.{into_iter_items, into_iter_len}
-use Rattle.std.specs.List.{AllZip}
-use Rattle.poll_engine.specs.Opens.{IsKeptLoose, IsKeptSideOf}
+use Rattle.{std.specs.{Vec.Iter.{into_iter_items, into_iter_len}, List.AllZip}, poll_engine.specs.Opens.{IsKeptLoose, IsKeptSideOf}}
 use Rattle.poll_engine.proofs.opening.open_all.Given as goal
 
 abbrev pub invariant-loop-station : goal.invariant-loop-station

@@ -1,9 +1,8 @@
 use Rattle.std.proofs.Common.{◌≡◌, ◌+◌, ◌≤◌, ◌∷◌, ◌++◌, ◌∙◌, [], ap, subst, sym, refl, length, length-append, rules, arith}
-use Rattle.std.{specs.{Prelude.{vec_capacity, vec_items, vec_len}, Vec.Iter.into_iter_len}, proofs.lemmas.Grind.common_steps}
-use Rattle.std.proofs.lemmas.{List.{length_push, Elements.All-push}, Slice.Zip.{all_zipped_more, AllZip-long}}
-use Rattle.poll_engine.specs.Tasks.{IsAt}
-use Rattle.poll_engine.proofs.ListFacts.{before_more, each_more}
-use Rattle.poll_engine.specs.Spreads.{IsPoller}
+use Rattle.std.proofs.{lemmas.Grind.common_steps, lemmas.List.length_push, lemmas.List.Elements.All-push}
+use Rattle.std.proofs.lemmas.Slice.Zip.{all_zipped_more, AllZip-long}
+use Rattle.std.specs.{Prelude.{vec_capacity, vec_items, vec_len}, Vec.Iter.into_iter_len}
+use Rattle.{poll_engine.specs.{Tasks.IsAt, Spreads.IsPoller}, poll_engine.proofs.ListFacts.{before_more, each_more}}
 use Rattle.poll_engine.proofs.pollers.pollers_of.Goals as goal
 
 pub loop-wait-init : goal.loop-wait-init

@@ -1,10 +1,6 @@
 use Rattle.std.proofs.Common.{◌≡◌, ◌+◌, ◌≤◌, ◌++◌, [], All, length, vec_items, vec_len, List}
 use Rattle.std.specs.{Vec.Iter.{into_iter_items, into_iter_len}, List.AllZip}
-use Rattle.poll_engine.specs.Limits.{IsLawful}
-use Rattle.poll_engine.specs.Tasks.{EachAt}
-use Rattle.poll_engine.specs.Wakers.{Wakes}
-use Rattle.poll_engine.specs.declared.signals.Waker.{Waker}
-use Rattle.poll_engine.specs.Spreads.{IsNewEnd, IsPoller}
+use Rattle.poll_engine.specs.{Limits.IsLawful, Tasks.EachAt, Wakers.Wakes, declared.signals.Waker.Waker, Spreads.{IsNewEnd, IsPoller}}
 use Rattle.poll_engine.proofs.pollers.pollers_of.Given as goal
 
 abbrev pub invariant-loop-wait : goal.invariant-loop-wait

@@ -1,5 +1,4 @@
-use Rattle.std.proofs.Common.{sym, vec_items}
-use Rattle.poll_engine.proofs.PollerFacts.{ends_cut}
+use Rattle.{std.proofs.Common.{sym, vec_items}, poll_engine.proofs.PollerFacts.ends_cut}
 use Rattle.poll_engine.proofs.pollers.two_ends.Goals as goal
 
 pub returns-clause-own : goal.returns-clause-own

@@ -1,7 +1,6 @@
-use Rattle.std.proofs.Common.{◌≡◌, ◌∙◌, [], ap, length, vec_items, rules, arith}
-use Rattle.std.proofs.lemmas.{Grind.common_steps, List.nil_from_length, Slice.Zip.AllZip-long}
-use Rattle.poll_engine.proofs.ListFacts.{zip_same}
-use Rattle.poll_engine.proofs.RunFacts.{all_finished, all_polled, none_polled}
+use Rattle.std.proofs.{Common.{◌≡◌, ◌∙◌, [], ap, length, vec_items, rules, arith}, lemmas.Grind.common_steps, lemmas.List.nil_from_length}
+use Rattle.std.proofs.lemmas.Slice.Zip.{AllZip-long}
+use Rattle.poll_engine.proofs.{ListFacts.zip_same, RunFacts.{all_finished, all_polled, none_polled}}
 use Rattle.poll_engine.proofs.run.run_all.Goals as goal
 
 pub returns-then-count-eq0-clause-polled : goal.returns-then-count-eq0-clause-polled

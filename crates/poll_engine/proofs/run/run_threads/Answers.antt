@@ -1,10 +1,8 @@
-use Rattle.std.proofs.Common.{◌≡◌, ◌≤◌, ◌∙◌, ℕ, ap, map, subst, sym, vec_items, vec_len, arith}
-use Rattle.std.proofs.lemmas.{Grind.common_steps, List.Elements.All-from_recursion, Result.on_ok_weaker, Slice.Zip.AllZip-long}
-use Rattle.poll_engine.specs.Tasks.{EachAt}
-use Rattle.poll_engine.proofs.ListFacts.{zip_each}
-use Rattle.poll_engine.proofs.RunFacts.{all_back_at, all_have_polled, all_parts, all_seats_at, all_threads_with, all_turned}
-use Rattle.poll_engine.proofs.RunFacts.{all_worked, ends_of_lists}
-use Rattle.poll_engine.specs.Outcomes.{AreSeatsAt}
+use Rattle.std.proofs.{Common.{◌≡◌, ◌≤◌, ◌∙◌, ℕ, ap, map, subst, sym, vec_items, vec_len, arith}, lemmas.Grind.common_steps}
+use Rattle.std.proofs.{lemmas.List.Elements.All-from_recursion, lemmas.Result.on_ok_weaker, lemmas.Slice.Zip.AllZip-long}
+use Rattle.{poll_engine.specs.{Tasks.EachAt, Outcomes.AreSeatsAt}, poll_engine.proofs.ListFacts.zip_each}
+use Rattle.poll_engine.proofs.RunFacts.{all_back_at, all_have_polled, all_parts, all_seats_at, all_threads_with, all_turned, all_worked}
+use Rattle.poll_engine.proofs.RunFacts.{ends_of_lists}
 use Rattle.poll_engine.proofs.run.run_threads.Goals as goal
 
 pub spread-tasks-requires-clause-sides : goal.spread-tasks-requires-clause-sides

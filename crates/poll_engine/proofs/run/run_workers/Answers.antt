@@ -1,16 +1,8 @@
-use Rattle.std.proofs.{Common.{◌≡◌, ◌∙◌, Bool, true, false, arith, refl, sym}, lemmas.{Grind.common_steps, Result.IfErr-at_err}}
-use Rattle.std.specs.{Borrow.Bor, Global.Vec, List.AllZip}
-use Rattle.std.specs.Prelude.{Result, Ok, Err, IfErr, IfOk, vec_items}
-use Rattle.poll_engine.specs.declared.station.Finished.{Finished}
-use Rattle.poll_engine.specs.Asks.{IsAsked}
-use Rattle.poll_engine.specs.WorkFaults.{run_result}
-use Rattle.poll_engine.specs.Refusals.{IsRefused}
-use Rattle.poll_engine.specs.Stops.{IsStop}
-use Rattle.poll_engine.proofs.NumberFacts.{few_stations}
-use Rattle.poll_engine.specs.Courses.{ArePolled, limits_of}
-use Rattle.poll_engine.specs.Finishes.{IsFinished}
-use Rattle.poll_engine.specs.declared.fault.WorkFault.{WorkFault}
-use Rattle.poll_engine.specs.declared.fault.WorkFault.TheVariants.{OutOfMemory}
+use Rattle.std.proofs.{Common.{◌≡◌, ◌∙◌, Bool, true, false, arith, refl, sym}, lemmas.Grind.common_steps, lemmas.Result.IfErr-at_err}
+use Rattle.std.specs.{Borrow.Bor, Global.Vec, List.AllZip, Prelude.{Result, Ok, Err, IfErr, IfOk, vec_items}}
+use Rattle.poll_engine.specs.{declared.station.Finished.Finished, Asks.IsAsked, WorkFaults.run_result, Refusals.IsRefused, Stops.IsStop}
+use Rattle.poll_engine.specs.{Courses.{ArePolled, limits_of}, Finishes.IsFinished, declared.fault.WorkFault.WorkFault}
+use Rattle.{poll_engine.specs.declared.fault.WorkFault.TheVariants.OutOfMemory, poll_engine.proofs.NumberFacts.few_stations}
 use Rattle.poll_engine.proofs.run.run_workers.Goals as goal
 
 pub run_all-came-requires-clause-count : goal.run_all-came-requires-clause-count

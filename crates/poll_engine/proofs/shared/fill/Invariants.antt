@@ -1,6 +1,5 @@
 use Rattle.std.proofs.Common.{◌≡◌, ◌++◌, List, ℕ, length}
-use Rattle.crossbeam_queue.specs.Passes.{view, IsPassOf}
-use Rattle.poll_engine.specs.PushOrder.{PopsMore}
+use Rattle.{crossbeam_queue.specs.Passes.{view, IsPassOf}, poll_engine.specs.PushOrder.PopsMore}
 use Rattle.poll_engine.proofs.shared.fill.Given as goal
 
 abbrev pub invariant-loop : goal.invariant-loop

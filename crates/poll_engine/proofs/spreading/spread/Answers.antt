@@ -1,12 +1,9 @@
 use Rattle.std.proofs.Common.{◌≡◌, ◌<◌, ◌+◌, ◌∷◌, ◌++◌, ◌∙◌, [], length, length-append, sym, true, vec_items, subst, rules, arith, refl}
-use Rattle.std.proofs.lemmas.{Grind.common_steps, List.nil_from_length, Slice.Zip.all_zipped_more}
-use Rattle.std.specs.Vec.Iter.{into_iter_items, into_iter_len}
-use Rattle.poll_engine.specs.Tasks.{IsAt}
-use Rattle.poll_engine.proofs.ListFacts.{before_more, none_left, zip_empty}
-use Rattle.poll_engine.specs.Deals.{is_own}
-use Rattle.poll_engine.proofs.EndFacts.{each_push}
-use Rattle.poll_engine.proofs.PollerFacts.{by_station, count_of, ends_of, has_room, one_more, same_count, same_lists}
-use Rattle.poll_engine.proofs.PollerFacts.{wired_waker, wired_end}
+use Rattle.std.proofs.{lemmas.Grind.common_steps, lemmas.List.nil_from_length, lemmas.Slice.Zip.all_zipped_more}
+use Rattle.{std.specs.Vec.Iter.{into_iter_items, into_iter_len}, poll_engine.specs.{Tasks.IsAt, Deals.is_own}}
+use Rattle.poll_engine.proofs.{ListFacts.{before_more, none_left, zip_empty}, EndFacts.each_push}
+use Rattle.poll_engine.proofs.PollerFacts.{by_station, count_of, ends_of, has_room, one_more, same_count, same_lists, wired_waker}
+use Rattle.poll_engine.proofs.PollerFacts.{wired_end}
 use Rattle.poll_engine.proofs.spreading.spread.Goals as goal
 
 pub loop-rest-init : goal.loop-rest-init

@@ -1,12 +1,9 @@
 use Rattle.std.proofs.Common.{◌≡◌, ◌+◌, ◌≤◌, ◌++◌, vec_len, vec_capacity, vec_items, length, List, All, map}
-use Rattle.{std.specs.{Vec.Iter.{into_iter_items, into_iter_len}, List.{AllByRecursion, AllZip}}}
-use Rattle.{napi_calls.specs.declared.kept.DropBomb.DropBomb}
-use Rattle.poll_engine.specs.declared.opening.Loose.{Loose}
-use Rattle.poll_engine.specs.declared.opening.Placed.{Placed}
-use Rattle.poll_engine.specs.Opens.{IsKeptSideOf}
+use Rattle.std.specs.{Vec.Iter.{into_iter_items, into_iter_len}, List.{AllByRecursion, AllZip}}
+use Rattle.napi_calls.specs.declared.kept.DropBomb.{DropBomb}
+use Rattle.poll_engine.specs.{declared.opening.Loose.Loose, declared.opening.Placed.Placed, Opens.IsKeptSideOf}
 use Rattle.poll_engine.specs.Spreads.{AreEndsOf, ArePollers, IsJobAt, IsKeptJobOf, IsKeptSeatFor, IsKeptThreadFor, IsSeatAt, IsThreadAt}
-use Rattle.poll_engine.specs.Spreads.{IsWiredJob, IsWiredSide}
-use Rattle.poll_engine.specs.declared.shared.SharedList.{SharedList}
+use Rattle.poll_engine.specs.{Spreads.{IsWiredJob, IsWiredSide}, declared.shared.SharedList.SharedList}
 use Rattle.poll_engine.specs.declared.handle.PollHandle.{PollHandle}
 use Rattle.poll_engine.proofs.spreading.spread.Given as goal
 

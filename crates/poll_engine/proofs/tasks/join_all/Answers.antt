@@ -1,9 +1,8 @@
-use Rattle.std.proofs.Common.{◌≡◌, ◌≤◌, ◌∷◌, ◌++◌, [], length, vec_items, refl, arith}
-use Rattle.std.proofs.lemmas.{Grind.common_steps, List.nil_from_length, Slice.Zip.all_zipped_more}
+use Rattle.std.proofs.{Common.{◌≡◌, ◌≤◌, ◌∷◌, ◌++◌, [], length, vec_items, refl, arith}, lemmas.Grind.common_steps}
+use Rattle.std.proofs.{lemmas.List.nil_from_length, lemmas.Slice.Zip.all_zipped_more}
 use Rattle.poll_engine.proofs.ListFacts.{before_more, first_of, none_left, zip_both, zip_same}
-use Rattle.poll_engine.specs.Tasks.{IsSpawned}
-use Rattle.poll_engine.specs.declared.tasks.Spawned.{Spawned}
 use Rattle.poll_engine.proofs.tasks.join_all.Goals.{in-Running, in-Ended}
+use Rattle.poll_engine.specs.{Tasks.IsSpawned, declared.tasks.Spawned.Spawned}
 use Rattle.poll_engine.proofs.tasks.join_all.Goals as goal
 
 pub loop-spawned-init : goal.loop-spawned-init

@@ -1,7 +1,5 @@
 use Rattle.std.proofs.Common.{◌≡◌, ◌+◌, ◌≤◌, ◌++◌, List, vec_len, vec_capacity, vec_items}
-use Rattle.std.specs.List.{AllZip}
-use Rattle.poll_engine.specs.Tasks.{IsSpawned}
-use Rattle.poll_engine.specs.declared.tasks.Spawned.{Spawned}
+use Rattle.{std.specs.List.AllZip, poll_engine.specs.{Tasks.IsSpawned, declared.tasks.Spawned.Spawned}}
 use Rattle.poll_engine.proofs.tasks.join_all.Given as goal
 
 abbrev pub invariant-loop-spawned : goal.invariant-loop-spawned

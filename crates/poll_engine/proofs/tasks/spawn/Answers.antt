@@ -1,5 +1,4 @@
-use Rattle.std.proofs.Common.{inr}
-use Rattle.poll_engine.specs.Refusals.{refused_by}
+use Rattle.{std.proofs.Common.inr, poll_engine.specs.Refusals.refused_by}
 use Rattle.poll_engine.proofs.tasks.spawn.Goals as goal
 
 pub store-requires : goal.store-requires

@@ -1,7 +1,5 @@
 use Rattle.std.proofs.{Common.{◌≡◌, ◌∙◌, ◌-◌, [], ap, slice_index_or, sym, vec_items, length, arith}, lemmas.Grind.common_steps}
-use Rattle.std.proofs.lemmas.List.{get_or-map, length-map, map-set}
-use Rattle.replay.specs.Dealing.{lists}
-use Rattle.replay.proofs.DealFacts.{dealt, opened}
+use Rattle.{std.proofs.lemmas.List.{get_or-map, length-map, map-set}, replay.specs.Dealing.lists, replay.proofs.DealFacts.{dealt, opened}}
 use Rattle.replay.proofs.dealing.deal.Goals as goal
 
 pub returns-then-is_open-clause-scripts : goal.returns-then-is_open-clause-scripts

@@ -1,6 +1,4 @@
-use Rattle.std.proofs.Common.{take, arith}
-use Rattle.std.proofs.lemmas.List.{take_more}
-use Rattle.replay.proofs.ScriptFacts.{none}
+use Rattle.{std.proofs.{Common.{take, arith}, lemmas.List.take_more}, replay.proofs.ScriptFacts.none}
 use Rattle.replay.proofs.dealing.scripts_of.Goals as goal
 
 pub loop-row-preserved : goal.loop-row-preserved

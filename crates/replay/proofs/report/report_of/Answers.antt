@@ -1,6 +1,4 @@
-use Rattle.std.proofs.Common.{refl}
-use Rattle.replay.specs.ThreadsReport.{opened_devices, threads_report}
-use Rattle.replay.proofs.StationFacts.{all-lines}
+use Rattle.{std.proofs.Common.refl, replay.specs.ThreadsReport.{opened_devices, threads_report}, replay.proofs.StationFacts.all-lines}
 use Rattle.replay.proofs.report.report_of.Goals as goal
 
 pub returns : goal.returns

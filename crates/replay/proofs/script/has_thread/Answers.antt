@@ -1,7 +1,5 @@
-use Rattle.std.{proofs.Common.{◌∙◌, ap, sym}, specs.Prelude.is_some}
-use Rattle.replay.specs.Script.{makes_threaded}
-use Rattle.replay.proofs.Rows.{find-here, find-more}
-use Rattle.replay.proofs.ScriptFacts.{none}
+use Rattle.std.proofs.Common.{◌∙◌, ap, sym}
+use Rattle.{std.specs.Prelude.is_some, replay.specs.Script.makes_threaded, replay.proofs.{Rows.{find-here, find-more}, ScriptFacts.none}}
 use Rattle.replay.proofs.script.has_thread.Goals as goal
 
 pub returns-then-makes_threaded : goal.returns-then-makes_threaded

@@ -1,7 +1,5 @@
 use Rattle.std.proofs.Common.{◌∙◌, sym, arith}
-use Rattle.replay.specs.Script.{opens}
-use Rattle.replay.proofs.Rows.{find-here, find-more}
-use Rattle.replay.proofs.ScriptFacts.{none}
+use Rattle.{replay.specs.Script.opens, replay.proofs.{Rows.{find-here, find-more}, ScriptFacts.none}}
 use Rattle.replay.proofs.script.opening_of.Goals as goal
 
 pub returns-then-opens : goal.returns-then-opens

@@ -1,7 +1,5 @@
-use Rattle.std.{proofs.Common.{◌≡◌, ◌∙◌, true, Some, ap, sym}, specs.Prelude.is_some}
-use Rattle.replay.specs.Script.{opening_of}
-use Rattle.replay.specs.ThreadsReport.{is_opened}
-use Rattle.replay.proofs.StationFacts.{station-here}
+use Rattle.std.proofs.Common.{◌≡◌, ◌∙◌, true, Some, ap, sym}
+use Rattle.{std.specs.Prelude.is_some, replay.specs.{Script.opening_of, ThreadsReport.is_opened}, replay.proofs.StationFacts.station-here}
 use Rattle.replay.proofs.stations.add_station.Goals as goal
 
 pub returns-in_ok-push-clause-stations : goal.returns-in_ok-push-clause-stations

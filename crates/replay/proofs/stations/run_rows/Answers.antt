@@ -1,9 +1,6 @@
 use Rattle.std.proofs.Common.{◌≡◌, ◌∙◌, None, Some, inr, sym, vec_items}
-use Rattle.replay.specs.ThreadsStations.{small_fault, IsStationOf}
-use Rattle.replay.specs.ThreadsReport.{is_opened, opened_devices}
-use Rattle.replay.proofs.DistinctNumbers.{rising-numbers}
-use Rattle.replay.proofs.StationFacts.{ends-if-ok}
-use Rattle.replay.proofs.StationFacts.{ring-of, rings-if-ok, run-if-ok, small-unwritten}
+use Rattle.replay.specs.{ThreadsStations.{small_fault, IsStationOf}, ThreadsReport.{is_opened, opened_devices}}
+use Rattle.replay.proofs.{DistinctNumbers.rising-numbers, StationFacts.{ends-if-ok, ring-of, rings-if-ok, run-if-ok, small-unwritten}}
 use Rattle.replay.proofs.stations.run_rows.Goals as goal
 
 pub run_stations-requires-clause-numbers : goal.run_stations-requires-clause-numbers

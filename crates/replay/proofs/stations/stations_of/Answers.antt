@@ -1,12 +1,7 @@
-use Rattle.std.{proofs.{Common.{◌≡◌, ◌∙◌, ◌-◌, [], subst, sym, arith, vec_items, ℕ}, lemmas.List.get_or-set_other}, specs.Prelude.filter}
-use Rattle.std.specs.List.{AllZip, range_with_len}
-use Rattle.replay.specs.Dealing.{lists}
-use Rattle.replay.specs.Script.{is_act_of}
-use Rattle.replay.proofs.OpeningFacts.{opened-within}
-use Rattle.replay.proofs.Rows.{filter-long}
-use Rattle.replay.specs.ThreadsStations.{IsStationOf}
-use Rattle.replay.specs.ThreadsReport.{is_opened, opened_devices}
-use Rattle.replay.proofs.StationFacts.{opened-more, opening-among, script-at}
+use Rattle.std.proofs.{Common.{◌≡◌, ◌∙◌, ◌-◌, [], subst, sym, arith, vec_items, ℕ}, lemmas.List.get_or-set_other}
+use Rattle.std.specs.{Prelude.filter, List.{AllZip, range_with_len}}
+use Rattle.replay.specs.{Dealing.lists, Script.is_act_of, ThreadsStations.IsStationOf, ThreadsReport.{is_opened, opened_devices}}
+use Rattle.replay.proofs.{OpeningFacts.opened-within, Rows.filter-long, StationFacts.{opened-more, opening-among, script-at}}
 use Rattle.replay.proofs.stations.stations_of.Goals as goal
 
 pub add_station-requires-clause-places : goal.add_station-requires-clause-places

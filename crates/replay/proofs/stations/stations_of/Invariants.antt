@@ -1,10 +1,6 @@
-use Rattle.std.{proofs.Common.{◌≡◌, ◌-◌, ◌+◌, ◌<◌, ◌≤◌, ℕ, [], slice_index_or, vec_items, vec_len}, specs.{Prelude.filter, List.All}}
-use Rattle.std.specs.List.{AllZip, range_with_len}
-use Rattle.poll_engine.specs.Opens.{IsStation}
-use Rattle.replay.specs.Dealing.{lists}
-use Rattle.replay.specs.Script.{script_of}
-use Rattle.replay.specs.ThreadsStations.{IsStationOf}
-use Rattle.replay.specs.ThreadsReport.{is_opened}
+use Rattle.std.proofs.Common.{◌≡◌, ◌-◌, ◌+◌, ◌<◌, ◌≤◌, ℕ, [], slice_index_or, vec_items, vec_len}
+use Rattle.{std.specs.{Prelude.filter, List.{All, AllZip, range_with_len}}, poll_engine.specs.Opens.IsStation}
+use Rattle.replay.specs.{Dealing.lists, Script.script_of, ThreadsStations.IsStationOf, ThreadsReport.is_opened}
 use Rattle.replay.proofs.stations.stations_of.Given as goal
 
 abbrev pub invariant-loop-number : goal.invariant-loop-number

@@ -1,6 +1,4 @@
-use Rattle.std.proofs.Common.{refl}
-use Rattle.replay.specs.ThreadsReport.{opened_devices}
-use Rattle.replay.proofs.StationFacts.{all-polled}
+use Rattle.{std.proofs.Common.refl, replay.specs.ThreadsReport.opened_devices, replay.proofs.StationFacts.all-polled}
 use Rattle.replay.proofs.threads.write_report.Goals as goal
 
 pub returns-clause-polled : goal.returns-clause-polled

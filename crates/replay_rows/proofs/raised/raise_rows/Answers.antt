@@ -1,8 +1,7 @@
-use Rattle.std.proofs.{Common.{◌≡◌, ◌∙◌, ◌+◌, ◌<◌, ◌≤◌, inl, inr, drop, get_or, length, sym, arith, rules}}
-use Rattle.std.proofs.lemmas.Result.{err_from_is_err_and}
-use Rattle.device_rows.{specs.declared.{event.RowEvent.TheVariants.Opened, row.Row.Row}, proofs.Accepted.accepted-at}
-use Rattle.replay_rows.{specs.Raising.raised_so_far, proofs.RaisedFacts.{loop-end, loop-fault, loop-next, raised-is-trace, with-again}}
-use Rattle.replay_rows.proofs.RaisedFacts.{last-is, with-fault, with-none}
+use Rattle.std.proofs.{Common.{◌∙◌, ◌+◌, ◌<◌, inl, inr, drop, get_or, length, sym, arith}, lemmas.Result.err_from_is_err_and}
+use Rattle.{device_rows.specs.{declared.event.RowEvent.TheVariants.Opened, declared.row.Row.Row}, device_rows.proofs.Accepted.accepted-at}
+use Rattle.replay_rows.specs.Raising.{raised_so_far}
+use Rattle.replay_rows.proofs.RaisedFacts.{loop-end, loop-fault, loop-next, raised-is-trace, with-again, last-is, with-fault, with-none}
 use Rattle.replay_rows.proofs.raised.raise_rows.Goals.{else-is_last_run, then-is_last_run+in_ok-play_again}
 use Rattle.replay_rows.proofs.raised.raise_rows.Goals as goal
 

@@ -1,6 +1,5 @@
 use Rattle.std.proofs.Common.{◌≡◌, ◌++◌, take, string_bytes, flat_map}
-use Rattle.text_io.specs.Lines.{with_newline}
-use Rattle.replay_rows.specs.Report.{poll_line}
+use Rattle.{text_io.specs.Lines.with_newline, replay_rows.specs.Report.poll_line}
 use Rattle.replay_rows.proofs.report.add_lines.Given as goal
 
 abbrev pub invariant-loop-line : goal.invariant-loop-line

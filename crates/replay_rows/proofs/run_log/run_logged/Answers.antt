@@ -1,9 +1,6 @@
-use Rattle.std.proofs.Common.{◌≡◌, ◌∙◌, ◌∷◌, ◌++◌, ◌+◌, Some, List, [], length, length-append, ap, refl, sym, arith}
-use Rattle.std.proofs.lemmas.List.{append-nil, map-append}
-use Rattle.poll_runs.specs.Polls.{At, Poll}
-use Rattle.poll_runs.proofs.PollFacts.{chain-push}
-use Rattle.replay_rows.specs.{RunLog.{logged, polls_in}, declared.run_log.RunPoll.RunPoll}
-use Rattle.replay_rows.proofs.RunLogFacts.{logged-push}
+use Rattle.std.proofs.{Common.{◌≡◌, ◌∙◌, ◌∷◌, ◌++◌, Some, [], length-append, refl, sym, arith}, lemmas.List.{append-nil, map-append}}
+use Rattle.{poll_runs.specs.Polls.At, poll_runs.proofs.PollFacts.chain-push}
+use Rattle.{replay_rows.specs.{RunLog.{logged, polls_in}, declared.run_log.RunPoll.RunPoll}, replay_rows.proofs.RunLogFacts.logged-push}
 use Rattle.replay_rows.proofs.run_log.run_logged.Goals as goal
 
 pub loop-device-init : goal.loop-device-init

@@ -1,9 +1,6 @@
 use Rattle.std.proofs.Common.{◌≡◌, ◌∙◌, ◌<◌, Some, None, ap, length, refl, sym, arith}
-use Rattle.device_rows.specs.Places.{at}
-use Rattle.device_rows.proofs.PlaceFacts.{at-index, none-of}
-use Rattle.device_bench.proofs.BenchFacts.{kept-opened}
-use Rattle.device_bench.proofs.Waiting.{waiting-added}
-use Rattle.device_bench.specs.DeviceView.{DeviceView}
+use Rattle.{device_rows.specs.Places.at, device_rows.proofs.PlaceFacts.{at-index, none-of}}
+use Rattle.{device_bench.proofs.{BenchFacts.kept-opened, Waiting.waiting-added}, device_bench.specs.DeviceView.DeviceView}
 use Rattle.device_bench.proofs.bench.DeviceBench.keep.Goals as goal
 
 pub invariant_of-self : goal.invariant_of-self

@@ -1,10 +1,7 @@
 use Rattle.std.proofs.Common.{rules, ◌≡◌, ◌<◌, [], ap, length, slice_set, refl, sym, arith}
-use Rattle.device_bench.specs.Device.{polled_by_thread}
-use Rattle.device_rows.specs.Places.{at}
+use Rattle.{device_bench.specs.Device.polled_by_thread, device_rows.specs.Places.at}
 use Rattle.device_bench.proofs.{BenchFacts.{kept-changed, here-at, sound-at}, DeviceFacts.thread-keeps, SideFacts.{set-back, sides-set}}
-use Rattle.device_bench.proofs.Waiting.{waiting-more}
-use Rattle.device_rows.proofs.PlaceFacts.{at-index}
-use Rattle.std.specs.Prelude.{is_some}
+use Rattle.{device_bench.proofs.Waiting.waiting-more, device_rows.proofs.PlaceFacts.at-index, std.specs.Prelude.is_some}
 use Rattle.device_bench.proofs.bench.DeviceBenchBench.poll_thread.Goals as goal
 
 pub invariant_of-self : goal.invariant_of-self

@@ -1,6 +1,4 @@
-use Rattle.std.proofs.Common.{refl}
-use Rattle.dql_core.specs.Bounds.{DQL_MAX_LIMIT}
-use Rattle.device_bench.specs.Transmit.{hold_time}
+use Rattle.{std.proofs.Common.refl, dql_core.specs.Bounds.DQL_MAX_LIMIT, device_bench.specs.Transmit.hold_time}
 use Rattle.device_bench.proofs.transmit.Transmit.open.Goals as goal
 
 pub returns-in-Ok-new : goal.returns-in-Ok-new

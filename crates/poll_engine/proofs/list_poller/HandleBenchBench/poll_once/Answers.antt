@@ -1,5 +1,4 @@
-use Rattle.std.proofs.Common.{None, Some, rules, refl}
-use Rattle.poll_engine.proofs.SeatFacts.{polls_at}
+use Rattle.{std.proofs.Common.{None, Some, rules, refl}, poll_engine.proofs.SeatFacts.polls_at}
 use Rattle.poll_engine.proofs.list_poller.HandleBenchBench.poll_once.Goals as goal
 
 pub returns-in-Some-clause-leads : goal.returns-in-Some-clause-leads

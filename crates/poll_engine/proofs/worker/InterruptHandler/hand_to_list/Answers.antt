@@ -1,6 +1,4 @@
-use Rattle.std.proofs.Common.{rules, refl, arith}
-use Rattle.std.proofs.lemmas.Grind.{common_steps}
-use Rattle.poll_engine.proofs.Listings.{wakes_none}
+use Rattle.{std.proofs.{Common.{rules, refl, arith}, lemmas.Grind.common_steps}, poll_engine.proofs.Listings.wakes_none}
 use Rattle.poll_engine.proofs.worker.InterruptHandler.hand_to_list.Goals as goal
 
 pub returns-clause-lists : goal.returns-clause-lists

@@ -1,11 +1,8 @@
 use Rattle.std.proofs.lemmas.Grind.{common_steps}
 use Rattle.std.proofs.Common.{◌≡◌, ◌+◌, ◌≤◌, ◌++◌, is_some, length, ap, refl, sym, ◌∙◌, rules, arith, below_more}
 use Rattle.poll_engine.proofs.Listings.{lists_more, lists_same, wakes_more, wakes_same}
-use Rattle.poll_engine.proofs.ActSteps.{acts-more, after_acts-more, arrivals-more, asked_more, put_more}
-use Rattle.poll_engine.specs.Trails.{questions}
-use Rattle.rx_ring.specs.Ends.{capacity_of, put_list}
-use Rattle.poll_engine.proofs.LedgerSteps.{all_same}
-use Rattle.poll_engine.specs.Acts.{after_acts, brings}
+use Rattle.poll_engine.proofs.{ActSteps.{acts-more, after_acts-more, arrivals-more, asked_more, put_more}, LedgerSteps.all_same}
+use Rattle.{poll_engine.specs.{Trails.questions, Acts.{after_acts, brings}}, rx_ring.specs.Ends.{capacity_of, put_list}}
 use Rattle.poll_engine.proofs.worker.InterruptHandler.make_acts.Goals as goal
 
 pub loop-k-preserved : goal.loop-k-preserved

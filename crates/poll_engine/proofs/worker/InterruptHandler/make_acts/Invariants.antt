@@ -1,12 +1,6 @@
 use Rattle.std.proofs.Common.{◌≡◌, ◌+◌, ◌≤◌, ◌++◌, is_some, length}
-use Rattle.poll_engine.specs.Asks.{WasLet}
-use Rattle.poll_engine.specs.Trails.{questions}
-use Rattle.rx_ring.specs.Ends.{SameIn, capacity_of, put_list}
-use Rattle.poll_engine.specs.Acts.{after_acts, arrivals}
-use Rattle.poll_engine.specs.Calls.{AllActs}
-use Rattle.poll_engine.specs.Hands.{Lists, ThreadWakes}
-use Rattle.poll_engine.specs.Handles.{AreHandlesOf}
-use Rattle.poll_engine.specs.Questions.{all_questions}
+use Rattle.poll_engine.specs.{Asks.WasLet, Trails.questions, Acts.{after_acts, arrivals}, Calls.AllActs, Hands.{Lists, ThreadWakes}}
+use Rattle.{poll_engine.specs.{Handles.AreHandlesOf, Questions.all_questions}, rx_ring.specs.Ends.{SameIn, capacity_of, put_list}}
 use Rattle.poll_engine.proofs.worker.InterruptHandler.make_acts.Given as goal
 
 abbrev pub invariant-loop-k : goal.invariant-loop-k

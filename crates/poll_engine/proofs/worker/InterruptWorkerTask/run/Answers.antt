@@ -1,9 +1,8 @@
 use Rattle.std.proofs.{Common.{◌≡◌, ◌∙◌, is_some, refl, ap, rules, arith}, lemmas.Grind.common_steps}
 use Rattle.poll_engine.specs.Trails.{questions}
-use Rattle.poll_engine.proofs.LedgerSteps.{off_is, same_handles, works}
-use Rattle.poll_engine.proofs.Listings.{lists_more, lists_same}
-use Rattle.poll_engine.proofs.worker.InterruptWorkerTask.run.Goals as goal
+use Rattle.poll_engine.proofs.{LedgerSteps.{off_is, same_handles, works}, Listings.{lists_more, lists_same}}
 use Rattle.poll_engine.proofs.worker.InterruptWorkerTask.run.Goals.{in-Some, in_default}
+use Rattle.poll_engine.proofs.worker.InterruptWorkerTask.run.Goals as goal
 
 pub returns : goal.returns
 returns g c =

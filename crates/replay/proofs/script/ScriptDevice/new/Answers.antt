@@ -1,7 +1,5 @@
 use Rattle.std.proofs.Common.{◌∙◌, sym, arith}
-use Rattle.replay.specs.Script.{is_act_of}
-use Rattle.replay.proofs.OpeningFacts.{opened-within}
-use Rattle.replay.proofs.Rows.{filter-long}
+use Rattle.{replay.specs.Script.is_act_of, replay.proofs.{OpeningFacts.opened-within, Rows.filter-long}}
 use Rattle.replay.proofs.script.ScriptDevice.new.Goals as goal
 
 pub of-requires-clause-places : goal.of-requires-clause-places

@@ -1,6 +1,5 @@
 use Rattle.std.proofs.Common.{◌≡◌, ◌<◌, get_or, length, subst, sym, arith}
-use Rattle.replay.specs.ScriptShown.{answer}
-use Rattle.replay.proofs.ScriptFacts.{answer-in-turn, few-packets, kept-more}
+use Rattle.{replay.specs.ScriptShown.answer, replay.proofs.ScriptFacts.{answer-in-turn, few-packets, kept-more}}
 use Rattle.replay.proofs.script.ScriptDeviceDevice.act.Goals as goal
 
 pub play-requires : goal.play-requires

@@ -1,4 +1,4 @@
-use Rattle.std.proofs.{Common.{◌≡◌, ◌∙◌, ◌<◌, inl, inr, sym, arith}, lemmas.Result.err_from_is_err_and}
+use Rattle.std.proofs.{Common.{◌∙◌, inl, inr, sym, arith}, lemmas.Result.err_from_is_err_and}
 use Rattle.replay_rows.proofs.RaisedFacts.{again-empty, again-fault, again-next, again-none}
 use Rattle.replay_rows.proofs.raised.Raising.play_again.Goals as goal
 
