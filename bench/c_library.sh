@@ -27,7 +27,7 @@ trap 'rm -rf "$work"' EXIT
 gcc -std=c11 -O2 -pthread -I "$bench/../include" "$bench/c_library.c" "$work/libfintaqush.a" -o "$work/c_library"
 g++ -O2 -o "$work/fold" "$bench/limits.cc"
 
-for round in 1 2 3; do
+for _ in 1 2 3; do
     "$work/fold" "$times" > "$work/fold.line" 2> "$work/spent"
     cut -d ' ' -f 1 "$work/spent" >> "$work/fold.times"
     for what in limits turns driver driver64 step step64 packets bursts 1 8 32 64; do
@@ -48,7 +48,7 @@ done
 # Two threads meet only while both run: if that is allowed, before all other work of the machine.
 before=
 ! chrt -f 5 true 2> /dev/null || before='chrt -f 5'
-for round in 1 2 3 4 5 6 7 8 9; do
+for _ in 1 2 3 4 5 6 7 8 9; do
     for what in beside apart; do
         $before "$work/c_library" "$what" "$turns" > "$work/$what.line" 2> "$work/spent"
         cut -d ' ' -f 1 "$work/spent" >> "$work/$what.times"

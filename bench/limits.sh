@@ -26,7 +26,7 @@ if command -v clang++ > /dev/null; then
     programs="$programs clang"
 fi
 
-for round in 1 2 3; do
+for _ in 1 2 3; do
     for program in $programs; do
         "$work/$program" "$pairs" > "$work/$program.line" 2> "$work/spent"
         cut -d ' ' -f 1 "$work/spent" >> "$work/$program.times"

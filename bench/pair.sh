@@ -22,7 +22,7 @@ trap 'rm -rf "$work"' EXIT
 "$top/scripts/build.sh" bench_calls
 g++ -std=c++17 -O2 -pthread -o "$work/by_hand" "$top/bench/pair.cc"
 
-for round in 1 2 3 4 5 6 7 8 9; do
+for _ in 1 2 3 4 5 6 7 8 9; do
     pinned 2 "$top/crates/bench_calls/out/bench_calls" 0 "$packets" > "$work/counts" 2>> "$work/times"
     pinned 2 "$work/by_hand" "$packets" >> "$work/counts" 2>> "$work/times"
     if [ "$(cut -d ' ' -f 2- "$work/counts" | uniq | wc -l)" != 1 ]; then

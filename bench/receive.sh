@@ -16,7 +16,7 @@ trap 'rm -rf "$work"' EXIT
 
 "$top/scripts/build.sh" bench_rings
 
-for run in 1 2 3 4 5 6 7 8 9; do
+for _ in 1 2 3 4 5 6 7 8 9; do
     "$top/crates/bench_rings/out/bench_rings" 0 "$rounds" > "$work/counts" 2>> "$work/times"
     if [ "$(cut -d ' ' -f 2- "$work/counts" | uniq | wc -l)" != 1 ]; then
         echo 'the packets are counted otherwise:' >&2

@@ -22,7 +22,8 @@ differs=0
 
 # play NAME TRACE: one line for this trace.
 play() {
-    : > "$scratch/ours" > "$scratch/theirs"
+    : > "$scratch/ours"
+    : > "$scratch/theirs"
     for _ in $(seq "$turns"); do
         "$scratch/measure" "$2" "$scratch/ours.out" "$program" >> "$scratch/ours"
         [ -z "$peer" ] || "$scratch/measure" "$2" "$scratch/theirs.out" "$peer" >> "$scratch/theirs"

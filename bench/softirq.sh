@@ -21,7 +21,7 @@ trap 'rm -rf "$work"' EXIT
 "$top/scripts/build.sh" bench_softirq
 g++ -std=c++17 -O2 -o "$work/by_hand" "$top/bench/softirq.cc"
 
-for round in 1 2 3 4 5 6 7 8 9; do
+for _ in 1 2 3 4 5 6 7 8 9; do
     pinned 1 "$top/crates/bench_softirq/out/bench_softirq" "$rounds" > "$work/counts" 2>> "$work/times"
     pinned 1 "$work/by_hand" "$rounds" > "$work/by_hand.counts" 2>> "$work/by_hand.times"
     if ! cmp -s "$work/counts" "$work/by_hand.counts"; then

@@ -38,7 +38,8 @@ differs=0
 # play DEVICES POLLERS: one line.
 play() {
     local words=(--mode threads --pollers "$2")
-    : > "$scratch/ours" > "$scratch/theirs"
+    : > "$scratch/ours"
+    : > "$scratch/theirs"
     for _ in $(seq "$turns"); do
         "$scratch/measure" "$scratch/$1.csv" "$scratch/ours.out" "$program" "${words[@]}" >> "$scratch/ours"
         "$scratch/measure" "$scratch/$1.csv" "$scratch/theirs.out" "$peer" "${words[@]}" >> "$scratch/theirs"

@@ -34,7 +34,7 @@ run() {
     esac
 }
 
-for round in 1 2 3 4 5 6 7 8 9; do
+for _ in 1 2 3 4 5 6 7 8 9; do
     for program in $programs; do
         run "$program" > "$work/$program.counts" 2>> "$work/$program.times"
         if ! cmp -s "$work/$program.counts" "$work/napi_word.counts"; then

@@ -7,6 +7,7 @@ bench=$(cd "$(dirname "$0")" && pwd)
 # begin VARIABLE CRATE: sets `program` to the program that this variable names, otherwise to that of the crate, which is built
 # first; `scratch` has measure, and is removed at the end.
 begin() {
+    # shellcheck disable=SC2154 # of its caller
     is_count TURNS "$turns"
     is_tool cc
     program=${!1:-}

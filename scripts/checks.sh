@@ -9,6 +9,7 @@ skipped=0
 check() {
     local name=$1
     shift
+    # shellcheck disable=SC2154 # of its caller
     if "$@" > "$scratch/log" 2>&1; then
         passed=$((passed + 1))
     else
@@ -25,6 +26,7 @@ skip() {
     shift
     line="skipped: $(basename "$0" .sh): $what needs"
     for need in "$@"; do
+        # shellcheck disable=SC2154 # of its caller
         if ! packages=$(awk -v need="$need" '$1 == need { sub(/ *#.*/, ""); $1 = ""; print substr($0, 2); found = 1 } END { exit !found }' "$top/tests/needs.txt"); then
             failed=$((failed + 1))
             echo "$(basename "$0" .sh): tests/needs.txt lacks $need, which $what needs"

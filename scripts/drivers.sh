@@ -1,3 +1,4 @@
+# shellcheck shell=bash disable=SC2154,SC2034 # what its caller sets, and what it sets for its caller
 # Sourced by tests of examples/DRIVER, after scripts/checks.sh: `driver` is its name, and `top` the repository.
 over=0
 

@@ -1,5 +1,5 @@
 """scripts/gate.py proofs ROOM [CRATE ..]: passes these crates with those below them, or all, by `rt ci` on a copy in the folder ROOM,
-which hasn't their must-fail edits; what it built scripts/build.py keeps.
+which hasn't their must-fail edits; what it built tools/fintaqush_tools/builds.py keeps.
 scripts/gate.py edits [CRATE ..]: tries the edits of these crates, or of all, over the libraries that stand. After `proofs` nothing is
 built again, even where `rt ci` has taken a proof from an earlier run. What a plain `rt ci` leaves in a checkout isn't used: `rt check` writes
 to the same folders, and nothing there says of which sources a library was made.
@@ -12,7 +12,13 @@ long again. An edit of which nothing is said so, or which changes more than a bo
 is as it was is seen at other functions, or, where none was checked, at one of these without its edit. The last line is
 `N passed, M failed`, the status 1 if any did.
 """
+
+from __future__ import annotations
+
+from collections.abc import Callable, Sequence
+from typing import Any
 import concurrent.futures
+import functools
 import os
 import re
 import shutil
@@ -20,13 +26,18 @@ import subprocess
 import sys
 import tempfile
 
-from build import BUILT, TOP, build, child, crates, end_by, read, sums
+TOP = os.path.dirname(os.path.dirname(os.path.realpath(__file__)))
+sys.path.insert(0, f"{TOP}/tools")
+from fintaqush_tools.builds import Crate, all_crates, build, child, read, run, sums  # noqa: E402
+
+Texts = dict[str, str]  # of files, by path
+Tried = tuple[str, bool, str]  # the name of an edit, whether it passed, and what to print
 
 GONE = "has no field|is not in scope|has no `|was not admitted"  # of what an edit takes away, and a proof names
 HEAD = re.compile(r"^( *)(?:pub(?:\([a-z]+\))? )?(?:const |unsafe |extern \"C\" )*fn (\w+)", re.M)
 
 
-def block_of(text):
+def block_of(text: str) -> str:
     """Returns the prover's name for the `impl` in which this text ends: its type, its trait, and their type arguments, if these aren't
     parameters."""
     generics, head = re.findall(r"^(?:impl|(?:pub )?trait)(<.*?>)? (?=\w)(.*) \{$", text, re.M)[-1]
@@ -39,28 +50,33 @@ def block_of(text):
 class Function:
     """The function that contains a text: its lines, whether the text is in its body, and its name (with its type or its file)."""
 
-    def __init__(self, path, text, at):
+    def __init__(self, path: str, text: str, at: int) -> None:
         head = [it for it in HEAD.finditer(text) if it.start() < at][-1]
-        first = re.search(r"(?:^ *#\[.*\n)*\Z", text[: head.start()], re.M).start()  # with its attributes
-        self.in_body = at >= re.compile(rf"(?:^{head[1]}| )\{{$", re.M).search(text, head.start()).end()
+        first = [it.start() for it in re.finditer(r"(?:^ *#\[.*\n)*\Z", text[: head.start()], re.M)][
+            0
+        ]  # with its attributes
+        self.in_body = at >= next(re.compile(rf"(?:^{head[1]}| )\{{$", re.M).finditer(text, head.start())).end()
         self.end = text.index(f"\n{head[1]}}}\n", head.start())
         self.path, self.first, self.last = path, text.count("\n", 0, first) + 1, text.count("\n", 0, self.end) + 2
         of = block_of(text[: head.start()]) if head[1] else path.rpartition("/")[2].removesuffix(".rt")
         self.name = head[2] if of in ("lib", "main") else f"{of}::{head[2]}"
 
-    def refusal(self, said):
+    def refusal(self, said: str) -> str | None:
         """Returns the prover's first line that says that the function isn't proved: a line about the function or its proof that doesn't
         name something that the edit removed."""
         own = f"/{self.name.replace('::', '/')}/"
-        for line in re.findall(r"^(?:note: )?(?:\./)?(?:src|proofs)/\S+?:\d+:\d+: .*", said, re.M):
-            file, number = re.match(r"(?:note: )?(?:\./)?(\S+?):(\d+)", line).groups()
-            is_own = self.first <= int(number) <= self.last if file == self.path else file.startswith("proofs/") and own in file
+        for line, file, number in re.findall(r"^((?:note: )?(?:\./)?((?:src|proofs)/\S+?):(\d+):\d+: .*)", said, re.M):
+            is_own = (
+                self.first <= int(number) <= self.last
+                if file == self.path
+                else file.startswith("proofs/") and own in file
+            )
             if is_own and ("is not proved" in line or ": error: " in line and not re.search(GONE, line)):
-                return line
+                return str(line)
         return None
 
 
-def function_of(path, text, part):
+def function_of(path: str, text: str, part: str) -> Function | None:
     """Returns the function that contains this part of the file, if it contains all of it."""
     at = text.find(part)
     if text.count(part) != 1 or not HEAD.search(text, 0, at):
@@ -70,7 +86,9 @@ def function_of(path, text, part):
 
 
 class Edit:
-    def __init__(self, crate, file):
+    pairs: list[tuple[str, str, str]]
+
+    def __init__(self, crate: Crate, file: str) -> None:
         self.crate, self.name, self.pairs = crate, os.path.basename(file).removesuffix(".edit"), []
         for line in read(file).splitlines():
             word, _, text = line.partition(": ")
@@ -81,7 +99,7 @@ class Edit:
             elif word in ("new", "new:"):
                 self.pairs.append((path, old, text))
 
-    def apply(self, texts):
+    def apply(self, texts: Texts) -> Texts | None:
         """Returns the texts of the crate's files, by path, with this edit; None if one of its `old:` doesn't occur exactly once there."""
         texts = {**texts}
         for path, old, new in self.pairs:
@@ -90,31 +108,41 @@ class Edit:
             texts[path] = texts[path].replace(old, new)
         return texts
 
-    def function(self, texts):
+    def function(self, texts: Texts) -> Function | None:
         """Returns the function that the edit changes, if it changes nothing else."""
-        functions = [function_of(path, texts.get(path, ""), old) for path, old, _ in self.pairs]
-        if None in functions or len({(it.path, it.first) for it in functions}) > 1:
+        found = [function_of(path, texts.get(path, ""), old) for path, old, _ in self.pairs]
+        functions = [it for it in found if it]
+        if len(functions) < len(found) or len({(it.path, it.first) for it in functions}) > 1:
             return None
         return min(functions, key=lambda it: it.in_body)
 
-    def alone(self, texts):
+    def alone(self, texts: Texts) -> tuple[bool, str]:
         """Tries the edit alone. Returns whether its function, or the crate if there is none, is rejected, and what to print."""
         changed, function = self.apply(texts), self.function(texts)
         names = [function.name] if function else []
-        said, proved = check(self.crate, changed, names) if changed else ("its old text doesn't stand once in its file", None)
+        said, proved = (
+            check(self.crate, changed, names) if changed else ("its old text doesn't stand once in its file", None)
+        )
         lines = re.findall(r"^(?:note: .*|\S+:\d+:\d+: error.*)", said, re.M) or said.splitlines() or [""]
         if proved is None or any(re.match(r"(\./)?(src|specs)/", it) for it in lines):
             return False, f"BAD EDIT, which no contract was tried by: {lines[0]}"
-        return not proved, f"NOT REFUSED: {'its function' if names else 'the crate'} is still proved" if proved else f"refused: {lines[0]}"
+        return (
+            not proved,
+            f"NOT REFUSED: {'its function' if names else 'the crate'} is still proved"
+            if proved
+            else f"refused: {lines[0]}",
+        )
 
 
 class Round:
     """Edits that are tried together, each with its function, and the crate's texts with all of them."""
 
-    def __init__(self, texts):
+    edits: list[tuple[Edit, Function]]
+
+    def __init__(self, texts: Texts) -> None:
         self.texts, self.edits = texts, []
 
-    def takes(self, edit, function):
+    def takes(self, edit: Edit, function: Function) -> bool:
         changed = edit.apply(self.texts)
         if changed is None or any((it.path, it.first) == (function.path, function.first) for _, it in self.edits):
             return False
@@ -122,7 +150,21 @@ class Round:
         return True
 
 
-def check(crate, texts, names):
+def rounds_of(edits: Sequence[Edit], texts: Texts) -> tuple[list[Round], list[Edit]]:
+    """Returns the rounds of these edits, and the edits that have to be tried alone."""
+    rounds: list[Round] = []
+    alone: list[Edit] = []
+    for edit in edits:
+        function = edit.function(texts)
+        if not function or not function.in_body:
+            alone.append(edit)
+        elif not any(it.takes(edit, function) for it in rounds):
+            rounds.append(Round(texts))
+            rounds[-1].takes(edit, function)
+    return rounds, alone
+
+
+def check(crate: Crate, texts: Texts, names: Sequence[str]) -> tuple[str, bool | None]:
     """Runs the prover on these functions of the crate, or on all, with these texts. Returns what it says, and whether it proves them, if it
     says so."""
     with tempfile.TemporaryDirectory(prefix="must-fail-") as room:
@@ -131,7 +173,13 @@ def check(crate, texts, names):
             with open(f"{room}/{path}", "w", encoding="utf-8") as file:
                 file.write(text)
         words = [*crate.words("check", 1), *(word for name in names for word in ("--only", name))]
-        how = {"stdin": subprocess.DEVNULL, "stdout": subprocess.PIPE, "stderr": subprocess.STDOUT, "text": True, "errors": "replace"}
+        how: dict[str, Any] = {
+            "stdin": subprocess.DEVNULL,
+            "stdout": subprocess.PIPE,
+            "stderr": subprocess.STDOUT,
+            "text": True,
+            "errors": "replace",
+        }
         ran = subprocess.run(words, cwd=room, preexec_fn=child, check=False, **how)
     if ran.returncode == 2 and names:  # one that the prover has by another name
         return check(crate, texts, [])
@@ -139,24 +187,17 @@ def check(crate, texts, names):
     return ran.stdout, None if not judged or ran.returncode > 1 else ran.returncode == 0
 
 
-def texts_of(crate):
+def texts_of(crate: Crate) -> Texts:
     """Returns the texts of the crate's files, by path."""
     return {it: read(f"{crate.folder}/{it}") for it in crate.texts()}
 
 
-def try_edits(crate):
+def try_edits(crate: Crate) -> list[Tried]:
     """Yields for each edit of the crate: its name, whether it passed, and what to print."""
-    texts, folder = texts_of(crate), f"{crate.folder}/must-fail"
-    rounds, alone, is_seen = [], [], False
+    texts, folder, is_seen = texts_of(crate), f"{crate.folder}/must-fail", False
     names = sorted(os.listdir(folder))
     told = [(it, False, "BAD EDIT: its name doesn't end in .edit") for it in names if not it.endswith((".edit", ".md"))]
-    for edit in (Edit(crate, f"{folder}/{it}") for it in names if it.endswith(".edit")):
-        function = edit.function(texts)
-        if not function or not function.in_body:
-            alone.append(edit)
-        elif not any(it.takes(edit, function) for it in rounds):
-            rounds.append(Round(texts))
-            rounds[-1].takes(edit, function)
+    rounds, alone = rounds_of([Edit(crate, f"{folder}/{it}") for it in names if it.endswith(".edit")], texts)
     for it in rounds:
         said, proved = check(crate, it.texts, [function.name for _, function in it.edits])
         is_seen |= bool(re.search(r"^fn \S+: proved$", said, re.M))
@@ -167,88 +208,116 @@ def try_edits(crate):
                 alone.append(edit)
     if rounds and not is_seen:
         said, proved = check(crate, texts, [rounds[0].edits[0][1].name])
-        told.append(("a function as it is", proved is True, "proved" if proved else f"NOT PROVED by the same words: {said}"))
+        told.append(
+            ("a function as it is", proved is True, "proved" if proved else f"NOT PROVED by the same words: {said}")
+        )
     told += [(it.name, *it.alone(texts)) for it in alone]
     return [(f"{crate.name}/{name}", well, text) for name, well, text in told]
 
 
-def try_text(crate, file):
+def try_text(crate: Crate, file: str) -> list[Tried]:
     """Returns whether the crate with this edit is rejected with the error that the edit names, before any proof, and what to print."""
-    error, changed = re.search("^error: (.*)$", read(file), re.M)[1], Edit(crate, file).apply(texts_of(crate))
+    error, changed = re.findall("^error: (.*)$", read(file), re.M)[0], Edit(crate, file).apply(texts_of(crate))
     said, proved = check(crate, changed, []) if changed else ("its old text doesn't stand once in its file", None)
     well = f"error[{error}]" in said and proved is None
     lines = re.findall("^.*error.*", said, re.M) or said.splitlines() or [""]
-    return [(os.path.relpath(file, f"{TOP}/crates"), well, f"{'rejected' if well else f'NOT REJECTED by error[{error}]'}: {lines[0]}")]
+    return [
+        (
+            os.path.relpath(file, f"{TOP}/crates"),
+            well,
+            f"{'rejected' if well else f'NOT REJECTED by error[{error}]'}: {lines[0]}",
+        )
+    ]
 
 
-def try_all(tries, below, what):
+def try_all(tries: Sequence[Callable[[], list[Tried]]], below: Sequence[Crate], what: str) -> tuple[int, int]:
     """Makes these calls, up to four at a time, over the libraries of these crates, and prints a line for each result. Returns how many
     passed, and how many failed."""
     build(list(dict.fromkeys(it.name for crate in below for it in crate.all[:-1])))
-    tried = []
+    tried: list[bool] = []
     with concurrent.futures.ThreadPoolExecutor(min(len(os.sched_getaffinity(0)), 4)) as pool:
-        for results in pool.map(lambda call: call[0](*call[1:]), tries):
-            for name, well, text in results:
+        for begun in [pool.submit(call) for call in tries]:
+            for name, well, text in begun.result():
                 print(f"{what} {name}: {text[:200]}", flush=True)
                 tried.append(well)
     return sum(tried), len(tried) - sum(tried)
 
 
-def all_edits(names):
+def named(names: Sequence[str]) -> list[Crate]:
+    """Returns the crates with these names, or all."""
+    known = {it.name: it for it in all_crates()}
+    return [known[name] for name in names or known]
+
+
+def all_edits(names: Sequence[str]) -> tuple[int, int]:
     """Tries the edits of these crates, or of all; those of the largest crate come first."""
-    asked = [it for it in ([crates()[name] for name in names] or crates().values()) if os.path.isdir(f"{it.folder}/must-fail")]
+    asked = [it for it in named(names) if os.path.isdir(f"{it.folder}/must-fail")]
     asked.sort(key=lambda it: -it.size)
-    return try_all([(try_edits, it) for it in asked], asked, "must-fail")
+    return try_all([functools.partial(try_edits, it) for it in asked], asked, "must-fail")
 
 
-def all_texts():
+def all_texts() -> tuple[int, int]:
     """Tries the edits that must not compile."""
-    files = [(it, f"{it.folder}/must-not-compile/{name}") for it in crates().values() if os.path.isdir(f"{it.folder}/must-not-compile")
-             for name in sorted(os.listdir(f"{it.folder}/must-not-compile"))]
-    return try_all([(try_text, *it) for it in files], [it for it, _ in files], "must-not-compile")
+    files = [
+        (it, f"{it.folder}/must-not-compile/{name}")
+        for it in all_crates()
+        if os.path.isdir(f"{it.folder}/must-not-compile")
+        for name in sorted(os.listdir(f"{it.folder}/must-not-compile"))
+    ]
+    return try_all([functools.partial(try_text, *it) for it in files], [it for it, _ in files], "must-not-compile")
 
 
-def prove_all(room, names):
+def keep(crate: Crate, out: str, times: dict[str, int]) -> None:
+    """Keeps what was built of a crate in this folder, from sources of these times."""
+    built = f"{out}/rlib/{crate.name}.rlib" if crate.is_library else f"{out}/{crate.name}"
+    if os.path.exists(built):
+        subprocess.run(["rm", "-rf", crate.made], check=True)
+        os.makedirs(os.path.dirname(crate.made), exist_ok=True)
+        shutil.move(built, crate.made)
+        crate.stands(times)
+
+
+def prove_all(room: str, names: Sequence[str]) -> tuple[int, int]:
     """Runs `rt ci` on a copy of these crates and those below them, or of all, and keeps the libraries that it builds."""
-    asked = [*dict.fromkeys(below for name in names or crates() for below in crates()[name].all)]
+    asked = [*dict.fromkeys(below for crate in named(names) for below in crate.all)]
     listed = {crate.name for crate in asked}
     times = {crate: (crate.sources, crate.times())[1] for crate in asked}
 
-    def left_out(folder, files):
+    def left_out(folder: str, files: list[str]) -> set[str]:
         """Returns the files and folders not to copy. Everything else is copied, because `rt ci` has to see links, and files that no crate
         reads."""
         others = {*files} - (listed if folder == f"{TOP}/crates" else {"crates", "crates.txt", "HANDLES"})
-        is_other = names and folder in (TOP, f"{TOP}/crates")
+        is_other = bool(names) and folder in (TOP, f"{TOP}/crates")
         return {"out", "must-fail", *([".git"] if folder == TOP else []), *(others if is_other else [])}
 
     shutil.copytree(TOP, room, ignore=left_out, symlinks=True, dirs_exist_ok=True)
     if names:
         with open(f"{room}/crates.txt", "w", encoding="utf-8") as file:
-            file.writelines(it for it in read(f"{TOP}/crates.txt").splitlines(True) if re.match(r"\w*", it)[0] in listed)
-    last, how = "", {"stdout": subprocess.PIPE, "stderr": subprocess.STDOUT, "text": True, "errors": "replace"}
-    with subprocess.Popen(["rt", "ci"], cwd=room, preexec_fn=child, **how) as ran:
+            file.writelines(
+                it for it in read(f"{TOP}/crates.txt").splitlines(True) if re.findall(r"^\w*", it)[0] in listed
+            )
+    last, how = "", {"stdout": subprocess.PIPE, "stderr": subprocess.STDOUT, "errors": "replace"}
+    with subprocess.Popen(["rt", "ci"], cwd=room, preexec_fn=child, text=True, **how) as ran:  # type: ignore[call-overload]
         for last in ran.stdout:
             print(last, end="", flush=True)
     for crate in asked:
-        out = f"{room}/crates/{crate.name}/out"
-        built = f"{out}/rlib/{crate.name}.rlib" if crate.is_library else f"{out}/{crate.name}"
-        if os.path.exists(built):
-            subprocess.run(["rm", "-rf", crate.made], check=True)
-            os.makedirs(os.path.dirname(crate.made), exist_ok=True)
-            shutil.move(built, crate.made)
-            crate.stands(times[crate])
+        keep(crate, f"{room}/crates/{crate.name}/out", times[crate])
     sums().keep()
     told = re.match(r"(\d+) passed, (\d+) failed", last)
     passed, failed = map(int, told.groups()) if told else (0, 1)
     return passed, failed or int(ran.returncode != 0)
 
 
-def gate(words):
+def gate(words: Sequence[str]) -> int:
     if words[:1] in (["-h"], ["--help"]):
         print(__doc__, end="", flush=True)
         return 0
     if words[:1] not in (["proofs"], ["edits"], ["uncompiled"]) or words == ["proofs"]:
-        print("scripts/gate.py: the first argument is proofs ROOM, edits or uncompiled; --help says more", file=sys.stderr, flush=True)
+        print(
+            "scripts/gate.py: the first argument is proofs ROOM, edits or uncompiled; --help says more",
+            file=sys.stderr,
+            flush=True,
+        )
         return 64
     if words[0] == "proofs":
         passed, failed = prove_all(words[1], words[2:])
@@ -262,4 +331,4 @@ def gate(words):
 
 
 if __name__ == "__main__":
-    end_by(gate)
+    run(gate, sys.argv[1:])

@@ -4,6 +4,11 @@ Every line that isn't blank counts once: in a crate's `src` as code, contract (a
 comments as none of them; in its `specs`, `proofs` and `must-fail` as they are. The length of a function is that of its body's
 code.
 """
+
+from __future__ import annotations
+
+from collections.abc import Iterator, Mapping, Sequence
+from typing import Optional
 import pathlib
 import re
 import sys
@@ -17,36 +22,44 @@ FUNCTION = re.compile(r'(?:pub(?:\([\w:]+\))? )?(?:const )?(?:unsafe )?(?:extern
 CLAUSE = re.compile(r"(requires|ensures)\b\*? ?(\w+)?")
 GHOST = re.compile(r"(?:pub(?:\([\w:]+\))? )?ghost\b")
 PUBLIC = re.compile(r"pub(?:\([\w:]+\))? (?:struct|enum|union|trait|type) (\w+)")
-DEFINITION = re.compile(r"(?P<words>(?:(?:pub|abbrev|unfoldable|record|data) )*)(?P<name>[^\s(){}:◌]+)(?P<end> :| \(| \{)")
+DEFINITION = re.compile(
+    r"(?P<words>(?:(?:pub|abbrev|unfoldable|record|data) )*)(?P<name>[^\s(){}:◌]+)(?P<end> :| \(| \{)"
+)
 # Names that two crates may have, each with the reason; there is none now. Operators, such as ◌>>=◌, don't count as names.
-SHARED = {}
+SHARED: dict[str, str] = {}
 LITERAL = re.compile(r"""//.*|b?"(?:[^"\\]|\\.)*"|b?'(?:[^'\\]|\\.[^']*)'""")
 
 
 class Crate:
     """The numbers of a crate, and the places that exceed a limit."""
 
-    def __init__(self, name):
+    over: list[str]
+    types: dict[str, str]
+    definitions: dict[str, str]
+
+    def __init__(self, name: str) -> None:
         self.name = name
         self.numbers = dict.fromkeys(COLUMNS, 0)
         self.over = []
-        self.types = {}         # of each public type, and of each definition, its place
+        self.types = {}  # of each public type, and of each definition, its place
         self.definitions = {}
 
-    def count(self, column, number=1):
+    def count(self, column: str, number: int = 1) -> None:
         self.numbers[column] += number
 
-    def reach(self, column, number):
+    def reach(self, column: str, number: int) -> None:
         self.numbers[column] = max(self.numbers[column], number)
 
-    def proofs_to_the_rest(self):
+    def proofs_to_the_rest(self) -> float:
         return ratio(self.numbers)
 
 
 class Function:
     """A function that is being read: where it begins, its nesting depth, and its counts so far."""
 
-    def __init__(self, name, place, depth):
+    clauses: dict[str, list[Optional[str]]]
+
+    def __init__(self, name: str, place: int, depth: int) -> None:
         self.name = name
         self.place = place
         self.depth = depth
@@ -55,43 +68,47 @@ class Function:
         self.clauses = {"requires": [], "ensures": []}
 
 
-def ratio(numbers):
+def ratio(numbers: Mapping[str, int]) -> float:
     rest = numbers["code"] + numbers["contracts"] + numbers["specs"]
     return numbers["proofs"] / rest if rest else 0
 
 
-def lines_of(path):
+def lines_of(path: pathlib.Path) -> list[str]:
     return path.read_text(encoding="utf-8").splitlines()
 
 
-def bare(line):
+def bare(line: str) -> str:
     """Returns the line without string literals, characters and comments."""
     return LITERAL.sub("", line)
 
 
-def balance(line):
+def balance(line: str) -> int:
     return sum(line.count(c) for c in "({[") - sum(line.count(c) for c in ")}]")
 
 
 class Source:
     """A file of a crate's `src`, read line by line."""
 
-    def __init__(self, crate, path):
+    functions: list[Function]
+
+    def __init__(self, crate: Crate, path: pathlib.Path) -> None:
         self.crate = crate
         self.path = path
-        self.is_test = crate.name.startswith(("test_", "uses_")) or any(part.endswith("tests") for part in (crate.name, path.stem, path.parent.name))
+        self.is_test = crate.name.startswith(("test_", "uses_")) or any(
+            part.endswith("tests") for part in (crate.name, path.stem, path.parent.name)
+        )
         self.depth = 0
         self.functions = []
-        self.ghost = 0       # how many brackets of a clause or of a ghost item are open
+        self.ghost = 0  # how many brackets of a clause or of a ghost item are open
         self.in_clause = False
 
-    def read(self):
+    def read(self) -> None:
         for number, line in enumerate(lines_of(self.path), 1):
             text = line.strip()
             if text and not text.startswith("//"):
                 self.take(number, line, text)
 
-    def take(self, number, line, text):
+    def take(self, number: int, line: str, text: str) -> None:
         code = bare(text)
         clause = None if self.ghost else CLAUSE.match(text)
         if clause or self.ghost or GHOST.match(text):
@@ -99,7 +116,7 @@ class Source:
         else:
             self.take_code(number, text, code)
 
-    def take_ghost(self, number, line, code, clause):
+    def take_ghost(self, number: int, line: str, code: str, clause: re.Match[str] | None) -> None:
         self.crate.count("tests" if self.is_test else "contracts")
         if clause:
             self.in_clause = True
@@ -114,7 +131,7 @@ class Source:
         if self.ghost == 0:
             self.in_clause = False
 
-    def take_code(self, number, text, code):
+    def take_code(self, number: int, text: str, code: str) -> None:
         if found := PUBLIC.match(text):
             self.crate.types.setdefault(found[1], f"{self.path}:{number}")
         if found := FUNCTION.match(text):
@@ -127,13 +144,13 @@ class Source:
         while self.functions and self.ends(self.functions[-1], before, code):
             self.close(self.functions.pop())
 
-    def ends(self, function, before, code):
+    def ends(self, function: Function, before: int, code: str) -> bool:
         function.has_body = function.has_body or "{" in code
         if function.has_body:
             return self.depth == function.depth and code.endswith(("}", "},", "});", "};"))
         return self.depth == function.depth and code.endswith(";") and before >= function.depth
 
-    def close(self, function):
+    def close(self, function: Function) -> None:
         if self.is_test:
             return
         self.crate.count("functions")
@@ -146,13 +163,13 @@ class Source:
             if len(names) > 1 and None in names:
                 self.tell(function.place, f"{function.name} has several `{kind}`, and one without a name")
 
-    def tell(self, number, what):
+    def tell(self, number: int, what: str) -> None:
         self.crate.over.append(f"{self.path}:{number}: {what}")
 
 
-def definitions_of(path):
+def definitions_of(path: pathlib.Path) -> Iterator[tuple[str, str]]:
     """Returns the names that a file of `specs` defines, each with its place; fields of a record, constructors and equations don't count."""
-    outer = []  # the columns of the blocks that are open, and whether each is a module
+    outer: list[tuple[int, bool]] = []  # the columns of the blocks that are open, and whether each is a module
     for number, line in enumerate(lines_of(path), 1):
         text = line.strip()
         if not text or text.startswith("--"):
@@ -167,7 +184,7 @@ def definitions_of(path):
         outer.append((column, is_module))
 
 
-def crate_of(folder):
+def crate_of(folder: pathlib.Path) -> Crate:
     crate = Crate(folder.name)
     for path in sorted(folder.rglob("*")):
         part = path.relative_to(folder).parts[0]
@@ -179,23 +196,33 @@ def crate_of(folder):
             Source(crate, path).read()
         elif path.suffix == ".antt":
             if part == "specs":
-                crate.definitions.update({name: place for name, place in definitions_of(path) if name not in crate.definitions})
+                crate.definitions.update(
+                    {name: place for name, place in definitions_of(path) if name not in crate.definitions}
+                )
             crate.count(part, sum(1 for line in lines_of(path) if line.strip()))
-            crate.over += [f"{path}:{number}: it has {len(line)} columns" for number, line in enumerate(lines_of(path), 1) if len(line) > WIDEST_LINE]
+            crate.over += [
+                f"{path}:{number}: it has {len(line)} columns"
+                for number, line in enumerate(lines_of(path), 1)
+                if len(line) > WIDEST_LINE
+            ]
         elif path.suffix == ".edit":
             crate.count("edits")
     return crate
 
 
-def crates():
-    listed = [line.split(":")[0].split()[0] for line in lines_of(pathlib.Path("crates.txt")) if line.strip() and not line.startswith("#")]
+def crates() -> list[Crate]:
+    listed = [
+        line.split(":")[0].split()[0]
+        for line in lines_of(pathlib.Path("crates.txt"))
+        if line.strip() and not line.startswith("#")
+    ]
     return [crate_of(pathlib.Path("crates") / name) for name in listed]
 
 
-def find_shared(all_crates):
+def find_shared(all_crates: Sequence[Crate]) -> None:
     """Finds names with two meanings: the name of a public type or of a definition that another crate has too."""
     for kind in ("types", "definitions"):
-        first = {}
+        first: dict[str, str] = {}
         for crate in all_crates:
             for name, place in getattr(crate, kind).items():
                 if name in first and name not in SHARED:
@@ -203,7 +230,7 @@ def find_shared(all_crates):
                 first.setdefault(name, crate.name)
 
 
-def show(all_crates):
+def show(all_crates: Sequence[Crate]) -> None:
     """Prints the table, and the ratio of the proofs to what they prove."""
     whole = Crate("all")
     for crate in all_crates:
@@ -212,11 +239,15 @@ def show(all_crates):
         for column in COLUMNS[-2:]:
             whole.reach(column, crate.numbers[column])
     print(f"{'':<18}" + "".join(f"{column:>10}" for column in COLUMNS) + "    proofs to the rest")
-    for crate in all_crates + [whole]:
-        print(f"{crate.name:<18}" + "".join(f"{crate.numbers[column]:>10}" for column in COLUMNS) + f"    {crate.proofs_to_the_rest():.2f}")
+    for crate in [*all_crates, whole]:
+        print(
+            f"{crate.name:<18}"
+            + "".join(f"{crate.numbers[column]:>10}" for column in COLUMNS)
+            + f"    {crate.proofs_to_the_rest():.2f}"
+        )
 
 
-def check(all_crates):
+def check(all_crates: Sequence[Crate]) -> int:
     """Checks the limits; each crate counts as a test."""
     find_shared(all_crates)
     for crate in all_crates:

@@ -54,9 +54,10 @@ library_files=("$libdir"/{libfintaqush.a,"libfintaqush.so.$version","libfintaqus
 mapfile -t call_pages < <(python3 -EsSB "$top/scripts/header.py" --names) # a page for each group of calls, and one for each call, which leads there
 library_files+=("${call_pages[@]/#/share/man/man3/}")
 home=lib/fintaqush # where what `fintaqush` runs lies, as in a checkout
-parts=(fintaqush scripts/{build,replay,start,subcommands,words}.py docs/usage.txt examples/{linux-veth-bursts,busy-poll}.csv examples/veth-backlog.rec)
-for file in "$top"/tools/*; do
-    [ ! -f "$file" ] || parts+=("tools/${file##*/}")
+parts=(fintaqush scripts/start.py docs/usage.txt examples/{linux-veth-bursts,busy-poll}.csv examples/veth-backlog.rec)
+package=tools/fintaqush_tools
+for file in "$top/$package"/{,commands/}*.{py,html,json}; do
+    [ ! -f "$file" ] || parts+=("${file#"$top/"}")
 done
 mapfile -t subcommands < <("$top/fintaqush" --names)
 [ "$prefix" = /usr ] && zsh=vendor-completions || zsh=site-functions # where Debian's zsh looks
@@ -79,8 +80,9 @@ if [ -n "$is_uninstall" ]; then
         rm -rf "$package/__pycache__"
         rmdir "$package" 2> /dev/null || true
     done
-    rm -rf "$to/$home"/{tools,scripts}/__pycache__ # Python's, of these files
-    rmdir "$to/$libdir/cmake/Fintaqush" "$to/$guide"/{examples/c,examples,} "$to/$home"/{tools,scripts,programs,docs,examples} "$to/$home" 2> /dev/null || true
+    rm -rf "$to/$home/$package"/{commands/,}__pycache__ # Python's, of these files
+    rmdir "$to/$libdir/cmake/Fintaqush" "$to/$guide"/{examples/c,examples,} "$to/$home/$package"/{commands,} \
+        "$to/$home"/{tools,scripts,programs,docs,examples} "$to/$home" 2> /dev/null || true
     exit 0
 fi
 

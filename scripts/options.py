@@ -1,14 +1,20 @@
 #!/usr/bin/env python3
 """scripts/options.py [--check]: writes what other languages, tools and pages have of the options of napi_machine, from the table in
-crates/machine_model/src/settings.rt: tools/options.json, and in other files the lines between two comments. With --check it writes
+crates/machine_model/src/settings.rt: tools/fintaqush_tools/options.json, and in other files the lines between two comments. With --check it writes
 nothing, and prints each file that isn't so. Exit status: 0; 1 a file isn't so; 64 bad usage.
 """
+
+from __future__ import annotations
 
 import ast
 import json
 import re
 import sys
+from collections.abc import Callable, Iterable, Sequence
 from pathlib import Path
+from typing import Any
+
+Option = dict[str, Any]  # a row of the table
 
 TOP = Path(__file__).resolve().parent.parent
 TABLE = TOP / "crates/machine_model/src/settings.rt"
@@ -16,41 +22,44 @@ FIELDS = ("name", "least", "most", "default", "unit", "what")
 MEMBERS = {"use": "use_time"}  # options whose name is a keyword of a language
 
 
-def table():
+def table() -> list[Option]:
     """Returns the options, each as an object; `member` is its name in structs and in JSON."""
-    rows = re.search(r"pub const OPTIONS: .* = options! \{(.*?)\n\};", TABLE.read_text(), re.S).group(1)
-    options = [dict(zip(FIELDS, row, strict=True)) for row in ast.literal_eval(f"[{rows}]")]
+    found = re.search(r"pub const OPTIONS: .* = options! \{(.*?)\n\};", TABLE.read_text(), re.S)
+    if not found:
+        sys.exit(f"{TABLE}: it has no table of options")
+    options = [dict(zip(FIELDS, row)) for row in ast.literal_eval(f"[{found[1]}]")]
     return [{**option, "member": MEMBERS.get(option["name"], option["name"].replace("-", "_"))} for option in options]
 
 
-def is_flag(option):
+def is_flag(option: Option) -> bool:
     return (option["least"], option["most"], option["unit"]) == (0, 1, "")
 
 
-def described(option):
+def described(option: Option) -> str:
     """Returns what an option is, with its range, its default, and the unit of times."""
     ns = " ns" if option["unit"] == "ns" else ""
     return f"{option['what']}, {option['least']} to {option['most']}{ns} ({option['default']})"
 
 
-def as_json(options):
+def as_json(options: Sequence[Option]) -> str:
     return "[\n" + ",\n".join(f"  {json.dumps(option)}" for option in options) + "\n]\n"
 
 
 # ---- lines of a part
 
-def header(options):
+
+def header(options: Sequence[Option]) -> Iterable[str]:
     wide = max(len(option["member"]) for option in options) + 1
     return [f"    uint32_t {option['member'] + ';':{wide}} /* {described(option)} */" for option in options]
 
 
-def rust(options):
+def rust(options: Sequence[Option]) -> Iterable[str]:
     for option in options:
         what = described(option)
         yield from (f"    /// {what[0].upper()}{what[1:]}.", f"    pub {option['member']}: u32,")
 
 
-def names(options, key):
+def names(options: Sequence[Option], key: str) -> list[str]:
     """Returns the names, quoted, with commas, in lines of at most 120 columns."""
     lines = [""]
     for option in options:
@@ -59,17 +68,17 @@ def names(options, key):
     return [f"        {line.rstrip()}" for line in lines]
 
 
-def manual(options):
+def manual(options: Sequence[Option]) -> Iterable[str]:
     for option in options:
         value = "0|1" if is_flag(option) else "NS" if option["unit"] == "ns" else "N"
         yield from (".TP", f'.BI {escaped("--" + option["name"])} " {value}"', escaped(described(option)))
 
 
-def escaped(text):
+def escaped(text: str) -> str:
     return text.replace("\\", "\\e").replace("-", "\\-")
 
 
-def page(options):
+def page(options: Sequence[Option]) -> Iterable[str]:
     yield from ("| Option | Range | Default | What it is, and the setting of Linux |", "|---|---|---|---|")
     for option in options:
         values = f"{option['least']} to {option['most']} {option['unit']}".rstrip()
@@ -77,7 +86,7 @@ def page(options):
 
 
 # The files with such a part: how its two comments begin and end, and what makes its lines.
-PARTS = {
+PARTS: dict[str, tuple[str, str, Callable[[Sequence[Option]], Iterable[str]]]] = {
     "include/fintaqush.h": ("    /* ", " */", header),
     "bindings/rust/src/sys.rs": ("    // ", "", rust),
     "bindings/python/fintaqush/_library.py": ("        # ", "", lambda options: names(options, "member")),
@@ -87,7 +96,7 @@ PARTS = {
 }
 
 
-def with_part(path, before, after, lines):
+def with_part(path: Path, before: str, after: str, lines: Iterable[str]) -> str:
     """Returns the text of a file with these lines in its part."""
     first, last = (f"{before}scripts/options.py: {end}{after}\n" for end in ("begin", "end"))
     head, _, rest = path.read_text().partition(first)
@@ -97,17 +106,24 @@ def with_part(path, before, after, lines):
     return head + first + "".join(f"{line}\n" for line in lines) + last + tail
 
 
-def main():
+def main() -> int:
     if sys.argv[1:] not in ([], ["--check"]):
         print("usage: scripts/options.py [--check]", file=sys.stderr)
         return 64
     options = table()
-    texts = {TOP / "tools/options.json": as_json(options)}
-    texts.update({TOP / name: with_part(TOP / name, before, after, lines(options)) for name, (before, after, lines) in PARTS.items()})
+    texts = {TOP / "tools/fintaqush_tools/options.json": as_json(options)}
+    texts.update(
+        {
+            TOP / name: with_part(TOP / name, before, after, lines(options))
+            for name, (before, after, lines) in PARTS.items()
+        }
+    )
     differ = [path for path, text in texts.items() if not path.exists() or path.read_text() != text]
     for path in differ:
         if sys.argv[1:]:
-            print(f"{path.relative_to(TOP)} doesn't have the options of {TABLE.relative_to(TOP)}: scripts/options.py writes them")
+            print(
+                f"{path.relative_to(TOP)} doesn't have the options of {TABLE.relative_to(TOP)}: scripts/options.py writes them"
+            )
         else:
             path.write_text(texts[path])
     return 1 if differ and sys.argv[1:] else 0

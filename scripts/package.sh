@@ -41,8 +41,6 @@ DESTDIR=$stage "$top/scripts/install.sh" --python --libdir="$libdir" /usr
 chmod -R u=rwX,go=rX "$stage"
 find "$stage/usr/share/man" -type f -exec gzip -9n {} +
 strip --strip-unneeded "$stage"/usr/lib/fintaqush/programs/*
-# uses Debian's python3, and not one that comes before it on PATH
-find "$stage/usr/lib/fintaqush" -type f -exec sed -i '1s|^#!/usr/bin/env \(-S \)\{0,1\}python3|#!/usr/bin/python3|' {} +
 
 # move PACKAGE PATH ..: moves these files to a package, to the same paths.
 move() {

@@ -2,6 +2,10 @@
 clauses (rattle/FACADE.md), and for each crate its definitions (definitions/CRATE.md). A name in a clause or in a definition links to where
 it is defined. scripts/site.sh begins it: reference.py FOLDER.
 """
+
+from __future__ import annotations
+
+from collections.abc import Iterable, Iterator, Sequence
 import functools
 import html
 import pathlib
@@ -13,26 +17,36 @@ import surface
 TOP = pathlib.Path(__file__).resolve().parent.parent
 FACADES = sorted(page.parent.name for page in (TOP / "crates").glob("*/README.md"))  # only facades have a page
 # A definition at the start of a line, or in a `module _`; not a record's field.
-DEFINED = re.compile(r"^(?:(?:abbrev|pub|unfoldable|record|data) )+([\w-]+)|"
-                     r"^ +(?:pub )?(?:abbrev|unfoldable|record|data) (?:pub )?([\w-]+)|^([\w-]+) :(?: |$)")
+DEFINED = re.compile(
+    r"^(?:(?:abbrev|pub|unfoldable|record|data) )+([\w-]+)|"
+    r"^ +(?:pub )?(?:abbrev|unfoldable|record|data) (?:pub )?([\w-]+)|^([\w-]+) :(?: |$)"
+)
 NAME = re.compile(r"[A-Za-z_][\w-]*")
+Names = dict[str, tuple[str, str]]  # the page and the anchor of each definition
+
+
+def defined_in(line: str) -> str:
+    """Returns the name that a line defines, if it does."""
+    found = DEFINED.match(line)
+    return found[found.lastindex or 0] if found else ""
 
 
 @functools.cache
-def definitions(crate):
+def definitions(crate: str) -> dict[str, list[str]]:
     """Returns the module of each definition in a crate's specs/, by the definition's name; both modules if two definitions have one
     name."""
-    found = {}
+    found: dict[str, dict[str, bool]] = {}
     for path in sorted((TOP / "crates" / crate / "specs").glob("*.antt")):
         for line in path.read_text().splitlines():
-            if is_defined := DEFINED.match(line):
-                found.setdefault(is_defined[is_defined.lastindex], {})[path.stem] = True
+            if name := defined_in(line):
+                found.setdefault(name, {})[path.stem] = True
     return {name: list(modules) for name, modules in found.items()}
 
 
-def paths_of(tree, before=()):
+def paths_of(tree: str, before: tuple[str, ...] = ()) -> Iterator[tuple[str, ...]]:
     """Yields the whole paths that a `use` names, for example A.B.C for `A.{B.{C}, D}`."""
-    depth, part, parts = 0, "", []
+    depth, part = 0, ""
+    parts: list[str] = []
     for letter in tree + ",":
         depth += (letter == "{") - (letter == "}")
         if letter == "," and not depth:
@@ -46,35 +60,52 @@ def paths_of(tree, before=()):
 
 
 @functools.cache
-def scope(path):
+def scope(path: pathlib.Path) -> Names:
     """Returns the page and anchor of each definition that a file uses or contains."""
-    found = {}
+    found: Names = {}
     text, crate = path.read_text(), path.parts[-3]
     for tree in re.findall(r"^ *(?:ghost )?use ([^;\n]*);?$", text, re.M):
         for names in paths_of(tree):
             if len(names) > 4 and names[0] == "Rattle" and names[2] == "specs" and names[3] != "declared":
                 found[names[-1]] = (names[1], f"{names[3]}.{names[-1]}")
     if path.suffix == ".antt":
-        found.update({name: (crate, f"{path.stem}.{name}") for name, modules in definitions(crate).items() if path.stem in modules})
-    return {name: (crate, at) for name, (crate, at) in found.items() if at.partition(".")[0] in definitions(crate).get(name, ())}
+        found.update(
+            {
+                name: (crate, f"{path.stem}.{name}")
+                for name, modules in definitions(crate).items()
+                if path.stem in modules
+            }
+        )
+    return {
+        name: (crate, at)
+        for name, (crate, at) in found.items()
+        if at.partition(".")[0] in definitions(crate).get(name, ())
+    }
 
 
-def linked(line, names, way, is_own=None):
+def linked(line: str, names: Names, way: str, is_own: str | None = None) -> str:
     """Returns a line of code as HTML. Names link to their definitions; the name that the line itself defines is the anchor."""
-    def one(found):
+
+    def one(found: re.Match[str]) -> str:
         name = found[0]
         if name == is_own:
             return f'<b id="{names[name][1]}">{name}</b>'
         return f'<a href="{way}{names[name][0]}.html#{names[name][1]}">{name}</a>' if name in names else name
+
     line = re.sub(r"\[(`[^`]*`)\]\([\w:]+\)", r"\1", line)  # a link in a `///`
     code, mark, remark = line.partition("--" if is_own is not None else "//")
     return NAME.sub(one, html.escape(code, quote=False)) + html.escape(mark + remark, quote=False)
 
 
-def definition_page(crate):
+def definition_page(crate: str) -> Iterator[str]:
     has_page = (TOP / "crates" / crate / "README.md").exists()
     name = f"[{crate}](../../crates/{crate}/README.md)" if has_page else crate
-    yield from (f"# Definitions of {crate}", "", f"The definitions that contracts of {name} cite, module by module.", "")
+    yield from (
+        f"# Definitions of {crate}",
+        "",
+        f"The definitions that contracts of {name} cite, module by module.",
+        "",
+    )
     for path in sorted((TOP / "crates" / crate / "specs").glob("*.antt")):
         if path.stem == "Lib":
             continue
@@ -82,12 +113,12 @@ def definition_page(crate):
         yield from ("<pre><code>" + "\n".join(definition_lines(path)) + "</code></pre>", "")
 
 
-def definition_lines(path):
-    names, shown = scope(path), set()
+def definition_lines(path: pathlib.Path) -> Iterator[str]:
+    names = scope(path)
+    shown: set[str] = set()
     text = re.sub(r"^use .*\n", "", path.read_text(), flags=re.M)  # links take their place
     for line in text.splitlines():
-        is_defined = DEFINED.match(line)
-        name = is_defined and is_defined[is_defined.lastindex]
+        name = defined_in(line)
         own = name if name in names and names[name][1] == f"{path.stem}.{name}" and name not in shown else ""
         shown.add(own)
         yield linked(line, names, "", own)
@@ -96,7 +127,11 @@ def definition_lines(path):
 class Facade:
     """The page of a facade's items, each with its `impl`s. An item has the anchor NAME, a method of a type TYPE.NAME."""
 
-    def __init__(self, facade):
+    anchors: set[str]
+    contents: list[tuple[str, str]]
+    lines: list[str]
+
+    def __init__(self, facade: str) -> None:
         self.facade, self.anchors, self.contents, self.lines = facade, set(), [], []
         for crate, alias, found in surface.surface(facade):
             self.lines += [f"## {crate}" + (f": {alias[1]}, re-exported as {alias[0]}" if alias else ""), ""]
@@ -111,27 +146,34 @@ class Facade:
             for other in blocks:
                 self.block(*other)
 
-    def anchor(self, name):
+    def anchor(self, name: str) -> str:
         at = next(at for at in (name, *(f"{name}-{n}" for n in range(2, 99))) if at not in self.anchors)
         self.anchors.add(at)
         return at
 
-    def show(self, path, doc, code):
+    def show(self, path: pathlib.Path, doc: Sequence[str], code: Sequence[str]) -> None:
         depth = len(code[0]) - len(code[0].lstrip())
-        lines = [linked(line[depth:] if not line[:depth].strip() else line, scope(path), "../definitions/") for line in code]
-        self.lines += [*(re.sub(r"^ */// ?", "", line) for line in doc), "", "<pre><code>" + "\n".join(lines) + "</code></pre>", ""]
+        lines = [
+            linked(line[depth:] if not line[:depth].strip() else line, scope(path), "../definitions/") for line in code
+        ]
+        self.lines += [
+            *(re.sub(r"^ */// ?", "", line) for line in doc),
+            "",
+            "<pre><code>" + "\n".join(lines) + "</code></pre>",
+            "",
+        ]
 
-    def item(self, path, lines):
+    def item(self, path: pathlib.Path, lines: Sequence[str]) -> str:
         """Adds a function, type, trait or constant; returns its name."""
         first = next(at for at, line in enumerate(lines) if not line.startswith("///"))
-        name = surface.ITEM.match(lines[first])[2]
+        name = str(surface.ITEM.findall(lines[first])[0][1])
         at = self.anchor(name)
         self.contents.append((at, name))
         self.lines += [f'<h3 id="{at}">{name}</h3>', ""]
         self.show(path, lines[:first], lines[first:-1])
         return name
 
-    def block(self, path, lines):
+    def block(self, path: pathlib.Path, lines: Sequence[str]) -> None:
         """Adds an `impl` with its methods."""
         head, type_of = lines[0], surface.type_of(lines[0])
         self.lines += [f'<h4 id="{self.anchor("impl." + type_of)}"><code>{html.escape(head)}</code></h4>', ""]
@@ -141,9 +183,10 @@ class Facade:
             self.show(path, doc, code)
 
     @staticmethod
-    def parts(lines):
+    def parts(lines: Sequence[str]) -> Iterator[tuple[list[str], list[str]]]:
         """Yields pairs of a `///` and the lines of code below it, up to an empty line."""
-        doc, code = [], []
+        doc: list[str] = []
+        code: list[str] = []
         for line in [*lines, ""]:
             if line.strip() and not (line.lstrip().startswith("///") and not code):
                 code.append(line)
@@ -153,30 +196,35 @@ class Facade:
                 yield doc, code
                 doc, code = [], []
 
-    def resolve(self, found):
+    def resolve(self, found: re.Match[str]) -> str:
         """Returns a link of a `///` to an item as a link to its place on this page, if it is there."""
         at = found[2].removeprefix("crate::").replace("::", ".")
         return f"[{found[1]}](#{at})" if at in self.anchors else found[1]
 
-    def page(self):
+    def page(self) -> Iterator[str]:
         yield from (f"# {self.facade}: all public items", "")
-        yield from (f"Each item that the facade [{self.facade}](../../crates/{self.facade}/README.md) exports, with its comment, signature "
-                    "and clauses; a name in a clause links to its definition. `requires` is what a caller has to prove, `ensures` what the "
-                    "call guarantees. The part below a crate's name comes from this crate.", "")
+        yield from (
+            f"Each item that the facade [{self.facade}](../../crates/{self.facade}/README.md) exports, with its comment, signature "
+            "and clauses; a name in a clause links to its definition. `requires` is what a caller has to prove, `ensures` what the "
+            "call guarantees. The part below a crate's name comes from this crate.",
+            "",
+        )
         yield from (" · ".join(f"[{name}](#{at})" for at, name in self.contents), "")
         text = "\n".join(self.lines)
         yield re.sub(r"\[(`[^`\n]*`)\]\(([\w:]+)\)", self.resolve, text)
 
 
-def write(path, lines):
+def write(path: pathlib.Path, lines: Iterable[str]) -> None:
     path.parent.mkdir(parents=True, exist_ok=True)
     path.write_text("\n".join(lines) + "\n")
 
 
-def main(folder):
+def main(folder: pathlib.Path) -> None:
     for facade in FACADES:
         write(folder / "rattle" / f"{facade}.md", Facade(facade).page())
-    for crate in sorted(path.parent.parent.name for path in (TOP / "crates").glob("*/specs/*.antt") if path.stem != "Lib"):
+    for crate in sorted(
+        path.parent.parent.name for path in (TOP / "crates").glob("*/specs/*.antt") if path.stem != "Lib"
+    ):
         write(folder / "definitions" / f"{crate}.md", definition_page(crate))
 
 

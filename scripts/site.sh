@@ -212,6 +212,7 @@ relink() {
 show() {
     local place form=gfm nav=$scratch/nav-$BASHPID.html
     place=$(place_of "$1")
+    # shellcheck disable=SC2209 # a word
     [ "${1##*.}" = md ] || form=man
     mkdir -p "$new/$(dirname "$place")"
     sed "s|@UP@|$(way_up "$place")|g" "$scratch/menus" > "$nav"

@@ -1,8 +1,9 @@
-"""What the programs in Python begin with: the Python that they need, and the version of Fintaqush. Any Python 3 can parse this file, so that
-one which is too old can say so. As a program it starts a file of this folder, in this process.
+"""Starts the command, the launcher or the build, with a Python that is new enough. Any Python 3 can parse this file, so that one which is
+too old can say so.
 
-    start.py replay|build [ARGUMENT ..]
+    start.py fintaqush|replay|build [ARGUMENT ..]
 """
+
 import os
 import sys
 
@@ -10,34 +11,36 @@ OLDEST = (3, 9)
 TOP = os.path.dirname(os.path.dirname(os.path.realpath(__file__)))
 
 
-def lacking():
+def lacking() -> str:
     """Returns a message if this Python is too old."""
     now = tuple(sys.version_info[:2])
     return "" if now >= OLDEST else "it needs Python %d.%d or later, and python3 is %d.%d" % (OLDEST + now)
 
 
-def version():
-    """Returns the version: an installation has it in a file, a checkout in the C header."""
-    kept = os.path.join(TOP, "version")
-    if os.path.exists(kept):
-        with open(kept) as file:
-            return file.read().strip()
-    with open(os.path.join(TOP, "include", "fintaqush.h")) as file:
-        return next(line.split('"')[1] for line in file if line.startswith("#define FQ_VERSION "))
+def end(status: int, line: str) -> None:
+    """Ends with a message on standard error."""
+    if sys.stderr is not None:
+        sys.stderr.write(line + "\n")
+    sys.exit(status)
 
 
-def main():
+def main(what: str, words: "list[str]") -> None:
+    called = "fintaqush" if what == "fintaqush" else os.environ.get("FINTAQUSH_NAME", "replay")
     if lacking():
-        sys.stderr.write("%s: %s\n" % (os.environ.get("FINTAQUSH_NAME", "replay"), lacking()))
-        sys.exit(69)
-    sys.path.insert(0, os.path.join(TOP, "scripts"))  # which `python3 -I` leaves out
-    if sys.argv.pop(1) == "replay":
-        import replay
-        replay.main()
-    else:
-        import build
-        build.main()
+        end(1 if what == "fintaqush" else 69, "%s: %s" % (called, lacking()))
+    sys.path.insert(0, os.path.join(TOP, "tools"))
+    try:
+        if what == "fintaqush":
+            from fintaqush_tools.cli import start
+        elif what == "replay":
+            from fintaqush_tools.replay import start
+        else:
+            from fintaqush_tools.builds import start
+    except (ImportError, MemoryError) as error:
+        is_of_memory = isinstance(error, MemoryError) or "failed to map" in str(error)
+        end(1, "%s: %s" % (called, "there isn't enough memory" if is_of_memory else error))
+    start(words)
 
 
 if __name__ == "__main__":
-    main()
+    main(sys.argv[1], sys.argv[2:])

@@ -32,6 +32,7 @@ fetch_image() {
     local image=~/.cache/fintaqush/linux-image room name names
     [ ! -d "$image" ] || return 0
     room=$(mktemp -d)
+    # shellcheck disable=SC2064 # the folder of now
     trap "rm -rf '$room'" EXIT
     name=$(depends linux-image-cloud-amd64 | grep '^linux-image-') || stop 70 'there is no package linux-image-cloud-amd64'
     mapfile -t names < <({ echo "$name"; depends "$name"; } | sort -u)

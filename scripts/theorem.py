@@ -1,6 +1,10 @@
 """The definitions that the theorem of docs/ASSURANCE.md cites: the files that define what "The headline" of crates/napi_calls/README.md names or
 what the types of its values use, and all files that these import, with their lines. Prints a file in each line, and the sum last.
 """
+
+from __future__ import annotations
+
+from collections.abc import Iterator
 import pathlib
 import re
 
@@ -9,16 +13,20 @@ import reference
 TOP = reference.TOP
 
 
-def imports(path):
+def imports(path: pathlib.Path) -> Iterator[pathlib.Path]:
     """Yields the files of definitions in this repository that a file uses."""
     for tree in re.findall(r"^(?:ghost )?use ([^;\n]*);?$", path.read_text(), re.M):
         for names in reference.paths_of(tree):
-            file = TOP / "crates" / "/".join(names[1:3]) / f"{names[3]}.antt" if names[0] == "Rattle" and len(names) > 3 else None
+            file = (
+                TOP / "crates" / "/".join(names[1:3]) / f"{names[3]}.antt"
+                if names[0] == "Rattle" and len(names) > 3
+                else None
+            )
             if file and names[2] == "specs" and file.exists():
                 yield file
 
 
-def roots():
+def roots() -> Iterator[pathlib.Path]:
     """Yields the files that define what the headline names, and those that the types of its values use."""
     crate = TOP / "crates/napi_calls"
     named = set(re.findall(r"`(\w+)`", (crate / "README.md").read_text().split("## The headline")[1].split("\n## ")[0]))
@@ -27,9 +35,10 @@ def roots():
     yield from imports(crate / "src/types.rt")
 
 
-def cited():
+def cited() -> dict[pathlib.Path, int]:
     """Returns the lines of each file that the theorem cites, by the file."""
-    found, more = {}, list(roots())
+    found: dict[pathlib.Path, int] = {}
+    more = list(roots())
     while more:
         path = more.pop()
         if path not in found:

@@ -326,8 +326,8 @@ refuses_machine_settings() {
             [ "$? $(cat "$scratch/line")" = "1 FQ_BAD_SETTING $number" ] && [ ! -s "$scratch/printed" ] || { echo "$name=$value"; return 1; }
         done
         for value in "$least" "$most"; do as_napi_machine "$top/crates/napi_machine/stdin" "$name=$value" || { echo "$name=$value"; return 1; }; done
-    done < <(python3 -c 'import sys; sys.path.insert(0, sys.argv[1]); import machine_report
-for name, (least, most, _) in machine_report.OPTIONS.items(): print(name, least, most)' "$top/tools")
+    done < <(python3 -c 'import sys; sys.path.insert(0, sys.argv[1]); from fintaqush_tools import machine
+for name, (least, most, _) in machine.OPTIONS.items(): print(name, least, most)' "$top/tools")
     [ "$number" = 21 ]
 }
 

@@ -11,7 +11,8 @@ trap 'rm -rf "$scratch"' EXIT
 export XDG_CACHE_HOME=$scratch/cache
 
 mkdir -p "$scratch"/low/{scripts,crates/{low,one}/{src,must-fail}} "$scratch/room"
-cp "$top"/scripts/{build,gate}.py "$scratch/low/scripts"
+cp "$top"/scripts/{start,gate}.py "$scratch/low/scripts"
+cp -r "$top/tools" "$scratch/low"
 cp "$top/HANDLES" "$scratch/low"
 printf '%s:\n' low one > "$scratch/low/crates.txt"
 cat > "$scratch/low/crates/low/src/lib.rt" << 'END'
@@ -57,7 +58,7 @@ check 'and the other, and they are counted' [ "$(tail -n 1 "$scratch/out") $stat
 check 'without its edits' [ ! -e "$scratch/room/crates/low/must-fail" ]
 check 'the library is kept' [ -e "$(echo "$scratch"/cache/fintaqush/*/low.rlib/format)" ]
 needs_no_build() {
-    touch -d 2000-01-01 "$scratch"/cache/fintaqush/*/low.rlib/format && [ -z "$(python3 -EsSB "$scratch/low/scripts/build.py" low 2>&1)" ]
+    touch -d 2000-01-01 "$scratch"/cache/fintaqush/*/low.rlib/format && [ -z "$(python3 -EsSB "$scratch/low/scripts/start.py" build low 2>&1)" ]
 }
 check 'and stands for later builds, however old its files are' needs_no_build
 gate edits low one || status=$?

@@ -143,9 +143,9 @@ subcommand_starts() {
 names_nothing_else() { [ "$(ls "$1/bin" | paste -s -d ' ')" = 'fintaqush napi_machine napi_replay napi_serial napi_series' ]; }
 
 # subcommands_work BIN: what they do with the installed programs, and what they read.
+# shellcheck disable=SC2046,SC2086,SC2128,SC2178 # words
 subcommands_work() {
     local trace=$top/examples/linux-veth-bursts.csv words='--budget 16 --weight 8' f=$1/fintaqush
-    # shellcheck disable=SC2086 # words
     "$f" raise "$trace" $words > raised.csv && "$1/napi_serial" $words < raised.csv | grep '^total .* work 15245 ' &&
         "$f" compare "$trace" --raise $words -- --budget 300 > table && "$f" plot "$trace" --json | grep -q '^{' &&
         "$f" steps "$top/examples/two-packets.csv" --out page.html && "$f" sweep "$top/examples/bursts.csv" --out rows.csv &&
@@ -202,6 +202,7 @@ pages_are_whole() {
 # has_version FILE: it contains the header's version, and no other.
 has_version() { [ "$(grep -oE '(Fintaqush |^version = "|^## )[0-9]+\.[0-9]+\.[0-9]+' "$1" | sed 's/.*[ "]//' | head -n 1)" = "$version" ]; }
 
+# shellcheck disable=SC2046 # words
 check 'the programs are built' "$top/scripts/build.sh" $("$top/scripts/install.sh" --programs)
 for file in CHANGELOG.md bindings/rust/Cargo.toml docs/man/*; do
     check "the version in $file" has_version "$top/$file"

@@ -26,7 +26,8 @@ tries() {
     done 3<&0 < /dev/null
 }
 replay() { timeout --foreground 300 "$launcher" "$@"; }
-judged() { PYTHONPATH=$top/scripts python3 -Bc 'import sys, words; print(words.judge(sys.argv[1:]))' "$@"; }
+judged() { PYTHONPATH=$top/tools python3 -Bc 'import sys; from fintaqush_tools import settings; print(settings.judge(sys.argv[1:]))' "$@"; }
+# shellcheck disable=SC2120 # called by eval
 built() { replay trace.csv "$@" > made 2>&1; }
 on_terminal() { python3 -c 'import os, pty, sys; sys.exit(os.waitstatus_to_exitcode(pty.spawn(sys.argv[1:])))' "$@" < /dev/null; }
 as_nobody() { if [ "$(id -u)" = 0 ]; then setpriv --reuid=65534 --regid=65534 --clear-groups "$@"; else "$@"; fi; }
@@ -54,8 +55,8 @@ signalled() {
 # does what LOOKS says before.
 small_checkout() {
     rm -rf "$small" bin
-    mkdir -p "$small"/{.git,tools,docs,include} bin
-    cp -r "$top/replay" "$top/scripts" "$small/"
+    mkdir -p "$small"/{.git,docs,include} bin
+    cp -r "$top/replay" "$top/scripts" "$top/tools" "$small/"
     cp "$top/docs/usage.txt" "$small/docs"
     cp "$top/include/fintaqush.h" "$small/include"
     [ $# != 0 ] || set -- low: side: 'high: low  # a note' wide:low apart:low 'napi_serial: high side csv' 'napi_replay: high side wide'
@@ -66,7 +67,6 @@ small_checkout() {
         : > "$small/crates/${row%%:*}/src/$kind.rt"
     done
     printf '#!/bin/sh\neval "${DOES:-}"\necho "${NAME:-${0##*/}} $*"\ncat\n' > "$small/program"
-    printf '#!/bin/sh\nsed "s/^/json /"\n' > "$small/tools/report2json"
     cat > bin/rt << END
 #!/bin/sh
 case \$1 in
@@ -87,7 +87,7 @@ case \$new in *.rlib.new) mkdir "\$new"; new=\$new/format ;; esac
 echo > "\$new"
 END
     printf '#!/bin/sh\ncp "%s" "$6"\n' "$small/program" > bin/rattle-link
-    chmod +x bin/* "$small/program" "$small/tools/report2json"; truncate -s 0 rt.log KIT-ID
+    chmod +x bin/* "$small/program"; truncate -s 0 rt.log KIT-ID
 }
 
 header=moment,device,event,value
@@ -160,7 +160,7 @@ words that the program refuses % replay --budget 0 $two % 64 usage fault 64|repl
 a whole number, 1..=65535 (see ./replay --help)
 a closed output % $launcher $two >&- % 4 output fault 15 OutputFailed
 a full one % $launcher --json $two 2>&1 > /dev/full | tail -n 1; (exit \${PIPESTATUS[0]}) % 4 replay: the report couldn't be written as JSON
-a report as JSON % $launcher --json $two | cmp - <($launcher $two | $top/tools/report2json) % 0 
+a report as JSON % $launcher --json $two | cmp - <($launcher $two | $top/fintaqush json) % 0 
 the kernel's log ends in a line % replay /proc/kmsg % *@(trace fault 1 BadHeader row 0*|replay: /proc/kmsg: a read of it failed|\
 replay: /proc/kmsg: it can't be read: operation not permitted)
 END
@@ -176,6 +176,8 @@ unproved='replay: this was an UNPROVED run; the proof goes on. Ctrl-C leaves wha
 export slow='sleep 1' # so that the answer of an unproved run is there before the proof
 high_fails='[ $name != high ] || { echo error: not proved; exit 1; }'
 c_is_killed='[ $name != c ] || ! mkdir ../../killed || kill -9 $$'
+export reports='cat > /dev/null; echo total devices 0; exit'
+json='{"line": "total", "devices": 0}'
 export fails='cat > /dev/null; echo trace fault 4 BadEvent row 1 >&2; exit 2'
 small_checkout
 tries << END
@@ -267,7 +269,7 @@ help has words, versions, an example and statuses % replay -h % 0 usage:*,2 for 
 an unproved run replays and says so, without rt's lines % replay --unproved trace.csv --weight 9 % 0 replay: an unproved run: *|rt: a hint|\
 replay: this was an UNPROVED run|napi_serial --weight 9|$header
 a program that is killed has a line % DOES='kill -9 \$\$' replay trace.csv % 137 replay: napi_serial ended with status 137, and no line*
-a full disk keeps no JSON back % (ulimit -S -f 0; exec $launcher --json trace.csv) | cat % 0 json napi_serial |json $header
+a full disk keeps no JSON back % (ulimit -S -f 0; DOES=\$reports exec $launcher --json trace.csv) | cat % 0 $json
 what acts on a terminal reaches none % replay \$'none\e[31m' % 66 replay: \$'none?033[[]31m': there is no such file
 in a fault's line % DOES=\$fails replay \$'bad\e[31m\u202e.csv' % 2 *|replay: \$'bad?033[[]31m?342?200?256.csv' line 2, *
 where two traces are named % replay - \$'bad\e[31m.csv' % 66 replay: two traces are named, - and \$'bad?033[[]31m.csv': *
@@ -301,7 +303,7 @@ END
 built
 for how in '' --unproved; do
     tries << END
-the report as JSON $how % replay --json $how trace.csv 2> made % 0 json napi_serial |json $header
+the report as JSON $how % DOES=\$reports replay --json $how trace.csv 2> made % 0 $json
 but no fault $how % DOES=\$fails replay --json $how bad.csv 2> made % 2 
 a cause for standard input $how % DOES=\$fails replay $how < bad.csv % 2 *replay: standard input line 2, '0,1,Rx,9': $events*
 for a FIFO $how % DOES=\$fails replay $how <(cat bad.csv) % 2 *replay: /dev/fd/* line 2, '0,1,Rx,9': $events*

@@ -95,6 +95,7 @@ build() {
 # other property is broken only by a cycle that violates it, or by a state that does, which spin writes as an assertion of the
 # property.
 search() {
+    # shellcheck disable=SC1007 # empty
     local property=${2%=*} text= words log=$scratch/$1/$2.log breaks='acceptance cycle|assertion violated  !\( !\('
     words=(./search -a -f -N "$property")
     [ "$property" = "$2" ] || text=${2#*=}

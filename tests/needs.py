@@ -37,7 +37,7 @@ def is_here(need):
     ends = {"matplotlib": "x.png", "dygraphs": "x.html"}
     if need not in ends:
         return shutil.which(need) is not None
-    look = f"import sys; sys.path.insert(0, {str(TOP / 'tools')!r}); import drawing; drawing.check_library({ends[need]!r})"
+    look = f"import sys; sys.path.insert(0, {str(TOP / 'tools')!r}); from fintaqush_tools import pictures; pictures.check_library({ends[need]!r})"
     return subprocess.run([sys.executable, "-BES", "-c", look], capture_output=True, check=False).returncode == 0
 
 

@@ -9,20 +9,22 @@ import functools
 import os
 import pathlib
 import re
-import runpy
 import shutil
 import subprocess
+import sys
 import tempfile
 
 import needs
 
 TOP = pathlib.Path(__file__).resolve().parent.parent
+sys.path.append(str(TOP / "tools"))
+from fintaqush_tools import cli  # noqa: E402
+
 LIST = TOP / "tests/commands.txt"
 LONGEST = 900  # seconds; nothing is judged by its time
 PROGRAMS = set("""rt cc gcc g++ clang clang++ c++ make cmake ctest cargo rustc python3 bash sh awk sbatch trace-cmd apt apt-get git cp mv rm
     mkdir cd printf echo cat head pkg-config valgrind man ip ethtool taskset tcpdump parallel perf sudo export curl ns3 tar diff
     fintaqush napi_machine napi_replay napi_series napi_serial""".split())
-SUBCOMMANDS = runpy.run_path(str(TOP / "scripts/subcommands.py"))["FILES"]
 FOLDERS = r"(?:\./|\.\./)*(?:bench|crates|bindings|examples|scripts|tests|tools)/[\w./-]+"
 SETTINGS = re.compile(r"^([A-Z_]+=\S+ )+")
 SYNOPSIS = re.compile(r"\[[A-Z-]| \.\.(?: |$)|\.\.\]| \| -|[A-Z]\|[A-Z]")
@@ -55,7 +57,7 @@ def begins_a_command(text):
     words = SETTINGS.sub("", text).split()
     if not words:
         return False
-    if words[0] == "fintaqush" and len(words) == 2 and words[1] in SUBCOMMANDS:
+    if words[0] == "fintaqush" and len(words) == 2 and words[1] in cli.MODULES:
         return False  # the name of a subcommand
     if words[0] in PROGRAMS or re.match(r"\./(replay|test|fintaqush)$", words[0]):
         return True
@@ -69,9 +71,7 @@ def plain(line):
 
 def listed_as(command):
     """A command as commands.txt has it: a subcommand is listed as it is called in a checkout, however a page calls it."""
-    program, _, words = command.partition(" ")
-    name = next((name for name, file in SUBCOMMANDS.items() if program == f"tools/{file}"), None)
-    return f"./{command}" if program == "fintaqush" else f"./fintaqush {name} {words}" if name else command
+    return f"./{command}" if command.startswith("fintaqush ") else command
 
 
 def blocks(text):
@@ -172,8 +172,10 @@ def synopsis(command):
     """What is wrong with a synopsis: each of its options has to be in the program's usage text; for a built one in the
     launcher's."""
     name, *words = re.sub(r"^(\./|\.\./)+", "", SETTINGS.sub("", command)).split()
-    if name == "fintaqush" and words[0] in SUBCOMMANDS:
-        name = "replay" if words[0] == "replay" else f"tools/{SUBCOMMANDS[words[0]]}"
+    if name == "fintaqush" and words[0] in cli.MODULES:
+        text = cli.module_of(words[0]).parser().format_help()
+        yield from (f"{command}: {name} tells nothing of {option}" for option in re.findall(r"--[\w-]+", command) if option not in text)
+        return
     path = TOP / ("docs/usage.txt" if name == "replay" or name.startswith("napi_") else name)
     if name != "rt" and not path.is_file():
         yield f"{command}: there is no {name}"

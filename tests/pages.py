@@ -316,7 +316,7 @@ def made_of_options():
 def options_of_linux():
     """Each option in OPERATORS' table of Linux's settings exists; and each that sets what Linux sets is there: all but the sizes of the
     machine, the costs, and the window, which Linux doesn't have."""
-    known = {f"--{option['name']}" for option in json.loads((TOP / "tools/options.json").read_text())}
+    known = {f"--{option['name']}" for option in json.loads((TOP / "tools/fintaqush_tools/options.json").read_text())}
     own = {"--processors", "--socket", "--window", "--app-wake", "--interrupt", "--poll", "--packet", "--use", "--wake"}
     table = (TOP / "docs/OPERATORS.md").read_text().partition("## Which setting does what")[2].partition("\n## ")[0]
     named = {option for row in table.splitlines() for option in re.findall(r"`(--[\w-]+)[ `]", row.rpartition(" | ")[2])}
@@ -340,7 +340,7 @@ def checks():
     for check, name in ((lengths, "README.md"), (places, "docs/WORKING.md"), (scripts_told, "docs/WORKING.md"), (assurance, "docs/ASSURANCE.md"), (door_rules, "crates.txt"),
                         (crate_picture, "docs/pictures/crates.dot")):
         yield TOP / name, check(TOP / name)
-    yield TOP / "tools/options.json", made_of_options()
+    yield TOP / "tools/fintaqush_tools/options.json", made_of_options()
     yield TOP / "docs/OPERATORS.md", options_of_linux()
     yield from site_pages.checks(pages())
     yield from () if "--static" in sys.argv else commands(pages() + site_pages.MANUALS)

@@ -7,8 +7,8 @@
 set -u
 cd "$(dirname "$(dirname "$(readlink -f "${BASH_SOURCE[0]}")")")" || exit 1
 programs=(napi_machine napi_replay napi_series napi_serial)
-stale=$(python3 -B -c 'import sys; sys.path.insert(0, "scripts"); import build
-print(*(it for it in sys.argv[1:] if not build.crates()[it].is_built()))' "${programs[@]}") || stale=${programs[*]}
+stale=$(python3 -B -c 'import sys; sys.path.insert(0, "tools"); from fintaqush_tools import builds
+print(*(it for it in sys.argv[1:] if not builds.crates()[it].is_built()))' "${programs[@]}") || stale=${programs[*]}
 if [ "${1:-}" = --static ]; then
     echo 'left out by --static: the commands of the pages'
 elif [ -n "$stale" ]; then

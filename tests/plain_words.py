@@ -10,7 +10,7 @@ import subprocess
 
 TOP = pathlib.Path(__file__).resolve().parent.parent
 # Files that are searched, apart from this one.
-NAMES = re.compile(r"\.(rt|antt|rs|c|h|cc|hpp|cpp|py|sh|md)$|^(tools/[\w-]+|test|fintaqush|replay)$")
+NAMES = re.compile(r"\.(rt|antt|rs|c|h|cc|hpp|cpp|py|sh|md)$|^(test|fintaqush|replay)$")
 # A pattern, what to write instead, a line that it finds, and one that it leaves alone.
 WORDS = (
     (r"\bbehind\b(?! (all )?others| (a|an|the) (reference|pointer|lock|firewall|proxy)\b)", "after, below, at the end of",

@@ -97,7 +97,6 @@ def c_text():
         arguments = ", ".join(c_type(one) for one in types) or "void"
         yield same(name, f"&{name}", f"{c_type(answer)} (*)({arguments})")
     for name, fields in structs():
-        at = 0
         yield f"struct rust_{name} {{"
         for field, rust in fields:
             base, _, rest = c_type(rust).partition("[")

@@ -137,7 +137,7 @@ chmod +x "$scratch/kit/bin"/*
 says_that_it_builds() {
     "$top/scripts/fresh_clone.sh" "$scratch/clone" && rm -f "$scratch"/clone/fintaqush/crates/*/out/*
     (cd "$scratch/clone/fintaqush" && cp tests/tools/soft-tcp.csv mine.csv && cp tests/tools/soft-tcp.work mine.work &&
-        env -i PATH="$scratch/kit/bin:$PATH" HOME="$scratch/clone/home" timeout 10 tools/compare-recording mine --budget 300) > "$scratch/out" 2>&1
+        env -i PATH="$scratch/kit/bin:$PATH" HOME="$scratch/clone/home" timeout 10 ./fintaqush compare-recording mine --budget 300) > "$scratch/out" 2>&1
     grep -q 'proving and building napi_serial' "$scratch/out"
 }
 check 'compare-recording without a built program says that it builds' says_that_it_builds
@@ -151,13 +151,13 @@ tells_no_untruth() {
     done
 }
 ends_in_a_line() {
-    mkdir -p "$scratch/begins" && cp -r "$top/replay" "$top/scripts" "$scratch/begins"
-    echo "raise $1" > "$scratch/begins/scripts/csv.py"
+    mkdir -p "$scratch/begins" && cp -r "$top/replay" "$top/scripts" "$top/tools" "$scratch/begins"
+    echo "$1" > "$scratch/begins/tools/csv.py"
     ! "$scratch/begins/replay" --version 2> "$scratch/out" && [ "$(cat "$scratch/out")" = "replay: $2" ]
 }
 check 'too few descriptors are no missing python3' tells_no_untruth
-check 'the launcher is interrupted as it begins' ends_in_a_line KeyboardInterrupt interrupted
-check 'it is out of memory as it begins' ends_in_a_line MemoryError 'out of memory'
+check 'the launcher is interrupted as it begins' ends_in_a_line 'import os; os.kill(os.getpid(), 2)' interrupted
+check 'it is out of memory as it begins' ends_in_a_line 'raise MemoryError' "there isn't enough memory"
 
 # A gate of one crate, whose prover is a shell with the prover's name.
 mkdir -p "$scratch/rt-edit-x"

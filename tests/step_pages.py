@@ -1,4 +1,4 @@
-"""step_pages.py KEPT MADE: whether a page of docs/steps in the repository is the one that tools/steps made now: its rows, states, sentences and
+"""step_pages.py KEPT MADE: whether a page of docs/steps in the repository is the one that fintaqush steps made now: its rows, states, sentences and
 links."""
 import sys
 from pathlib import Path

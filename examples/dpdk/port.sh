@@ -1,3 +1,4 @@
+# shellcheck shell=bash disable=SC2154,SC2034 # what its caller sets, and what it sets for its caller
 # examples/dpdk/port.sh, sourced: the driver on DPDK's port over a TAP device, which it makes in the namespace of the load.
 
 # start_port MODE [OPTION ..]: starts the driver on a port whose device is fq0. DPDK's main thread may run on each processor

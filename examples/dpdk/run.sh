@@ -18,6 +18,7 @@ drive
 echo "the other end: sent $tx received $rx"
 check 'what the other end sent the card received' [ "$tx" = "$(is in)" ]
 check 'what the card received was polled' [ "$(is in)" = "$(is packets)" ]
+# shellcheck disable=SC1010 # the function done
 check 'what was answered was sent, and told complete once' [ "$(is answered) $(is sent) $(is in_flight)" = "$(is done) $(is done) 0" ]
 check 'what was sent the card sent' [ "$(is sent) 0" = "$(is out) $(is errors)" ]
 check 'what the card sent the other end received' [ "$(is out)" = "$rx" ]

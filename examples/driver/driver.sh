@@ -1,3 +1,4 @@
+# shellcheck shell=bash disable=SC2154,SC2034 # what its caller sets, and what it sets for its caller
 # examples/driver/driver.sh, sourced by a driver's run.sh: namespaces, which are removed with the script that made them; the
 # loads; and the checks, a line `ok` or `WRONG` each; the first WRONG ends the script. PATIENCE: how many seconds it waits for
 # each condition.

@@ -1,3 +1,4 @@
+# shellcheck shell=bash disable=SC2154,SC2034 # what its caller sets, and what it sets for its caller
 # examples/virtio/vm.sh, sourced: a virtual machine with a virtio card, whose other end is a TAP device in a namespace.
 # Settings: BUILT, a folder in which build.sh has built; CPUS, the number of processors (2); KERNEL, a folder into which
 # Debian's kernel packages were unpacked (~/.cache/fintaqush/linux-image, or what is installed). The image is

@@ -30,6 +30,7 @@ echo "the other end: sent $tx received $rx"
 check 'what the other end sent the card passed on or dropped' [ "$tx" = $((passed + dropped)) ]
 check 'what the card passed on was polled' [ "$passed" = $(($(is packets) + $(is left))) ]
 check 'what it dropped the socket had no room for' [ "$dropped" = $(($(is dropped) + $(is ring_full))) ]
+# shellcheck disable=SC1010 # the function done
 check 'what was answered was sent, and told complete once' [ "$(is answered) $(is sent) $(is in_flight)" = "$(is done) $(is done) 0" ]
 check 'what was sent the card sent or dropped' [ "$(is sent)" = $((sent + lost)) ]
 check 'what the card sent the other end received' [ "$sent" = "$rx" ]

@@ -25,12 +25,13 @@ HERE = Path(__file__).resolve().parent
 TOP = HERE.parent.parent
 sys.path[:0] = [str(TOP / "tools"), str(HERE)]
 
-import toolbox  # noqa: E402
-import predicting  # noqa: E402
+from fintaqush_tools import predicting  # noqa: E402
+from fintaqush_tools.commands import costs  # noqa: E402
+from fintaqush_tools.errors import Refusal  # noqa: E402
 import rig  # noqa: E402
-from receiving import Receiving  # noqa: E402
-from recording import check_lost, events_in  # noqa: E402
-from timeline import BACKLOG  # noqa: E402
+from fintaqush_tools.receiving import Receiving  # noqa: E402
+from fintaqush_tools.recording import check_lost, events_in  # noqa: E402
+from fintaqush_tools.timeline import BACKLOG  # noqa: E402
 from rig import Setting, Traffic  # noqa: E402
 
 TIMES = 3  # that each setting is recorded
@@ -106,11 +107,9 @@ def values_of(setting, recorded):
 
 
 def costs_of(path):
-    """The costs of a recording, by tools/costs."""
-    done = subprocess.run([sys.executable, "-BES", TOP / "tools" / "costs", path, "--json"], capture_output=True, text=True, check=False)
-    if done.returncode:
-        raise rig.Failed(done.stderr.strip() or "tools/costs failed")
-    return {name.replace("_", "-"): cost["value"] for name, cost in json.loads(done.stdout)["costs"].items()}
+    """The costs of a recording."""
+    found = costs.object_in(str(path), [])["costs"]
+    return {name.replace("_", "-"): cost["value"] for name, cost in found.items()}
 
 
 class Recordings:
@@ -297,7 +296,7 @@ def check_here(program, folder, numbers, total):
         group = GROUPS[place]
         try:
             kept, own, lines = recorded_group(program, group, until)
-        except (rig.Failed, toolbox.Refusal, OSError) as error:
+        except (rig.Failed, Refusal, OSError) as error:
             total.skip(f"{group.base.name}, and what is predicted from it: needs a quiet machine: {error}")
             continue
         print(*own, sep="\n", flush=True)

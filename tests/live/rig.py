@@ -1,5 +1,5 @@
 """The rig of tests/live.sh: veth pairs between two network namespaces, a sender and a receiver that run at SCHED_FIFO on
-separate processors, and a recording by tools/record. It restores every setting that it changes.
+separate processors, and a recording by fintaqush record. It restores every setting that it changes.
 """
 
 import contextlib
@@ -12,7 +12,7 @@ from dataclasses import dataclass, field
 from pathlib import Path
 
 HERE = Path(__file__).resolve().parent
-RECORD = HERE.parent.parent / "tools" / "record"
+COMMAND = HERE.parent.parent / "fintaqush"
 PORT = 9000
 SENDS, RECEIVES = 2, 3  # the processors: of the sender, and of the receiver with what polls for it
 QUIET_TRIES = 30
@@ -59,7 +59,7 @@ class Setting:
 
 @dataclass
 class Recorded:
-    """The result of a recording: the file of tools/record, when each packet was read, and how late the sender was."""
+    """The result of a recording: the file of fintaqush record, when each packet was read, and how late the sender was."""
 
     path: Path
     reads: list  # (the packet's number, when it was read, in ns), in this order
@@ -212,18 +212,18 @@ class Rig:
         return process
 
     def recorder(self, path):
-        """The running tools/record, called as a user would."""
+        """The running fintaqush record, called as a user would."""
         names = range(1, self.setting.devices + 1)
-        process = subprocess.Popen([RECORD, "1", "--netns", self.into, "--processors", f"{SENDS},{RECEIVES}", "--program", "receiver", "--out", path,
+        process = subprocess.Popen([COMMAND, "record", "1", "--netns", self.into, "--processors", f"{SENDS},{RECEIVES}", "--program", "receiver", "--out", path,
                                     *(word for name in names for word in ("--device", f"vb{name}", "--sender", f"va{name}"))],
                                    stdout=subprocess.DEVNULL, stderr=subprocess.PIPE, text=True)
         self.undo.callback(process.wait)
         self.undo.callback(process.kill)
         said = [""]
-        while not said[-1].startswith("record: recording"):
+        while not said[-1].startswith("fintaqush record: recording"):
             said.append(process.stderr.readline())
             if not said[-1]:
-                raise Failed(f"tools/record doesn't record: {said[-2].strip()[:200]}")
+                raise Failed(f"fintaqush record doesn't record: {said[-2].strip()[:200]}")
         return process
 
     def record(self, path):
@@ -240,7 +240,7 @@ class Rig:
             raise Failed("the receiver failed")
         said_by_record = recorder.stderr.read()
         if recorder.wait():
-            raise Failed(f"tools/record failed: {said_by_record.strip()[:200]}")
+            raise Failed(f"fintaqush record failed: {said_by_record.strip()[:200]}")
         late = int(re.match(r"sent \d+ failed \d+ latest (\d+)", said)[1])
         reads = [tuple(map(int, line.split(","))) for line in read.read_text(encoding="ascii").splitlines()] if receiver else []
         return Recorded(path, reads, late, taken)

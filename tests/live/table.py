@@ -10,8 +10,7 @@ import sys
 from pathlib import Path
 
 from live import GROUPS, judged, read_kept
-import predicting
-from drawing import LIGHT, canvas, saved
+from fintaqush_tools.pictures import LIGHT, canvas, saved
 
 BEGIN, END = "<!-- predicted and measured: begin -->", "<!-- predicted and measured: end -->"
 NAMES = {"dropped": "packets dropped", "polls": "polls", "runs": "runs", "squeezed": "squeezed runs",

@@ -1,25 +1,23 @@
-"""Tests of tools/advise, on recordings generated from given costs. Expected values are computed by hand."""
+"""Tests of fintaqush advise, on recordings generated from given costs. Expected values are computed by hand."""
 
 import contextlib
 import json
 import os
 import re
-import runpy
 import shutil
 import subprocess
-import sys
 import types
 import unittest
 
 import timing
 from timing import Made
-from tooltest import HAS_MACHINE, TOP, InFolder, keys_of, run, skip_without
+from tooltest import HAS_MACHINE, InFolder, keys_of, run, skip_without
 
-sys.path.insert(0, str(TOP / "tools"))
-import advising  # noqa: E402
-import predicting  # noqa: E402
-from receiving import Receiving  # noqa: E402
-from recording import events_of  # noqa: E402
+from fintaqush_tools import advice, predicting
+from fintaqush_tools.commands import advise
+from fintaqush_tools.errors import Refusal
+from fintaqush_tools.receiving import Receiving
+from fintaqush_tools.recording import events_of
 
 COSTS = {"interrupt": 1700, "poll": 2600, "packet": 410, "wake": 3300, "use": 5200, "app-wake": 2450, "read": 900}
 HEAD = {"clock": "tsc", "seconds": "1.000000", "events": "napi/napi_poll", "lost": 0, "device": "vb1", "netns": "receiver", "sender": "va1",
@@ -29,7 +27,7 @@ HEAD = {"clock": "tsc", "seconds": "1.000000", "events": "napi/napi_poll", "lost
 
 
 def file_of(made, **changes):
-    """Returns what tools/record would write for this recording."""
+    """Returns what fintaqush record would write for this recording."""
     text = made if isinstance(made, str) else made.text()
     head = {**HEAD, "lines": len(text.splitlines()), **changes}
     return "fintaqush-recording 1\n" + "".join(f"{name} {value}\n" for name, value in head.items() if value != "") + "trace\n" + text
@@ -164,7 +162,7 @@ class Advise(InFolder):
         done = self.advised(file_of(overloaded(), **{**BACKLOG, "sysctl.net.core.netdev_max_backlog": 9}), status=1)
         self.assertIn("the fit is poor\n", done.stdout)
         self.assertNotIn("advice:", done.stdout)
-        self.assertRegex(done.stderr, r"^advise: .*x\.rec: the prediction of the recorded setting is poor, so there is no advice\n$")
+        self.assertRegex(done.stderr, r"^fintaqush advise: .*x\.rec: the prediction of the recorded setting is poor, so there is no advice\n$")
 
     def test_a_fit_without_the_wait_of_its_goal(self):
         """Of three packets one is sent 1 ms late, by its event: which packet was in which poll isn't known, so there is no wait to compare."""
@@ -179,7 +177,7 @@ class Advise(InFolder):
             done = self.advised(text, *words, status=1)
             self.assertIn("the fit is unknown: no wait was measured, because which packet was in which poll isn't known\n", done.stdout)
             self.assertNotIn("advice:", done.stdout)
-            self.assertRegex(done.stderr, "^advise: .*x.rec: no wait was measured, .*, so there is no advice for this goal; --goal cpu and --goal drops need no wait\n$")
+            self.assertRegex(done.stderr, "^fintaqush advise: .*x.rec: no wait was measured, .*, so there is no advice for this goal; --goal cpu and --goal drops need no wait\n$")
         self.assertNotIn("the fit is unknown", self.advised(text, "--goal", "cpu", status=1).stdout)  # of which polls are compared
 
     def test_other_tasks(self):
@@ -239,7 +237,7 @@ class Advise(InFolder):
                 ("PERFILE2 and so on\n", "this is the file of `perf record`")):
             done = self.advised(text, status=1)
             self.assertEqual((done.stdout, done.stderr.count("\n")), ("", 1), done.stderr)
-            self.assertTrue(done.stderr.startswith("advise: ") and why in done.stderr, done.stderr)
+            self.assertTrue(done.stderr.startswith("fintaqush advise: ") and why in done.stderr, done.stderr)
 
     def test_words_that_it_refuses(self):
         for words in (["--goal", "speed"], ["--max-drops", "-1"], ["--p99-below", "0"], ["--plot", "x.pdf"], ["--packets", "1"]):
@@ -336,12 +334,11 @@ class Seen(unittest.TestCase):
     def test_few_drops(self):
         """Three drops predicted for none, of 1000 packets, are 30 % of a hundredth of them. The line has the difference and what it was divided by."""
         self.assertEqual((predicting.error_of("dropped", 0, 3, 1000), predicting.error_of("dropped", 200, 210, 1000)), (30, 5))
-        advise = runpy.run_path(str(TOP / "tools/advise"))
-        line, = advise["check_lines"]([("dropped", 3, 1, predicting.error_of("dropped", 3, 1, 500))], 500)
+        line, = advise.check_lines([("dropped", 3, 1, predicting.error_of("dropped", 3, 1, 500))], 500)
         self.assertRegex(line, r"^  dropped +3 +1 +-2   judged as -20\.0 % of 10, because a ratio of few says nothing$")
-        line, = advise["check_lines"]([("dropped", 200, 210, 5.0)], 1000)
+        line, = advise.check_lines([("dropped", 200, 210, 5.0)], 1000)
         self.assertRegex(line, r"^  dropped +200 +210 +\+5\.0 %$")
-        self.assertEqual([each["of"] for each in advise["objects_in"]([("dropped", 3, 1, -20.0), ("polls", 50, 51, 2.0)], 500)], [10, 50])
+        self.assertEqual([each["of"] for each in advise.objects_in([("dropped", 3, 1, -20.0), ("polls", 50, 51, 2.0)], 500)], [10, 50])
 
 
 @unittest.skipUnless(os.geteuid() == 0 and shutil.which("ip"), "root")
@@ -360,7 +357,7 @@ class Setting(InFolder):
 
     def test_it_is_set_and_restored(self):
         """Also if the code in between fails, and if a later change fails."""
-        machine = advising.Machine({"netns": self.netns, "online": "0-3", "program": "none"}, "vb1", 1)
+        machine = advice.Machine({"netns": self.netns, "online": "0-3", "program": "none"}, "vb1", 1)
         now = {"defer-hard-irqs": 0, "gro-flush-timeout": 0, "threaded": 0, "ring": 256, "rx-nsecs": 0, "apart": 0}
         changes = machine.changes({**now, "defer-hard-irqs": 2, "gro-flush-timeout": 50000}, now)
         names = ("napi_defer_hard_irqs", "gro_flush_timeout")
@@ -368,13 +365,13 @@ class Setting(InFolder):
             self.assertEqual([self.value(name) for name in names], ["2", "50000"])
             raise KeyError
         self.assertEqual([self.value(name) for name in names], ["0", "0"])
-        impossible = [*changes, advising.Change("sysfs", "mtu", "much", "1500")]
-        with self.assertRaises(advising.Refusal), machine.with_changes(impossible):
+        impossible = [*changes, advice.Change("sysfs", "mtu", "much", "1500")]
+        with self.assertRaises(Refusal), machine.with_changes(impossible):
             self.fail("it was set")
         self.assertEqual([self.value(name) for name in (*names, "mtu")], ["0", "0", "1500"])
 
     def test_the_lines_that_are_printed_set_it(self):
-        machine = advising.Machine({"netns": self.netns, "online": "0-3", "program": "none"}, "vb1", 1)
+        machine = advice.Machine({"netns": self.netns, "online": "0-3", "program": "none"}, "vb1", 1)
         now = {"defer-hard-irqs": 0, "gro-flush-timeout": 0, "threaded": 0, "ring": 256, "rx-nsecs": 0, "apart": 0}
         for change in machine.changes({**now, "defer-hard-irqs": 3, "gro-flush-timeout": 20000}, now):
             subprocess.run(["sh", "-c", machine.line_of(change)], check=True)

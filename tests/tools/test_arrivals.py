@@ -4,10 +4,9 @@ import gzip
 import re
 import struct
 import subprocess
-import unittest
 
 import test_tools
-from tooltest import HAS_MACHINE, HERE, MACHINE, TOP, InFolder, run
+from tooltest import HAS_MACHINE, HERE, MACHINE, TOP, InFolder, run, START
 
 HEADER = "moment,device,bytes\n"
 
@@ -77,7 +76,7 @@ class FromPcap(Arrivals):
         rows, notes, _ = self.made("from-pcap", bytes(text + group), "--to", "02:00:00:00:00:01")
         self.assertEqual(rows, ["0,1,60", "50,1,90", "899,1,62"])
         self.assertEqual(notes, ["device 1 is 02:00:00:00:00:01, 3 packets", "no row: multicasts, 1", "no row: packets that don't come in, 1"])
-        piped = subprocess.run(["sh", "-c", 'cat recorded | "$0" -BES "$1" - piped --arrivals --to 02:00:00:00:00:01', "python3", HERE.parent.parent / "tools/from-pcap"],
+        piped = subprocess.run(["sh", "-c", 'cat recorded | "$0" "$@"', *START, "from-pcap", "-", "piped", "--arrivals", "--to", "02:00:00:00:00:01"],
                                cwd=self.folder, capture_output=True, text=True, check=False)
         self.assertEqual((piped.stderr, (self.folder / "piped.csv").read_text()), ("", (self.folder / "made.csv").read_text()))
 
@@ -203,7 +202,7 @@ class FromFtrace(Arrivals):
         report = self.taken(text, "--queues", "2")
         self.assertEqual(re.findall(r"^device (\d) arrived (\d)", report, re.M), [("1", "3"), ("2", "1")])
         without = run("from-ftrace", "-", self.folder / "none", "--arrivals", "--flows", text=self.of_a_card("napi_gro_receive_entry"))
-        self.assertEqual((without.returncode, without.stderr), (1, "from-ftrace: -: --flows: only the event napi_gro_receive_entry has the hash of a packet's "
+        self.assertEqual((without.returncode, without.stderr), (1, "fintaqush from-ftrace: -: --flows: only the event napi_gro_receive_entry has the hash of a packet's "
                                                                 "flow; of a capture fintaqush from-pcap computes it\n"))
         self.assertEqual(run("from-ftrace", "-", self.folder / "none", "--flows", text="").returncode, 2)
 
@@ -223,7 +222,7 @@ class FromFtrace(Arrivals):
         done = run("from-ftrace", "-", self.folder / "none", "--pair", "peer:eth0", text=self.of_a_card("napi_gro_receive_entry", "netif_receive_skb"))
         self.assertEqual((done.returncode, done.stderr.count("\n")), (1, 1))
         done = run("from-ftrace", "-", self.folder / "none", "--device", "eth7", text=self.of_a_card())
-        self.assertEqual(done.stderr, "from-ftrace: -: no packet of eth7 is received in it; those that receive are: eth0\n")
+        self.assertEqual(done.stderr, "fintaqush from-ftrace: -: no packet of eth7 is received in it; those that receive are: eth0\n")
 
     def test_recordings_that_it_refuses(self):
         """Each fails with one line, and no file is written."""
@@ -246,7 +245,7 @@ class FromFtrace(Arrivals):
             (self.folder / "recorded").write_bytes(changed if isinstance(changed, bytes) else changed.encode())
             done = run("from-ftrace", "recorded", "made", "--arrivals", folder=self.folder)
             self.assertEqual((done.returncode, done.stdout, done.stderr.count("\n"), self.names()), (1, "", 1, ["recorded"]), done.stderr)
-            self.assertTrue(done.stderr.startswith("from-ftrace: recorded: "), done.stderr)
+            self.assertTrue(done.stderr.startswith("fintaqush from-ftrace: recorded: "), done.stderr)
             self.assertIn(why, done.stderr)
 
     def test_a_recording(self):

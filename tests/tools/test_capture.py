@@ -1,4 +1,4 @@
-"""Tests of how tools/from-pcap reads captures: reading records gives the same result as tcpdump's text."""
+"""Tests of how fintaqush from-pcap reads captures: reading records gives the same result as tcpdump's text."""
 
 import os
 import random
@@ -82,7 +82,7 @@ class Captures(InFolder):
         self.assertGreater(len(rows), 200)
         (self.folder / "captured").write_bytes(capture_of(1)[:-3])
         done = run("from-pcap", "captured", "made", "--arrivals", folder=self.folder, path="/none")
-        self.assertEqual((done.stderr, done.returncode), ("from-pcap: captured: it needs tcpdump, which isn't on PATH (Debian: apt install tcpdump)\n", 1))
+        self.assertEqual((done.stderr, done.returncode), ("fintaqush from-pcap: captured: it needs tcpdump, which isn't on PATH (Debian: apt install tcpdump)\n", 1))
 
     def test_the_longest_packets_are_rows(self):
         """Without tcpdump: a packet of 65,535 bytes is a row, and longer ones are counted in the notes."""

@@ -1,4 +1,4 @@
-"""Tests of tools/costs, on recordings generated from given costs, and on real ones with plain searches in their lines."""
+"""Tests of fintaqush costs, on recordings generated from given costs, and on real ones with plain searches in their lines."""
 
 import json
 import random
@@ -135,7 +135,7 @@ class Costs(InFolder):
         self.assertIn("polls of several devices are combined: eth0, eth1; --device takes those of one\n", more)
 
     def test_the_interrupts_of_another_card(self):
-        """A disk's interrupt ends 20 ns before each softirq; the card's, 50 ns earlier, requested it. tools/record knows the card's."""
+        """A disk's interrupt ends 20 ns before each softirq; the card's, 50 ns earlier, requested it. fintaqush record knows the card's."""
         text = "".join(line if "softirq_entry: vec=3" not in line else self.disk(line) + line for line in recorded(2100, 1500, 330).splitlines(True))
         lines = [line for line in text.splitlines(True)]
         head = "fintaqush-recording 1\nlost 0\nlines {}\ndevice eth0\npolled eth0\ndevice.eth0.irq.25.name eth0-rx-0\n{}trace\n"
@@ -293,7 +293,7 @@ class Modelled(InFolder):
         chance = random.Random(1)
         done = run("costs", "-", text=made(lambda work: 20_000 // work))
         self.assertEqual((done.returncode, done.stdout), (1, ""))
-        self.assertEqual(done.stderr, "costs: -: what a packet costs isn't known: over 200 polls of 1 to 3 packets the time doesn't grow with them (the line explains "
+        self.assertEqual(done.stderr, "fintaqush costs: -: what a packet costs isn't known: over 200 polls of 1 to 3 packets the time doesn't grow with them (the line explains "
                          "0 % of how the times differ): record more varied traffic, on a processor that does nothing else\n")
         done = run("costs", "-", text=made(lambda work: chance.randrange(1000, 90_000)))
         self.assertTrue("doesn't grow with them" in done.stderr or "can't be distinguished from 0" in done.stdout)

@@ -4,14 +4,12 @@ that they replace."""
 import os
 import stat
 import subprocess
-import sys
 import unittest.mock
 from pathlib import Path
 
-from tooltest import HEADER, HERE, REPLAY, TOP, InFolder, run
+from tooltest import HEADER, HERE, REPLAY, START, TOP, InFolder, run
 
-sys.path.insert(0, str(TOP / "tools"))
-import toolbox  # noqa: E402
+from fintaqush_tools import errors, files
 
 TEXT = "a line\n" * 5000
 
@@ -25,7 +23,7 @@ class Replaced(InFolder):
         for mode in (0o600, 0o640, 0o644, 0o664, 0o444, 0o400, 0o755):
             old = self.write("old", "old\n")
             old.chmod(mode)
-            toolbox.write_whole(str(old), TEXT)
+            files.write_whole(str(old), TEXT)
             self.assertEqual((old.read_text(), oct(self.mode(old))), (TEXT, oct(mode)))
             old.unlink()
         old = self.write("old.csv", "old\n")
@@ -33,7 +31,7 @@ class Replaced(InFolder):
         done = run("traffic", "--out", old)
         self.assertEqual((done.stderr, oct(self.mode(old)), old.read_text()[: len(HEADER)]), ("", oct(0o600), HEADER))
         for mask, mode in ((0o022, 0o644), (0o077, 0o600), (0o002, 0o664)):
-            done = subprocess.run(["sh", "-c", f'umask {mask:o}; exec "$0" "$@"', sys.executable, "-BES", TOP / "tools/traffic", "--out",
+            done = subprocess.run(["sh", "-c", f'umask {mask:o}; exec "$0" "$@"', *START, "traffic", "--out",
                                    self.folder / f"new{mask}"], capture_output=True, check=False)
             self.assertEqual((done.stderr, oct(self.mode(self.folder / f"new{mask}"))), (b"", oct(mode)))
 
@@ -48,7 +46,7 @@ class Replaced(InFolder):
             handle = really_open(path, *words, **others)
             seen.append(stat.S_IMODE(os.fstat(handle).st_mode))
             return handle
-        with unittest.mock.patch("os.open", watched), toolbox.whole_file(str(old)) as new:
+        with unittest.mock.patch("os.open", watched), files.WholeFile(str(old)) as new:
             Path(new).write_text("half of it")
             seen.append(self.mode(Path(new)))
         self.assertGreaterEqual(len(seen), 2)
@@ -72,9 +70,9 @@ class Replaced(InFolder):
         by_name = [unittest.mock.patch(f"os.{name}", put(name, getattr(os, name))) for name in ("replace", "rename", "link")]
         self.write("old", "old\n")
         with unittest.mock.patch("os.fsync", synced), by_name[0], by_name[1], by_name[2]:
-            toolbox.write_whole(str(self.folder / "old"), TEXT)
-            toolbox.write_all({str(self.folder / name): text for name, text in (("first", TEXT), ("second", "short\n"))})
-            with toolbox.whole_file(str(self.folder / "drawn")) as new:  # written by another program
+            files.write_whole(str(self.folder / "old"), TEXT)
+            files.write_all({str(self.folder / name): text for name, text in (("first", TEXT), ("second", "short\n"))})
+            with files.WholeFile(str(self.folder / "drawn")) as new:  # written by another program
                 subprocess.run(["sh", "-c", 'printf text > "$0"', new], check=True)
         sizes = {"old": len(TEXT), "first": len(TEXT), "second": 6, "drawn": 4}
         self.assertEqual([each[2] for each in events if each[0] != "fsync"], list(sizes))
@@ -91,10 +89,10 @@ class AllOrNone(InFolder):
         self.write("captured", self.CAPTURED)
         for tool, words in (("from-pcap", ["captured", "made"]), ("from-pcap", ["captured", "made", "--arrivals"]),
                             ("from-ftrace", [HERE / "recorded-apart.rec", "made"]), ("from-ftrace", [TOP / "examples/veth-backlog.rec", "made", "--arrivals"])):
-            done = subprocess.run(["bash", "-c", 'ulimit -f 1; trap "" XFSZ; exec "$0" "$@"', sys.executable, "-BES", TOP / "tools" / tool, *words],
+            done = subprocess.run(["bash", "-c", 'ulimit -f 1; trap "" XFSZ; exec "$0" "$@"', *START, tool, *words],
                                   capture_output=True, text=True, check=False, cwd=self.folder, env={**os.environ, "PROGRAM": REPLAY})
             self.assertEqual((done.returncode, done.stdout, self.names()), (1, "", ["captured"]), done.stderr)
-            self.assertEqual(done.stderr, f"{tool}: File too large\n")
+            self.assertEqual(done.stderr, f"fintaqush {tool}: File too large\n")
             done = run(tool, *words, folder=self.folder)  # with room for all, both are written
             self.assertEqual((done.returncode, {"made.csv", "made.notes"} - set(self.names())), (0, set()), done.stderr)
             self.assertLess((self.folder / "made.notes").stat().st_size, 1024)
@@ -108,10 +106,10 @@ class AllOrNone(InFolder):
             yield "a line\n"
             raise error
         self.write("taken", "mine\n")
-        for name, text in (("third", lines(OSError(28, "full"))), ("third", lines(toolbox.Interrupted(2))), ("third", lines(KeyboardInterrupt())),
+        for name, text in (("third", lines(OSError(28, "full"))), ("third", lines(errors.Interrupted(2))), ("third", lines(KeyboardInterrupt())),
                            ("taken", "text\n"), ("none/third", "text\n")):
-            with self.assertRaises((OSError, toolbox.Interrupted, KeyboardInterrupt, toolbox.Refusal)):
-                toolbox.write_all({str(self.folder / each): part for each, part in (("first", TEXT), ("second", "text\n"), (name, text))})
+            with self.assertRaises((OSError, errors.Interrupted, KeyboardInterrupt, errors.Refusal)):
+                files.write_all({str(self.folder / each): part for each, part in (("first", TEXT), ("second", "text\n"), (name, text))})
             self.assertEqual((self.names(), (self.folder / "taken").read_text()), (["taken"], "mine\n"))
-        toolbox.write_all({str(self.folder / each): "text\n" for each in ("first", "second")})
+        files.write_all({str(self.folder / each): "text\n" for each in ("first", "second")})
         self.assertEqual(self.names(), ["first", "second", "taken"])

@@ -5,7 +5,6 @@ import glob
 import os
 import pty
 import re
-import runpy
 import select
 import shutil
 import signal
@@ -14,12 +13,12 @@ import sys
 import time
 import unittest
 
-from tooltest import HAS_MACHINE, MACHINE, REPLAY, SERIES, TOP, InFolder, run, skip_without
+from tooltest import HAS_MACHINE, MACHINE, PROGRAMS, SERIES, TOP, InFolder, run, skip_without
+
+
+from fintaqush_tools.cli import MODULES
 
 COMMAND = TOP / "fintaqush"
-SOURCE = TOP / "scripts/subcommands.py"
-FILES = runpy.run_path(str(SOURCE))["FILES"]
-PROGRAMS = {"PROGRAM": REPLAY, "SERIES": SERIES, "MACHINE": MACHINE}
 BURSTS = TOP / "examples/bursts.csv"
 
 
@@ -33,17 +32,17 @@ class Fintaqush(InFolder):
         done = call("--help")
         self.assertEqual((done.returncode, done.stderr), (0, ""))
         listed = re.findall(r"^  ([a-z][\w-]*) {2,}\S", done.stdout, re.M)
-        self.assertEqual(sorted(listed), sorted(FILES))
-        self.assertEqual(call("--names").stdout.split(), sorted(FILES))
+        self.assertEqual(sorted(listed), sorted(MODULES))
+        self.assertEqual(call("--names").stdout.split(), sorted(MODULES))
         self.assertEqual(call("help").stdout, done.stdout)
         self.assertEqual(call("help", "raise").stdout, call("raise", "--help").stdout)
 
-    def test_each_tool_is_a_subcommand(self):
-        tools = {path.name for path in (TOP / "tools").iterdir() if path.is_file() and os.access(path, os.X_OK)}
-        self.assertEqual(set(FILES.values()), tools | {"programs.py"})
+    def test_each_module_is_a_subcommand(self):
+        modules = {path.stem for path in (TOP / "tools/fintaqush_tools/commands").glob("*.py")} - {"__init__"}
+        self.assertEqual(set(MODULES.values()), modules)
 
     def test_each_goes_by_its_name(self):
-        for name in FILES:
+        for name in MODULES:
             done = call(name, "--help")
             self.assertEqual((done.returncode, done.stderr), (0, ""), name)
             self.assertTrue(done.stdout.startswith(f"usage: fintaqush {name}"), done.stdout[:80])
@@ -158,18 +157,15 @@ class Starts(InFolder):
             self.assertEqual((done.stderr.endswith(": there is no python3 on PATH\n"), done.returncode), (True, 69), done.stderr)
 
     def test_an_older_python_ends_by_a_line(self):
-        """An older Python has to parse the file that compares the versions, and the files that lead there."""
-        tools = [path for path in (TOP / "tools").iterdir() if path.is_file() and os.access(path, os.X_OK)]
-        for path in (TOP / "scripts/start.py", SOURCE, TOP / "tools/toolbox.py", *tools):
-            ast.parse(path.read_text(), feature_version=(3, 6))
-        for path in (TOP / "scripts/start.py", SOURCE):
-            self.assertNotRegex(path.read_text(), r"""\bf["']|from __future__""")
+        """An older Python has to parse the file that compares the versions."""
+        source = TOP / "scripts/start.py"
+        ast.parse(source.read_text(), feature_version=(3, 6))
+        self.assertNotRegex(source.read_text(), r"""\bf["']|from __future__""")
         fake = "import runpy, sys; sys.version_info = (3, 8, 20, 'final', 0); sys.argv = {!r}; runpy.run_path({!r}, run_name='__main__')"
-        for words, file, status in ((["fintaqush", "plot"], SOURCE, 1), (["start", "replay"], TOP / "scripts/start.py", 69),
-                                    (["start", "build"], TOP / "scripts/start.py", 69), *((["plot"], path, 1) for path in tools)):
-            done = subprocess.run([sys.executable, "-c", f"import sys; sys.path.insert(0, {str(TOP / 'tools')!r}); " + fake.format(words, str(file))],
+        for words, status in ((["start", "fintaqush", "plot"], 1), (["start", "replay"], 69), (["start", "build"], 69)):
+            done = subprocess.run([sys.executable, "-c", fake.format(words, str(source))],
                                   capture_output=True, text=True, check=False, env={**os.environ, "PYTHONDONTWRITEBYTECODE": "1"})
-            self.assertEqual((done.stderr.partition(": ")[2], done.returncode), ("it needs Python 3.9 or later, and python3 is 3.8\n", status), file)
+            self.assertEqual((done.stderr.partition(": ")[2], done.returncode), ("it needs Python 3.9 or later, and python3 is 3.8\n", status), words)
 
     def test_pythons_of_this_machine_that_are_older(self):
         """Real ones, where pyenv has some; the one above is made up."""
@@ -178,9 +174,6 @@ class Starts(InFolder):
             for name, words in self.STARTS.items():
                 done = call(*words, command=TOP / name, PATH=self.few(python))
                 self.assertEqual(done.stderr.partition(": ")[2], f"it needs Python 3.9 or later, and python3 is {number}\n", (name, python))
-            for tool in ("plot", "from-ftrace", "costs", "record"):
-                done = subprocess.run([python, "-BES", TOP / "tools" / tool], capture_output=True, text=True, check=False)
-                self.assertEqual((done.stderr, done.returncode), (f"{tool}: it needs Python 3.9 or later, and python3 is {number}\n", 1))
 
     def test_no_environment(self):
         """Without PATH a shell finds python3 in its own folders, and Python doesn't know its own name."""

@@ -1,4 +1,4 @@
-"""Tests of tools/plot."""
+"""Tests of fintaqush plot."""
 
 import html
 import json
@@ -7,11 +7,12 @@ import re
 import struct
 import subprocess
 import sys
-import unittest
 import zlib
 
 from prefixes import report_of
 from tooltest import HEADER, REPLAY, TOP, InFolder, contrast, run, skip_without
+
+from fintaqush_tools import pictures
 
 
 class Plot(InFolder):
@@ -122,19 +123,19 @@ class Plot(InFolder):
         old = self.write("picture.svg", "old\n")
         done = run("plot", TOP / "examples/bursts.csv", "--out", old, SERIES="/bin/false")
         self.assertEqual((done.stderr, done.returncode, old.read_text()),
-                         (f"plot: {old} exists: --force replaces it, --out names another file\n", 1, "old\n"))
+                         (f"fintaqush plot: {old} exists: --force replaces it, --out names another file\n", 1, "old\n"))
         self.assertIn("/bin/false ended with status 1", run("plot", TOP / "examples/bursts.csv", "--force", "--out", old, SERIES="/bin/false").stderr)
 
     # A Python that finds neither library.
-    WITHOUT = ("import sys, runpy; sys.path.insert(0, sys.argv[1]); import drawing; drawing.find_packages = lambda: None; "
-               "drawing.DYGRAPHS = ('/none',); sys.argv[0:2] = [sys.argv[1] + '/plot']; runpy.run_path(sys.argv[0], run_name='__main__')")
+    WITHOUT = ("import sys; sys.path.insert(0, sys.argv.pop(1)); from fintaqush_tools import cli, pictures; pictures.find_packages = lambda: None; "
+               "pictures.DYGRAPHS = ('/none',); cli.start(['plot', *sys.argv[1:]])")
 
     def test_a_missing_library_is_told_before_any_work(self):
         old = self.write("picture.svg", "old")
         for out, package in ((old, "python3-matplotlib"), (self.folder / "x.html", "libjs-dygraphs")):
             done = subprocess.run([sys.executable, "-BES", "-c", self.WITHOUT, TOP / "tools", TOP / "examples/bursts.csv", "--force", "--out", out],
                                   capture_output=True, text=True, check=False, env={**os.environ, "SERIES": "/bin/false"})
-            self.assertRegex(done.stderr, rf"^plot: it needs .*apt install {package}\)\n$")
+            self.assertRegex(done.stderr, rf"^fintaqush plot: it needs .*apt install {package}\)\n$")
             self.assertEqual((done.returncode, old.read_text(), self.names()), (1, "old", ["picture.svg"]))
 
     def test_refusals(self):
@@ -149,7 +150,7 @@ class Plot(InFolder):
                            ("--unit", "'--unit' is no option\n")):
             for more in ([], ["--raise"]):
                 done = run("plot", TOP / "examples/bursts.csv", wrong, "3", *more)
-                self.assertEqual((done.stderr, done.returncode), (f"plot: usage fault 64: {why}", 1))
+                self.assertEqual((done.stderr, done.returncode), (f"fintaqush plot: usage fault 64: {why}", 1))
         self.assertIn("the series hasn't all rows", run("plot", TOP / "examples/bursts.csv", "--every", "2", "--raise", "--json").stderr)
         self.assertIn("--beside: No closing quotation", run("plot", TOP / "examples/bursts.csv", "--beside", "'").stderr)
         self.assertEqual(run("plot").returncode, 2)
@@ -222,10 +223,8 @@ document.body.replaceChildren(made('pre', 'told', JSON.stringify(told)));
 
     def test_colors(self):
         """In both modes a text has a contrast of at least 4.5 to the page, and a curve of at least 3."""
-        sys.path.insert(0, str(TOP / "tools"))
-        import drawing
-        for colors in (drawing.LIGHT, drawing.DARK):
-            for name in (*drawing.COLORS, "grey", "pale", "text", "quiet"):
+        for colors in (pictures.LIGHT, pictures.DARK):
+            for name in (*pictures.COLORS, "grey", "pale", "text", "quiet"):
                 least = 4.5 if name in ("text", "quiet") else 2.5 if name == "pale" else 3
                 self.assertGreaterEqual(contrast(colors[name][1:], colors["page"][1:]), least, name)
 
@@ -243,9 +242,9 @@ document.body.replaceChildren(made('pre', 'told', JSON.stringify(told)));
 
     def test_a_missing_folder_is_refused_before_anything_runs(self):
         trace = TOP / "examples/bursts.csv"
-        for tool, words in (("plot", []), ("raise", []), ("compare-runs", ["--"])):
+        for tool, words in (("plot", []), ("raise", []), ("compare", ["--"])):
             done = run(tool, trace, "--out", "none/x.png", *words, folder=self.folder, PROGRAM="/none", SERIES="/none")
-            self.assertEqual((done.stderr, done.returncode), (f"{tool}: none: there is no such folder\n", 1))
+            self.assertEqual((done.stderr, done.returncode), (f"fintaqush {tool}: none: there is no such folder\n", 1))
 
     @skip_without("matplotlib")
     def test_every_example(self):

@@ -3,10 +3,9 @@
 import os
 import re
 import subprocess
-import sys
 import unittest
 
-from tooltest import HAS_MACHINE, HERE, MACHINE, REPLAY, SERIES, TOP, InFolder, run
+from tooltest import HAS_MACHINE, HERE, MACHINE, PROGRAMS, REPLAY, SERIES, START, TOP, InFolder, run
 
 BURSTS = TOP / "examples/bursts.csv"
 # The part that is read before it waits is half of 40 kB and more than one read.
@@ -17,9 +16,9 @@ class Shown(InFolder):
     def seen(self, tool, *words, **variables):
         """Returns what a tool writes on a terminal that is its standard error."""
         ours, theirs = os.openpty()
-        with subprocess.Popen([sys.executable, "-BES", TOP / "tools" / tool, *map(str, words)], stdout=subprocess.DEVNULL, stderr=theirs,
+        with subprocess.Popen([*START, tool, *map(str, words)], stdout=subprocess.DEVNULL, stderr=theirs,
                               stdin=subprocess.DEVNULL, cwd=self.folder,
-                              env={**os.environ, "PROGRAM": REPLAY, "SERIES": SERIES, "MACHINE": MACHINE, **variables}):
+                              env={**os.environ, **PROGRAMS, **variables}):
             os.close(theirs)
             text = b""
             try:
@@ -38,14 +37,14 @@ class Shown(InFolder):
     def check(self, pattern, tool, *words, **variables):
         """Checks that the progress is shown and its line cleared, and that --quiet hides it."""
         text = self.seen(tool, *words, **variables)
-        self.assertRegex(text, rf"\r\x1b\[K{tool}: {pattern}")
-        self.assertTrue(text.rpartition(f"{tool}: {re.findall(pattern, text)[-1]}")[2].partition("\r\x1b[K")[1], "it isn't cleared")
+        self.assertRegex(text, rf"\r\x1b\[Kfintaqush {tool}: {pattern}")
+        self.assertTrue(text.rpartition(f"fintaqush {tool}: {re.findall(pattern, text)[-1]}")[2].partition("\r\x1b[K")[1], "it isn't cleared")
         self.assertNotIn("\x1b[K", self.seen(tool, *words, "--quiet", **variables))
 
     def test_rows_of_a_sweep(self):
         slow = self.program("slow", f"#!/bin/sh\nsleep 0.7\nexec '{REPLAY}' \"$@\"\n")
         words = [BURSTS, "--budget", "1,2,3,4", "--jobs", "1"]
-        self.assertRegex(self.seen("sweep", *words, "--out", "rows", PROGRAM=slow), r"\r\x1b\[Ksweep: making 4 rows, (25|50|75) %, \d+ s left")
+        self.assertRegex(self.seen("sweep", *words, "--out", "rows", PROGRAM=slow), r"\r\x1b\[Kfintaqush sweep: making 4 rows, (25|50|75) %, \d+ s left")
         self.assertNotIn("\x1b[K", self.seen("sweep", *words, "--out", "others", "--quiet", PROGRAM=slow))
 
     def test_a_row_of_what_if(self):
@@ -66,10 +65,10 @@ class Shown(InFolder):
         self.check(r"predicting \d+ settings, \d+ %", "advise", HERE / "recorded-apart.rec", MACHINE=slow)
 
     def test_what_is_made_and_what_is_read(self):
-        self.assertRegex(self.seen("traffic", "--arrivals", "--rate", "100000", "--seconds", "16", "--out", "made.csv"), r"traffic: making arrivals, \d+ %, \d+ s left")
+        self.assertRegex(self.seen("traffic", "--arrivals", "--rate", "100000", "--seconds", "16", "--out", "made.csv"), r"fintaqush traffic: making arrivals, \d+ %, \d+ s left")
         line = "   a-1  [000] b....  5.{:06}: net_dev_xmit: dev=va1 skbaddr=0 len=60 rc=0\n"
         recording = self.write("recording", "".join(map(line.format, range(500000))))
-        self.assertRegex(self.seen("from-ftrace", recording, "trace", "--arrivals"), r"from-ftrace: reading, \d+ %, \d+ s left")
+        self.assertRegex(self.seen("from-ftrace", recording, "trace", "--arrivals"), r"fintaqush from-ftrace: reading, \d+ %, \d+ s left")
 
     def test_elsewhere_nothing_is_shown(self):
         slow = self.program("slow", f"#!/bin/sh\nsleep 1.5\nexec '{SERIES}' \"$@\"\n")

@@ -1,4 +1,4 @@
-"""Tests of tools/raise and of `napi_series --raise`: expected numbers come from the kernel, from traces that are small enough to replay by hand, or
+"""Tests of fintaqush raise and of `napi_series --raise`: expected numbers come from the kernel, from traces that are small enough to replay by hand, or
 from replays of each prefix. tests/kernel.sh compares raised replays with the kernel's own functions. RAISED=10000 tries that many random traces."""
 
 import hashlib
@@ -11,9 +11,9 @@ from concurrent.futures import ThreadPoolExecutor
 
 from tooltest import HEADER, HERE, REPLAY, SERIES, TOP, InFolder, run
 
-sys.path += [str(TOP / "bench"), str(TOP / "tools")]
+sys.path.append(str(TOP / "bench"))
 from random_trace import Trace  # noqa: E402
-from toolbox import records_of  # noqa: E402
+from fintaqush_tools.trace import records_of
 
 SETTINGS = [[], ["--budget=2"], ["--budget=1", "--weight=1"], ["--budget=16", "--weight=8"], ["--window=1"], ["--budget=64", "--weight=3", "--window=2"]]
 LIMITS = ["--raise", "--raise=0", "--raise=1", "--raise=3"]
@@ -69,7 +69,7 @@ class Raise(InFolder):
             return (int(report[-1][8]), sum(int(line[6]) for line in report if line[0] == "device"), report[-2])
         self.assertEqual(sums(self.replay(path.read_text(), *words))[:2], (8441, 5582))
         done = run("raise", path, *words, "--out", self.folder / "raised.csv")
-        self.assertRegex(done.stderr, r"^raise: \d+ runs added, \d+ rows\n$")
+        self.assertRegex(done.stderr, r"^fintaqush raise: \d+ runs added, \d+ rows\n$")
         text = (self.folder / "raised.csv").read_text()
         self.assertEqual(sums(self.replay(text, *words)), (15245, 0, ["list"]))
         # Only softirq rows are added, and a second call adds none.
@@ -193,7 +193,7 @@ class Raise(InFolder):
             whole = HEADER + "".join(f"{row}\n" for row in self.raised(text, "--budget", "1", "--weight", "1"))
             self.assertEqual(whole, HEADER + "".join(f"{row}\n" for row in self.raised(self.BURST.replace(old, new.replace('"', ""), 1), "--budget", "1", "--weight", "1")))
             path, plain = self.write("x.csv", text), self.write("y.csv", self.BURST.replace(old, new.replace('"', ""), 1))
-            for words in (["compare-runs", "--raise", "--budget", "1", "--"], ["plot", "--raise", "--budget", "1", "--json"]):
+            for words in (["compare", "--raise", "--budget", "1", "--"], ["plot", "--raise", "--budget", "1", "--json"]):
                 done, other = (run(words[0], each, *words[1:]) for each in (path, plain))
                 self.assertEqual((done.returncode, done.stdout), (0, other.stdout.replace("y.csv", "x.csv")), done.stderr)
 

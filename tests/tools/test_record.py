@@ -1,8 +1,7 @@
-"""Tests of tools/record: its errors, and, as root on a kernel with tracing, recordings of a separate veth pair."""
+"""Tests of fintaqush record: its errors, and, as root on a kernel with tracing, recordings of a separate veth pair."""
 
 import os
 import re
-import runpy
 import select
 import shutil
 import signal
@@ -11,10 +10,14 @@ import subprocess
 import sys
 import time
 import unittest
+import unittest.mock
 from pathlib import Path
 from types import SimpleNamespace
 
-from tooltest import TOP, InFolder, run
+from tooltest import START, TOP, InFolder, run
+
+from fintaqush_tools import observed
+from fintaqush_tools.commands import record
 
 IN_MOUNTS = ["unshare", "-m", "sh", "-c", 'cd /sys/kernel/tracing && { [ -d instances ] || mount -t tracefs nodev .; } 2> /dev/null && cd /sys/kernel/tracing && eval "$1"', "sh"]
 # A program with a given name that reads a number of packets; and one that sends bursts repeatedly: the first has so many packets, and each
@@ -55,19 +58,19 @@ class Refused(InFolder):
     """Errors that need no tracing."""
 
     def refused(self, *words, status=1, **options):
-        done = subprocess.run([sys.executable, "-BES", TOP / "tools/record", *words], capture_output=True, text=True, check=False, cwd=self.folder, **options)
+        done = subprocess.run([*START, "record", *words], capture_output=True, text=True, check=False, cwd=self.folder, **options)
         self.assertEqual((done.returncode, done.stdout, self.names()), (status, "", []), done.stderr)
         return done.stderr
 
     def test_words(self):
         for words in ([], ["--device", "lo"], ["--out", "x"], ["0", "--device", "lo", "--out", "x"], ["5", "6", "--device", "lo", "--out", "x"],
                       ["--device", "lo", "--out", "x", "--buffer", "0"], ["--device", "lo", "--out", "x", "--processors", "3-1"]):
-            self.assertIn("usage: record", self.refused(*words, status=2))
+            self.assertIn("usage: fintaqush record", self.refused(*words, status=2))
 
     def test_without_root_it_says_so_at_once(self):
         front = [] if os.geteuid() else ["unshare", "-U"]  # run without root
-        done = subprocess.run([*front, sys.executable, "-BES", TOP / "tools/record", "--device", "none", "--out", "none/x"], capture_output=True, text=True, check=False)
-        self.assertEqual((done.stderr, done.stdout, done.returncode), ("record: recording needs root: sudo fintaqush record ..\n", "", 1))
+        done = subprocess.run([*front, *START, "record", "--device", "none", "--out", "none/x"], capture_output=True, text=True, check=False)
+        self.assertEqual((done.stderr, done.stdout, done.returncode), ("fintaqush record: recording needs root: sudo fintaqush record ..\n", "", 1))
 
     @unittest.skipUnless(IS_ROOT, "root")
     @unittest.skipUnless(HAS_IP, "ip")
@@ -82,11 +85,11 @@ class Refused(InFolder):
                            (["--device", "lo", "--program", 'a"b'], '--program a"b: a name of printable ASCII characters without quotes, or a process\'s number'),
                            (["--device", "lo", "--buffer", "65536"], "more than half of the free memory")):
             said = self.refused("1", *words, "--out", "x")
-            self.assertTrue(said.count("\n") == 1 and said.startswith("record: ") and why in said, said)
+            self.assertTrue(said.count("\n") == 1 and said.startswith("fintaqush record: ") and why in said, said)
         (self.folder / "folder").mkdir()
         for out, why in (("folder", "folder: this is a folder"), ("none/x", "none: there is no such folder")):
             done = run("record", "1", "--device", "lo", "--out", out, folder=self.folder)
-            self.assertEqual((done.returncode, done.stderr), (1, f"record: {why}\n"))
+            self.assertEqual((done.returncode, done.stderr), (1, f"fintaqush record: {why}\n"))
 
 
 class NothingThere(InFolder):
@@ -94,8 +97,6 @@ class NothingThere(InFolder):
 
     def setUp(self):
         super().setUp()
-        sys.path.insert(0, str(TOP / "tools"))
-        import observed
         self.observed, path = observed, os.environ["PATH"]
         os.environ["PATH"] = f"{self.folder}:{path}"
         self.addCleanup(os.environ.__setitem__, "PATH", path)
@@ -126,7 +127,7 @@ class NothingThere(InFolder):
         for front, why in (("mount -t tmpfs nodev /sys/kernel", "this kernel has no tracing: boot one with CONFIG_FTRACE"),
                            ("mount -t tmpfs nodev /sys/kernel && mkdir /sys/kernel/tracing && exec setpriv --bounding-set=-sys_admin", "tracefs can't be mounted")):
             run_it = " && exec " if "exec" not in front else " "
-            done = subprocess.run(["unshare", "-m", "sh", "-c", f'{front}{run_it}"$0" "$@"', sys.executable, "-BES", TOP / "tools/record", "1", "--device", "lo",
+            done = subprocess.run(["unshare", "-m", "sh", "-c", f'{front}{run_it}"$0" "$@"', *START, "record", "1", "--device", "lo",
                                    "--out", "x"], capture_output=True, text=True, check=False, cwd=self.folder)
             self.assertEqual((done.returncode, done.stdout, self.names()), (1, "", []), done.stderr)
             self.assertIn(why, done.stderr.splitlines()[-1])
@@ -143,8 +144,7 @@ class NothingThere(InFolder):
 class Advice(unittest.TestCase):
     def test_a_buffer_that_was_too_small(self):
         """32 MB for half a second of five take ten times as much, or a tenth of the time."""
-        sys.path.insert(0, str(TOP / "tools"))
-        advice = runpy.run_path(str(TOP / "tools/record"))["advice_on_buffer"]
+        advice = record.advice_on_buffer
         words = SimpleNamespace(seconds=5, buffer=32)
         self.assertEqual(advice(words, 0.5, 1000), "record again with --buffer 320")
         self.assertEqual(advice(words, 0.5, 100), "5 s would need --buffer 320, and this machine has memory for 100: record for 1 s with --buffer 100, or "
@@ -156,13 +156,11 @@ class Waits(unittest.TestCase):
 
     def looks(self, sizes, seconds):
         """Returns whether it ends early, and after how many checks."""
-        sys.path.insert(0, str(TOP / "tools"))
-        wait = runpy.run_path(str(TOP / "tools/record"))["wait"]
-        wait.__globals__["LOOKS"] = 0.001
         left = iter(sizes)
         taken = []
         instance = SimpleNamespace(statistics=lambda: [(0, 7, 0), (0, taken.append(next(left)) or taken[-1], 0)])
-        return wait(instance, SimpleNamespace(seconds=seconds, buffer=1)), len(taken)
+        with unittest.mock.patch.object(record, "LOOKS", 0.001):
+            return record.wait(instance, SimpleNamespace(seconds=seconds, buffer=1)), len(taken)
 
     def test_it_ends_before_a_buffer_is_full(self):
         """It ends if four more checks would exceed nine tenths of 2^20 bytes, 943718. With 50000 bytes per check, four more lead from 700000 at the
@@ -205,7 +203,7 @@ class Recorded(InFolder):
 
     def start(self, *words, seconds="1"):
         """Starts the tool, and returns when it records."""
-        command = [sys.executable, "-BES", TOP / "tools/record", seconds, "--device", self.ends[1], "--netns", self.receiving, "--out", self.folder / "made", *words]
+        command = [*START, "record", seconds, "--device", self.ends[1], "--netns", self.receiving, "--out", self.folder / "made", *words]
         process = subprocess.Popen(command, stdout=subprocess.PIPE, stderr=subprocess.PIPE, cwd=self.folder,
                                    preexec_fn=lambda: signal.signal(signal.SIGINT, signal.SIG_DFL))
         self.addCleanup(process.communicate)
@@ -215,7 +213,7 @@ class Recorded(InFolder):
             self.assertTrue(select.select([process.stderr], [], [], 60)[0])
             said += os.read(process.stderr.fileno(), 1000)
             self.assertIsNone(process.poll(), said)
-        self.assertEqual(said, f"record: recording for {seconds} s\n".encode())
+        self.assertEqual(said, f"fintaqush record: recording for {seconds} s\n".encode())
         return process
 
     def send(self, *numbers):
@@ -289,17 +287,17 @@ class Recorded(InFolder):
 
     def test_a_device_without_a_pair(self):
         """On the loopback device, as on a card, it records the received packets: at least those sent here. They are arrivals."""
-        process = subprocess.Popen([sys.executable, "-BES", TOP / "tools/record", "2", "--device", "lo", "--out", "made"], stdout=subprocess.PIPE,
+        process = subprocess.Popen([*START, "record", "2", "--device", "lo", "--out", "made"], stdout=subprocess.PIPE,
                                    stderr=subprocess.PIPE, text=True, cwd=self.folder)
         self.addCleanup(process.communicate)
         self.addCleanup(process.kill)
-        self.assertEqual(process.stderr.readline(), "record: recording for 2 s\n")
+        self.assertEqual(process.stderr.readline(), "fintaqush record: recording for 2 s\n")
         with socket.socket(socket.AF_INET, socket.SOCK_DGRAM) as end, socket.socket(socket.AF_INET, socket.SOCK_DGRAM) as out:
             end.bind(("127.0.0.1", 0))
             for _ in range(60):
                 out.sendto(b"x" * 777, end.getsockname())
         told, said = process.communicate(timeout=120)
-        self.assertEqual((process.returncode, said), (0, "record: its arrivals are when polls took the packets, because no device that sends to it is known, as of a "
+        self.assertEqual((process.returncode, said), (0, "fintaqush record: its arrivals are when polls took the packets, because no device that sends to it is known, as of a "
                                                          "veth pair: waits in a card's ring before the interrupt aren't in it\n"))
         head, body = self.head()
         self.assertEqual(int(head["received.lo"]), len(re.findall(r" netif_receive_skb: dev=lo ", body)))
@@ -315,7 +313,7 @@ class Recorded(InFolder):
             self.assertIn(f"fintaqush-{process.pid}", in_tracing("ls instances").split())
             process.send_signal(number)
             out, said = process.communicate(timeout=60)
-            self.assertEqual((out, said, process.returncode), (b"", b"record: interrupted\n", 128 + number))
+            self.assertEqual((out, said, process.returncode), (b"", b"fintaqush record: interrupted\n", 128 + number))
             self.assertEqual(self.names(), [])
             self.check_gone(process)
 
@@ -343,7 +341,7 @@ class Recorded(InFolder):
         self.send(1, 40000, 40000, 0)
         process.send_signal(signal.SIGCONT)
         said = process.communicate(timeout=60)[1].decode()
-        self.assertRegex(said, r"^record: the kernel lost \d+ events, so the recording isn't written: record for a shorter time, or with a larger --buffer\n$")
+        self.assertRegex(said, r"^fintaqush record: the kernel lost \d+ events, so the recording isn't written: record for a shorter time, or with a larger --buffer\n$")
         self.assertEqual((process.returncode, self.names(), (self.folder / "made").read_text()), (1, ["made"], "old\n"))
 
     def test_a_buffer_that_is_too_small(self):
@@ -351,20 +349,19 @@ class Recorded(InFolder):
         process = self.start("--buffer", "1", seconds="60")
         self.send(400, 40, 40, 0.01)
         said = process.communicate(timeout=100)[1].decode()
-        self.assertRegex(said.splitlines()[-1], r"^record: a buffer of 1 MB was nearly full after [\d.]+ of 60 s, so the recording ended early: (record again with|60 s)")
+        self.assertRegex(said.splitlines()[-1], r"^fintaqush record: a buffer of 1 MB was nearly full after [\d.]+ of 60 s, so the recording ended early: (record again with|60 s)")
         self.assertEqual((process.returncode, self.names()), (1, ["made"]))
         self.assertEqual(self.head()[0]["buffer"], "1")
 
     def test_a_machine_without_an_even_counter(self):
         """CLOCK_MONOTONIC is used instead, and times have six digits."""
-        tool = f"""import runpy, sys
+        tool = f"""import sys
 sys.path.insert(0, "{TOP}/tools")
-sys.argv[0] = "record"
-import tracing
+from fintaqush_tools import cli, tracing
 tracing.Instance.set_clock = lambda self: self.write("trace_clock", "mono") or "mono"
-runpy.run_path("{TOP}/tools/record", run_name="__main__")
+cli.entry()
 """
-        done = subprocess.run([sys.executable, "-BEs", "-c", tool, "3", "--device", "lo", "--out", "made"], capture_output=True, text=True,
+        done = subprocess.run([sys.executable, "-BEs", "-c", tool, "record", "3", "--device", "lo", "--out", "made"], capture_output=True, text=True,
                               check=False, cwd=self.folder)
         self.assertEqual(done.returncode, 0, done.stderr)
         head, body = self.head()
@@ -377,10 +374,10 @@ runpy.run_path("{TOP}/tools/record", run_name="__main__")
         self.assertEqual(set(re.findall(r"^.{16}-\d+\s+\[(\d+)\]", self.head()[1], re.M)), {"000"})
 
     def test_a_disk_that_is_full(self):
-        process = subprocess.run(["bash", "-c", 'ulimit -f 1; trap "" XFSZ; exec "$0" "$@"', sys.executable, "-BES", TOP / "tools/record", "1",
+        process = subprocess.run(["bash", "-c", 'ulimit -f 1; trap "" XFSZ; exec "$0" "$@"', *START, "record", "1",
                                   "--device", "lo", "--out", "made"], capture_output=True, text=True, check=False, cwd=self.folder)
         self.assertEqual((process.returncode, process.stdout, self.names()), (1, "", []))
-        self.assertEqual(process.stderr.splitlines()[-1], "record: File too large")
+        self.assertEqual(process.stderr.splitlines()[-1], "fintaqush record: File too large")
 
 
 if __name__ == "__main__":

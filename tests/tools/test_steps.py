@@ -1,4 +1,4 @@
-"""Tests of tools/steps: its page, in a browser if there is one, shows the values in the report of each prefix of the trace."""
+"""Tests of fintaqush steps: its page, in a browser if there is one, shows the values in the report of each prefix of the trace."""
 
 import html
 import json

@@ -5,19 +5,18 @@ import re
 import select
 import signal
 import subprocess
-import sys
 import time
 from pathlib import Path
 
-from tooltest import HEADER, HERE, MACHINE, REPLAY, SERIES, TOP, InFolder, run
+from tooltest import HEADER, HERE, MACHINE, PROGRAMS, REPLAY, START, TOP, InFolder, run
 
-sys.path.insert(0, str(TOP / "tools"))
-import toolbox  # noqa: E402
+from fintaqush_tools import files
+from fintaqush_tools.cli import MODULES
 
 TRACE = TOP / "examples/bursts.csv"
 REPORT = "list\ntotal devices 0 runs 0 polls 0 work 0 squeezed 0\n"
 # Each tool with options by which it writes to standard output, and its input.
-WRITERS = {"raise": [TRACE], "report2json": ["-"], "traffic": [], "compare-runs": [TRACE, "--budget", "1", "--"],
+WRITERS = {"raise": [TRACE], "json": ["-"], "traffic": [], "compare": [TRACE, "--budget", "1", "--"],
            "plot": [TRACE, "--json"], "compare-recording": [TOP / "examples/linux-veth-small-budget", "--budget", "64"],
            "from-ftrace": [HERE / "soft-tcp.txt", "made", *(f"--pair=va{number}:vb{number}" for number in range(1, 7))],
            "from-pcap": ["captured", "made"], "costs": [HERE / "soft-gso-23.txt"], "what-if": ["arrivals"],
@@ -26,7 +25,7 @@ if not os.path.exists(MACHINE):
     del WRITERS["what-if"], WRITERS["advise"]
 SERIES_HEAD = "row,moment,device,state,waiting,arrived,dropped,polled,in_flight,limit,avail,stopped,polls,work,squeezed\n"
 CAPTURED = "100.000000 eth0  In  ifindex 2 02:00:00:00:00:01 ethertype IPv4 (0x0800), length 60: 10.0.0.1 > 10.0.0.2: UDP\n"
-ALL = ["raise", "report2json", "traffic", "compare-runs", "compare-recording", "plot", "from-ftrace", "from-pcap", "sweep", "steps", "what-if", "costs",
+ALL = ["raise", "json", "traffic", "compare", "compare-recording", "plot", "from-ftrace", "from-pcap", "sweep", "steps", "what-if", "costs",
        "record", "advise", "completion", "try"]
 # With the locale of a user, and with none.
 USUAL = dict(os.environ)
@@ -37,14 +36,14 @@ MOST_SECONDS = 300
 class Surroundings(InFolder):
     def start(self, tool, words, environment=USUAL, **ends):
         """Starts a tool for which Ctrl-C isn't ignored."""
-        return subprocess.Popen([sys.executable, "-B", TOP / "tools" / tool, *words], stderr=subprocess.PIPE, cwd=self.folder,
-                                env={**environment, "PROGRAM": REPLAY, "SERIES": SERIES, "MACHINE": MACHINE, **ends.pop("variables", {})},
+        return subprocess.Popen([START[0], "-B", *START[2:], tool, *words], stderr=subprocess.PIPE, cwd=self.folder,
+                                env={**environment, **PROGRAMS, **ends.pop("variables", {})},
                                 preexec_fn=lambda: signal.signal(signal.SIGINT, signal.SIG_DFL), **ends)
 
     def check_line(self, tool, said):
         """Checks that the tool printed one line of its own."""
         self.assertEqual(said.count(b"\n"), 1, (tool, said))
-        self.assertTrue(said.startswith(f"{tool}: ".encode()), (tool, said))
+        self.assertTrue(said.startswith(f"fintaqush {tool}: ".encode()), (tool, said))
 
     def writes(self):
         """Yields every way to write to standard output, each in a folder without earlier outputs, because no file is overwritten."""
@@ -61,19 +60,19 @@ class Surroundings(InFolder):
             with open("/dev/full", "wb") as full:
                 process = self.start(tool, words, environment, stdout=full, stdin=subprocess.PIPE)
                 _, said = process.communicate(REPORT.encode())
-            self.assertEqual((said, process.returncode), (f"{tool}: No space left on device\n".encode(), 1))
+            self.assertEqual((said, process.returncode), (f"fintaqush {tool}: No space left on device\n".encode(), 1))
 
     def test_a_disk_that_fills_up_with_outputs_unbuffered(self):
         """A file limited to 1 kB takes part of the output, and Python, unbuffered, would take that for all."""
         report = subprocess.run([REPLAY], input=(TOP / "examples/linux-veth-bursts.csv").read_bytes(), capture_output=True, check=True).stdout
-        words = {tool: WRITERS[tool] for tool in ("raise", "report2json", "traffic", "plot")}
+        words = {tool: WRITERS[tool] for tool in ("raise", "json", "traffic", "plot")}
         for environment in (USUAL, BARE):
             for tool, each in words.items():
                 with open(self.folder / "out", "wb") as out:
-                    done = subprocess.run(["bash", "-c", 'ulimit -f 1; trap "" XFSZ; exec "$0" "$@"', sys.executable, "-B", TOP / "tools" / tool,
+                    done = subprocess.run(["bash", "-c", 'ulimit -f 1; trap "" XFSZ; exec "$0" "$@"', *START, tool,
                                            *each], stdout=out, stderr=subprocess.PIPE, check=False, input=report,
-                                          env={**environment, "PROGRAM": REPLAY, "SERIES": SERIES, "MACHINE": MACHINE, "PYTHONUNBUFFERED": "1"})
-                self.assertEqual((done.stderr, done.returncode), (f"{tool}: File too large\n".encode(), 1))
+                                          env={**environment, **PROGRAMS, "PYTHONUNBUFFERED": "1"})
+                self.assertEqual((done.stderr, done.returncode), (f"fintaqush {tool}: File too large\n".encode(), 1))
 
     def test_numbers_of_5000_digits(self):
         """Python rejects numbers with so many digits: the error is that of any number that is too large."""
@@ -81,7 +80,7 @@ class Surroundings(InFolder):
         event = f"   a-1  [000] b....  5.000000: net_dev_xmit: dev=va1 skbaddr=0 len={digits} rc=0\n"
         self.write("made.csv", HEADER)
         for tool, words, text, status in (
-                ("report2json", [], REPORT.replace("devices 0", f"devices {digits}"), 1), ("from-ftrace", ["-", "other"], event, 1),
+                ("json", [], REPORT.replace("devices 0", f"devices {digits}"), 1), ("from-ftrace", ["-", "other"], event, 1),
                 ("from-ftrace", ["-", "other"], event.replace("-1  [000]", f"-{digits}  [000]"), 1),
                 ("from-pcap", ["-", "other"], CAPTURED.replace("100.", f"{digits}."), 1), ("plot", ["--series", "-"], SERIES_HEAD + f"{digits}" + "," * 14, 1),
                 ("compare-recording", ["made"], "", 1), ("raise", ["-", "--budget", digits], HEADER, 2), ("sweep", ["--part", f"1/{digits}", "."], "", 2),
@@ -97,25 +96,25 @@ class Surroundings(InFolder):
 
     def within(self, memory, tool, *words):
         """Runs a tool in that many kB of address space."""
-        return subprocess.run(["bash", "-c", f'ulimit -v {memory}; exec "$0" "$@"', sys.executable, "-BES", TOP / "tools" / tool, *words],
-                              capture_output=True, check=False, cwd=self.folder, env={**USUAL, "PROGRAM": REPLAY, "SERIES": SERIES, "MACHINE": MACHINE})
+        return subprocess.run(["bash", "-c", f'ulimit -v {memory}; exec "$0" "$@"', *START, tool, *words],
+                              capture_output=True, check=False, cwd=self.folder, env={**USUAL, **PROGRAMS})
 
     def test_want_of_memory(self):
         """In 100 MB, 60 MB can be read, but not decoded to text as well."""
         text = self.write("text", "softirq 4 polls 2 work 3 squeezed 1\n" * 1700000)
-        for tool, words in (("report2json", [text]), ("plot", ["--series", text, "--json"])):
+        for tool, words in (("json", [text]), ("plot", ["--series", text, "--json"])):
             done = self.within(100000, tool, *words)
-            self.assertEqual((done.stdout, done.stderr, done.returncode), (b"", f"{tool}: there isn't enough memory\n".encode(), 1))
+            self.assertEqual((done.stdout, done.stderr, done.returncode), (b"", f"fintaqush {tool}: there isn't enough memory\n".encode(), 1))
         self.assertEqual(self.names(), ["text"])
 
     def test_want_of_memory_at_any_time(self):
-        """Once Python and toolbox.py have started, it ends with one line; with enough memory it works as usual."""
-        for tool, words in (("report2json", ["report"]), ("traffic", ["--out", "out"]), ("sweep", ["--help"])):
+        """Once Python and the package have started, it ends with one line; with enough memory it works as usual."""
+        for tool, words in (("json", ["report"]), ("traffic", ["--out", "out"]), ("sweep", ["--help"])):
             self.write("report", REPORT)
             statuses = set()
             for memory in range(16000, 60000, 2000):  # with less Python itself may not start
                 done = self.within(memory, tool, *words)
-                if done.returncode in (0, 1) and b"from toolbox import" not in done.stderr:
+                if done.returncode in (0, 1) and b"start.py" not in done.stderr:
                     statuses.add(done.returncode)
                     self.assertNotIn(b"  File \"" + os.fsencode(TOP), done.stderr)
                     self.assertNotIn(b"mistake of its own", done.stderr)
@@ -140,7 +139,7 @@ class Surroundings(InFolder):
                     time.sleep(0.02)
                 process.send_signal(number)
                 _, said = process.communicate(timeout=MOST_SECONDS)
-                self.assertEqual((said.splitlines(True)[-1], process.returncode), (f"{tool}: interrupted\n".encode(), 128 + number))
+                self.assertEqual((said.splitlines(True)[-1], process.returncode), (f"fintaqush {tool}: interrupted\n".encode(), 128 + number))
                 self.assertFalse(os.path.exists(f"/proc/{(self.folder / 'begun').read_text().strip()}"), tool)
                 (self.folder / "begun").unlink()
                 (self.folder / "rows").unlink(missing_ok=True)
@@ -149,7 +148,7 @@ class Surroundings(InFolder):
     def test_more_interruptions_disturb_nothing(self):
         """One signal per millisecond, from when it reads a FIFO until it has ended: one line, and its exit status."""
         os.mkfifo(self.folder / "fifo.csv")
-        for tool, words in (("report2json", []), ("raise", ["--out", "out"]), ("from-pcap", ["made"])):
+        for tool, words in (("json", []), ("raise", ["--out", "out"]), ("from-pcap", ["made"])):
             process, end = self.start(tool, ["fifo.csv", *words], stdout=subprocess.PIPE), None
             while end is None:
                 self.assertIsNone(process.poll(), tool)
@@ -162,7 +161,7 @@ class Surroundings(InFolder):
                 time.sleep(0.001)
             os.close(end)
             said = process.communicate()[1]
-            self.assertEqual((said, process.returncode, self.names()), (f"{tool}: interrupted\n".encode(), 130, ["fifo.csv"]))
+            self.assertEqual((said, process.returncode, self.names()), (f"fintaqush {tool}: interrupted\n".encode(), 130, ["fifo.csv"]))
 
     def test_an_output_that_nobody_reads(self):
         for environment, tool, words in self.writes():
@@ -175,10 +174,10 @@ class Surroundings(InFolder):
 
     def test_an_output_that_is_closed(self):
         for environment, tool, words in self.writes():
-            done = subprocess.run(["sh", "-c", 'exec "$0" "$@" >&-', sys.executable, "-B", TOP / "tools" / tool, *words], input=REPORT.encode(),
+            done = subprocess.run(["sh", "-c", 'exec "$0" "$@" >&-', *START, tool, *words], input=REPORT.encode(),
                                   stderr=subprocess.PIPE, check=False, cwd=self.folder,
-                                  env={**environment, "PROGRAM": REPLAY, "SERIES": SERIES, "MACHINE": MACHINE})
-            self.assertEqual((done.stderr, done.returncode), (f"{tool}: standard output is closed\n".encode(), 1))
+                                  env={**environment, **PROGRAMS})
+            self.assertEqual((done.stderr, done.returncode), (f"fintaqush {tool}: standard output is closed\n".encode(), 1))
             self.assertEqual(self.names(), ["arrivals", "captured"])
 
     def test_a_standard_error_that_takes_nothing(self):
@@ -187,7 +186,7 @@ class Surroundings(InFolder):
             for tool in ALL:
                 for words, status in ((["--no-such-word"], 2), (["--help"], 0)):
                     with open("/dev/full", "wb") as full:
-                        done = subprocess.run([sys.executable, "-B", TOP / "tools" / tool, *words], stdout=subprocess.DEVNULL, stderr=full,
+                        done = subprocess.run([*START, tool, *words], stdout=subprocess.DEVNULL, stderr=full,
                                               env=environment, check=False)
                     self.assertEqual(done.returncode, status, (tool, words))
 
@@ -218,14 +217,14 @@ class Surroundings(InFolder):
         old = self.write("old.svg", "old\n")
         before = self.names()
         for tool, words, variables in (("raise", [TRACE, "--out", old], {"SERIES": held}),
-                                       ("compare-runs", [TRACE, "--out", old, "--"], {"PROGRAM": held}),
+                                       ("compare", [TRACE, "--out", old, "--"], {"PROGRAM": held}),
                                        ("plot", [TRACE, "--out", old, "--force"], {"SERIES": held})):
             begun = os.open(self.folder / "begun", os.O_RDONLY | os.O_NONBLOCK)
             process = self.start(tool, words, variables=variables, stdout=subprocess.PIPE, start_new_session=True)
             names, said = self.interrupt(process, begun)
             os.close(begun)
             self.assertEqual(names, before)
-            self.assertEqual((said, process.returncode), (f"{tool}: interrupted\n".encode(), 130))
+            self.assertEqual((said, process.returncode), (f"fintaqush {tool}: interrupted\n".encode(), 130))
             self.assertEqual((old.read_text(), self.names()), ("old\n", before))
 
     def test_an_interruption_of_a_sweep(self):
@@ -237,7 +236,7 @@ class Surroundings(InFolder):
         process = self.start("sweep", [*words, "--program", held], stdout=subprocess.PIPE, start_new_session=True)
         _, said = self.interrupt(process, begun, lambda: out.read_text().count("\n") == 2)
         os.close(begun)
-        self.assertEqual((said.splitlines()[-1], process.returncode), (b"sweep: interrupted", 130))
+        self.assertEqual((said.splitlines()[-1], process.returncode), (b"fintaqush sweep: interrupted", 130))
         self.assertNotIn(b"Traceback", said)
         self.assertEqual([line.split(",")[2:7] for line in out.read_text().splitlines()[1:]], [["64", "64", "1024", "no", "0"]])
         self.assertTrue(out.read_text().endswith("\n"))
@@ -245,17 +244,14 @@ class Surroundings(InFolder):
         self.assertEqual(len(out.read_text().splitlines()), 3)
 
     def test_an_interruption_before_it_has_begun(self):
-        """During the imports: the signal ends it, without a message or with the one that it was interrupted."""
+        """During the imports: the signal ends it, with the message that it was interrupted."""
         for module in ("csv", "argparse"):
             self.write(f"{module}.py", "import os, signal\nos.kill(os.getpid(), signal.SIGINT)\n")
             for tool in ALL:
                 process = self.start(tool, ["--help"], variables={"PYTHONPATH": str(self.folder)}, stdout=subprocess.PIPE)
                 out, said = process.communicate(timeout=MOST_SECONDS)
-                is_silent = module == "csv" and tool in ("sweep", "plot", "what-if")
-                if is_silent:
-                    self.assertEqual((out, said, process.returncode), (b"", b"", -signal.SIGINT), tool)
-                elif module == "argparse":
-                    self.assertEqual((out, said, process.returncode), (b"", f"{tool}: interrupted\n".encode(), 130), tool)
+                if module == "argparse" or tool in ("sweep", "plot", "what-if"):
+                    self.assertEqual((out, said, process.returncode), (b"", f"fintaqush {tool}: interrupted\n".encode(), 130), tool)
             (self.folder / f"{module}.py").unlink()
 
     def interrupt_reading(self, process):
@@ -271,7 +267,7 @@ class Surroundings(InFolder):
     def test_an_interruption_of_tools_that_read(self):
         """On a FIFO that a process has open and writes nothing to."""
         os.mkfifo(self.folder / "fifo.csv")
-        words = {"compare-runs": ["--"], "plot": ["--json"], "from-pcap": ["made"], "from-ftrace": ["made"]}
+        words = {"compare": ["--"], "plot": ["--json"], "from-pcap": ["made"], "from-ftrace": ["made"]}
         for tool in ALL:
             if tool in ("traffic", "sweep", "steps", "what-if", "record", "advise", "completion", "try"):
                 continue
@@ -286,11 +282,11 @@ class Surroundings(InFolder):
                     time.sleep(0.02)
             said = self.interrupt_reading(process)
             os.close(end)
-            self.assertEqual((said, process.returncode, self.names()), (f"{tool}: interrupted\n".encode(), 130, ["fifo.csv"]))
+            self.assertEqual((said, process.returncode, self.names()), (f"fintaqush {tool}: interrupted\n".encode(), 130, ["fifo.csv"]))
 
     def test_an_interruption_while_a_file_is_written(self):
         old = self.write("old.csv", "old\n")
-        with self.assertRaises(KeyboardInterrupt), toolbox.whole_file(str(old)) as new:
+        with self.assertRaises(KeyboardInterrupt), files.WholeFile(str(old)) as new:
             Path(new).write_text("half of it")
             self.assertEqual(len(self.names()), 2)
             raise KeyboardInterrupt
@@ -299,11 +295,11 @@ class Surroundings(InFolder):
     def test_files_that_cannot_be_written_leave_the_old_ones(self):
         """A temporary file takes the text, so that no file is truncated: here files are limited to 1 kB."""
         old = self.write("old.csv", "old\n")
-        words = {"raise": [TRACE, "--out", old], "traffic": ["--out", old], "report2json": ["-", "--out", old]}
+        words = {"raise": [TRACE, "--out", old], "traffic": ["--out", old], "json": ["-", "--out", old]}
         report = subprocess.run([REPLAY], input=(TOP / "examples/linux-veth-bursts.csv").read_bytes(), capture_output=True, check=True).stdout
         for tool, each in words.items():
-            done = subprocess.run(["bash", "-c", 'ulimit -f 1; trap "" XFSZ; exec "$0" "$@"', sys.executable, "-B", TOP / "tools" / tool, *each],
-                                  capture_output=True, check=False, input=report, env={**os.environ, "PROGRAM": REPLAY, "SERIES": SERIES})
+            done = subprocess.run(["bash", "-c", 'ulimit -f 1; trap "" XFSZ; exec "$0" "$@"', *START, tool, *each],
+                                  capture_output=True, check=False, input=report, env={**os.environ, **PROGRAMS})
             self.assertEqual((done.returncode, old.read_text(), self.names()), (1, "old\n", ["old.csv"]), (tool, done.stderr))
             self.check_line(tool, done.stderr)
 
@@ -315,13 +311,13 @@ class Surroundings(InFolder):
         self.write("captured", CAPTURED)
         names = self.names()
         words = {tool: WRITERS[tool] for tool in ("from-ftrace", "from-pcap")}
-        words.update({"raise": [TRACE, "--out", old], "traffic": ["--out", old], "report2json": ["-", "--out", old],
-                      "compare-runs": [TRACE, "--out", old, "--budget", "1", "--"], "plot": [TRACE, "--out", old, "--force"],
+        words.update({"raise": [TRACE, "--out", old], "traffic": ["--out", old], "json": ["-", "--out", old],
+                      "compare": [TRACE, "--out", old, "--budget", "1", "--"], "plot": [TRACE, "--out", old, "--force"],
                       "sweep": [TRACE, "--resume", "--out", rows]})
         for tool, each in words.items():
-            done = subprocess.run(["bash", "-c", 'ulimit -f 0; trap "" XFSZ; exec "$0" "$@"', sys.executable, "-B", TOP / "tools" / tool, *each],
+            done = subprocess.run(["bash", "-c", 'ulimit -f 0; trap "" XFSZ; exec "$0" "$@"', *START, tool, *each],
                                   capture_output=True, check=False, input=REPORT.encode(), cwd=self.folder,
-                                  env={**USUAL, "PROGRAM": REPLAY, "SERIES": SERIES, "MACHINE": MACHINE})
+                                  env={**USUAL, **PROGRAMS})
             self.check_line(tool, done.stderr.splitlines(True)[-1])
             self.assertEqual((done.returncode, done.stdout), (1, b""), tool)
             self.assertEqual((old.read_text(), rows.read_text(), self.names()), ("old\n", before, names), tool)
@@ -330,7 +326,7 @@ class Surroundings(InFolder):
         (self.folder / "folder.csv").mkdir()
         os.mkfifo(self.folder / "fifo.csv")
         for out, why in (("none/x.csv", "there is no such folder"), ("folder.csv", "this is a folder"), ("fifo.csv", "not a regular file")):
-            for tool in ("raise", "traffic", "report2json"):
+            for tool in ("raise", "traffic", "json"):
                 words = [TRACE] if tool == "raise" else []
                 done = run(tool, *words, "--out", out, text=REPORT, folder=self.folder)
                 self.assertIn(why, done.stderr)
@@ -339,7 +335,7 @@ class Surroundings(InFolder):
     def test_inputs_that_are_none(self):
         (self.folder / "folder.csv").mkdir()
         (self.folder / "bytes").write_bytes(b"\xff\xfe")
-        words = {"compare-runs": ["--"], "plot": ["--json"], "from-pcap": ["made"], "from-ftrace": ["made"], "what-if": []}
+        words = {"compare": ["--"], "plot": ["--json"], "from-pcap": ["made"], "from-ftrace": ["made"], "what-if": []}
         for tool in ALL:
             if tool in ("traffic", "sweep", "compare-recording", "steps", "record", "completion", "try"):
                 continue
@@ -349,14 +345,14 @@ class Surroundings(InFolder):
                 self.check_line(tool, os.fsencode(done.stderr))
 
     def test_names_stay_off_the_terminal(self):
-        for tool in ("raise", "report2json", "from-ftrace", "from-pcap"):
+        for tool in ("raise", "json", "from-ftrace", "from-pcap"):
             done = run(tool, "\x1b[31m.csv", *(["made"] if tool.startswith("from") else []), folder=self.folder)
             self.assertIn("\\x1b[31m.csv", done.stderr)
             self.assertNotIn("\x1b", done.stderr)
 
     def test_a_fifo_is_read_once(self):
         os.mkfifo(self.folder / "fifo")
-        for tool, words in (("raise", []), ("compare-runs", ["--"]), ("plot", ["--raise", "--json"])):
+        for tool, words in (("raise", []), ("compare", ["--"]), ("plot", ["--raise", "--json"])):
             process = self.start(tool, ["fifo", *words], stdout=subprocess.PIPE)
             (self.folder / "fifo").write_bytes(TRACE.read_bytes())
             process.communicate(timeout=300)
@@ -366,11 +362,10 @@ class Surroundings(InFolder):
         for tool in ALL:
             done = run(tool, "--help")
             self.assertEqual((done.returncode, done.stderr), (0, ""))
-            self.assertIn(f"usage: {tool}", done.stdout)
-            self.assertTrue(os.access(TOP / "tools" / tool, os.X_OK))
+            self.assertIn(f"usage: fintaqush {tool}", done.stdout)
             version = re.search('#define FQ_VERSION "(.*)"', (TOP / "include/fintaqush.h").read_text())[1]
-            self.assertEqual(run(tool, "--version").stdout, f"{tool} of Fintaqush {version}\n")
-        self.assertEqual(sorted(ALL), sorted(path.name for path in (TOP / "tools").iterdir() if os.access(path, os.X_OK) and path.is_file()))
+            self.assertEqual(run(tool, "--version").stdout, f"fintaqush {tool} of Fintaqush {version}\n")
+        self.assertEqual(sorted(ALL), sorted(MODULES.keys() - {"replay", "series", "machine"}))
 
     def test_a_program_that_is_killed(self):
         program = self.write("program", "#!/bin/sh\nkill -9 $$\n")

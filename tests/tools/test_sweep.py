@@ -1,4 +1,4 @@
-"""Tests of tools/sweep."""
+"""Tests of fintaqush sweep."""
 
 import csv
 import itertools
@@ -6,12 +6,11 @@ import os
 import re
 import shutil
 import subprocess
-import sys
 import unittest
 from concurrent.futures import ThreadPoolExecutor
 from pathlib import Path
 
-from tooltest import HEADER, REPLAY, TOP, InFolder, run, skip_without
+from tooltest import HEADER, REPLAY, START, TOP, skip_without, InFolder, run, run_apart
 
 
 def slurm_block():
@@ -127,8 +126,8 @@ total devices 3 runs 2 polls 7 work 80 squeezed 2
         """With --fail-if, a result beyond a limit sets exit status 3; by hand, a budget of 2 squeezes, and 300 doesn't."""
         for condition, status in (("squeezed>0", 3), ("squeezed>1", 0), ("dropped >= 1", 3), ("left==6", 3), ("work<2", 0)):
             done = self.sweep("--resume", "--fail-if", condition)
-            self.assertEqual((done.returncode, done.stderr.count("sweep: --fail-if")), (status, status // 3), condition)
-        self.assertIn("sweep: --fail-if 'squeezed>0': squeezed is 1 with trace ", self.sweep("--resume", "--fail-if", "squeezed>0").stderr)
+            self.assertEqual((done.returncode, done.stderr.count("fintaqush sweep: --fail-if")), (status, status // 3), condition)
+        self.assertIn("fintaqush sweep: --fail-if 'squeezed>0': squeezed is 1 with trace ", self.sweep("--resume", "--fail-if", "squeezed>0").stderr)
         for condition in ("squeezed", "squeezed>0us", "nothing>0", "squeezed>", "squeezed>1e3"):
             self.assertEqual(self.sweep("--fail-if", condition).returncode, 2, condition)
 
@@ -139,7 +138,7 @@ total devices 3 runs 2 polls 7 work 80 squeezed 2
         words = [self.folder, "--budget", "2,300", "--resume", "--jobs", "2", "--out", self.out, "--program", slow]
         windows = [[str(10 * call + each) for each in range(1, 10)] for call in range(3)]
         with ThreadPoolExecutor(3) as pool:
-            ended = list(pool.map(lambda window: run("sweep", *words, "--window", ",".join(window)), windows))
+            ended = list(pool.map(lambda window: run_apart("sweep", *words, "--window", ",".join(window)), windows))
         self.assertEqual([done.returncode for done in ended], [0, 0, 0], [done.stderr for done in ended])
         self.assertEqual(sorted((Path(row["trace"]).name, row["budget"], row["window"]) for row in self.rows()),
                          sorted(itertools.product(["burst.csv", "faulty.csv"], ["2", "300"], sum(windows, []))))
@@ -181,7 +180,7 @@ total devices 3 runs 2 polls 7 work 80 squeezed 2
         windows = ",".join(str(number) for number in range(1, 33))
         words = [self.folder, "--budget", "2,300", "--window", windows, "--program", slow]
         def task(number):
-            call = [sys.executable, "-BES", TOP / "tools/sweep", *map(str, words), "--resume", "--jobs", "1", "--part", f"{number}/16",
+            call = [*START, "sweep", *map(str, words), "--resume", "--jobs", "1", "--part", f"{number}/16",
                     "--out", str(self.folder / f"rows-{number}")]
             said = []
             for seconds in (0.3, 0.5, 0.7, 300):
@@ -262,7 +261,7 @@ total devices 3 runs 2 polls 7 work 80 squeezed 2
                          ["300", "64", "0", "", "0", "0"])
 
     def test_progress_is_told(self):
-        self.assertRegex(self.sweep().stderr, r"sweep: 4 of 8 rows, \d+ s\n")
+        self.assertRegex(self.sweep().stderr, r"fintaqush sweep: 4 of 8 rows, \d+ s\n")
 
     def test_what_it_finds_in_a_folder(self):
         (self.folder / "folder.csv").mkdir()

@@ -3,13 +3,13 @@
 import argparse
 import contextlib
 import io
-import sys
 import unittest
 
-from tooltest import TOP
+import tooltest
 
-sys.path.insert(0, str(TOP / "tools"))
-import thresholds  # noqa: E402
+from fintaqush_tools import thresholds
+
+assert tooltest.TOP  # it finds the package
 
 
 class Conditions(unittest.TestCase):

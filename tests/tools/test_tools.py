@@ -5,10 +5,12 @@ import os
 import re
 import struct
 import subprocess
-import sys
 import unittest
 
-from tooltest import HEADER, HERE, REPLAY, TOP, InFolder, run, skip_without
+from tooltest import HEADER, HERE, REPLAY, TOP, InFolder, run, skip_without, START
+
+from fintaqush_tools import reports
+from fintaqush_tools.errors import Refusal
 
 PAIRS = [word for number in range(1, 7) for word in ("--pair", f"va{number}:vb{number}")]
 
@@ -415,7 +417,7 @@ class FromPcap(InFolder):
 
     def test_refusals(self):
         done = run("from-pcap", "none.pcap", "made", folder=self.folder)
-        self.assertEqual((done.stderr, done.returncode), ("from-pcap: none.pcap: there is no such file\n", 1))
+        self.assertEqual((done.stderr, done.returncode), ("fintaqush from-pcap: none.pcap: there is no such file\n", 1))
         for text, why in (("", "no packet arrives"), ("what\n", "line 1: not in the format of `tcpdump -tt -n -e`"), (self.TEXT * 60000, "more than")):
             done = run("from-pcap", "-", self.folder / "made", text=text)
             self.assertEqual((done.returncode, self.names()), (1, []), done.stderr)
@@ -492,7 +494,7 @@ class CompareRuns(InFolder):
     def test_what_two_settings_change(self):
         """With a budget of 1 each run takes one packet; with the default all three come at once; device 2 has one packet either way."""
         trace = self.write("burst.csv", self.BURST)
-        done = run("compare-runs", trace, "--budget", "1", "--weight", "1", "--", "--weight", "1")
+        done = run("compare", trace, "--budget", "1", "--weight", "1", "--", "--weight", "1")
         self.assertEqual((done.stderr, done.returncode), ("", 0))
         lines = [re.split(r" {2,}", line) for line in done.stdout.splitlines()]
         self.assertEqual(lines[0], ["", "budget 1 weight 1", "weight 1", "change"])
@@ -501,28 +503,28 @@ class CompareRuns(InFolder):
     def test_with_runs_raised(self):
         trace = TOP / "examples/linux-veth-bursts.csv"
         words = ["--budget", "16", "--weight", "8", "--", "--budget", "300"]
-        self.assertRegex(run("compare-runs", trace, *words).stdout, r"total +work +8441 +15245 +\+6804\n")
-        raised = run("compare-runs", trace, "--raise", *words).stdout
+        self.assertRegex(run("compare", trace, *words).stdout, r"total +work +8441 +15245 +\+6804\n")
+        raised = run("compare", trace, "--raise", *words).stdout
         self.assertNotIn("dropped", raised)
         self.assertNotIn("total      work", raised)
 
     def test_a_trace_of_version_2(self):
         """examples/busy-poll.csv has nine packets, and with the added runs neither budget loses any."""
-        done = run("compare-runs", TOP / "examples/busy-poll.csv", "--raise", "--budget", "1", "--weight", "1", "--", "--weight", "64")
+        done = run("compare", TOP / "examples/busy-poll.csv", "--raise", "--budget", "1", "--weight", "1", "--", "--weight", "64")
         self.assertEqual(done.returncode, 0)
         self.assertIn("the same: list", done.stdout)
         self.assertNotIn("polled", done.stdout)
 
     def test_refusals(self):
         trace = self.write("burst.csv", self.BURST)
-        self.assertEqual(run("compare-runs", trace, "--budget", "1").returncode, 2)
-        self.assertEqual(run("compare-runs", trace, "--", "--budget", "0").returncode, 2)
-        self.assertIn("trace fault 1 BadHeader row 0", run("compare-runs", "-", "--", text="x\n").stderr)
+        self.assertEqual(run("compare", trace, "--budget", "1").returncode, 2)
+        self.assertEqual(run("compare", trace, "--", "--budget", "0").returncode, 2)
+        self.assertIn("trace fault 1 BadHeader row 0", run("compare", "-", "--", text="x\n").stderr)
 
 
 class Report2Json(unittest.TestCase):
     def test_every_line_of_a_report(self):
-        done = run("report2json", text="""softirq 4 polls 2 work 3 squeezed 1
+        done = run("json", text="""softirq 4 polls 2 work 3 squeezed 1
 kthread 5 device 16 polls 6 work 7
 device 1 pending arrived 1 dropped 2 polled 3 bytes 4 left 5 polls 6
 napi 1 granted 1 missed 2 disabled 3 again 4 released 5 word 8589935361
@@ -553,7 +555,7 @@ total devices 3 runs 1 polls 2 work 3 squeezed 1
         ])
 
     def test_version_2(self):
-        done = run("report2json", text="""busy 7 device 1 polls 4 work 2
+        done = run("json", text="""busy 7 device 1 polls 4 work 2
 device 1 on arrived 2 dropped 0 polled 2 bytes 120 left 0 polls 4
 napi 1 granted 0 missed 0 disabled 0 again 0 released 1 word 65 held 3
 list
@@ -565,14 +567,13 @@ total devices 1 runs 0 polls 0 work 0 squeezed 0
 
     def test_slow_modules_are_not_imported(self):
         """A report is converted without the modules that are slow to import."""
-        self.assertEqual((TOP / "tools/report2json").read_text().split("\n", 1)[0], "#!/usr/bin/env -S python3 -BES")
-        command = [sys.executable, "-BES", "-X", "importtime", TOP / "tools/report2json"]
+        command = [*START[:2], "-X", "importtime", *START[2:], "json"]
         done = subprocess.run(command, input=b"list\ntotal devices 0 runs 0 polls 0 work 0 squeezed 0\n", capture_output=True, check=True)
         imported = {line.split(b"|")[-1].strip() for line in done.stderr.splitlines()}
         self.assertFalse({b"argparse", b"json", b"re", b"subprocess", b"tempfile", b"pathlib"} & imported)
 
     def test_threads_mode(self):
-        done = run("report2json", text="""device 1 arrived 3 bytes 1620
+        done = run("json", text="""device 1 arrived 3 bytes 1620
 device 2 arrived 2 bytes 160
 tx 2 sent 1 held 0 done 1 denied 0 limit 100 avail 100 stopped 1
 total devices 2
@@ -587,27 +588,24 @@ total devices 2
         whole = subprocess.run([REPLAY], input=trace, capture_output=True, text=True, check=True).stdout
         lines = whole.splitlines(keepends=True)
         cuts = [whole[:length] for length in range(len(whole))] + ["".join(lines[:place] + lines[place + 1 :]) for place in range(len(lines))]
-        sys.path.insert(0, str(TOP / "tools"))
-        import reports
-        import toolbox
         for cut in cuts:
-            with self.assertRaises(toolbox.Refusal, msg=cut[-60:]):
+            with self.assertRaises(Refusal, msg=cut[-60:]):
                 reports.objects_of(cut)
         for cut, why in (("", "the report is empty"), (whole[:-1], "the report is cut"), (whole + whole, "there are two reports in it")):
-            done = run("report2json", text=cut)
+            done = run("json", text=cut)
             self.assertEqual((done.stdout, done.returncode), ("", 1))
             self.assertIn(why, done.stderr)
 
     def test_every_example_passes(self):
         for trace in sorted((TOP / "examples").glob("*.csv")):
             report = subprocess.run([REPLAY], input=trace.read_bytes(), capture_output=True, check=True).stdout.decode()
-            done = run("report2json", text=report)
+            done = run("json", text=report)
             self.assertEqual((done.stderr, len(done.stdout.splitlines())), ("", len(report.splitlines())))
 
     def test_what_is_no_report_is_refused(self):
         for line in ("", "napi", "softirq 4 polls 2 work 3", "softirq 4 polls 2 work 3 squeezed 2", "list x",
                      "total devices 3 polls 2 runs 1 work 3 squeezed 1",
                      "napi 2 granted 0 missed 0 disabled 0 again 0 released 0 word 16"):
-            done = run("report2json", text=f"list\n{line}\n")
+            done = run("json", text=f"list\n{line}\n")
             self.assertEqual(done.returncode, 1)
-            self.assertIn("report2json: line 2: ", done.stderr)
+            self.assertIn("fintaqush json: line 2: ", done.stderr)

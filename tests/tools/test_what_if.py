@@ -1,4 +1,4 @@
-"""Tests of tools/what-if. Expected values are computed by hand, or by the plain model of the machine."""
+"""Tests of fintaqush what-if. Expected values are computed by hand, or by the plain model of the machine."""
 
 import csv
 import io
@@ -7,10 +7,9 @@ import os
 import re
 import subprocess
 import sys
-import unittest
 from fractions import Fraction
 
-from tooltest import HAS_MACHINE, MACHINE, TOP, InFolder, run, skip_without
+from tooltest import HAS_MACHINE, MACHINE, START, TOP, skip_without, InFolder, run
 
 sys.path.insert(0, str(TOP / "tests"))
 import machine_model  # noqa: E402
@@ -91,7 +90,7 @@ class WhatIf(InFolder):
         words = ["--use", "0", "--defer-hard-irqs", "1", "--gro-flush-timeout"]
         self.assertEqual(self.said(*words, "0,10000"), "")
         self.assertEqual(self.said(*words, "0,5000"), "".join(
-            f"what-if: with costs 20 % lower the order by {what} changes: gro-flush-timeout 0 and gro-flush-timeout 5000\n"
+            f"fintaqush what-if: with costs 20 % lower the order by {what} changes: gro-flush-timeout 0 and gro-flush-timeout 5000\n"
             for what in ("the median wait to the end of use", "the 99th percentile of that wait")))
         for others in (["--band", "0"], ["--band", "5"], ["--part", "1/1"]):
             self.assertEqual(self.said(*words, "0,5000", *others), "")
@@ -111,7 +110,7 @@ class WhatIf(InFolder):
         self.assertEqual(self.said("--budget", "2,300", "--band", "0"), "")
         self.arrivals.write_text(HEADER + "".join(f"{1000 * place},1,60\n" for place in range(400)))
         told = self.said("--budget", "16,300", "--band", "0")
-        self.assertEqual(told, "what-if: in the model, with one queue on each processor, net.core.netdev_budget changes no latency and no drops, only how many runs are "
+        self.assertEqual(told, "fintaqush what-if: in the model, with one queue on each processor, net.core.netdev_budget changes no latency and no drops, only how many runs are "
                          "squeezed\n")
         small, usual = self.rows("--budget", "16,300", "--band", "0")
         for name in ("squeezed", "budget"):
@@ -188,7 +187,7 @@ class WhatIf(InFolder):
         for words, begins in (([], b"row  "), (["--csv"], b"budget,"), (["--json"], b'{"version": 1')):
             master, slave = os.openpty()
             with open(master, "rb", buffering=0) as end:
-                subprocess.run([sys.executable, "-BES", TOP / "tools/what-if", self.arrivals, "--budget", "1,300", *words], stdout=slave,
+                subprocess.run([*START, "what-if", self.arrivals, "--budget", "1,300", *words], stdout=slave,
                                stderr=subprocess.DEVNULL, check=True, env={**os.environ, "MACHINE": MACHINE})
                 os.close(slave)
                 self.assertTrue(end.read(100).startswith(begins))
@@ -313,7 +312,7 @@ class WhatIf(InFolder):
         words = ["--gro-flush-timeout", "0,20000,100000", "--defer-hard-irqs", "2", "--load", "0.5,1,2", "--plot"]
         self.rows(*words, self.folder / "x.png")
         self.rows(*words, self.folder / "x.svg")
-        darkest = ("import sys; sys.path.append(sys.argv[1]); import drawing; drawing.matplotlib(); from matplotlib.image import imread; "
+        darkest = ("import sys; sys.path.append(sys.argv[1]); from fintaqush_tools import pictures; pictures.matplotlib(); from matplotlib.image import imread; "
                    "print(imread(sys.argv[2])[:, [0, 1, -2, -1], :3].min())")
         done = subprocess.run([sys.executable, "-c", darkest, TOP / "tools", self.folder / "x.png"], capture_output=True, text=True, check=True)
         self.assertEqual(done.stdout, "1.0\n")

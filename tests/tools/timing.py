@@ -93,7 +93,7 @@ class Made:
 
 
 def searched(text):
-    """Returns the events of a file of tools/record: time, processor, task, its number, and the text. The functions below search them backwards."""
+    """Returns the events of a file of fintaqush record: time, processor, task, its number, and the text. The functions below search them backwards."""
     events = []
     for line in text[text.index("\ntrace\n") + 7:].splitlines():
         found = re.match(r"\s*(\S.*)-(\d+)\s+\[(\d+)\] \S+ +(\d+)\.(\d{9}): (\S.*)", line)

@@ -1,19 +1,29 @@
 """Shared code of the tests of tools/. PROGRAM, SERIES and MACHINE name other builds of napi_replay, napi_series and napi_machine, also for the
 tools."""
 
+from __future__ import annotations
+
 import atexit
+import contextlib
+import io
 import os
 import shutil
 import subprocess
 import sys
 import tempfile
 import unittest
+import unittest.mock
 from pathlib import Path
 
 HERE = Path(__file__).resolve().parent
 TOP = HERE.parent.parent
-sys.path.append(str(TOP / "tests"))
+sys.path += [str(TOP / "tests"), str(TOP / "tools")]
 import needs
+
+from fintaqush_tools import cli, errors
+from fintaqush_tools.progress import Program
+
+START = [sys.executable, "-BES", str(TOP / "scripts/start.py"), "fintaqush"]  # starts the command as a process
 REPLAY = os.environ.get("PROGRAM") or str(TOP / "crates/napi_replay/out/napi_replay")
 SERIES = os.environ.get("SERIES") or str(TOP / "crates/napi_series/out/napi_series")
 MACHINE = os.environ.get("MACHINE") or str(TOP / "crates/napi_machine/out/napi_machine")
@@ -23,6 +33,7 @@ if not os.path.exists(MACHINE) and shutil.which("g++"):
     atexit.register(shutil.rmtree, built)
     MACHINE = f"{built}/machine"
     subprocess.run(["g++", "-std=c++17", "-O2", TOP / "bench/machine.cc", "-o", MACHINE], check=True)
+PROGRAMS = {"PROGRAM": REPLAY, "SERIES": SERIES, "MACHINE": MACHINE}
 HAS_MACHINE = unittest.skipUnless(os.path.exists(MACHINE), "g++")
 
 
@@ -34,14 +45,56 @@ def skip_without(program):
 HEADER = "moment,device,event,value\n"
 
 
-def run(tool, *words, text=None, path=None, folder=None, **variables):
-    """Runs a tool. `path` is the PATH for its commands, if another one is wanted."""
-    environment = {**os.environ, "PROGRAM": REPLAY, "SERIES": SERIES, "MACHINE": MACHINE, **variables}
+def run_apart(name, *words, folder=None, **variables):
+    """Runs a subcommand as a process of its own, as where several run at once."""
+    return subprocess.run([*START, name, *map(str, words)], capture_output=True, text=True, check=False, cwd=folder,
+                          env={**os.environ, **PROGRAMS, **variables})
+
+
+def taken(text):
+    """Returns a file that is read as standard input."""
+    file = tempfile.TemporaryFile()
+    file.write((text or "").encode("utf-8", "surrogateescape"))
+    file.seek(0)
+    return io.TextIOWrapper(file, encoding="utf-8")
+
+
+def printed():
+    """Returns a file that takes what is printed."""
+    return io.TextIOWrapper(io.BytesIO(), encoding="utf-8", errors="surrogateescape", newline="", write_through=True)
+
+
+def told(file):
+    """Returns what was printed to a file."""
+    return file.buffer.getvalue().decode("utf-8", "surrogateescape")
+
+
+@contextlib.contextmanager
+def surroundings(text, folder, variables):
+    """The input, the working folder and the environment variables of a call. Yields the files that take its outputs."""
+    here = os.getcwd()
+    with contextlib.ExitStack() as undo, taken(text) as given, printed() as out, printed() as said:
+        undo.enter_context(unittest.mock.patch.dict(os.environ, {**PROGRAMS, **variables}))
+        undo.enter_context(unittest.mock.patch.object(sys, "stdin", given))
+        undo.enter_context(contextlib.redirect_stdout(out))
+        undo.enter_context(contextlib.redirect_stderr(said))
+        undo.callback(os.chdir, here)
+        os.chdir(folder or here)
+        yield out, said
+
+
+def run(name, *words, text="", path=None, folder=None, **variables):
+    """Calls a subcommand, in this process, and returns its status and outputs. `path` is the PATH for its commands, if another one is wanted."""
+    given = [name, *(os.fsdecode(word) if isinstance(word, bytes) else str(word) for word in words)]
     if path is not None:
-        environment["PATH"] = path
-    words = [word if isinstance(word, bytes) else str(word) for word in words]
-    return subprocess.run([sys.executable, "-BES", TOP / "tools" / tool, *words], input=text, capture_output=True, text=True, check=False,
-                          env=environment, cwd=folder, errors="surrogateescape", timeout=600)
+        variables["PATH"] = path
+    with surroundings(text, folder, {key: str(value) for key, value in variables.items()}) as (out, said):
+        Program.name, Program.is_quiet = "fintaqush", False
+        try:
+            status = errors.ended(cli.main, given)
+        finally:
+            errors.clean_up()
+        return subprocess.CompletedProcess(given, status, told(out), told(said))
 
 
 def keys_of(told):

@@ -635,7 +635,7 @@ class TestReplay(Refusals):
         self.refused(Status.BAD_BUDGET, replay, trace, window=0)
 
     def test_all_examples(self):
-        """The objects are equal to what tools/reports.py reads from the text."""
+        """The objects are equal to what the tools read from the text."""
         traces = sorted((TOP / "examples").glob("*.csv"))
         self.assertGreater(len(traces), 5)
         for trace in traces:

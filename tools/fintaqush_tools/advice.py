@@ -1,0 +1,288 @@
+"""The settings of a recorded machine, the alternatives, and the commands that apply them: for tools/advise."""
+
+from __future__ import annotations
+
+import contextlib
+import itertools
+import os
+import re
+from collections.abc import Iterator, Mapping, Sequence
+from dataclasses import dataclass
+from typing import Any
+
+from fintaqush_tools import observed
+from fintaqush_tools.errors import Refusal
+from fintaqush_tools.machine import OPTIONS
+from fintaqush_tools.processes import ran
+from fintaqush_tools.recording import Head
+from fintaqush_tools.texts import shown
+from fintaqush_tools.timeline import BACKLOG
+
+VETH_RING = 256  # entries of veth's ring, which ethtool doesn't report
+SOCKET = 65536  # packets: a recording doesn't have the socket buffer's size in packets, so this holds all
+FLUSHES = (0, 20_000, 50_000, 100_000, 200_000, 500_000)  # ns
+DEFERRALS = 2
+COALESCED = (0, 8_000, 25_000, 50_000, 100_000)  # ns
+LARGER = (1, 2, 4, 8, 16)
+NOT_MODELLED = (
+    "GRO's merging of packets",
+    "the scheduler's choice among tasks, and hypervisors",
+    "busy polling",
+    "RPS after a device's own polls",
+    "adaptive coalescing",
+)
+COMM = 15  # characters of a task's name that the kernel keeps
+WRITE = 'echo "$3" > "/sys/class/net/$1/$2"'  # device and value are arguments of the shell, never part of the command
+
+
+def number_in(head: Head, key: str, default: int) -> int:
+    """Returns a number of the recording's head, or the default."""
+    found = re.fullmatch(r"\d{1,15}", head.get(key, ""))
+    return int(found[0]) if found else default
+
+
+def within_range(option: str, value: int) -> int:
+    low, high, _ = OPTIONS[option]
+    return max(low, min(high, value))
+
+
+def options_of(head: Head, device: str, is_apart: int) -> dict[str, int]:
+    """Returns napi_machine's options for the recorded settings."""
+
+    def of_core(name: str, default: int) -> int:
+        return number_in(head, f"sysctl.net.core.{name}", default)
+
+    def of_device(name: str, default: int) -> int:
+        return number_in(head, f"device.{device}.{name}", default)
+
+    options = {
+        "budget": of_core("netdev_budget", 300),
+        "time-limit": 1000 * of_core("netdev_budget_usecs", 8000),
+        "socket": SOCKET,
+        "apart": is_apart,
+    }
+    if head.get("polled") == BACKLOG:
+        options.update(
+            backlog=1,
+            ring=of_core("netdev_max_backlog", 1000) + 1,
+            weight=of_core("dev_weight", 64) * of_core("dev_weight_rx_bias", 1),
+        )
+    else:
+        options.update(
+            {
+                "ring": of_device("ethtool.ring.rx", VETH_RING),
+                "defer-hard-irqs": of_device("napi_defer_hard_irqs", 0),
+                "gro-flush-timeout": of_device("gro_flush_timeout", 0),
+                "threaded": min(1, of_device("threaded", 0)),
+                "rx-nsecs": 1000 * of_device("ethtool.coalesce.rx-usecs", 0),
+                "rx-frames": of_device("ethtool.coalesce.rx-frames", 0),
+            }
+        )
+    return {name: within_range(name, value) for name, value in options.items()}
+
+
+def unmodelled_in(head: Head, device: str) -> Iterator[str]:
+    """Yields the settings of the recorded machine that the model doesn't have."""
+    if number_in(head, "sysctl.net.core.busy_read", 0) or number_in(head, "sysctl.net.core.busy_poll", 0):
+        yield "busy polling is on (net.core.busy_read, busy_poll)"
+    if head.get(f"device.{device}.ethtool.coalesce.adaptive-rx") == "on":
+        yield "adaptive coalescing is on (ethtool -C adaptive-rx)"
+    before, after = map(int, head.get("udp.RcvbufErrors", "0 0").split())
+    if after > before:
+        yield f"{after - before} packets were dropped at a full socket (see net.core.rmem_max and SO_RCVBUF)"
+    if head.get("polled", "").split() == [device] and re.search(
+        "[1-9a-f]", head.get(f"device.{device}.rx-0.rps_cpus", "0")
+    ):
+        yield "RPS moves packets on after these polls (rps_cpus)"
+
+
+def rings_of(head: Head, device: str, options: Mapping[str, int]) -> list[int]:
+    """Returns the sizes of ring or backlog that can be set."""
+    now = options["ring"]
+    if options.get("backlog"):
+        return sorted({within_range("ring", (now - 1) * times + 1) for times in LARGER})
+    most = number_in(head, f"device.{device}.ethtool.ring.most.rx", now)
+    return sorted({min(most, now * times) for times in LARGER})
+
+
+def candidates(head: Head, device: str, options: dict[str, int], has_program: bool) -> list[dict[str, int]]:
+    """Returns all settings to try, the recorded one first."""
+    places: list[dict[str, int]] = [{}, {"apart": 0}, {"apart": 1}] if has_program else [{}]
+    rings: list[dict[str, int]] = [{}, *({"ring": ring} for ring in rings_of(head, device, options))]
+    tried = [options]
+    for changes in itertools.product(*of_interrupts(head, device, options), places, rings):
+        chosen = {**options, **{name: value for change in changes for name, value in change.items()}}
+        is_both = (
+            chosen.get("gro-flush-timeout") and chosen.get("rx-nsecs") and chosen["rx-nsecs"] != options.get("rx-nsecs")
+        )
+        if chosen not in tried and not is_both:
+            tried.append(chosen)
+    return tried
+
+
+def of_interrupts(head: Head, device: str, options: Mapping[str, int]) -> list[list[dict[str, int]]]:
+    """Returns the settings of deferral, of coalescing and of threads to try; a backlog has none."""
+    deferrals: list[dict[str, int]] = [{}]
+    coalescing: list[dict[str, int]] = [{}]
+    threads: list[dict[str, int]] = [{}]
+    if not options.get("backlog"):
+        if {f"device.{device}.napi_defer_hard_irqs", f"device.{device}.gro_flush_timeout"} <= head.keys():
+            deferrals += [
+                {"defer-hard-irqs": DEFERRALS if flush else 0, "gro-flush-timeout": flush} for flush in FLUSHES
+            ]
+        if f"device.{device}.threaded" in head:
+            threads += [{"threaded": 0}, {"threaded": 1}]
+        if (
+            f"device.{device}.ethtool.coalesce.rx-usecs" in head
+            and head.get(f"device.{device}.ethtool.coalesce.adaptive-rx") != "on"
+        ):
+            coalescing += [{"rx-nsecs": time} for time in COALESCED]
+    return [deferrals, coalescing, threads]
+
+
+# ---- how settings are applied
+
+
+def thread_of(device: str) -> str:
+    """Returns the prefix of the names of a device's NAPI threads."""
+    return f"napi/{device}-"[:COMM]
+
+
+@dataclass
+class Change:
+    """One change of a setting; `kind` is sysctl, sysfs, ring, coalesce, threads or program."""
+
+    kind: str
+    name: str
+    value: Any
+    before: Any
+
+
+class Machine:
+    """The machine that was recorded, if it is this one."""
+
+    def __init__(self, head: Head, device: str, processor: int | None) -> None:
+        self.head, self.device, self.netns, self.processor = head, device, head.get("netns", ""), processor
+        self.pids = [int(each) for each in head.get("program.pids", "").split()]
+
+    def other_processor(self) -> int | None:
+        """Returns a processor for the program, other than the one that polls."""
+        for part in self.head.get("online", "0").split(","):
+            first, _, last = part.partition("-")
+            for number in range(int(first), int(last or first) + 1):
+                if number != self.processor:
+                    return number
+        return None
+
+    def changes(self, chosen: Mapping[str, int], now: Mapping[str, int]) -> list[Change]:
+        """Returns the changes that lead to the chosen setting, in an order in which the kernel accepts them."""
+
+        def is_new(name: str) -> bool:
+            return chosen.get(name) != now.get(name)
+
+        changes = []
+        for name in ("napi_defer_hard_irqs", "gro_flush_timeout", "threaded"):
+            option = name.removeprefix("napi_").replace("_", "-")
+            if is_new(option):
+                changes.append(Change("sysfs", name, chosen[option], now[option]))
+        if is_new("threaded") and chosen["threaded"]:
+            changes.append(Change("threads", self.device, self.processor, None))
+        if is_new("ring") and chosen.get("backlog"):
+            changes.append(Change("sysctl", "netdev_max_backlog", chosen["ring"] - 1, now["ring"] - 1))
+        elif is_new("ring"):
+            changes.append(Change("ring", "rx", chosen["ring"], now["ring"]))
+        if is_new("rx-nsecs"):
+            changes.append(Change("coalesce", "rx-usecs", chosen["rx-nsecs"] // 1000, now["rx-nsecs"] // 1000))
+        if is_new("apart"):
+            changes.append(
+                Change(
+                    "program",
+                    self.head.get("program", ""),
+                    self.other_processor() if chosen["apart"] else self.processor,
+                    None,
+                )
+            )
+        return changes
+
+    def notes_on(self, changes: Sequence[Change]) -> Iterator[str]:
+        """Yields notes on what the commands don't show."""
+        for change in changes:
+            if change.kind == "threads":
+                yield f"the thread is pinned to processor {change.value}, which polls now; any other one that does nothing else is as good"
+            elif change.kind == "sysfs" and change.name == "threaded" and not change.value:
+                yield "without a thread the processor polls that takes the interrupt, or on which a veth pair's sender runs"
+            elif change.kind == "program" and change.value != self.processor:
+                yield (
+                    f"processor {change.value} should do nothing else; what waking the program there takes isn't in the recording unless it was "
+                    "apart"
+                )
+
+    def line_of(self, change: Change) -> str:
+        """Returns the shell command for a change."""
+        front = f"ip netns exec {self.netns} " if self.netns else ""
+        attribute = f"/sys/class/net/{self.device}/{change.name}"
+        return {
+            "sysctl": f"sysctl -w net.core.{change.name}={change.value}",
+            "sysfs": f"{front}sh -c 'echo {change.value} > {attribute}'"
+            if front
+            else f"echo {change.value} > {attribute}",
+            "threads": f"for task in $(pgrep '^{thread_of(self.device)}'); do taskset -pc {change.value} $task; done",
+            "ring": f"{front}ethtool -G {self.device} rx {change.value}",
+            "coalesce": f"{front}ethtool -C {self.device} rx-usecs {change.value}",
+            "program": f"for task in $(pgrep -x '{change.name[:COMM]}'); do taskset -apc {change.value} $task; done",
+        }[change.kind]
+
+    def apply(self, change: Change, value: object) -> None:
+        """Applies a change on this machine."""
+        within = observed.within(self.netns)
+        if change.kind == "sysctl":
+            with open(f"/proc/sys/net/core/{change.name}", "w", encoding="ascii") as file:
+                file.write(f"{value}\n")
+        elif change.kind == "sysfs":
+            self.run([*within, "sh", "-c", WRITE, "sh", self.device, change.name, str(value)])
+        elif change.kind in ("ring", "coalesce"):
+            self.run(
+                [*within, "ethtool", "-G" if change.kind == "ring" else "-C", self.device, change.name, str(value)]
+            )
+
+    @staticmethod
+    def run(command: Sequence[str]) -> None:
+        status, _, said = ran(command)
+        if status != 0:
+            raise Refusal(f"{shown(' '.join(command))[:120]}: {shown(said.decode('utf-8', 'replace').strip())[:200]}")
+
+    def move(self, change: Change) -> dict[int, set[int]]:
+        """Pins tasks to a processor. Returns the processors that each task was allowed on before."""
+        if change.kind == "threads":
+            tasks = [task for task, _ in observed.tasks_named(lambda name: name.startswith(thread_of(change.name)))]
+        else:
+            tasks = [
+                int(task)
+                for pid in self.pids
+                if os.path.isdir(f"/proc/{pid}/task")
+                for task in os.listdir(f"/proc/{pid}/task")
+            ]
+        before = {}
+        for task in tasks:
+            with contextlib.suppress(ProcessLookupError):
+                before[task] = os.sched_getaffinity(task)
+                os.sched_setaffinity(task, {change.value})
+        return before
+
+    @staticmethod
+    def move_back(before: Mapping[int, set[int]]) -> None:
+        for task, processors in before.items():
+            with contextlib.suppress(OSError):
+                os.sched_setaffinity(task, processors)
+
+    @contextlib.contextmanager
+    def with_changes(self, changes: Sequence[Change]) -> Iterator[None]:
+        """Applies all changes, and restores the old values at the end, also after a failure or a signal."""
+        with contextlib.ExitStack() as undo:
+            for change in changes:
+                if change.kind in ("threads", "program"):
+                    undo.callback(self.move_back, self.move(change))
+                else:
+                    undo.callback(self.apply, change, change.before)
+                    self.apply(change, change.value)
+            yield

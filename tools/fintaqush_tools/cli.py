@@ -1,0 +1,159 @@
+"""The command `fintaqush`: its subcommands, and how each is run. It imports nothing that is slow to import, and only the module of the
+subcommand that is asked for."""
+
+from __future__ import annotations
+
+from fintaqush_tools import errors
+from fintaqush_tools.progress import Program, say
+
+TYPE_CHECKING = False  # `typing` is slow to import
+if TYPE_CHECKING:
+    from collections.abc import Sequence
+    from types import ModuleType
+
+# By task: each subcommand, its module in commands/, and what it does.
+GROUPS = (
+    (
+        "Begin here",
+        (
+            (
+                "try",
+                "try_",
+                "a tour of 60 seconds: a squeezed run, a what-if and a page, on recordings that are shipped",
+            ),
+        ),
+    ),
+    (
+        "From a running machine to a better setting",
+        (
+            ("record", "record", "record how this Linux receives packets, with its settings and counters (root)"),
+            ("advise", "advise", "which settings to change on the recorded machine, and what that would do"),
+            ("costs", "costs", "what interrupts, polls, packets and wake-ups cost in a recording"),
+            ("what-if", "what_if", "waits, drops and processor time for other settings, costs and loads"),
+            ("machine", "machine", "the report of one machine (napi_machine) for arrivals, settings and costs"),
+        ),
+    ),
+    (
+        "Replay a trace by the kernel's polling rules",
+        (
+            ("replay", "replay", "replay a trace and print the report"),
+            ("series", "series", "a CSV line for each row of a trace: what the report would be after this row"),
+            ("raise", "raise_", "add the runs that the kernel would add with other settings"),
+            ("compare", "compare", "what two settings change, device by device"),
+            ("sweep", "sweep", "every trace with every combination of settings, a CSV row each"),
+            ("json", "json", "a report as JSON lines"),
+        ),
+    ),
+    (
+        "Look at it",
+        (
+            ("plot", "plot", "a picture of limits, waiting packets and the work of each run"),
+            ("steps", "steps", "an HTML page that steps through a trace"),
+        ),
+    ),
+    (
+        "Make traces and arrivals",
+        (
+            ("from-pcap", "from_pcap", "of a capture"),
+            ("from-ftrace", "from_ftrace", "of a recording of a running Linux"),
+            ("traffic", "traffic", "of generated traffic: constant, Poisson, bursts"),
+            (
+                "compare-recording",
+                "compare_recording",
+                "compare the replay of a recorded trace with what the kernel did",
+            ),
+        ),
+    ),
+    ("The command itself", (("completion", "completion", "print the completion for bash, zsh or fish"),)),
+)
+MODULES = {name: module for _, group in GROUPS for name, module, _ in group}
+HEAD = """usage: fintaqush SUBCOMMAND [ARGUMENT ..]
+
+Shows how Linux polls received packets (NAPI), and what other settings would change.
+"""
+END = """
+`fintaqush SUBCOMMAND --help` has the options of one; its manual page is fintaqush-SUBCOMMAND(1).
+
+  --version          print the version
+  -h, --help         this text
+
+Exit status: 0 success; 1 error, with a message; 2 bad usage; 3 a condition of --fail-if holds; 130 or 143 interrupted.
+`replay`, `series` and `machine` have more.
+"""
+
+
+def usage() -> str:
+    lines = [HEAD]
+    for title, group in GROUPS:
+        lines += [f"\n{title}:\n", *(f"  {name:18} {what}\n" for name, _, what in group)]
+    return "".join([*lines, END])
+
+
+def unknown(name: str) -> str:
+    """Returns the message for a subcommand that doesn't exist, with the names that are nearest to it."""
+    from fintaqush_tools.texts import nearest, quoted
+
+    near = nearest(quoted(name)[1:-1], sorted(MODULES), 2, 3, 0.5)
+    meant = f": is {' or '.join(near)} meant?" if near else ""
+    return f"there is no subcommand {quoted(name)}{meant}; fintaqush --help lists them"
+
+
+def module_of(name: str) -> ModuleType:
+    """Imports the module of a subcommand."""
+    from importlib import import_module
+
+    Program.name = f"fintaqush {name}"
+    errors.Signals.defer()
+    try:
+        return import_module(f"fintaqush_tools.commands.{MODULES[name]}")
+    finally:
+        errors.Signals.resume()
+
+
+def about(asked: str) -> int:
+    """Prints what is asked about the command itself."""
+    if asked in ("-h", "--help", "help"):
+        print(usage(), end="")
+    elif asked == "--names":  # for scripts
+        print(*sorted(MODULES), sep="\n")
+    elif asked == "--version":
+        from fintaqush_tools.places import version
+
+        print(f"fintaqush of Fintaqush {version()}")
+    elif asked == "--manual":
+        from fintaqush_tools import manual
+
+        print(*manual.page_of_command(GROUPS), sep="\n")
+    else:
+        say(unknown(asked) if asked else "no subcommand; fintaqush --help lists them")
+        return 2
+    return 0
+
+
+def main(words: Sequence[str]) -> int:
+    """Runs a subcommand, and returns its exit status."""
+    name, *rest = words or [""]
+    if name == "help" and rest:
+        name, rest = rest[0], ["--help"]
+    if name not in MODULES:
+        return about(name)
+    module = module_of(name)
+    if rest == ["--manual"]:
+        from fintaqush_tools import manual
+
+        print(*manual.page_of(module.parser()), sep="\n")
+        return 0
+    return int(module.main(rest) or 0)
+
+
+def start(words: Sequence[str]) -> None:
+    """Runs the command, and ends the process."""
+    called = f"fintaqush {words[0]}" if words and words[0] in MODULES else "fintaqush"
+    errors.run(called, main, words, is_short=not MODULES.keys() & set(words[:2]))
+
+
+def entry() -> None:
+    """The command of an installed package."""
+    import sys
+
+    start(sys.argv[1:])

@@ -1,0 +1,155 @@
+"""Prints the shell completion of `fintaqush`: its subcommands, their options, and the values of options.
+
+    source <(fintaqush completion bash)
+    source <(fintaqush completion zsh)
+    fintaqush completion fish | source
+
+An installed package has it already, in the folders of bash-completion, zsh and fish. It is generated from the options that each subcommand declares.
+"""
+
+from __future__ import annotations
+
+from collections.abc import Sequence
+from typing import NamedTuple
+
+from fintaqush_tools.cli import GROUPS, MODULES, module_of
+from fintaqush_tools.manual import described
+from fintaqush_tools.options import Parser, parser_of
+from fintaqush_tools.settings import MOST
+
+# Subcommands that also take the options of a replay.
+OF_REPLAY = ("plot",)
+
+
+class Option(NamedTuple):
+    names: list[str]
+    value: str
+    choices: list[str]
+    what: str
+
+
+def options_of(name: str) -> list[Option]:
+    """Returns the options of a subcommand."""
+    more = MOST if name in OF_REPLAY else {}
+    own = [Option(*each) for each in described(module_of(name).parser())]
+    return own + [Option([f"--{each}"], "N", [], f"of the replay, 1 to {most}") for each, most in more.items()]
+
+
+def quoted(text: str) -> str:
+    """Quotes a text with single quotes, for each of the three shells."""
+    return "'" + text.replace("\\", "").replace("'", "’") + "'"
+
+
+def for_bash(options: dict[str, list[Option]]) -> list[str]:
+    """Returns the function that bash calls with the arguments typed so far."""
+    lines = [
+        "# Completion of fintaqush for bash, by `fintaqush completion bash`.",
+        "_fintaqush() {",
+        "    local current=${COMP_WORDS[COMP_CWORD]} before=${COMP_WORDS[COMP_CWORD-1]} options='' values=''",
+        "    COMPREPLY=()",
+        "    case ${COMP_WORDS[1]} in",
+    ]
+    lines += [
+        f"        {name}) options='{' '.join(word for each in told for word in each.names)}' ;;"
+        for name, told in options.items()
+    ]
+    lines += ["    esac", "    case ${COMP_WORDS[1]}$before in"]
+    lines += [
+        f"        {name}{each.names[-1]}) values='{' '.join(each.choices)}' ;;"
+        for name, told in options.items()
+        for each in told
+        if each.choices
+    ]
+    lines += [
+        "    esac",
+        '    if [ "$COMP_CWORD" = 1 ]; then',
+        f"        values='{' '.join(options)} --help --version'",
+        '    elif [ -z "$values" ]; then',
+        "        case $current in -*) values=$options ;; esac",
+        "    fi",
+        "    # shellcheck disable=SC2207 # words without spaces",
+        '    [ -z "$values" ] || COMPREPLY=($(compgen -W "$values" -- "$current"))',
+        "}",
+        "complete -o default -F _fintaqush fintaqush ./fintaqush",
+    ]
+    return lines
+
+
+def for_zsh(options: dict[str, list[Option]]) -> list[str]:
+    """Returns a function for _arguments. If it is sourced instead of autoloaded, it registers itself."""
+
+    def spec(name: str, each: Option) -> str:
+        text = each.what.translate({ord("["): "(", ord("]"): ")", ord(":"): ","})
+        value = f":{each.value}:" + (f"({' '.join(each.choices)})" if each.choices else "_files") if each.value else ""
+        return quoted(f"*{name}[{text}]{value}")
+
+    lines = [
+        "#compdef fintaqush",
+        "# Completion of fintaqush for zsh, by `fintaqush completion zsh`.",
+        "_fintaqush() {",
+        "    local -a subcommands",
+        "    subcommands=(",
+    ]
+    lines += [
+        f"        {quoted(name + ':' + what.replace(':', ','))}" for _, group in GROUPS for name, _, what in group
+    ]
+    lines += [
+        "    )",
+        "    if (( CURRENT == 2 )); then",
+        "        _describe -t subcommands subcommand subcommands",
+        "        return",
+        "    fi",
+        "    shift words",
+        "    (( CURRENT-- ))",
+        "    case $words[1] in",
+    ]
+    for name, told in options.items():
+        lines += [
+            f"        {name})",
+            "            _arguments \\",
+            *(f"                {spec(word, each)} \\" for each in told for word in each.names),
+            "                '*:file:_files' ;;",
+        ]
+    return [
+        *lines,
+        "    esac",
+        "}",
+        'if [ "$funcstack[1]" = _fintaqush ]; then',
+        '    _fintaqush "$@"',
+        "else",
+        "    compdef _fintaqush fintaqush",
+        "fi",
+    ]
+
+
+def for_fish(options: dict[str, list[Option]]) -> list[str]:
+    """Returns a line for each subcommand and each option."""
+    lines = ["# Completion of fintaqush for fish, by `fintaqush completion fish`."]
+    lines += [
+        f"complete -c fintaqush -f -n __fish_use_subcommand -a {name} -d {quoted(what)}"
+        for _, group in GROUPS
+        for name, _, what in group
+    ]
+    lines += [f"complete -c fintaqush -f -n __fish_use_subcommand -l {name}" for name in ("help", "version")]
+    for name, told in options.items():
+        for each in told:
+            words = " ".join(f"-l {word[2:]}" if word.startswith("--") else f"-s {word[1:]}" for word in each.names)
+            value = f" -x -a {quoted(' '.join(each.choices))}" if each.choices else " -r" if each.value else ""
+            lines.append(
+                f"complete -c fintaqush -n '__fish_seen_subcommand_from {name}' {words}{value} -d {quoted(each.what)}"
+            )
+    return lines
+
+
+SHELLS = {"bash": for_bash, "zsh": for_zsh, "fish": for_fish}
+
+
+def parser() -> Parser:
+    parser = parser_of(__doc__)
+    parser.add_argument("shell", choices=list(SHELLS), help="bash, zsh or fish")
+    return parser
+
+
+def main(given: Sequence[str]) -> None:
+    words = parser().parse_args(given)
+    print(*SHELLS[words.shell]({name: options_of(name) for name in MODULES}), sep="\n")

@@ -1,0 +1,308 @@
+"""Estimates the cost of an interrupt, a poll, a packet, a wake-up and a packet's use from a recording, and how good the estimates are.
+
+    fintaqush record 5 --device vb1 --netns receiver --program server --out mine.rec
+    fintaqush costs mine.rec
+    fintaqush what-if mine.csv --budget 16,64,300 $(fintaqush costs mine.rec --words)
+
+The recording is a file of fintaqush record; or the text of ftrace, of `trace-cmd report` or of `perf script`, with the events softirq_entry,
+softirq_exit and napi_poll, and optionally the other events of fintaqush record. Each cost is printed with its 95 % confidence interval.
+
+A poll's time begins with the softirq or thread, or with the end of the poll before it, and excludes interrupts. The tool fits a straight line
+to poll time against packets per poll: the intercept is the cost of a poll, the slope the cost of a packet. Polls far off the line are left
+out and counted. If the line explains none of the variation, or all polls took the same number of packets, the tool fails and prints what to
+record. --device names the devices whose polls count. Without it, and in recordings of other tools, a processor's backlog counts only if no
+device polls. Interrupts of other cards, as a disk's, don't count if fintaqush record knows the device's own interrupts.
+
+The other costs are medians. interrupt: of the handlers that polls follow, including interrupts between processors and NAPI's timer, or of
+--irq. wake: on an idle processor, from a packet or an expired timer to the first poll, without the handler. use: from one read of the
+program to the next, if the second packet was there at the first read. app-wake: from the end of a poll that delivered one packet to its
+read by a program that slept on another processor, without the read itself.
+"""
+
+from __future__ import annotations
+
+import json
+from collections.abc import Iterator, Mapping, Sequence
+from typing import Any
+
+from fintaqush_tools.errors import Refusal
+from fintaqush_tools.files import check_input
+from fintaqush_tools.fits import FEWEST, Cost, cost_line, cost_of
+from fintaqush_tools.options import Parser, Words, parser_of
+from fintaqush_tools.progress import say
+from fintaqush_tools.recording import Head, check_lost, events_in
+from fintaqush_tools.texts import as_rows, shown
+from fintaqush_tools.timeline import Timeline
+
+Told = tuple[dict[str, Cost], list[str]]  # costs by their names, and lines about them
+
+RARE = 0.01  # of the handlers
+MATCHED = 0.95  # least share of the packets that must be found at both ends
+WEAK = (
+    "the packet's cost can't be distinguished from 0: record more varied traffic, on a processor that does nothing else"
+)
+FORMAT = 1  # version of the object that --json prints
+ORDER = ("interrupt", "poll", "packet", "wake", "use", "app-wake")
+
+
+def told_half(cost: Cost) -> str:
+    return f"half of them from {cost.middle[0]:.0f} to {cost.middle[1]:.0f}"
+
+
+def polls_of(times: Timeline, head: Head) -> Told:
+    """Returns the costs of polls and packets, with the fitted line."""
+    if len(times.polls) < FEWEST:
+        of = f" of {', '.join(sorted(times.polled))}" if times.polled else ""
+        lacking = (
+            "its kernel has no such events"
+            if {"irq/softirq_entry", "napi/napi_poll"} & set(head.get("missing", "").split())
+            else "record irq/softirq_entry and napi/napi_poll, and for NAPI's threads sched/sched_switch, while packets come"
+        )
+        raise Refusal(
+            f"{len(times.polls)} polls{of} in complete softirqs or threads, but {FEWEST} are needed: {lacking}"
+        )
+    if len({work for work, _ in times.polls}) < 2:
+        raise Refusal(alike(times))
+    by = "threads" if 2 * times.by_threads > len(times.polls) else "softirqs"
+    line = cost_line(times.polls, 1000 if times.is_coarse else 1, by)
+    told = (
+        f"poll {line.poll.interval()}, packet {line.packet.interval()}: {line.polls} polls of {min(line.kept)[0]} to {max(line.kept)[0]} "
+        f"packets by {by}, of which {line.polls - len(line.kept)} lie far off and are left out; the line explains "
+        f"{100 * (line.poll.explained or 0):.0f} % of the others' variation, and half of them are within {100 * line.off:.0f} % of it"
+    )
+    return {"poll": line.poll, "packet": line.packet}, [told] + [WEAK] * (line.packet.low <= 0)
+
+
+def alike(times: Timeline) -> str:
+    """Returns the reason why no cost can be computed if all polls took the same number of packets, and what to record."""
+    count, whole = times.polls[0][0], cost_of([took for _, took in times.polls], "polls")
+    together = whole.interval() if whole else "unknown"
+    took = "one packet" if count == 1 else f"{count} packets"
+    return (
+        f"each of {len(times.polls)} polls took {took}, so the cost of a poll can't be separated from that of a packet; together they are {together}: record "
+        "traffic of which some polls take several packets, as bursts (with sendmmsg or UDP_SEGMENT), a higher load, or for the time of the recording "
+        "napi_defer_hard_irqs 2 with a gro_flush_timeout of 100000 or ethtool -C rx-usecs 100"
+    )
+
+
+def interrupts_of(times: Timeline) -> Told:
+    """Returns the cost of an interrupt."""
+    count = sum(map(len, times.handlers.values()))
+    if times.has_handlers and not times.irq and times.without > count:
+        cost = cost_of([0] * times.without, "no handler")
+        return {"interrupt": cost} if cost else {}, [
+            f"interrupt 0 ns: {times.without} runs follow no handler, and {count} one"
+        ]
+    # The others came by chance.
+    kinds = {name: took for name, took in times.handlers.items() if len(took) > RARE * count}
+    names = ", ".join(
+        f"{shown(name)} ({len(took)})" for name, took in sorted(kinds.items(), key=lambda each: -len(each[1]))
+    )
+    cost = cost_of([each for took in kinds.values() for each in took], f"handlers of {names}")
+    if not cost:
+        return {}, [
+            f"interrupt: not known, of {count} handlers: record irq/irq_handler_entry and irq/irq_handler_exit, and irq_vectors"
+        ]
+    return {"interrupt": cost}, [f"interrupt {cost.interval()}: {cost.count} handlers of {names}, {told_half(cost)}"]
+
+
+def wakes_of(times: Timeline) -> Told:
+    """Returns the time until an idle processor polls."""
+    if not times.came:
+        return {}, [
+            "wake: not known: record net/net_dev_xmit of the other end of a veth pair, and name the pair by --pair"
+        ]
+    if times.unmatched > (1 - MATCHED) * times.came:
+        return {}, [f"wake: not known: of {times.came} packets {times.unmatched} don't match those that polls took"]
+    kinds, more = {name: list(took) for name, took in times.wakes.items()}, []
+    idle, busy = (sum(map(len, each.values())) for each in (times.wakes, times.busy_wakes))
+    if busy and (times.reads.tasks or idle < FEWEST):
+        more = [f"{busy} of them while another task had the processor"]
+        kinds = {name: times.wakes[name] + times.busy_wakes[name] for name in (*times.wakes, *times.busy_wakes)}
+    cost = cost_of([each for took in kinds.values() for each in took], "idle processor")
+    if not cost:
+        return {}, [f"wake: not known: {idle} times the processor slept when a packet came or a timer expired"]
+    known = [(name, len(took), cost_of(took, name)) for name, took in kinds.items()]
+    parts = [f"{count} by {name}, " + told_half(part) for name, count, part in known if part]
+    processor = times.processor()
+    if processor is not None and 2 * times.sent_on[processor] > times.came:
+        more.append("the packets are sent on this processor, which doesn't sleep then")
+    return {"wake": cost}, [f"wake {cost.interval()}: " + "; ".join([*parts, *more])]
+
+
+def reads_of(times: Timeline) -> Told:
+    """Returns the cost of a packet's use, and of waking the program on another processor."""
+    reads, costs, told = times.reads, {}, []
+    if not reads.count:
+        return {}, ["use: not known: no read of a program is recorded (fintaqush record --program)"]
+    if abs(reads.count - times.given) > (1 - MATCHED) * times.given or reads.unmatched > (1 - MATCHED) * reads.count:
+        return {}, [
+            f"use: not known: {reads.count} reads for {times.given} packets that polls took, so a read isn't one packet"
+        ]
+    cost = cost_of(reads.uses, "pairs of reads")
+    if cost:
+        costs["use"] = cost
+        told.append(f"use {cost.interval()}: {cost.count} pairs of reads, {told_half(cost)}")
+    else:
+        told.append(
+            f"use: not known: of {reads.count} packets {len(reads.uses)} waited while another one was used; record a higher load"
+        )
+    if is_apart(times):
+        call = cost_of(reads.calls, "reads")
+        cost = cost_of(reads.wakes, "lone packets", call.value if call else 0)
+        if cost:
+            costs["app-wake"] = cost
+            told.append(
+                f"app-wake {cost.interval()}: {cost.count} single packets, {told_half(cost)}, "
+                + (
+                    f"without the {call.value:.0f} ns of a read"
+                    if call
+                    else "including the read, whose time is unknown"
+                )
+            )
+        else:
+            told.append(
+                f"app-wake: not known: {len(reads.wakes)} single packets reached a sleeping program; record a lower load"
+            )
+    return costs, told
+
+
+def is_apart(times: Timeline) -> bool:
+    """Returns whether the program reads on a processor other than the one that polls."""
+    return bool(times.reads.on) and times.reads.on.most_common(1)[0][0] != times.processor()
+
+
+def estimated(times: Timeline, head: Head) -> Told:
+    """Returns all costs by their names, and a line about each."""
+    costs: dict[str, Cost] = {}
+    told: list[str] = []
+    for part in (interrupts_of(times), polls_of(times, head), wakes_of(times), reads_of(times)):
+        costs |= part[0]
+        told += part[1]
+    return {name: costs[name] for name in ORDER if name in costs}, told
+
+
+def options_of(costs: Mapping[str, Cost]) -> str:
+    return " ".join(f"--{name} {cost.value:.0f}" for name, cost in costs.items())
+
+
+def notes_on(times: Timeline) -> Iterator[str]:
+    """Yields further notes on the recording."""
+    if len(times.devices) > 1:
+        yield f"polls of several devices are combined: {shown(', '.join(times.devices))}; --device takes those of one"
+    for name, count in times.left_out.items():
+        yield f"{count} polls of a processor's backlog, {name}, are left out, because devices poll; --device '{name}' takes only these"
+    if times.by_threads and 2 * times.by_threads <= len(times.polls):
+        yield f"{times.by_threads} of the polls are by threads"
+    if times.strays:
+        yield f"polls left out because their beginning is unknown: {times.strays}"
+    if times.is_coarse:
+        yield "time stamps are of microseconds, so a single time is known to one"
+
+
+def object_of(times: Timeline, costs: Mapping[str, Cost], told: list[str]) -> dict[str, Any]:
+    """Returns all results as an object, for other tools."""
+    processor = times.processor()
+    return {
+        "version": FORMAT,
+        "costs": {name.replace("-", "_"): cost.as_object() for name, cost in costs.items()},
+        "options": options_of(costs),
+        "text": told,
+        "devices": times.devices,
+        "notes": list(notes_on(times)),
+        "polled": sorted(times.polled),
+        "processor": processor,
+        "threaded": int(2 * times.by_threads > len(times.polls)),
+        "apart": int(is_apart(times)),
+        "reads": times.reads.count,
+        "reads_on": as_rows("processor", "reads", times.reads.on),
+        "sent_on": as_rows("processor", "packets", times.sent_on),
+        "came": times.came,
+        "dropped": times.dropped,
+        "delivered": times.given,
+        "polls": len(times.polls),
+        "polls_on": as_rows("processor", "polls", times.where),
+        "tasks": as_rows("task", "share", {name: round(share, 5) for name, share in times.shares(processor).items()}),
+    }
+
+
+def interrupts_in(head: Head, devices: Sequence[str]) -> list[str]:
+    """Returns the names of the devices' interrupts, if fintaqush record found them."""
+    return [
+        value
+        for key, value in head.items()
+        for name in devices
+        if key.startswith(f"device.{name}.irq.") and key.endswith(".name") and value
+    ]
+
+
+def pairs_of(words: Words, head: Head) -> list[list[str]]:
+    """Returns the pairs A:B over which packets go, from the options or the recording."""
+    pairs = [pair.split(":") for pair in words.pair or head.get("pair", "").split()]
+    for pair in pairs:
+        if len(pair) != 2 or not all(pair):
+            raise Refusal(f"--pair {shown(':'.join(pair))}: not of the form A:B")
+    return pairs
+
+
+def timeline_of(words: Words, head: Head) -> Timeline:
+    polled = words.device or head.get("polled", "").split()
+    return Timeline(pairs_of(words, head), polled, words.irq, interrupts_in(head, polled))
+
+
+def times_in(words: Words) -> tuple[Timeline, Head]:
+    """Returns the times of a recording, and its head."""
+    lost: list[str] = []
+    head: Head = {}
+    times = None
+    for event in events_in(words.recording, lost, head):
+        times = times or timeline_of(words, head)
+        times.add(event)
+    check_lost(lost)
+    return (times or Timeline()).settle(), head
+
+
+def object_in(recording: str, devices: Sequence[str]) -> dict[str, Any]:
+    """Returns the costs of a recording and what is known about them, of the polls of these devices, or of all."""
+    times, head = times_in(Words(recording=recording, device=devices, pair=None, irq=None))
+    return object_of(times, *estimated(times, head))
+
+
+def parser() -> Parser:
+    parser = parser_of(__doc__)
+    parser.add_argument("recording", help="the file or the text, also as .gz; - for standard input")
+    parser.add_argument("--irq", metavar="NAME", help="the interrupt whose handlers count")
+    parser.add_argument(
+        "--device",
+        action="append",
+        metavar="NAME",
+        help="a device whose polls count, by its name in napi_poll (those that fintaqush record found, or all but a processor's backlog)",
+    )
+    parser.add_argument(
+        "--pair",
+        action="append",
+        metavar="A:B",
+        help="the two ends of a veth pair: A's packets arrive at B (the pair that fintaqush record found)",
+    )
+    form = parser.add_mutually_exclusive_group()
+    form.add_argument("--words", action="store_true", help="print only the options for what-if and napi_machine")
+    form.add_argument("--json", action="store_true", help="print the results as a JSON object")
+    return parser
+
+
+def main(given: Sequence[str]) -> None:
+    words = parser().parse_args(given)
+    check_input(words.recording)
+    try:
+        times, head = times_in(words)
+        costs, told = estimated(times, head)
+    except Refusal as error:
+        raise Refusal(f"{shown(words.recording)}: {error}") from None
+    if WEAK in told and (words.words or words.json):
+        say(WEAK)
+    if words.words:
+        print(options_of(costs))
+    elif words.json:
+        print(json.dumps(object_of(times, costs, told)))
+    else:
+        print(*told, *notes_on(times), options_of(costs), sep="\n")

@@ -1,0 +1,578 @@
+"""Converts a recording of a running Linux's packets and polls to a trace; with --arrivals to arrivals for napi_machine, with times in
+ns, any number of packets and no runs.
+
+The recording is a file of fintaqush record, or the text of ftrace, of `trace-cmd report` or of `perf script`, with the events net_dev_xmit,
+napi_poll and softirq_entry; for arrivals the first of them is enough. Arrivals include the packets that a full ring or backlog dropped
+(rc=1); a recording with lost events is rejected. Without a veth pair, as for a network card, packets are those that polls take
+(napi_gro_receive_entry), or else those that the stack receives (netif_receive_skb). --flows adds the hash of each packet's flow, which
+only napi_gro_receive_entry has.
+Three files are written:
+
+  NAME.csv    the trace, or the arrivals
+    NAME.work   for a trace: for each row that polls, in order, what the kernel did there: `polls P work W`
+    NAME.notes  what the recording lacks or the trace can't represent
+
+None of them may exist already. If nothing polls, no trace is written, and the tool prints why. docs/TOOLS.md explains how to
+record on one's own machine, and fintaqush compare-recording compares the trace's replay with NAME.work.
+"""
+
+from __future__ import annotations
+
+import bisect
+import math
+import re
+from collections import Counter, defaultdict, deque
+from collections.abc import Iterable, Iterator, Mapping, Sequence
+from dataclasses import dataclass
+from itertools import chain
+from typing import Optional, Union
+
+from fintaqush_tools import arrivals
+from fintaqush_tools.arrivals import SECOND, Packets, arrivals_text, number_of
+from fintaqush_tools.arriving import (
+    BY_PAIR,
+    BY_POLL,
+    HOW,
+    KINDS,
+    PollBegins,
+    by_device,
+    chosen_kind,
+    packet_of,
+    receivers,
+    size_in,
+    why_no_packet,
+)
+from fintaqush_tools.errors import Refusal
+from fintaqush_tools.files import check_input, check_target, told_notes, write_all
+from fintaqush_tools.options import Parser, Words, number, pair, parser_of
+from fintaqush_tools.recording import NET_RX, POLLED, SENT, SOFTIRQ, Event, Head, check_lost, events_in, is_by_thread
+from fintaqush_tools.texts import shown
+from fintaqush_tools.trace import MOST_DEVICES, MOST_ROWS, TICKS
+
+Counts = defaultdict[str, Counter[str]]  # packets of each device, by the kind of event
+
+
+@dataclass
+class Polling:
+    """Polls that become one row: those of one softirq, or those of a thread up to the first one that wasn't full."""
+
+    first: int  # the indices of its beginning and of its last poll among the events
+    last: int
+    thread: str  # the device that the thread polls, or empty
+    polls: list[tuple[str, int]]  # the device and the work of each poll
+    within: int = 0  # the packets that arrived during it
+
+
+def names_of(events: Sequence[Event]) -> set[str]:
+    """Returns the names of all devices that send or are polled."""
+    kinds = {"net_dev_xmit": SENT, "napi_poll": POLLED}
+    return {event.parts(kinds[event.name])[0] for event in events if event.name in kinds}
+
+
+def received_in(events: Sequence[Event]) -> Counts:
+    """Returns the number of packets of each device, by the kind of event."""
+    counts: Counts = defaultdict(Counter)
+    for event in events:
+        if event.name in KINDS:
+            counts[KINDS[event.name]][packet_of(event)[0] if event.name != BY_PAIR else event.parts(SENT)[0]] += 1
+    return counts
+
+
+def ends_of(pair: str, names: Iterable[str]) -> list[tuple[str, str]]:
+    """Returns the two ends of a pair A:B. If each has a `*` for a number, returns the ends of all recorded pairs that match."""
+    ends = pair.split(":")
+    if len(ends) != 2 or not all(ends) or [end.count("*") for end in ends] not in ([0, 0], [1, 1]):
+        raise Refusal(f"--pair {pair}: not of the form A:B or va*:vb*")
+    if "*" not in pair:
+        return [(ends[0], ends[1])]
+    shapes = [re.compile(re.escape(end).replace(r"\*", r"(\d+)") + "$") for end in ends]
+    found = {match[1] for shape in shapes for match in map(shape.match, names) if match}
+    return [(ends[0].replace("*", number), ends[1].replace("*", number)) for number in sorted(found, key=int)]
+
+
+def number_devices(pairs: Sequence[str], names: set[str], most: int = MOST_DEVICES) -> tuple[list[str], dict[str, int]]:
+    """Returns the names of the devices in order, and for each sender the number of the device that receives its packets.
+
+    The second ends come first: with six pairs, device N is the second end of pair N and device N + 6 the first one.
+    """
+    ends = [both for pair in pairs for both in ends_of(pair, names)]
+    devices = [second for _, second in ends] + [first for first, _ in ends]
+    if not names.intersection(devices):
+        raise Refusal(f"no device of --pair is recorded; these are: {', '.join(sorted(names)) or 'none'}")
+    if len(set(devices)) < len(devices):
+        raise Refusal("a device is in two pairs")
+    check_number(devices, most)
+    peers = {**dict(ends), **{second: first for first, second in ends}}
+    return devices, {sender: devices.index(peer) + 1 for sender, peer in peers.items()}
+
+
+def check_number(devices: Sequence[str], most: int) -> None:
+    if len(devices) > most:
+        raise Refusal(
+            f"{len(devices)} devices, and {'a trace has' if most == MOST_DEVICES else 'arrivals have'} at most {most}: name fewer pairs, or "
+            "some by --device"
+        )
+
+
+def source_of(
+    counts: Counts, names: set[str], words: Words, head: Head, most: int
+) -> tuple[str, list[str], dict[str, int]]:
+    """Returns the kind of event that counts as an arrival, the names of the devices in order, and for each name in such an event the number
+    of the receiving device. `counts` has the packets of each kind and device, `names` other devices that may belong to a pair.
+    """
+    seen = names | set(counts[BY_PAIR])
+    kind = chosen_kind(
+        counts, [ends for each in words.pair or words.pairs for ends in ends_of(each, seen)], words, head
+    )
+    if kind == BY_PAIR:
+        return (kind, *number_devices(words.pair or words.pairs, seen, most))
+    devices = receivers(counts[kind], words, head)
+    check_number(devices, most)
+    return kind, devices, {name: place for place, name in enumerate(devices, 1)}
+
+
+def group_polls(events: Sequence[Event]) -> tuple[list[Polling], Counter[str]]:
+    """Groups polls into rows. Also returns, for each device, the polls that belong to no row because no softirq had begun on their
+    processor."""
+    rows: list[Polling] = []
+    strays: Counter[str] = Counter()
+    began: dict[int, Optional[int]] = {}
+    under_way: dict[Union[int, str], Polling] = {}  # by processor, or by thread
+    for place, event in enumerate(events):
+        if event.name in ("softirq_entry", "softirq_exit") and int(event.parts(SOFTIRQ)[0]) == NET_RX:
+            under_way.pop(event.cpu, None)
+            began[event.cpu] = place if event.name == "softirq_entry" else None
+        elif event.name == "napi_poll":
+            device, work, budget = event.parts(POLLED)
+            by_thread = is_by_thread(event)
+            who: Union[int, str] = event.task if by_thread else event.cpu
+            first = place if by_thread else began.get(event.cpu)
+            if first is None:
+                strays[device] += 1
+                continue
+            if who not in under_way:
+                under_way[who] = Polling(first, place, device if by_thread else "", [])
+                rows.append(under_way[who])
+            under_way[who].last = place
+            under_way[who].polls.append((device, int(work)))
+            if by_thread and int(work) < int(budget):
+                del under_way[who]
+    return rows, strays
+
+
+def look_at_threads(pollings: Sequence[Polling], devices: Sequence[str]) -> set[str]:
+    """Returns the devices that threads poll. Fails if a device is polled both ways, because a trace has one mode for all its rows."""
+    by_thread = {polling.thread for polling in pollings if polling.thread}
+    by_softirq = {device for polling in pollings if not polling.thread for device, _ in polling.polls}
+    both = sorted(by_thread & by_softirq & set(devices))
+    if both:
+        raise Refusal(
+            f"{', '.join(both)}: polled by a thread and in softirqs, and the recording doesn't say when that "
+            "changed: record without the change"
+        )
+    return by_thread
+
+
+SENT_CODES = ("0", "0x0")
+# A packet found a full ring or backlog: veth returns NET_XMIT_DROP. A packet that finds it busy (0x10) is sent again later.
+DROPPED_CODES = ("1", "0x1")
+
+
+def has_come(event: Event) -> bool:
+    """Returns whether a packet was sent."""
+    return event.parts(SENT)[2] in SENT_CODES
+
+
+class Trace:
+    """The rows of a trace, the kernel's work for those that poll, and the notes."""
+
+    rows: list[str]
+    work: list[str]
+    notes: list[str]
+    waiting: defaultdict[int, deque[tuple[int, str]]]
+    unsent: Counter[str]
+    elsewhere: Counter[str]
+    by_backlog: Counter[str]
+    known: Counter[int]
+    owed: Counter[int]
+
+    def __init__(self, events: Sequence[Event], words: Words, head: Head) -> None:
+        self.tick, span = SECOND // TICKS[words.unit], words.rows
+        counts = received_in(events)
+        if not counts:
+            raise Refusal(why_no_packet(head, len(events)))
+        self.kind, self.devices, self.arrives_at = source_of(counts, names_of(events), words, head, MOST_DEVICES)
+        self.pollings, strays = group_polls(events)
+        self.rows, self.work, self.notes = [], [], []
+        self.start = events[0].time
+        self.first: float = span[0] if span else 0
+        self.last: float = span[1] if span else math.inf
+        # The number of the next row among all rows; the number of rows outside the span.
+        self.number, self.left_out = (0, 0)
+        # for each device, the packets that wait before the first row of the span, each with its row number; and how many there are
+        self.waiting, self.in_front = defaultdict(deque), 0
+        self.unsent, self.elsewhere, self.arrived = Counter(), Counter(), 0
+        # The senders to these ends; their packets by end.
+        self.unpolled, self.by_backlog = (self.ends_without_polls(), Counter())
+        # For each device: packets that wait; packets that were polled before their event.
+        self.known, self.owed = (Counter(), Counter())
+        self.open_devices(words.places, look_at_threads(self.pollings, self.devices))
+        if self.kind == BY_PAIR:
+            self.count_within(events)
+        else:
+            self.notes.append("a packet stands before the row of the poll that took it, so no ring is ever full here")
+        self.add_events(events)
+        if not self.arrived:
+            raise Refusal(f"there is no packet of {shown(', '.join(self.devices))} in it, so nothing can be replayed")
+        self.sum_up(events, strays)
+        if len(self.rows) > MOST_ROWS:
+            raise Refusal(
+                f"{len(self.rows)} rows, and a trace has at most {MOST_ROWS}: record for a shorter time, or "
+                f"take some by --rows, as --rows 1:{MOST_ROWS}"
+            )
+        if not self.work:
+            raise Refusal(self.why_none(events))
+
+    def add(self, time: int, device: int, event: str, value: int) -> bool:
+        """Adds a row if it is in the span; rows that open devices are always added."""
+        self.number += 1
+        row = f"{(time - self.start) // self.tick},{device},{event},{value}"
+        is_wanted = event in ("open", "threaded") or self.first <= self.number <= self.last
+        if self.number >= self.first:
+            self.put_in_front()
+        if is_wanted:
+            self.rows.append(row)
+        else:
+            self.left_out += 1
+            if event == "rx" and self.number < self.first:
+                self.waiting[device].append((self.number, row))
+        return is_wanted
+
+    def put_in_front(self) -> None:
+        """Puts the packets that wait in the rings before the span in front of it, in order."""
+        packets = sorted(packet for packets in self.waiting.values() for packet in packets)
+        self.rows += [row for _, row in packets]
+        self.in_front += len(packets)
+        self.waiting.clear()
+
+    def why_none(self, events: Sequence[Event]) -> str:
+        """Returns the reason why no row polls."""
+        polled = Counter(event.parts(POLLED)[0] for event in events if event.name == "napi_poll")
+        own = [name for name in polled if name in self.devices]
+        if self.left_out and self.pollings and own:
+            return "nothing polls in these rows: take others by --rows"
+        if own:
+            return (
+                "nothing polls in it: the polls of its devices stand in no softirq; record the event irq/softirq_entry too, "
+                "and begin before the traffic does"
+            )
+        if polled:
+            return f"nothing polls in it but devices that are in no pair: {', '.join(sorted(map(shown, polled)))}; see --pair"
+        return (
+            "nothing polls in it. A veth polls only where packets are handed to NAPI: `ethtool -K END tso off gro on` at both "
+            "ends (or an XDP program at the one that receives), and the event napi/napi_poll has to be recorded"
+        )
+
+    def open_devices(self, places: int, by_thread: set[str]) -> None:
+        for device, name in enumerate(self.devices, 1):
+            self.add(self.start, device, "open", places)
+            if name in by_thread:
+                self.add(self.start, device, "threaded", 1)
+            self.notes.append(f"device {device} is {name}" + (", polled by a thread" if name in by_thread else ""))
+
+    def ends_without_polls(self) -> set[str]:
+        """Returns the senders whose packets NAPI of the other end never polls in this recording, although it polls other ends: the backlog of a
+        processor has them, as where an end has neither GRO nor an XDP program. Their packets would wait forever in the trace.
+        """
+        polled = {device for polling in self.pollings for device, _ in polling.polls}
+        if self.kind != BY_PAIR or not polled.intersection(self.devices):
+            return set()
+        return {sender for sender, number in self.arrives_at.items() if self.devices[number - 1] not in polled}
+
+    def is_arrival(self, event: Event) -> bool:
+        """Returns whether the event is a packet that arrives at a device of the trace."""
+        if event.name != BY_PAIR or not has_come(event):
+            return False
+        sender = event.parts(SENT)[0]
+        return sender in self.arrives_at and sender not in self.unpolled
+
+    def count_within(self, events: Sequence[Event]) -> None:
+        arrivals = [place for place, event in enumerate(events) if self.is_arrival(event)]
+        for polling in self.pollings:
+            polling.within = bisect.bisect(arrivals, polling.last) - bisect.bisect(arrivals, polling.first)
+
+    def add_events(self, events: Sequence[Event]) -> None:
+        """Adds all events: a packet at the time when it was sent; polls that form one row at the time of the last of them."""
+        pollings = {polling.last: polling for polling in self.pollings}
+        for place, event in enumerate(events):
+            if KINDS.get(event.name) == self.kind:
+                self.add_packet(event)
+            elif place in pollings:
+                self.add_polling(event.time, pollings[place])
+
+    def add_packet(self, event: Event) -> None:
+        name, size, _ = packet_of(event)
+        if name not in self.arrives_at:
+            self.elsewhere[name] += 1
+        elif self.kind == BY_PAIR and not has_come(event):
+            self.unsent[f"{name}, rc={event.parts(SENT)[2]}"] += 1
+        elif name in self.unpolled:
+            self.by_backlog[self.devices[self.arrives_at[name] - 1]] += 1
+        else:
+            device = self.arrives_at[name]
+            self.arrived += 1
+            if self.owed[device]:
+                self.owed[device] -= 1
+            else:
+                self.known[device] += 1
+            self.add(event.time, device, "rx", size)
+
+    def add_polling(self, time: int, polling: Polling) -> None:
+        own = [work for device, work in polling.polls if device in self.devices]
+        if not own:
+            self.elsewhere.update(device for device, _ in polling.polls)
+            return
+        device, event = (self.devices.index(polling.thread) + 1, "kthread") if polling.thread else (0, "softirq")
+        ahead = self.take_known(polling)
+        if self.add(time, device, event, 0):
+            self.work.append(f"polls {len(own)} work {sum(own)}")
+            self.note_row(polling, len(own), ahead)
+        else:
+            self.take_waiting(polling)
+
+    def take_known(self, polling: Polling) -> int:
+        """Returns how many packets these polls took that aren't recorded yet: the event of a packet follows its sending, and the first ones may be
+        from before the recording."""
+        ahead = 0
+        for name, work in polling.polls if self.kind == BY_PAIR else ():
+            if name in self.devices:
+                device = self.devices.index(name) + 1
+                early = max(0, work - self.known[device])
+                self.known[device] -= work - early
+                self.owed[device] += early
+                ahead += early
+        return ahead
+
+    def take_waiting(self, polling: Polling) -> None:
+        """Removes the packets that polls before the span took."""
+        for name, work in polling.polls:
+            if name in self.devices:
+                packets = self.waiting[self.devices.index(name) + 1]
+                for _ in range(min(work, len(packets))):
+                    packets.popleft()
+
+    def note_row(self, polling: Polling, own: int, ahead: int) -> None:
+        """Notes what is unknown about the row that was just added; compare-recording reads the numbers."""
+        row = f"row {len(self.rows)}"
+        if polling.within:
+            self.notes.append(
+                f"{row}: packets that arrived while it was under way and stand before it: {polling.within}; "
+                "which poll had them isn't recorded, and later rows carry the difference on"
+            )
+        if ahead:
+            self.notes.append(
+                f"{row}: packets that it polled and that were sent after it or before the recording, by their events: {ahead}"
+            )
+        if own < len(polling.polls):
+            packets = sum(work for name, work in polling.polls if name not in self.devices)
+            self.notes.append(
+                f"{row}: polls in it of devices that are in no pair: {len(polling.polls) - own}, of {packets} packets"
+            )
+        if polling.thread and own > 1:
+            self.notes.append(f"{row}: the thread may have yielded between its {own} polls; it isn't recorded")
+
+    def sum_up(self, events: Sequence[Event], strays: Counter[str]) -> None:
+        """Adds the notes on the whole recording."""
+        lists = {events[polling.last].cpu for polling in self.pollings if not polling.thread}
+        if self.left_out:
+            self.notes.append(
+                f"rows that aren't in {self.first}:{self.last}: {self.left_out}; of their packets "
+                f"{self.in_front} waited when the first of these rows came, and stand in front"
+            )
+        if len(lists) > 1:
+            self.notes.append(
+                f"runs on {len(lists)} processors, each with a poll list of its own: the trace has one list"
+            )
+        for what, counter in (
+            ("packets that weren't sent", self.unsent),
+            ("packets to an end that no NAPI poll in it has, so its processor's backlog", self.by_backlog),
+            ("packets and polls of a device that is in no pair", self.elsewhere),
+            ("polls whose softirq began before the recording, or in none", strays),
+        ):
+            self.notes += told_of(what, counter)
+
+
+def told_of(what: str, counter: Mapping[str, int]) -> list[str]:
+    """Returns notes on events that belong to no row."""
+    return [f"no row: {what}: {name}, {count}" for name, count in sorted(counter.items())]
+
+
+class Arriving:
+    """The packets of a recording, by the kind of event."""
+
+    unsent: Counter[str]
+    dropped: Counter[str]
+
+    def __init__(self, events: Iterable[Event], words: Words) -> None:
+        self.words, self.count = words, 0
+        self.packets = {kind: Packets() for kind in dict.fromkeys(KINDS.values())}
+        self.unsent, self.dropped, begins = Counter(), Counter(), PollBegins()
+        for event in events:
+            self.count += 1
+            kind = KINDS.get(event.name)
+            if kind == BY_PAIR:
+                self.add_sent(event)
+            elif kind is None:
+                begins.look(event)
+            else:
+                name, size, flow = packet_of(event)
+                self.packets[kind].add(begins.of(event), (name, flow if words.flows else 0), size)
+
+    def add_sent(self, event: Event) -> None:
+        """Adds a packet of a pair, which arrives at the other end or is dropped there."""
+        name, size, code = event.parts(SENT)
+        if code in SENT_CODES or code in DROPPED_CODES:
+            self.packets[BY_PAIR].add(event.time, (name, 0), size_in(event, int(size)))
+            self.dropped[name] += code in DROPPED_CODES
+        else:
+            self.unsent[f"{name}, rc={code}"] += 1
+
+    def text(self, head: Head) -> tuple[Iterator[str], list[str], str]:
+        """Returns the lines of the arrivals, the notes, and their counts."""
+        words, counts = self.words, {
+            kind: by_device(packets.counted()) for kind, packets in self.packets.items() if packets.times
+        }
+        if not counts:
+            raise Refusal(why_no_packet(head, self.count))
+        kind, devices, arrives_at = source_of(defaultdict(Counter, counts), set(), words, head, arrivals.MOST_DEVICES)
+        packets, of = self.packets[kind], counts.get(kind, Counter())
+        if words.flows:
+            self.check_flows(kind, packets)
+        notes = self.notes_on(kind, devices, arrives_at, of)
+        rows = (
+            (time, arrives_at[name], size, *((flow,) if words.flows else ()))
+            for time, (name, flow), size in packets.in_order()
+            if name in arrives_at
+        )
+        count = number_of(sum(of[name] for name in arrives_at), words.rows)
+        if not count:
+            raise Refusal(f"no packet arrives at {shown(', '.join(devices))} in it")
+        return arrivals_text(rows, words.rows, words.flows), notes, f"{len(devices)} devices, {count} rows"
+
+    @staticmethod
+    def check_flows(kind: str, packets: Packets) -> None:
+        if not any(flow for _, flow in packets.numbers):
+            raise Refusal(
+                "--flows: "
+                + (
+                    "no packet has a hash in it, as the card or its driver gives none"
+                    if kind == BY_POLL
+                    else "only the event napi_gro_receive_entry has the hash of a packet's flow"
+                )
+                + "; of a capture fintaqush from-pcap computes it"
+            )
+
+    def notes_on(self, kind: str, devices: Sequence[str], arrives_at: Mapping[str, int], of: Counter[str]) -> list[str]:
+        at = {place: name for name, place in arrives_at.items()}
+        notes = [f"device {place} is {name}, {of[at[place]]} packets" for place, name in enumerate(devices, 1)]
+        if kind == BY_PAIR:
+            notes += [
+                f"a row: packets that a full ring or backlog dropped: {name}, {drops}"
+                for name, drops in sorted(self.dropped.items())
+                if drops and name in arrives_at
+            ]
+            notes += told_of("packets that weren't sent", self.unsent)
+        else:
+            notes.append(HOW[kind])
+            without = sum(
+                count for (name, flow), count in self.packets[kind].counted().items() if name in arrives_at and not flow
+            )
+            notes += [f"packets without a hash, which are of flow 0: {without}"] * bool(self.words.flows and without)
+        where = "in no pair" if kind == BY_PAIR else "not asked for"
+        return notes + told_of(
+            f"packets of a device that is {where}",
+            {name: count for name, count in of.items() if name not in arrives_at},
+        )
+
+
+def convert(words: Words) -> None:
+    """Reads the recording and writes the files."""
+    for end in ("work", "notes", "csv"):
+        check_target(f"{words.name}.{end}", replaces=False)
+    lost: list[str] = []
+    head: Head = {}
+    found = events_in(words.recording, lost, head)
+    if words.arrivals:
+        first = next(found, None)  # the head is known after the first event
+        words.pairs = head.get("pair", "va*:vb*").split()
+        rows, notes, told = Arriving([] if first is None else chain([first], found), words).text(head)
+        check_lost(lost)
+        write_all({f"{words.name}.notes": "".join(f"{line}\n" for line in notes), f"{words.name}.csv": rows})
+        print(f"{shown(words.name)}.csv: {told}; {told_notes(f'{words.name}.notes', notes)}")
+        return
+    events = list(found)
+    words.pairs = head.get("pair", "va*:vb*").split()
+    if not events:
+        raise Refusal("there is no event in it")
+    trace = Trace(events, words, head)
+    texts = {"work": trace.work, "notes": lost + trace.notes, "csv": ["moment,device,event,value", *trace.rows]}
+    write_all({f"{words.name}.{end}": "".join(f"{line}\n" for line in lines) for end, lines in texts.items()})
+    print(
+        f"{shown(words.name)}.csv: {len(trace.devices)} devices, {len(trace.rows)} rows, of which {len(trace.work)} poll; "
+        f"{told_notes(f'{words.name}.notes', lost + trace.notes)}"
+    )
+
+
+def parser() -> Parser:
+    parser = parser_of(__doc__)
+    parser.add_argument("recording", help="the text, also as .gz; - for standard input")
+    parser.add_argument("name", help="the name of the output files, without the extension")
+    parser.add_argument(
+        "--pair",
+        action="append",
+        metavar="A:B",
+        help="two ends of a veth pair; * stands for a number in each; may be given many times "
+        "(where none is given: that of fintaqush record, or va*:vb*)",
+    )
+    parser.add_argument(
+        "--device",
+        action="append",
+        default=[],
+        metavar="NAME",
+        help="a device that receives and isn't in a pair; may be given many times (those of fintaqush record, or all)",
+    )
+    parser.add_argument(
+        "--places",
+        type=number(1, 65536),
+        default=256,
+        metavar="N",
+        help="packets that each ring holds (256, as veth's)",
+    )
+    parser.add_argument(
+        "--rows",
+        type=pair(":", "1:50000"),
+        metavar="A:B",
+        help="only these rows, after rows that open the devices and add the packets that wait then",
+    )
+    parser.add_argument("--unit", choices=TICKS, default="ms", help="the unit of times in a trace (ms)")
+    parser.add_argument("--arrivals", action="store_true", help="write arrivals for napi_machine instead of a trace")
+    parser.add_argument(
+        "--flows",
+        action="store_true",
+        help="with --arrivals: add a column with the hash of each packet's flow, for several queues",
+    )
+    return parser
+
+
+def main(given: Sequence[str]) -> None:
+    options = parser()
+    words = options.parse_args(given)
+    if words.flows and not words.arrivals:
+        options.error("--flows goes with --arrivals")
+    if words.device and words.pair:
+        options.error("--device names a device without a pair, so it doesn't go with --pair")
+    check_input(words.recording)
+    try:
+        convert(words)
+    except Refusal as error:
+        raise Refusal(f"{shown(words.recording)}: {error}") from None

@@ -1,0 +1,368 @@
+"""Records how the running Linux receives packets, with all settings and counters, in one file that the other tools read. Needs root.
+
+    fintaqush record 5 --device eth0 --out mine.rec
+    fintaqush record 5 --device vb1 --netns receiver --program server --out mine.rec
+    fintaqush costs mine.rec
+    fintaqush from-ftrace mine.rec mine --arrivals
+
+It records polls, the NET_RX softirq, interrupts, task switches, NAPI's timers and sent packets, in an ftrace instance of its own; with
+--program also the reads of a program, which runs unmodified. A sent packet is an arrival at the other end of a veth pair, which is found
+automatically or named by --sender. For any other device it records the packets that polls take (napi_gro_receive_entry, netif_receive_skb). The
+kernel has no event for their arrival at the card, so waits before the interrupt are unknown; a capture with the card's timestamps has them.
+
+The head of FILE has a `key value` line for each setting and counter; after a line `trace` follows the text of the trace
+(docs/FORMATS.md). Recording stops early if a buffer is nearly full: the file has what was recorded, the last line says which --buffer holds
+the whole time, and the exit status is 1. If the kernel loses events nevertheless, no file is written. All changes in the kernel are undone,
+also after Ctrl-C, which leaves no file.
+"""
+
+from __future__ import annotations
+
+import math
+import os
+import re
+import time
+from collections import Counter
+from collections.abc import Callable, Iterator, Mapping, Sequence
+from typing import IO, Any
+
+from fintaqush_tools import observed
+from fintaqush_tools.errors import Refusal, unfinished, unlink
+from fintaqush_tools.files import WholeFile, check_target
+from fintaqush_tools.options import Parser, Words, number, parser_of, wrong
+from fintaqush_tools.progress import Progress, say
+from fintaqush_tools.texts import shown
+from fintaqush_tools.tracing import MEGABYTE, Instance, Stamps, mount_tracefs
+
+FULL = 0.9  # share of a buffer at which a recording ends
+LOOKS, AHEAD = 0.25, 4  # seconds between checks of the buffers, and how many checks ahead it ends
+POLLED = re.compile(rb"\[(\d+)\].* napi_poll: napi poll on napi struct \S+ for (?:network )?device (\S+) work (\d+) ")
+SENT = re.compile(rb" net_dev_xmit: dev=(\S+) .* rc=(\S+)")
+RECEIVED = re.compile(rb" (napi_gro_receive_entry|napi_gro_frags_entry|netif_receive_skb): dev=(\S+) ")
+BACKLOG = "(no_device)"
+
+
+def processors(text: str) -> set[int]:
+    """Parses a list of processors, as 2,3 or 0-3."""
+    chosen: set[int] = set()
+    for part in text.split(","):
+        found = re.fullmatch(r"(\d{1,4})(?:-(\d{1,4}))?", part)
+        if not found or int(found[2] or found[1]) < int(found[1]):
+            raise wrong(text, "a list of processors as 2,3 or 0-3")
+        chosen.update(range(int(found[1]), int(found[2] or found[1]) + 1))
+    return chosen
+
+
+def program_filter(named: str) -> tuple[str, list[int]]:
+    """Returns the filter for the events of a program, and its process numbers."""
+    if named.isdigit():
+        if not os.path.isdir(f"/proc/{named}/task"):
+            raise Refusal(f"--program {named}: there is no such process")
+        threads = sorted(map(int, os.listdir(f"/proc/{named}/task")))
+        if len(threads) <= 24:
+            return " || ".join(f"common_pid == {thread}" for thread in threads), [int(named)]
+        named = observed.text_in(f"/proc/{named}/comm")
+    if not re.fullmatch(r"[ !#-~]+", named):
+        raise Refusal(
+            f"--program {shown(named)}: a name of printable ASCII characters without quotes, or a process's number"
+        )
+    return f'comm == "{named[:15]}"', [pid for pid, _ in sorted(observed.tasks_named(lambda name: name == named[:15]))]
+
+
+def most_memory() -> int:
+    """Returns how many MB each processor's buffer may have: together at most half of the free memory."""
+    free = next(
+        (
+            int(line.split()[1]) // 1024
+            for line in observed.lines_in_proc("meminfo")
+            if line.startswith("MemAvailable:")
+        ),
+        0,
+    )
+    return free // 2 // (os.cpu_count() or 1)
+
+
+def check_memory(megabytes: int) -> None:
+    if megabytes > most_memory():
+        raise Refusal(
+            f"--buffer {megabytes}: {os.cpu_count()} processors with so many MB each take more than half of the free memory; "
+            f"at most {most_memory()}"
+        )
+
+
+def advice_on_buffer(words: Words, took: float, most: int) -> str:
+    """Returns what to change so that a recording isn't ended by a full buffer; `most` is the largest --buffer that this machine allows."""
+    # It ended before its buffer was full, which leaves some room.
+    needed = math.ceil(words.buffer * words.seconds / took)
+    if needed <= most:
+        return f"record again with --buffer {needed}"
+    fits = int(most * took / words.buffer)
+    return (
+        f"{words.seconds} s would need --buffer {needed}, and this machine has memory for {most}: "
+        + (f"record for {fits} s with --buffer {most}, or" if fits else "record")
+        + " fewer processors (--processors), or less traffic"
+    )
+
+
+def wait(instance: Instance, words: Words) -> bool:
+    """Waits during the recording. Returns whether it ended early because a buffer was nearly full."""
+    until, before, left = time.monotonic() + words.seconds, 0, words.seconds
+    with Progress(
+        "recording",
+        lambda: float(min(1, 1 - (until - time.monotonic()) / words.seconds)),
+        lambda: f"the fullest buffer has {before // MEGABYTE} of {words.buffer} MB",
+    ):
+        while left > 0:
+            time.sleep(min(LOOKS, left))
+            left = until - time.monotonic()
+            most = max(size for _, size, _ in instance.statistics())
+            if most + AHEAD * (most - before) > FULL * words.buffer * MEGABYTE and left > 0:
+                return True
+            before = most
+    return False
+
+
+class Body:
+    """The trace's text in a file, and counts of its events."""
+
+    polls: Counter[tuple[str, int]]
+    sent: Counter[str]
+    received: Counter[tuple[str, bool]]
+
+    def __init__(self, path: str, stamps: Stamps) -> None:
+        self.path, self.stamps, self.lines = path, stamps, 0
+        self.polls, self.sent, self.received = Counter(), Counter(), Counter()
+
+    def take(self, trace: str) -> None:
+        """Copies the trace's lines unchanged."""
+        with open(trace, "rb") as lines, open(self.path, "wb") as file:
+            for line in lines:
+                if self.stamps.look(line):
+                    continue
+                file.write(line)
+                self.lines += not line.startswith(b"#")
+                polled, sent, received = POLLED.search(line), SENT.search(line), RECEIVED.search(line)
+                if polled:
+                    self.polls[polled[2].decode("utf-8", "replace"), int(polled[1])] += 1
+                elif sent:
+                    self.sent[sent[1].decode("utf-8", "replace")] += 1
+                elif received:
+                    self.received[received[2].decode("utf-8", "replace"), received[1] == b"netif_receive_skb"] += 1
+        self.stamps.settle()
+
+    def put(self, file: IO[bytes]) -> None:
+        """Writes the lines after the head, with their times in nanoseconds."""
+        with open(self.path, "rb") as lines:
+            for line in lines:
+                file.write(self.stamps.changed(line))
+
+
+def recorded(
+    words: Words, folder: str, program: str, tell: Callable[[str], None]
+) -> tuple[dict[str, Any], dict[str, str], Body]:
+    """Records. Returns the head's values on the recording, and the body."""
+    with Instance(folder) as instance:
+        clock = instance.set_clock()
+        instance.set_buffers(words.buffer, words.processors)
+        events, missing = instance.enable(program, () if words.sender else words.device)
+        before, began = observed.counters(words.device, words.netns), observed.now()
+        start = time.monotonic()
+        instance.begin()
+        tell(f"recording for {words.seconds} s")
+        is_full = wait(instance, words)
+        instance.end()
+        took = time.monotonic() - start
+        after = observed.counters(words.device, words.netns)
+        lost = sum(each for _, _, each in instance.statistics())
+        if lost:
+            raise Refusal(
+                f"the kernel lost {lost} events, so the recording isn't written: record for a shorter time, or with a larger "
+                "--buffer"
+            )
+        body, all_lines = Body(words.scratch, Stamps(clock, instance.marks)), sum(
+            count for count, _, _ in instance.statistics()
+        )
+        with Progress("reading the buffers", lambda: min(1, body.lines / max(1, all_lines))):
+            body.take(f"{instance.path}/trace")
+    words.took = took if is_full else None
+    head = {
+        "clock": clock,
+        "began": began,
+        "seconds": f"{took:.6f}",
+        "events": " ".join(events),
+        "missing": " ".join(missing),
+        "lost": lost,
+    }
+    return head, {key: f"{value} {after.get(key, value)}" for key, value in before.items()}, body
+
+
+def polled_of(words: Words, body: Body) -> list[str]:
+    """Returns the names of the devices in their polls: their own, or that of a processor's backlog."""
+    names = [name for name in words.device if any(device == name for device, _ in body.polls)]
+    return names or [BACKLOG] * any(device == BACKLOG for device, _ in body.polls)
+
+
+def head_of(
+    words: Words,
+    head: Mapping[str, Any],
+    settings: Mapping[str, str],
+    counts: Mapping[str, str],
+    body: Body,
+    pids: Sequence[int],
+) -> list[str]:
+    """Returns the lines before the trace."""
+    told = {
+        **head,
+        "buffer": words.buffer,
+        "lines": body.lines,
+        "device": " ".join(words.device),
+        "netns": words.netns or "",
+        "sender": " ".join(words.sender),
+        "pair": " ".join(map(":".join, zip(words.sender, words.device)))
+        if len(words.sender) == len(words.device)
+        else "",
+        "polled": " ".join(polled_of(words, body)),
+        "program": words.program or "",
+        "program.pids": " ".join(map(str, pids)),
+    }
+    told |= {f"polls.{device}.{processor}": count for (device, processor), count in sorted(body.polls.items())}
+    told |= {f"sent.{device}": count for device, count in sorted(body.sent.items())}
+    told |= {f"received.{device}": taken_of(body, device) for device in words.device if taken_of(body, device)}
+    told |= {f"program.{pid}.{key}": value for pid in pids[:64] for key, value in observed.of_task(pid)}
+    lines = [f"{key} {value}".rstrip() for key, value in {**told, **settings, **counts}.items() if str(value)]
+    return ["fintaqush-recording 1", *lines, "trace"]
+
+
+def taken_of(body: Body, device: str) -> int:
+    """Returns how many packets of a device polls took, or, if its driver has no GRO, the stack received."""
+    return body.received[device, False] or body.received[device, True]
+
+
+def find_senders(words: Words) -> list[str]:
+    """Finds the other ends of the devices, if they aren't named."""
+    if words.sender:
+        if len(words.sender) != len(words.device):
+            raise Refusal(f"{len(words.sender)} --sender for {len(words.device)} --device")
+        return list(words.sender)
+    found = [observed.peer_of(name, words.netns) for name in words.device]
+    return found if all(found) else []
+
+
+def told_end(words: Words, head: Mapping[str, Any], body: Body) -> str:
+    """Returns the final line, which summarizes the recording."""
+    own = polled_of(words, body)
+    where = sorted({processor for device, processor in body.polls if device in own})
+    polls = sum(count for (device, _), count in body.polls.items() if device in own)
+    parts = [f"{float(head['seconds']):.1f} s", f"{body.lines} events"]
+    parts.append(
+        f"{polls} polls of {', '.join(own)} on processor {', '.join(map(str, where))}"
+        if own
+        else f"no poll of {', '.join(words.device)}"
+    )
+    if words.sender:
+        parts.append(f"{sum(body.sent[name] for name in words.sender)} packets of {', '.join(words.sender)}")
+    else:
+        parts.append(
+            f"{sum(taken_of(body, name) for name in words.device)} packets that {', '.join(words.device)} received"
+        )
+    return f"{shown(words.out)}: {'; '.join(parts)}"
+
+
+def notes_on(words: Words, head: Mapping[str, Any], body: Body) -> Iterator[str]:
+    """Yields what the user should know about the recording."""
+    if head["missing"]:
+        yield f"this kernel has no event {head['missing']}"
+    if not words.sender and any(taken_of(body, name) for name in words.device):
+        yield (
+            "its arrivals are when polls took the packets, because no device that sends to it is known, as of a veth pair: waits in a card's ring "
+            "before the interrupt aren't in it"
+        )
+    elif not words.sender:
+        yield f"it has no arrivals: {', '.join(words.device)} received nothing"
+    elif not any(body.sent[name] for name in words.sender):
+        yield f"nothing was sent by {', '.join(words.sender)}"
+
+
+def record(words: Words, tell: Callable[[str], None]) -> str:
+    """Checks the options, records, and writes the file; `tell` takes what the user should know. Returns the line that sums it up."""
+    if os.geteuid() != 0:
+        raise Refusal("recording needs root: sudo fintaqush record ..")
+    check_target(words.out)
+    observed.check_namespace(words.netns)
+    for name in [*words.device, *words.sender]:
+        observed.check_device(name)
+    settings = dict(observed.of_kernel())
+    for name in words.device:
+        settings |= observed.settings_of_device(name, words.netns)
+    words.sender = find_senders(words)
+    program, pids = program_filter(words.program) if words.program else ("", [])
+    check_memory(words.buffer)
+    for each in observed.lacking(words.netns):
+        tell(each)
+    if words.program and not pids:
+        tell(f"no process is called {shown(words.program)}; its reads are recorded if it starts during the recording")
+    head, counts, body = recorded(words, mount_tracefs(), program, tell)
+    pids = pids or (program_filter(words.program)[1] if words.program else [])
+    with WholeFile(words.out) as new, open(new, "wb") as file:
+        text = "\n".join(head_of(words, head, settings, counts, body, pids))
+        file.write(text.encode("utf-8", "replace") + b"\n")
+        body.put(file)
+    for note in notes_on(words, head, body):
+        tell(note)
+    return told_end(words, head, body)
+
+
+def check_whole(words: Words) -> None:
+    """Fails if the recording ended early."""
+    if words.took:
+        raise Refusal(
+            f"a buffer of {words.buffer} MB was nearly full after {words.took:.1f} of {words.seconds} s, so the recording ended early: "
+            + advice_on_buffer(words, words.took, most_memory())
+        )
+
+
+def recorded_by(words: Words, tell: Callable[[str], None]) -> str:
+    """Records, and returns the line that sums it up. Nothing else is left, however it ends."""
+    words.took = None
+    words.scratch = os.path.join(os.path.dirname(words.out), f".new-{os.getpid()}-{os.urandom(6).hex()}.body")
+    unfinished.add(words.scratch)
+    try:
+        return record(words, tell)
+    finally:
+        unlink(words.scratch)
+        unfinished.discard(words.scratch)
+
+
+def parser() -> Parser:
+    parser = parser_of(__doc__)
+    parser.add_argument(
+        "seconds", nargs="?", type=number(1, 3600), default=5, metavar="SECONDS", help="how long, 1 to 3600 (5)"
+    )
+    parser.add_argument(
+        "--device",
+        action="append",
+        required=True,
+        metavar="NAME",
+        help="a device that receives; may be given many times",
+    )
+    parser.add_argument("--out", required=True, metavar="FILE", help="the file for the recording")
+    parser.add_argument("--netns", metavar="NAME", help="the network namespace of the devices")
+    parser.add_argument(
+        "--sender",
+        action="append",
+        default=[],
+        metavar="NAME",
+        help="the other end of the veth pair, one for each device (found automatically if possible)",
+    )
+    parser.add_argument("--program", metavar="NAME|PID", help="the program that reads the packets")
+    parser.add_argument("--processors", type=processors, metavar="LIST", help="record only these, as 2,3 or 0-3 (all)")
+    parser.add_argument(
+        "--buffer", type=number(1, 65536), default=32, metavar="MB", help="the buffer of each processor (32)"
+    )
+    return parser
+
+
+def main(given: Sequence[str]) -> None:
+    words = parser().parse_args(given)
+    print(recorded_by(words, say), flush=True)
+    check_whole(words)

@@ -1,0 +1,652 @@
+"""Predicts waits, drops and processor shares for settings, costs and loads, by running napi_machine on arrivals.
+
+    fintaqush from-pcap capture.pcap mine --arrivals
+    fintaqush what-if mine.csv --gro-flush-timeout 0,20000,100000 --defer-hard-irqs 2 --load 0.5,1,2 --plot mine.png
+    fintaqush what-if mine.csv --ring 64,256 --until drops
+    fintaqush what-if --traffic '--kind poisson --rate 100000' --seeds 5 --threaded 0,1
+
+On a terminal it prints a table with units, which has only the columns that differ, and conclusions. Elsewhere, or with --csv, it prints a CSV row
+for each combination, with the options that have several values and the results. --json prints an object per line with all options, the version
+of the format, and keys that are identifiers. --out writes a CSV file with all options, or with --json these objects. At a load of 2 all arrival
+times are halved. An option takes numbers separated by commas. Times and costs are in ns, except in the table. Results are only as good as the given costs: fintaqush costs
+estimates them from a recording. Options are named after Linux's settings; --help says where each is set.
+
+Packets are dropped if the ring is full, and refused if the socket is. Waits last from a packet's arrival to the end of its delivery by a poll,
+and to the end of its use: the 50th, 99th and 99.9th percentile, of the device or processor where it is the greatest. Shares are of all
+processors' time, in %; with --apart 1 the application's share is that of its own processor.
+
+Each combination is also run with all costs 20 % lower and 20 % higher (--band). A line on standard error warns if the order of two combinations
+changes within this band, because the better one then depends on the costs. --queues above 1 needs arrivals with a column `flow`.
+
+--until searches the load at which a combination breaks, to 1 %: with drops, a packet is dropped; with p99=US, the 99th percentile of waits to
+the end of use exceeds that many us. The search assumes that a setting which holds a load also holds any lower one.
+
+--traffic makes arrivals by fintaqush traffic, with its options, for each of --seeds seeds. A row then has the median of each value, and its
+minimum and maximum as NAME_least and NAME_most.
+
+--plot draws waits, drops and the application's share, one below the other: over the load, or over the option that has the most values, with
+a curve for each combination of the others. --resume, --part and the options for other machines work as in sweep.
+"""
+
+from __future__ import annotations
+
+import csv
+import functools
+import itertools
+import json
+import math
+import os
+import re
+import sys
+import tempfile
+import threading
+from collections.abc import Callable, Iterable, Iterator, Mapping, Sequence
+from fractions import Fraction
+from pathlib import Path
+
+from fintaqush_tools import breaking, repeats, tables
+from fintaqush_tools.combinations import Combinations, Key, Row, add_words, check_words, choices, fault_of, sum_of
+from fintaqush_tools.errors import Refusal, unfinished, unlink
+from fintaqush_tools.files import WholeFile, check_regular, check_target, write_out, write_whole
+from fintaqush_tools.machine import (
+    ARE,
+    COSTS,
+    OPTIONS,
+    VALUES,
+    WAITS,
+    help_of,
+    identifier,
+    option_words,
+    values_of,
+    with_costs,
+)
+from fintaqush_tools.options import Parser, Words, number, parser_of, require_end, wrong
+from fintaqush_tools.pictures import COLORS, ENDS, Curve, Picture, check_library, picture_bytes
+from fintaqush_tools.processes import program, ran
+from fintaqush_tools.progress import Progress, say
+from fintaqush_tools.texts import shown
+from fintaqush_tools.thresholds import Condition, add_fail_if, status_of
+
+VARIED = ["load", *OPTIONS]
+KEY = ["arrivals", "sum", *VARIED]
+# Faults of arrivals; a failed read or a failed allocation isn't one.
+FAULT = re.compile(r"arrivals fault (?!10 )\d+ \w+ row \d+$")
+HEADER = b"moment,device,bytes"
+FORMAT = 1  # version of the objects that --json prints
+MOST_CURVES = len(COLORS)
+SHORT = {"p50": "used_p50", "p99": "used_p99", "p999": "used_p999"}  # names for --fail-if
+making = threading.Lock()
+
+
+@functools.lru_cache
+def sum_at(path: str, _size: int, _changed: int) -> str:
+    """Returns the checksum that identifies the arrivals in a file."""
+    with open(path, "rb") as file:
+        return sum_of(file)
+
+
+def sum_in(path: str) -> str:
+    state = os.stat(path)
+    return sum_at(path, state.st_size, state.st_mtime_ns)
+
+
+def has_flows(path: str) -> bool:
+    """Returns whether arrivals have the column `flow`."""
+    with open(path, "rb") as file:
+        return file.readline(1000).strip().endswith(b",flow")
+
+
+@functools.lru_cache
+def rewritten(path: str, load: str, with_flows: bool) -> str:
+    return rewrite(path, load, with_flows)
+
+
+def rewrite(path: str, load: str, with_flows: bool) -> str:
+    """Returns the name of a temporary file with these arrivals at `load` times their rate, with or without their flows."""
+    ratio, drops_flow = Fraction(load), has_flows(path) and not with_flows
+    handle, name = tempfile.mkstemp(suffix=".csv")
+    unfinished.add(name)
+    with open(path, "rb") as old, open(handle, "wb") as new:
+        first = old.readline(1000)
+        new.write(HEADER + b"\n" if drops_flow else first)
+        for place, line in enumerate(old, 1):
+            moment, comma, others = line.partition(b",")
+            if not (comma and moment.isdigit() and len(moment) <= 20):
+                raise Refusal(
+                    f"row {place}: only times that are plain numbers can be scaled, not {shown(line[:40].decode('latin-1').strip())!r}"
+                )
+            if drops_flow and others.count(b",") == 2:
+                others = others[: others.rindex(b",")] + b"\n"
+            new.write(b"%d,%s" % (int(moment) * ratio.denominator // ratio.numerator, others))
+    return name
+
+
+def breaks_at(made: str, key: Key, load: str, until: str) -> bool:
+    """Returns whether a combination breaks at a load."""
+    settings = dict(zip(OPTIONS, key[3:]))
+    name = rewrite(key[0], load, int(settings["queues"]) > 1)
+    try:
+        with open(name, "rb") as file:
+            status, out, said = ran([made, *option_words(settings)], stdin=file)
+    finally:
+        unlink(name)
+        unfinished.discard(name)
+    if status:
+        raise Refusal(
+            f"{shown(key[0])}: {shown((said.decode('ascii', 'replace').splitlines() or [f'status {status}'])[-1])[:200]}"
+        )
+    return breaking.is_over(values_of(out.decode("ascii", "replace")), until)
+
+
+def row_of(made: str, key: Key) -> Row:
+    """Returns the machine's results for one combination."""
+    path, held, load, *chosen = key
+    if sum_in(path) != held:
+        raise Refusal("the arrivals have changed since this began")
+    settings = dict(zip(OPTIONS, chosen))
+    with_flows = int(settings["queues"]) > 1
+    with making:
+        name = path if Fraction(load) == 1 and has_flows(path) == with_flows else rewritten(path, load, with_flows)
+    with open(name, "rb") as file:
+        status, out, said = ran([made, *option_words(settings)], stdin=file)
+    row: Row = {**dict(zip(KEY, key)), "status": status, "fault": fault_of(made, status, said, FAULT)}
+    return {**row, **(values_of(out.decode("ascii", "replace")) if status == 0 else {})}
+
+
+TABLE = Combinations("what-if", KEY, ["status", "fault", *VALUES], row_of)
+
+
+# ---- the band of costs, and options without effect
+
+
+def band_of(key: Key, percent: int) -> Key:
+    """Returns the key of a combination with all costs scaled to `percent`."""
+    return (*key[:3], *map(str, with_costs(dict(zip(OPTIONS, key[3:])), percent).values()))
+
+
+def lost(row: Row) -> int:
+    return int(row["dropped"]) + int(row["refused"])
+
+
+ORDERS = {
+    "the median wait to the end of use": lambda row: int(row["used_p50"]),
+    "the 99th percentile of that wait": lambda row: int(row["used_p99"]),
+    "drops": lost,
+}
+
+
+def name_of(key: Key, names: Iterable[str]) -> str:
+    """Names a combination by the options that distinguish it."""
+    return ", ".join(f"{name} {value}" for name, value in zip(VARIED, key[2:]) if name in names)
+
+
+def grouped(keys: Sequence[Key], chosen: set[str]) -> dict[Key, list[Key]]:
+    """Groups the combinations that differ only in these options."""
+    groups: dict[Key, list[Key]] = {}
+    for key in keys:
+        others = tuple(value for name, value in zip(VARIED, key[2:]) if name not in chosen)
+        groups.setdefault(others, []).append(key)
+    return groups
+
+
+def orders_that_change(
+    rows: Sequence[Row], keys: Sequence[Key], percent: int
+) -> Iterator[tuple[str, list[tuple[int, int]], str]]:
+    """Yields the combinations whose order changes within the band of costs: lines, and for each line the index pairs of their keys."""
+    told = [row for row in rows if str(row["status"]) == "0"]
+    by_key = {TABLE.key_of({**row, **{name: str(row[name]) for name in VARIED}}): row for row in told}
+    varied = {name for name, values in zip(VARIED, zip(*(key[2:] for key in keys))) if len(set(values)) > 1}
+    groups = grouped(keys, varied - {"load", *COSTS})
+    for what, of in ORDERS.items():
+        changed = [
+            (one, other, side)
+            for group in groups.values()
+            for one, other in itertools.combinations(group, 2)
+            for side in (-percent, percent)
+            if changes(by_key, one, other, side, of)
+        ]
+        if changed:
+            one, other, side = changed[0]
+            more = f", and so does that of {len(changed) - 1} more pairs" if len(changed) > 1 else ""
+            yield (
+                f"with costs {abs(side)} % {'lower' if side < 0 else 'higher'} the order by {what} changes: {name_of(one, varied)} and "
+                f"{name_of(other, varied)}{more}",
+                sorted({(keys.index(one) + 1, keys.index(other) + 1) for one, other, _ in changed}),
+                what,
+            )
+
+
+def changes(by_key: Mapping[Key, Row], one: Key, other: Key, side: int, of: Callable[[Row], int]) -> bool:
+    """Returns whether, of two combinations, the other one is better with costs changed by that many percent."""
+    values = [
+        [of(by_key[key]) for key in (band_of(one, each), band_of(other, each)) if key in by_key]
+        for each in (100, 100 + side)
+    ]
+    return all(len(each) == 2 for each in values) and (values[0][0] - values[0][1]) * (values[1][0] - values[1][1]) < 0
+
+
+def of_budgets(rows: Sequence[Row]) -> Iterator[str]:
+    """With one queue on a processor no budget changes a wait, because in the model, which has no ksoftirqd, the next run follows without a pause.
+    Returns a line that says so, or none."""
+    budgets = {str(row["budget"]) for row in rows} - {"0"}
+    told = [row for row in rows if str(row["status"]) == "0"]
+    if len(budgets) > 1 and told and all(int(row["queues_of_a_processor"]) <= 1 for row in told):
+        yield (
+            "in the model, with one queue on each processor, net.core.netdev_budget changes no latency and no drops, only how many runs are "
+            "squeezed"
+        )
+
+
+def status_for(rows: Sequence[Row], conditions: Sequence[Condition]) -> int:
+    """Returns the exit status by --fail-if; rejected rows have no values."""
+    varied = varied_in(rows)
+    told = [row for row in rows if str(row["status"]) == "0"]
+    named = (
+        (
+            ", ".join(f"{name} {row[name]}" for name in varied),
+            {**row, **{short: row[name] for short, name in SHORT.items()}},
+        )
+        for row in told
+    )
+    return status_of(conditions, list(named))
+
+
+# ---- the table and the picture
+
+
+def varied_in(rows: Sequence[Row]) -> dict[str, list[str]]:
+    """Returns the options that have several values in these rows, with the values in order."""
+    values = {name: list(dict.fromkeys(str(row[name]) for row in rows)) for name in VARIED}
+    return {name: each for name, each in values.items() if len(each) > 1}
+
+
+def value_of(text: str) -> int | float | str | None:
+    """Converts a value of a row to its JSON type."""
+    return (
+        int(text)
+        if re.fullmatch("[0-9]+", text)
+        else float(text)
+        if re.fullmatch(r"[0-9]+\.[0-9]+", text)
+        else text or None
+    )
+
+
+def columns_of(rows: Sequence[Row]) -> list[str]:
+    """Returns the columns of the results: with several seeds also the minimum and the maximum of each value."""
+    return [each for name in VALUES for each in (name, f"{name}_least", f"{name}_most") if each in rows[0]]
+
+
+def objects_of(rows: Sequence[Row]) -> Iterator[str]:
+    """Returns a line of JSON for each row."""
+    names = [name for name in (*KEY, "status", "fault", *columns_of(rows)) if name in rows[0]]
+    for row in rows:
+        told = {
+            identifier(name): row[name] if name in ("arrivals", "sum") else value_of(str(row[name])) for name in names
+        }
+        yield json.dumps({"version": FORMAT, **told}) + "\n"
+
+
+def print_rows(rows: Sequence[Row], words: Words) -> None:
+    """Prints the rows, as CSV or JSON; JSON goes to the file of --out, if there is one."""
+    if words.form == "json":
+        lines = list(objects_of(rows))
+        if words.json_out:
+            write_whole(words.json_out, lines, replaces=False)
+        else:
+            write_out(None, lines)
+        return
+    faults = ["fault"] if any(row["fault"] for row in rows) else []
+    table = csv.DictWriter(
+        sys.stdout, [*varied_in(rows), *faults, *columns_of(rows)], extrasaction="ignore", lineterminator="\n"
+    )
+    table.writeheader()
+    table.writerows(rows)
+
+
+def answer(rows: Sequence[Row], every: Sequence[Row], keys: Sequence[Key], words: Words) -> None:
+    """Prints the rows with their conclusions and warnings: below a table, else on standard error."""
+    orders = list(orders_that_change(every, keys, words.band)) if len(every) > len(rows) else []
+    if words.form != "table":
+        print_rows(rows, words)
+        for line in [*of_budgets(rows), *(line for line, _, _ in orders)]:
+            say(line)
+        return
+    told = [row for row in rows if str(row["status"]) == "0"]
+    print(*tables.table(told, varied_in(rows)), sep="\n")
+    print(*tables.what_follows(told), *of_budgets(told), sep="\n")
+    for _, pairs, what in orders:
+        more = f", and {len(pairs) - 3} more pairs" if len(pairs) > 3 else ""
+        print(
+            f"{', '.join(f'{one} and {other}' for one, other in pairs[:3])}{more} are equal within the costs' doubt of {words.band} %: their order by {what} changes"
+        )
+    for row in rows:
+        if row["fault"]:
+            print(f"refused: {row['fault']}")
+
+
+def message_of(rows: Sequence[Row]) -> str:
+    """Returns the picture's main message: which combination has the lowest 99th percentile at the highest load, of those without losses there."""
+    told = [row for row in rows if str(row["status"]) == "0"]
+    top = max((float(row["load"]) for row in told), default=0)
+    whole = [row for row in told if float(row["load"]) == top and not lost(row) and int(row["used_p99"])]
+    if not whole:
+        return "; each loses packets at the highest load" if told and len(varied_in(rows)) else ""
+    best = min(whole, key=lambda row: int(row["used_p99"]))
+    named = ", ".join(f"{name} {best[name]}" for name in varied_in(rows) if name != "load")
+    return f"; best p99 at load {top:g}: {named}, {int(best['used_p99']) / 1000:,.0f} µs" if named else ""
+
+
+def title_of(rows: Sequence[Row], name: str) -> str:
+    """Returns the title: what was varied, and which costs were given."""
+    varied = varied_in(rows)
+    told = "; ".join(f"{each} {', '.join(values)}" for each, values in varied.items())
+    given = ", ".join(f"{each} {rows[0][each]}" for each in COSTS if each not in varied)
+    return f"{name}: {told}{message_of(rows)}.\n" + (
+        f"Costs are given, in ns: {given}." if given else "Costs are given."
+    )
+
+
+def check_curves(words: Words) -> None:
+    """Fails, before any work, if a picture would have no curve or too many."""
+    counts = {name: len(getattr(words, name.replace("-", "_"))) for name in VARIED}
+    varied = {name: count for name, count in counts.items() if count > 1}
+    if not varied:
+        raise Refusal("nothing to draw: no option has several values")
+    count = math.prod(varied.values()) // varied.get("load", max(varied.values()))
+    if count > MOST_CURVES:
+        raise Refusal(
+            f"{count} curves, of which at most {MOST_CURVES} can be distinguished: vary fewer options at a time"
+        )
+
+
+def curves_of(rows: Sequence[Row]) -> tuple[str, dict[str, list[Row]]]:
+    """Returns the axis, and the rows of each curve by its title."""
+    varied = varied_in(rows)
+    axis = "load" if "load" in varied else max(varied, key=lambda name: len(varied[name]))
+    curves: dict[str, list[Row]] = {}
+    for row in rows:
+        if row["status"] in (0, "0"):
+            curves.setdefault(" ".join(f"{name} {row[name]}" for name in varied if name != axis) or "all", []).append(
+                row
+            )
+    if not curves:
+        raise Refusal("nothing to draw: each row is refused")
+    return axis, {title: sorted(each, key=lambda row: float(row[axis])) for title, each in curves.items()}
+
+
+def lost_percent(row: Row) -> float:
+    return 100 * lost(row) / max(1, int(row["arrived"]))
+
+
+def line(points: Sequence[tuple[float, float]], place: int, name: str = "", is_dashed: bool = False) -> Curve:
+    """Returns a curve of the picture; `place` is its index among the combinations."""
+    return {"kind": "line", "color": COLORS[place], "shape": place, "dashed": is_dashed, "name": name, "points": points}
+
+
+def waits_of(rows: Sequence[Row], axis: str, column: str) -> list[tuple[float, float]]:
+    """Returns the points of a curve of waits, in ms."""
+    return [(float(row[axis]), int(row[column]) / 10**6) for row in rows if int(row[column])]
+
+
+def described(rows: Sequence[Row], title: str) -> Picture:
+    """Returns the picture: waits, losses and the application's share, with a curve for each combination."""
+    axis, curves = curves_of(rows)
+    waits, lost_of, shares = [], [], []
+    for place, (name, points) in enumerate(curves.items()):
+        waits.append(line(waits_of(points, axis, "delivered_p99"), place, f"{name}, to delivery", True))
+        waits.append(line(waits_of(points, axis, "used_p99"), place, name))
+        lost_of.append(line([(float(row[axis]), lost_percent(row)) for row in points], place, name))
+        shares.append(line([(float(row[axis]), float(row["use_percent"])) for row in points], place, name))
+    panels = [
+        ("99th percentile of waits, ms", "to delivery dashed, to the end of use", waits, True),
+        ("dropped and refused, %", "", lost_of, False),
+        ("the application's share, %", "of the processor", shares, False),
+    ]
+    ends = [float(row[axis]) for points in curves.values() for row in points]
+    margin = 0.03 * (max(ends) - min(ends) or 1)
+    return {
+        "title": title,
+        "axis": {
+            "label": f"{axis} (times the arrivals)" if axis == "load" else axis,
+            "low": min(ends) - margin,
+            "high": max(ends) + margin,
+        },
+        "panels": [
+            {
+                "label": label,
+                "heading": heading,
+                "top": 102,
+                "log": is_log and any(each["points"] for each in told),
+                "curves": [each for each in told if each["points"]],
+                "legend": not heading and len(curves) > 1,
+            }
+            for label, heading, told, is_log in panels
+        ],
+    }
+
+
+def draw(rows: Sequence[Row], words: Words) -> None:
+    picture = described(rows, title_of(rows, shown(Path(words.arrivals).name if words.arrivals else words.traffic)))
+    with WholeFile(words.plot) as new:
+        Path(new).write_bytes(picture_bytes(picture, words.plot, (540, 280)))
+
+
+# ---- options
+
+
+def load(text: str) -> str:
+    """Parses a load."""
+    if not re.fullmatch(r"[0-9]{1,6}(\.[0-9]{1,6})?", text) or Fraction(text) == 0:
+        raise wrong(text, "a load, as 0.5")
+    return text
+
+
+def columns_told() -> str:
+    """Returns the descriptions of the result columns."""
+    return "\nColumns of the results:\n\n" + "".join(f"    {name}: {ARE[name]}\n" for name in VALUES)
+
+
+def parser() -> Parser:
+    parser = parser_of(__doc__ + columns_told())
+    parser.add_argument(
+        "arrivals", nargs="?", help="arrivals, made with --arrivals of from-pcap, from-ftrace or traffic"
+    )
+    parser.add_argument(
+        "--load",
+        type=choices(load),
+        default=["1"],
+        metavar="N,..",
+        help="factors of the arrivals' rate, as 0.5,1,2 (1)",
+    )
+    for name, (low, high, default) in OPTIONS.items():
+        parser.add_argument(
+            f"--{name}", type=choices(number(low, high)), default=[str(default)], metavar="N,..", help=help_of(name)
+        )
+    parser.add_argument(
+        "--band",
+        type=number(0, 90),
+        metavar="N",
+        help="warn if an order changes with costs N %% lower or higher (20; 0 with --out or --part)",
+    )
+    form = parser.add_mutually_exclusive_group()
+    for name, what in (
+        ("table", "a table with units (on a terminal)"),
+        ("csv", "CSV (elsewhere)"),
+        ("json", "an object per line"),
+    ):
+        form.add_argument(f"--{name}", dest="form", action="store_const", const=name, help=what)
+    parser.add_argument(
+        "--until",
+        type=breaking.limit,
+        metavar="drops|p99=US",
+        help="search for the load at which each combination breaks",
+    )
+    parser.add_argument(
+        "--traffic", metavar="OPTIONS", help="make arrivals by fintaqush traffic with these options, in one argument"
+    )
+    parser.add_argument(
+        "--seeds", type=number(1, 1000), metavar="N", help="with --traffic: repeat with the seeds 1 to N (5)"
+    )
+    add_fail_if(parser, [*SHORT, *VALUES], [*SHORT, *WAITS])
+    parser.add_argument("--plot", metavar="FILE", help="a picture, .png, .svg or .html")
+    add_words(
+        parser,
+        "napi_machine",
+        {
+            "metavar": "FILE",
+            "help": "a file of rows with all options and results: CSV, or with --json an object per line",
+        },
+    )
+    return parser
+
+
+def check_together(options: Parser, words: Words) -> None:
+    """Rejects options that don't go together."""
+    if not words.play and bool(words.arrivals) == bool(words.traffic):
+        options.error("no arrivals" if not words.arrivals else "--traffic makes arrivals, so none are named")
+    if words.seeds and not words.traffic:
+        options.error("--seeds goes with --traffic")
+    is_spread = words.out or words.part or words.sshloginfile
+    for name, value in (("--traffic", words.traffic), ("--until", words.until)):
+        if value and is_spread:
+            options.error(f"{name} doesn't go with --out, --part and --sshloginfile")
+    if words.until and any((words.traffic, words.plot, words.fail_if, words.load != ["1"])):
+        options.error(
+            "--until searches the load, of one file, so it doesn't go with --load, --traffic, --plot and --fail-if"
+        )
+    require_end(options, "--plot", words.plot, ENDS)
+    if words.resume and not words.out:
+        options.error("--resume goes with --out")
+    if words.part and words.band:
+        options.error("--band compares all rows, so it doesn't go with --part")
+
+
+def read_words(given: Sequence[str]) -> Words:
+    options = parser()
+    words = options.parse_args(given)
+    check_together(options, words)
+    if words.band is None:
+        words.band = 0 if words.out or words.part else 20
+    words.form = words.form or ("table" if sys.stdout.isatty() else "csv")
+    if words.form == "json" and words.out and (words.resume or words.part):
+        options.error("with --json the file is written at the end, so --out doesn't go with --resume and --part")
+    words.json_out, words.out = (words.out, None) if words.form == "json" else (None, words.out)
+    return words
+
+
+def keys_of(words: Words, arrivals: str) -> tuple[list[Key], list[Key]]:
+    """Returns the requested combinations, and those of the band around them if several settings are compared."""
+    values = [getattr(words, name.replace("-", "_")) for name in VARIED]
+    keys = list(itertools.product([arrivals], [sum_in(arrivals)], *values))
+    is_compared = any(len(each) > 1 for name, each in zip(VARIED, values) if name != "load" and name not in COSTS)
+    sides = (100 - words.band, 100 + words.band) if words.band and is_compared else ()
+    return keys, [band_of(key, side) for side in sides for key in keys]
+
+
+# ---- the load at which a setting breaks, and repeats
+
+
+def print_breakings(found: Sequence[breaking.Breaking], words: Words, rate: float, percents: Sequence[int]) -> None:
+    """Prints where each combination breaks."""
+    varied = [name for name, values in zip(VARIED, zip(*(each.key[2:] for each in found))) if len(set(values)) > 1]
+    if words.form == "table":
+        for each in found:
+            named = name_of(each.key, varied)
+            print(f"{named}: " * bool(named) + breaking.told(words.until, each, rate, percents))
+        return
+    lines = []
+    for each in found:
+        holds, broken = each.ends[100]
+        line: Row = {"holds_at": breaking.text_of(holds), "breaks_at": breaking.text_of(broken)}
+        line["packets_per_second"] = broken and round(rate * float(broken))
+        for percent in percents[1:]:
+            line[f"breaks_at_costs_{percent}"] = breaking.text_of(each.ends[percent][1])
+        lines.append(({name: value for name, value in zip(VARIED, each.key[2:]) if name != "load"}, line))
+    if words.form == "json":
+        for options, line in lines:
+            print(
+                json.dumps(
+                    {
+                        "version": FORMAT,
+                        "arrivals": words.arrivals,
+                        "until": words.until,
+                        **{identifier(name): value_of(value) for name, value in options.items()},
+                        **{name: None if value is None else value_of(str(value)) for name, value in line.items()},
+                    }
+                )
+            )
+        return
+    table = csv.DictWriter(sys.stdout, [*varied, *lines[0][1]], extrasaction="ignore", lineterminator="\n")
+    table.writeheader()
+    table.writerows({**options, **line} for options, line in lines)
+
+
+def until_it_breaks(made: str, words: Words) -> None:
+    """Searches the load at which each combination breaks."""
+    keys, rate = keys_of(words, words.arrivals)[0], breaking.rate_of(words.arrivals)
+    percents = (100, 100 - words.band, 100 + words.band) if words.band else (100,)
+    done: list[int] = []
+    searches = len(keys) * len(percents)
+
+    def breaks(key: Key, percent: int, load: Fraction) -> bool:
+        return breaks_at(made, band_of(key, percent), breaking.load_text(load), words.until)
+
+    with Progress(f"searching {searches} loads", lambda: len(done) / searches):
+        found = breaking.breakings(keys, percents, breaks, words.jobs or os.cpu_count() or 1, lambda: done.append(1))
+    print_breakings(found, words, rate, percents)
+
+
+def all_rows(made: str, words: Words) -> tuple[list[Key], list[Row]]:
+    """Returns the requested rows and those of the band, with their keys; for generated traffic the spread over the seeds."""
+    if not words.traffic:
+        keys, band = keys_of(words, words.arrivals)
+        return keys, TABLE.make(made, words, list(dict.fromkeys([*keys, *band])))
+    of = [keys_of(words, name) for name in repeats.made(words.traffic, words.seeds or 5)]
+    every = [list(dict.fromkeys([*keys, *band])) for keys, band in of]
+    rows = TABLE.make(made, words, [key for keys in every for key in keys])
+    told = {"arrivals": f"traffic {words.traffic}", "sum": f"{len(of)} seeds"}
+    spread = [
+        {**repeats.spread(rows[place :: len(every[0])], VARIED, VALUES), **told} for place in range(len(every[0]))
+    ]
+    return [(told["arrivals"], told["sum"], *key[2:]) for key in of[0][0]], spread
+
+
+def check_arrivals(words: Words) -> None:
+    reason = "arrivals are read several times, so they must be a regular file, without a newline in its name"
+    check_regular(words.arrivals, reason)
+    if "\n" in words.arrivals or "\r" in words.arrivals:
+        raise Refusal(f"{shown(words.arrivals)}: {reason}")
+    if any(int(each) > 1 for each in words.queues) and not has_flows(words.arrivals):
+        raise Refusal(
+            f"{shown(words.arrivals)}: there is no column flow, which --queues above 1 needs: moment,device,bytes,flow, as from-pcap, from-ftrace and "
+            "traffic write it by --flows"
+        )
+
+
+def main(given: Sequence[str]) -> int:
+    words = read_words(given)
+    rewritten.cache_clear()
+    if words.play:
+        return TABLE.play(words.program, words.play)
+    check_words("what-if", words)
+    if words.json_out:
+        check_target(words.json_out, replaces=False)
+    if words.arrivals:
+        check_arrivals(words)
+    if words.plot:
+        check_target(words.plot)
+        check_library(words.plot)
+        check_curves(words)
+    made = program("napi_machine", words.program)
+    if words.until:
+        until_it_breaks(made, words)
+        return 0
+    keys, every = all_rows(made, words)
+    rows = every[: len(every) if words.part else len(keys)]
+    faults = [row["fault"] for row in rows if row["fault"]]
+    if len(faults) == len(rows) > 0:
+        raise Refusal(f"{shown(words.arrivals or words.traffic)}: {faults[0]}")
+    answer(rows, every, keys, words)
+    if words.plot:
+        draw(rows, words)
+    return status_for(rows, words.fail_if)

@@ -1,0 +1,150 @@
+"""Errors with a message for the user, signals, and how a program ends: the subcommands, the launcher and the build. It imports nothing
+that is slow to import."""
+
+from __future__ import annotations
+
+import os
+import sys
+
+from fintaqush_tools.progress import Program, say
+from fintaqush_tools.texts import shown
+
+TYPE_CHECKING = False  # `typing` is slow to import
+if TYPE_CHECKING:
+    from collections.abc import Callable, Sequence
+    from subprocess import Popen
+    from types import FrameType
+    from typing import Optional
+
+    Main = Callable[[Sequence[str]], Optional[int]]
+
+unfinished: set[str] = set()  # files that are being written
+running: set[Popen[bytes]] = set()  # our programs that are running
+
+
+class Refusal(Exception):
+    """An error with a message for the user, and the exit status that it leads to."""
+
+    def __init__(self, message: str, status: int = 1) -> None:
+        super().__init__(message)
+        self.status = status
+
+
+class Interrupted(BaseException):
+    """A signal, by its number, that ends the program; `more` is what the user should know besides."""
+
+    def __init__(self, number: int, more: str = "") -> None:
+        super().__init__(number)
+        self.number, self.more = number, more
+
+
+class Signals:
+    """The first signal ends the program; later ones don't disturb its cleanup. Some are deferred: one that comes while a program is being
+    started, until the program is known, so that it is terminated too; and one that comes during an import, which may lose an exception.
+    """
+
+    is_over, waiting, is_deferred = False, 0, False
+
+    @classmethod
+    def defer(cls) -> None:
+        cls.is_deferred = True
+
+    @classmethod
+    def resume(cls) -> None:
+        """Takes a signal that was deferred."""
+        cls.is_deferred = False
+        if cls.waiting:
+            cls.take(cls.waiting)
+
+    @classmethod
+    def take(cls, number: int, _frame: FrameType | None = None) -> None:
+        if cls.is_deferred:
+            cls.waiting = number
+        elif not cls.is_over:
+            cls.is_over = True
+            for process in list(running):
+                process.kill()
+            raise Interrupted(number)
+
+    @classmethod
+    def handle(cls) -> None:
+        """Handles the signals that end a program, but for those that its caller ignores. The scripts that start Python block SIGINT."""
+        import signal  # which is slow to import
+
+        for number in (signal.SIGINT, signal.SIGTERM, signal.SIGHUP):
+            if signal.getsignal(number) in (signal.SIG_DFL, signal.default_int_handler):
+                signal.signal(number, cls.take)
+        signal.pthread_sigmask(signal.SIG_UNBLOCK, {signal.SIGINT})
+
+
+def why(error: BaseException) -> str:
+    """Returns an error as one line. An unexpected exception is included, with its place in the code."""
+    if isinstance(error, Refusal):
+        return str(error)
+    is_of_memory = "failed to map" in str(error) or "new thread" in str(error)
+    if isinstance(error, MemoryError) or isinstance(error, (ImportError, RuntimeError)) and is_of_memory:
+        return "there isn't enough memory"
+    if isinstance(error, UnicodeDecodeError):
+        return "what it reads is no UTF-8"
+    if isinstance(error, OSError):
+        told = error.strerror or str(error)
+        return told if error.filename is None else f"{shown(error.filename)}: {told}"
+    place = error.__traceback__
+    while place and place.tb_next:
+        place = place.tb_next
+    at = f"{os.path.basename(place.tb_frame.f_code.co_filename)}:{place.tb_lineno}" if place else "an unknown place"
+    return f"a mistake of its own at {at}: {type(error).__name__}: {shown(error)[:200]}"
+
+
+def ended(main: Main, words: Sequence[str]) -> int:
+    """Calls `main`, flushes what it printed, and returns the exit status. An error, its own or the system's, becomes one line."""
+    try:
+        if sys.stdout is None:
+            raise Refusal("standard output is closed")
+        try:
+            status = main(words) or 0
+        except SystemExit as by_argparse:
+            status = by_argparse.code if isinstance(by_argparse.code, int) else 0
+        sys.stdout.flush()
+        return status
+    except BrokenPipeError:
+        return 1
+    except Exception as error:
+        say(why(error))
+        return error.status if isinstance(error, Refusal) else 1
+
+
+def clean_up() -> None:
+    """Removes the files that weren't finished."""
+    for name in unfinished:
+        unlink(name)
+    unfinished.clear()
+
+
+def unlink(name: str) -> None:
+    """Removes a file if it exists."""
+    try:
+        os.unlink(name)
+    except OSError:
+        pass
+
+
+def run(name: str, main: Main, words: Sequence[str], is_short: bool = False) -> None:
+    """Runs a program under this name, and ends the process. A signal becomes one line and exit status 128 plus its number, and leaves no
+    temporary files or child processes. A short one only prints a text, so it handles no signal."""
+    Program.name, status = name, 1
+    try:
+        if not is_short:
+            Signals.handle()
+        if sys.stderr is not None:
+            sys.stderr.reconfigure(errors="backslashreplace")  # type: ignore[attr-defined]
+        if sys.stdout is not None:
+            # Python, with PYTHONUNBUFFERED, takes a partial write for a complete one.
+            sys.stdout = open(1, "w", encoding="utf-8", errors="surrogateescape", newline="", closefd=False)
+        status = ended(main, words)
+        Signals.is_over = True
+    except Interrupted as signalled:
+        say(f"interrupted{signalled.more}")
+        status = 128 + signalled.number
+    clean_up()
+    os._exit(status)  # output that couldn't be written isn't tried again

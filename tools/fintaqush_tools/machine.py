@@ -1,0 +1,140 @@
+"""The options of napi_machine, and a parser of its report: docs/FORMATS.md, "The machine's report"."""
+
+from __future__ import annotations
+
+import json
+from collections.abc import Mapping, Sequence
+from pathlib import Path
+from typing import Any
+
+from fintaqush_tools.errors import Refusal
+from fintaqush_tools.texts import is_number, shown
+
+# The options, made of their table by scripts/options.py.
+TABLE: list[dict[str, Any]] = json.loads(Path(__file__).with_name("options.json").read_text(encoding="utf-8"))
+# The minimum, maximum and default of each option; what each is; and those that are times.
+OPTIONS: dict[str, tuple[int, int, int]] = {it["name"]: (it["least"], it["most"], it["default"]) for it in TABLE}
+MEANS: dict[str, str] = {it["name"]: it["what"] for it in TABLE}
+IN_NS = tuple(it["name"] for it in TABLE if it["unit"] == "ns")
+COSTS = ("interrupt", "poll", "packet", "use", "wake", "app-wake")
+LINES = ("device", "processor", "time", "application", "total")
+SHARES = ("interrupt", "poll", "use", "idle")
+PERCENTILES = {"p50": "wait50", "p99": "wait99", "p999": "wait999"}
+WAITS = [f"{end}_{name}" for end in ("delivered", "used") for name in PERCENTILES]
+TOTALS, COUNTS = ("arrived", "dropped", "refused", "used"), (
+    "interrupts",
+    "timers",
+    "runs",
+    "polls",
+    "squeezed",
+    "late",
+)
+VALUES = [
+    *TOTALS,
+    *WAITS,
+    *(f"{name}_percent" for name in SHARES),
+    *COUNTS,
+    "wakes",
+    "queues_of_a_processor",
+    "used_per_second",
+]
+# What each result is, for --help and pages.
+ARE = {
+    "arrived": "packets that arrived",
+    "dropped": "packets that found a ring full",
+    "refused": "packets that found a socket full",
+    "used": "packets that the application used",
+    **{
+        f"{end}_{name}": f"the {per_cent}th percentile of waits from arrival to {what}, in ns, of the {of} where it is the greatest"
+        for end, what, of in (("delivered", "delivery by a poll", "device"), ("used", "the end of use", "processor"))
+        for name, per_cent in (("p50", "50"), ("p99", "99"), ("p999", "99.9"))
+    },
+    **{
+        f"{name}_percent": f"the share of all processors' time that {what}, in %"
+        for name, what in (
+            ("interrupt", "interrupts and timers take"),
+            ("poll", "polls take"),
+            ("use", "the application takes; of its own processors with --apart 1"),
+            ("idle", "is idle"),
+        )
+    },
+    "interrupts": "interrupts",
+    "timers": "expired NAPI timers",
+    "runs": "runs of the softirq",
+    "polls": "polls",
+    "squeezed": "runs that budget, window or time limit ended",
+    "late": "those of them that the time limit ended",
+    "wakes": "how often the application was woken on its own processor",
+    "queues_of_a_processor": "the most queues with packets that one processor has",
+    "used_per_second": "packets used in a second, up to the end of the last work",
+}
+
+
+def help_of(name: str) -> str:
+    """Returns the help text of an option: what it is, its range, its unit and its default."""
+    low, high, default = OPTIONS[name]
+    return f"{MEANS[name]}, {low} to {high}{' ns' if name in IN_NS else ''} ({default})"
+
+
+def lines_of(report: str) -> dict[str, list[dict[str, int]]]:
+    """Parses a report: its lines by their first words, each as its numbers by name."""
+    lines: dict[str, list[dict[str, int]]] = {kind: [] for kind in LINES}
+    for line in report.splitlines():
+        kind, *fields = line.split() or [""]
+        if kind != "total":
+            fields = ["number", *fields]
+        names, numbers = fields[::2], fields[1::2]
+        if kind not in lines or len(names) != len(numbers) or not all(map(is_number, numbers)):
+            raise Refusal(f"not a report of napi_machine: {shown(line[:60])}")
+        lines[kind].append(dict(zip(names, map(int, numbers))))
+    if len(lines["total"]) != 1 or not report.endswith("\n"):
+        raise Refusal("the report is cut: it ends in no total line")
+    return lines
+
+
+def values_of(report: str) -> dict[str, Any]:
+    """Returns the results of a report, for a row of a table. Waits are those of the device or processor with the greatest one; shares are of all
+    processors' time; `use_percent` is of the applications' time if these have processors of their own."""
+    lines = lines_of(report)
+    values: dict[str, Any] = {name: lines["total"][0][name] for name in TOTALS}
+    for what, kind in (("delivered", "device"), ("used", "processor")):
+        for name, wait in PERCENTILES.items():
+            values[f"{what}_{name}"] = max((line[wait] for line in lines[kind]), default=0)
+    values.update({f"{name}_percent": share(lines["time"], name) for name in SHARES})
+    if lines["application"]:
+        values["use_percent"] = share(lines["application"], "use")
+    values.update({name: sum(line[name] for line in lines["processor"]) for name in COUNTS})
+    values["wakes"] = sum(line["wakes"] for line in lines["application"])
+    processors = [(line["number"] - 1) % len(lines["processor"]) for line in lines["device"]]
+    end = max(line["end"] for line in [*lines["time"], *lines["application"]])
+    return {
+        **values,
+        "queues_of_a_processor": max(map(processors.count, set(processors)), default=0),
+        "used_per_second": values["used"] * 10**9 // end if end else 0,
+    }
+
+
+def identifier(name: str) -> str:
+    """Returns the name of an option or a result in JSON."""
+    return name.replace("-", "_")
+
+
+def share(lines: Sequence[Mapping[str, int]], name: str) -> str:
+    """Returns a time as a percentage of the total time."""
+    whole = sum(line["end"] for line in lines)
+    return f"{100 * sum(line[name] for line in lines) / whole if whole else 0:.2f}"
+
+
+def option_words(settings: Mapping[str, Any]) -> list[str]:
+    """Returns the command-line options of napi_machine for these settings, without those that have their default."""
+    return [
+        word for name, value in settings.items() if int(value) != OPTIONS[name][2] for word in (f"--{name}", str(value))
+    ]
+
+
+def with_costs(settings: Mapping[str, Any], percent: int) -> dict[str, Any]:
+    """Returns the settings with each cost scaled to `percent`."""
+    return {
+        name: min(OPTIONS[name][1], (int(value) * percent + 50) // 100) if name in COSTS else value
+        for name, value in settings.items()
+    }

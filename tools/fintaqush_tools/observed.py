@@ -1,0 +1,269 @@
+"""The settings and counters of a running machine's network devices, as `key value` lines of a recording's head."""
+
+from __future__ import annotations
+
+import contextlib
+import glob
+import gzip
+import json
+import os
+import re
+import shutil
+import time
+from collections.abc import Callable, Iterator, Sequence
+from typing import Any
+
+from fintaqush_tools.errors import Refusal
+from fintaqush_tools.processes import ran
+from fintaqush_tools.texts import shown
+
+COUNTED = {"processed": 0, "dropped": 1, "squeezed": 2, "rps": 9, "flow_limit": 10}  # columns of /proc/net/softnet_stat
+PROCESSOR = 12  # the column of the processor's number, which kernels before 5.10 don't have
+SECRET = {"netdev_rss_key"}
+# The shell script that reads a device's settings; the device's name is an argument, never part of the script.
+DEVICE = """cd "/sys/class/net/$1" 2> /dev/null || exit 3
+grep -s "" mtu tx_queue_len threaded napi_defer_hard_irqs gro_flush_timeout ifindex iflink operstate queues/*/rps_cpus queues/*/rps_flow_cnt \
+    queues/*/xps_cpus statistics/rx_dropped statistics/rx_packets statistics/rx_missed_errors
+exit 0"""
+ETHTOOL = {"ring": "-g", "coalesce": "-c", "channels": "-l", "feature": "-k"}
+FEATURES = {
+    "generic-receive-offload",
+    "large-receive-offload",
+    "rx-gro-hw",
+    "rx-gro-list",
+    "rx-udp-gro-forwarding",
+    "receive-hashing",
+    "tcp-segmentation-offload",
+    "generic-segmentation-offload",
+    "tx-udp-segmentation",
+    "ntuple-filters",
+}
+PACKAGES = {"ip": "iproute2", "ethtool": "ethtool"}
+os.environ[
+    "PATH"
+] = f"{os.environ.get('PATH', os.defpath)}:/usr/sbin:/sbin"  # where these commands are, which a user's PATH may lack
+
+
+def text_in(path: str) -> str:
+    """Returns the contents of one of the kernel's files, in one line; an empty text if it can't be read."""
+    with contextlib.suppress(OSError, ValueError), open(path, encoding="utf-8", errors="replace") as file:
+        return " ".join(file.read().split())
+    return ""
+
+
+def within(netns: str | None) -> list[str]:
+    """Returns the command prefix that runs a command in that network namespace."""
+    return ["ip", "netns", "exec", netns] if netns else []
+
+
+def output_of(command: Sequence[str]) -> str:
+    """Returns what a command prints; an empty text if it fails or isn't installed."""
+    if not shutil.which(command[0]):
+        return ""
+    status, out, _ = ran(command)
+    return out.decode("utf-8", "replace") if status == 0 else ""
+
+
+def check_device(name: str) -> None:
+    if not re.fullmatch(r"[^\s/:-][^\s/:]{0,14}", name):
+        raise Refusal(f"--device {shown(name)}: not a device name")
+
+
+def check_namespace(netns: str | None) -> None:
+    if not netns:
+        return
+    if not shutil.which("ip"):
+        raise Refusal("--netns needs ip, which isn't installed (Debian: apt install iproute2)")
+    if "/" in netns or netns.startswith("-") or not os.path.exists(f"/run/netns/{netns}"):
+        raise Refusal(f"--netns {shown(netns)}: there is no such network namespace; `ip netns` lists them")
+
+
+def of_device(name: str, netns: str | None) -> dict[str, str]:
+    """Returns a device's settings in sysfs."""
+    status, out, _ = ran([*within(netns), "sh", "-c", DEVICE, "sh", name])
+    if status != 0:
+        raise Refusal(
+            f"--device {shown(name)}: there is no such device"
+            + (f" in {shown(netns)}" if netns else "; one in a network namespace needs --netns")
+        )
+    lines = [line.partition(":") for line in out.decode("utf-8", "replace").splitlines()]
+    return {path.replace("queues/", "").replace("/", "."): value for path, _, value in lines}
+
+
+def by_ethtool(name: str, netns: str | None) -> Iterator[tuple[str, str]]:
+    """Yields what ethtool prints of a device: the rings, interrupt coalescing, the channels, the offloads."""
+    for part, option in ETHTOOL.items():
+        front = ""
+        for line in output_of([*within(netns), "ethtool", option, name]).splitlines():
+            if re.match("(Pre-set maximums|Current hardware settings)", line):
+                front = "most." if line.startswith("Pre-set") else ""
+            found = re.findall(r"([A-Za-z][\w -]*?):\s*([^\s:\[]+)", line)
+            for key, value in found:
+                if value != "n/a" and (part != "feature" or key in FEATURES):
+                    yield f"ethtool.{part}.{front}{'-'.join(key.lower().split())}", value
+
+
+def driver_of(name: str, netns: str | None) -> Iterator[tuple[str, str]]:
+    """Yields the driver of a device."""
+    found = re.search(r"^driver: (\S+)", output_of([*within(netns), "ethtool", "-i", name]), re.M)
+    if found:
+        yield "driver", found[1]
+
+
+def ticks() -> Iterator[tuple[str, str]]:
+    """Yields the kernel's HZ, if its configuration can be read; netdev_budget_usecs is rounded to ticks."""
+    release = os.uname().release
+    for path in ("/proc/config.gz", f"/boot/config-{release}", f"/lib/modules/{release}/config"):
+        with contextlib.suppress(OSError, EOFError), open(path, "rb") as file:
+            text = gzip.decompress(file.read()) if path.endswith(".gz") else file.read()
+            if found := re.search(rb"^CONFIG_HZ=(\d+)$", text, re.M):
+                yield "hz", found[1].decode()
+                return
+
+
+def interrupts_of(name: str) -> Iterator[tuple[str, str]]:
+    """Yields the processors of a device's interrupts, by interrupt number."""
+    real = os.path.realpath(f"/sys/class/net/{name}/device")
+    names = {line.split(":")[0].strip(): line.split()[-1] for line in lines_in_proc("interrupts") if ":" in line}
+    for folder in (real, os.path.dirname(real)):
+        for irq in sorted(glob.glob(f"{folder}/msi_irqs/*"), key=lambda path: int(os.path.basename(path))):
+            number = os.path.basename(irq)
+            yield f"irq.{number}.name", names.get(number, "")
+            for end in ("smp_affinity_list", "effective_affinity_list"):
+                yield f"irq.{number}.{end}", text_in(f"/proc/irq/{number}/{end}")
+
+
+def lines_in_proc(name: str) -> list[str]:
+    try:
+        with open(f"/proc/{name}", encoding="utf-8", errors="replace") as file:
+            return file.read().splitlines()
+    except OSError:
+        return []
+
+
+def tasks_named(matches: Callable[[str], bool]) -> Iterator[tuple[int, str]]:
+    """Yields the number of each process whose name matches."""
+    for path in glob.glob("/proc/[0-9]*/comm"):
+        with contextlib.suppress(OSError), open(path, encoding="utf-8", errors="replace") as file:
+            name = file.read().rstrip("\n")
+            if matches(name):
+                yield int(path.split("/")[2]), name
+
+
+def of_task(pid: int) -> Iterator[tuple[str, str]]:
+    """Yields the processors that a task may run on, and its scheduling policy."""
+    for line in lines_in_proc(f"{pid}/status"):
+        if line.startswith("Cpus_allowed_list:"):
+            yield "processors", line.split()[1]
+    with contextlib.suppress(OSError):
+        policy = {
+            os.SCHED_OTHER: "other",
+            os.SCHED_FIFO: "fifo",
+            os.SCHED_RR: "rr",
+            os.SCHED_BATCH: "batch",
+            os.SCHED_IDLE: "idle",
+        }
+        yield "policy", policy.get(os.sched_getscheduler(pid) & 0xFF, "unknown")
+        yield "priority", str(os.sched_getparam(pid).sched_priority)
+
+
+def threads_of(name: str) -> Iterator[tuple[str, str]]:
+    """Yields the NAPI threads of a device."""
+    for pid, thread in sorted(tasks_named(lambda each: each.startswith(f"napi/{name}-"))):
+        for key, value in of_task(pid):
+            yield f"thread.{thread.rpartition('-')[2]}.{key}", value
+
+
+def pairs_in(netns: str | None) -> list[dict[str, Any]]:
+    """Returns the ends of veth pairs in a network namespace, as `ip` describes them. If the kernel has no veth devices, because the module isn't
+    loaded, `ip` prints an empty object for each device of any kind."""
+    with contextlib.suppress(ValueError):
+        links = json.loads(
+            output_of(["ip", *(["-n", netns] if netns else []), "-j", "link", "show", "type", "veth"]) or "[]"
+        )
+        return [link for link in links if "ifname" in link and "ifindex" in link]
+    return []
+
+
+def peer_of(name: str, netns: str | None) -> str:
+    """Returns the other end of a veth pair, if exactly one device matches: each end has the number of the other, and of its namespace."""
+    own: dict[str, Any] = next((link for link in pairs_in(netns) if link["ifname"] == name), {})
+    if "link" in own or "link_index" not in own:
+        return str(own.get("link", ""))
+    listed = output_of(["ip", *(["-n", netns] if netns else []), "netns", "list-id"])
+    named = dict(re.findall(r"nsid (\d+) .*netns name: ([^)\s]+)", listed))
+    found = [
+        link["ifname"]
+        for link in pairs_in(named.get(str(own.get("link_netnsid")), ""))
+        if (link["ifindex"], link.get("link_index")) == (own["link_index"], own["ifindex"])
+    ]
+    return str(found[0]) if len(found) == 1 else ""
+
+
+def of_kernel() -> Iterator[tuple[str, str]]:
+    """Yields the kernel's version, the processors, and the settings in net.core, except secrets."""
+    system = os.uname()
+    yield "kernel", system.release
+    yield from ticks()
+    yield "machine", system.machine
+    yield "online", text_in("/sys/devices/system/cpu/online")
+    yield "clocksource", text_in("/sys/devices/system/clocksource/clocksource0/current_clocksource")
+    for name in sorted(os.listdir("/proc/sys/net/core")):
+        if name not in SECRET and (value := text_in(f"/proc/sys/net/core/{name}")):
+            yield f"sysctl.net.core.{name}", value
+
+
+def settings_of_device(name: str, netns: str | None) -> Iterator[tuple[str, str]]:
+    """Yields all settings of a device."""
+    of = of_device(name, netns)
+    counts = ("statistics.", "ifindex", "iflink")
+    for key, value in of.items():
+        if not key.startswith(counts) and value:
+            yield f"device.{name}.{key}", value
+    more = [driver_of(name, netns), by_ethtool(name, netns), threads_of(name)]
+    for key, value in (pair for each in (more if netns else [*more, interrupts_of(name)]) for pair in each):
+        if value:
+            yield f"device.{name}.{key}", value
+
+
+def counters(devices: Sequence[str], netns: str | None) -> dict[str, int]:
+    """Returns the kernel's counters: softnet_stat of each processor, UDP's errors, and the drops of the devices."""
+    counted = {}
+    for place, line in enumerate(lines_in_proc("net/softnet_stat")):
+        columns = line.split()
+        processor = int(columns[PROCESSOR], 16) if len(columns) > PROCESSOR else place
+        for name, column in COUNTED.items():
+            if column < len(columns):
+                counted[f"softnet.{processor}.{name}"] = int(columns[column], 16)
+    told = [
+        line.split()
+        for line in output_of([*within(netns), "cat", "/proc/net/snmp"]).splitlines()
+        if line.startswith("Udp: ")
+    ]
+    counted |= (
+        {f"udp.{name}": int(value) for name, value in zip(*told[:2]) if value.isdigit()} if len(told) >= 2 else {}
+    )
+    for device in devices:
+        counted |= {
+            f"device.{device}.{key}": int(value)
+            for key, value in of_device(device, netns).items()
+            if key.startswith("statistics.")
+        }
+    return counted
+
+
+def lacking(netns: str | None) -> list[str]:
+    """Returns which programs aren't installed, and how to install them."""
+    without = {
+        "ethtool": "rings, coalescing and offloads aren't recorded",
+        "ip": "the other end of a veth pair isn't found: name it by --sender",
+    }
+    return [
+        f"{name} isn't installed (Debian: apt install {PACKAGES[name]}), so {what}"
+        for name, what in without.items()
+        if not shutil.which(name) and not (name == "ip" and netns)
+    ]
+
+
+def now() -> str:
+    return time.strftime("%Y-%m-%dT%H:%M:%SZ", time.gmtime())

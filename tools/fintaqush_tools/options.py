@@ -1,0 +1,135 @@
+"""The options of the subcommands, by argparse: their types, and those that several have."""
+
+from __future__ import annotations
+
+import argparse
+import os
+import sys
+from collections.abc import Callable, Sequence
+from typing import IO, Any, NoReturn
+
+from fintaqush_tools.errors import Refusal
+from fintaqush_tools.places import version
+from fintaqush_tools.progress import Program
+from fintaqush_tools.settings import MOST, USUAL
+from fintaqush_tools.texts import is_number, shown
+
+Words = argparse.Namespace  # the options and arguments of a call
+
+
+class Printed(argparse.Action):
+    """An option that prints a line and ends. argparse's own ignores a failed write, as to a full disk."""
+
+    def __call__(self, parser: argparse.ArgumentParser, _words: Words, _given: Any, _name: str | None = None) -> None:
+        print(self.const)
+        parser.exit()
+
+
+class Quiet(argparse.Action):
+    """The option --quiet."""
+
+    def __call__(self, _parser: argparse.ArgumentParser, _words: Words, _given: Any, _name: str | None = None) -> None:
+        Program.is_quiet = True
+
+
+class Parser(argparse.ArgumentParser):
+    """A parser of a subcommand's options, without abbreviations."""
+
+    raises = False  # whether a wrong option is a Refusal, as where a subcommand is called by another one
+
+    def print_help(self, file: IO[str] | None = None) -> None:
+        (file or sys.stdout).write(self.format_help())
+
+    def error(self, message: str) -> NoReturn:
+        if self.raises:
+            raise Refusal(message)
+        super().error(message)
+
+
+def parser_of(text: str, **others: Any) -> Parser:
+    """Returns a parser of a subcommand's options, with those that all have."""
+    how: dict[str, Any] = {
+        "prog": Program.name,
+        "formatter_class": argparse.RawDescriptionHelpFormatter,
+        "allow_abbrev": False,
+    }
+    parser = Parser(description=text, **{**how, **others})
+    told = f"{parser.prog} of Fintaqush {version()}"
+    parser.add_argument(
+        "--version", action=Printed, nargs=0, const=told, dest=argparse.SUPPRESS, help="print the version"
+    )
+    parser.add_argument(
+        "--quiet", action=Quiet, nargs=0, dest=argparse.SUPPRESS, help="print no progress on standard error"
+    )
+    return parser
+
+
+def wrong(text: str, wanted: str) -> argparse.ArgumentTypeError:
+    """Returns the error for a bad value of an option."""
+    return argparse.ArgumentTypeError(f"{shown(text)[:40]!r} isn't {wanted}")
+
+
+def number(low: int, high: int) -> Callable[[str], int]:
+    """Returns a parser of a whole number from `low` to `high`."""
+
+    def read(text: str) -> int:
+        if not (is_number(text) and low <= int(text) <= high):
+            raise wrong(text, f"a number from {low} to {high}")
+        return int(text)
+
+    return read
+
+
+def pair(sign: str, example: str, low: int = 1) -> Callable[[str], tuple[int, int]]:
+    """Returns a parser of two numbers, the first at most the second."""
+
+    def read(text: str) -> tuple[int, int]:
+        first, _, last = text.partition(sign)
+        if not (is_number(first) and is_number(last) and low <= int(first) <= int(last) <= 10**9):
+            raise wrong(text, f"as {example}")
+        return int(first), int(last)
+
+    return read
+
+
+def add_settings(parser: argparse.ArgumentParser) -> None:
+    """Adds the options of a run."""
+    for name, most in MOST.items():
+        parser.add_argument(f"--{name}", type=number(1, most), metavar="N", help=f"1 to {most} ({USUAL[name]})")
+
+
+def given_settings(words: Words) -> dict[str, int]:
+    """Returns the settings that were given, by name."""
+    return {name: getattr(words, name) for name in MOST if getattr(words, name)}
+
+
+def as_options(settings: dict[str, Any]) -> list[str]:
+    """Returns settings as the options of a program."""
+    return [word for name, value in settings.items() for word in (f"--{name}", str(value))]
+
+
+def settings_of(words: Words) -> list[str]:
+    """Returns the replay's options for the settings that were given."""
+    return as_options(given_settings(words))
+
+
+def add_program(parser: argparse.ArgumentParser, what: str = "napi_serial or napi_replay") -> None:
+    """Adds the option for another build of the program."""
+    parser.add_argument("--program", help=f"another build of {what} (built if needed)")
+
+
+def add_out(parser: argparse.ArgumentParser, what: str) -> None:
+    """Adds the option for the output file."""
+    parser.add_argument("--out", metavar="FILE", help=f"the file for the {what} (standard output)")
+
+
+def add_raise(parser: argparse.ArgumentParser, more: str = "") -> None:
+    """Adds the option for the runs that the kernel would add."""
+    text = f"add {more}the runs that the kernel would make, as fintaqush raise does"
+    parser.add_argument("--raise", action="store_true", dest="raised", help=text)
+
+
+def require_end(parser: argparse.ArgumentParser, option: str, name: str | None, ends: Sequence[str]) -> None:
+    """Rejects the name of a picture that ends otherwise."""
+    if name and os.path.splitext(name)[1] not in ends:
+        parser.error(f"{option}: a name that ends in .png, .svg or .html")

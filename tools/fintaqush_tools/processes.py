@@ -1,0 +1,134 @@
+"""Programs that are run: ours, which are built if needed, and others."""
+
+from __future__ import annotations
+
+import os
+import signal
+import subprocess
+import sys
+import threading
+from collections.abc import Generator, Sequence
+from typing import IO, Any, NoReturn
+
+from fintaqush_tools.errors import Interrupted, Refusal, Signals, running
+from fintaqush_tools.files import check_input
+from fintaqush_tools.places import HOME, IS_CHECKOUT, TOP
+from fintaqush_tools.progress import Program, Progress, share_of
+from fintaqush_tools.settings import judge
+from fintaqush_tools.texts import last_line, shown
+
+# The variables that name another build.
+NAMED = {"napi_serial": "PROGRAM", "napi_series": "SERIES", "napi_machine": "MACHINE"}
+read_now: set[IO[bytes]] = set()  # the open files that our programs read
+
+
+def program(name: str, named: str | None = None) -> str:
+    """Returns the path of one of our programs, which is built if needed; or of the named one, or of the one in PROGRAM, SERIES or MACHINE."""
+    named = named or os.environ.get(NAMED[name])
+    if named or not IS_CHECKOUT:
+        made = os.path.abspath(named or f"{HOME}/bin/{name}")
+        if not (os.path.isfile(made) and os.access(made, os.X_OK)):
+            raise Refusal(f"{shown(named or made)}: not a program")
+        return made
+    environment = {**os.environ, "FINTAQUSH_NAME": Program.name}
+    build = [f"{TOP}/scripts/build.sh", name]
+    if subprocess.run(build, check=False, stdin=subprocess.DEVNULL, env=environment).returncode != 0:
+        raise Refusal(f"{name} couldn't be built")
+    return f"{TOP}/crates/{name}/out/{name}"
+
+
+def begun(command: Sequence[str], among: set[subprocess.Popen[bytes]], **ends: Any) -> subprocess.Popen[bytes]:
+    """Starts a program, which is in the set `among` while it runs."""
+    is_main = threading.current_thread() is threading.main_thread()  # which signals interrupt
+    if is_main:
+        Signals.defer()
+    try:
+        process = subprocess.Popen(command, **ends)
+        among.add(process)
+    finally:
+        if is_main:
+            Signals.is_deferred = False
+    if Signals.is_over or is_main and Signals.waiting:
+        if among is running:
+            process.kill()
+        else:
+            process.terminate()
+        process.wait()
+    if is_main:
+        Signals.resume()
+    return process
+
+
+def check_signal(process: subprocess.Popen[bytes]) -> None:
+    """Ends this program as well, if a program was interrupted."""
+    if process.returncode == -signal.SIGINT or Signals.is_over:
+        raise Interrupted(signal.SIGINT)
+
+
+def ran(command: Sequence[str], text: bytes | None = None, stdin: IO[bytes] | None = None) -> tuple[int, bytes, bytes]:
+    """Runs a program with this input. Returns its status and the bytes of its two outputs."""
+    with begun(
+        command, running, stdin=stdin or subprocess.PIPE, stdout=subprocess.PIPE, stderr=subprocess.PIPE
+    ) as process:
+        try:
+            if stdin:
+                read_now.add(stdin)
+            out, said = process.communicate(text)
+        except BaseException:
+            process.kill()
+            raise
+        finally:
+            if stdin:
+                read_now.discard(stdin)
+            running.discard(process)
+    check_signal(process)
+    return process.returncode, out, said
+
+
+def lines_by(command: Sequence[str], stdin: IO[bytes], said: IO[bytes]) -> Generator[str, None, int]:
+    """Yields the lines of a program's output as they come; its standard error goes to an open file. Returns its status."""
+    started = begun(command, running, stdin=stdin, stdout=subprocess.PIPE, stderr=said)
+    with Progress("reading", lambda: share_of(stdin)), started as process:
+        try:
+            for line in process.stdout or ():
+                yield line.decode("utf-8", "replace")
+        except BaseException:
+            process.kill()
+            raise
+        finally:
+            running.discard(process)
+    check_signal(process)
+    return process.returncode
+
+
+def why_refused(words: Sequence[str]) -> str:
+    """Returns the launcher's message on options that the replay rejected, without the launcher's own options and those of napi_series."""
+    own = ("--raise", "--polls", "--rows")
+    return judge([word for word in words if word.partition("=")[0] not in own]).split(": they are --")[0]
+
+
+def run_program(made: str, words: Sequence[str], text: bytes) -> str:
+    """Returns the output of one of our programs with these options and this input; fails with its error."""
+    status, out, said = ran([made, *words], text)
+    if status != 0:
+        why = why_refused(words) if status == 64 else ""
+        end = f"{shown(made)} ended with status {status}"
+        raise Refusal(last_line(said, end) + (shown(f": {why}") if why and said.strip() else ""))
+    return out.decode("ascii")
+
+
+def become(command: Sequence[str], path: str | None) -> NoReturn:
+    """Executes a program that reads a file or standard input, in place of this process."""
+    if path is not None and path != "-":
+        check_input(path)
+        with open(path, "rb") as file:
+            os.dup2(file.fileno(), 0)
+    elif sys.stdin is None:
+        raise Refusal("standard input is closed")
+    elif sys.stdin.isatty():
+        raise Refusal("no file is named, and standard input is a terminal")
+    signal.signal(signal.SIGPIPE, signal.SIG_DFL)
+    for each in (signal.SIGINT, signal.SIGTERM, signal.SIGHUP):
+        if callable(signal.getsignal(each)):
+            signal.signal(each, signal.SIG_DFL)
+    os.execv(command[0], list(command))

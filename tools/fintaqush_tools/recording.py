@@ -1,0 +1,180 @@
+"""Reads recordings line by line: the text of ftrace, of `trace-cmd report` or of `perf script`, and the files of fintaqush record."""
+
+from __future__ import annotations
+
+import contextlib
+import gzip
+import io
+import itertools
+import re
+import zlib
+from collections.abc import Iterable, Iterator
+from dataclasses import dataclass
+from typing import Any
+
+from fintaqush_tools import files
+from fintaqush_tools.arrivals import seconds
+from fintaqush_tools.errors import Refusal
+from fintaqush_tools.files import check_input, lines_in
+from fintaqush_tools.texts import is_number, shown
+
+Head = dict[str, str]  # of a file of fintaqush record
+
+MOST_LINE = 4096  # characters
+HEAD = "fintaqush-recording 1"
+CAPTURE = "this is a capture, which fintaqush from-pcap reads"
+# Recognized by their first bytes.
+OTHERS = {
+    b"PERFILE2": "this is the file of `perf record`: take the text of `perf script --ns`",
+    b"\xd4\xc3\xb2\xa1": CAPTURE,
+    b"\x17\x08Dtraci": "this is the file of `trace-cmd record`: take the text of `trace-cmd report -t`",
+    b"\xa1\xb2\xc3\xd4": CAPTURE,
+    b"M<\xb2\xa1": CAPTURE,
+    b"\n\r\r\n": CAPTURE,
+    b"\x7fELF": "this is a program",
+}
+NET_RX = 3  # the number of the softirq that polls (NET_RX_SOFTIRQ)
+
+# ftrace and trace-cmd write `TASK-PID [CPU] FLAGS TIME: NAME:`, perf writes `TASK PID[/TID] [CPU] TIME: [COUNT] SYSTEM:NAME:`.
+LINE = re.compile(
+    r"\s*(?P<task>\S.*?)(?:-|\s+(?:\d{1,9}/)?)(?P<pid>\d{1,9})\s+(?:\([\s\d-]+\)\s+)?\[(?P<cpu>\d{1,6})\]\s+"
+    r"(?:(?P<flags>\S+)\s+)?(?P<seconds>\d{1,10})\.(?P<fraction>\d{6,9}):\s+(?:\d+\s+)?"
+    r"(?:(?:\w+:)?(?P<name>\w+):(?!\w)|sys_(?P<call>\w+)(?P<is_exit> ->|(?=\()))\s*(?P<said>.*)"
+)
+SENT = re.compile(r"dev=(\S+) .*\blen=(\d{1,10}) rc=(\w+)")
+POLLED = re.compile(r"napi poll on napi struct \S+ for (?:network )?device (\S+) work (\d{1,9}) budget (\d{1,9})")
+SOFTIRQ = re.compile(r"vec=(\d{1,9})")
+LOST = re.compile(r"\[LOST (\d+) EVENTS\]|\[(\d+) EVENTS DROPPED\]|PERF_RECORD_LOST lost (\d+)")
+# The lines of a call chain, which perf writes after an event.
+NO_EVENT = re.compile(r"\s*(#.*|cpus=\d+|version = .*|CPU:? ?\d+ is empty|[0-9a-f]{4,16} .* \(.*\))?$")
+
+
+@dataclass
+class Event:
+    """A line of the recording, with its time in nanoseconds."""
+
+    line: int
+    task: str
+    cpu: int
+    flags: str
+    time: int
+    name: str
+    said: str
+    pid: int = 0
+
+    def parts(self, pattern: re.Pattern[str]) -> tuple[str, ...]:
+        """Returns the fields of the event, by the pattern of its kind."""
+        found = pattern.match(self.said)
+        if not found:
+            raise Refusal(f"line {self.line}: {self.name} says {self.said!r}, an unknown format")
+        return found.groups()
+
+
+NEXT = re.compile(r"next_comm=(.*) next_pid=(\d{1,9}) ")
+
+
+def event_of(number: int, found: re.Match[str], names: dict[str, str]) -> Event:
+    """Returns the event of a line. `names` are the names of tasks by their numbers, so far."""
+    task, pid, cpu, flags, whole, fraction, name, call, is_exit, said = found.groups()
+    # Ftrace writes `sys_read(..` and `sys_read -> ..`.
+    name = name or ("sys_exit_" if is_exit else "sys_enter_") + call
+    if name == "sched_switch" and (named := NEXT.search(said)):
+        names[named[2]] = named[1]
+    if task == "<...>":
+        task = names.get(pid, task)
+    return Event(number, task, int(cpu), flags or "", seconds(whole, fraction), name, said.rstrip(), int(pid))
+
+
+def events_of(lines: Iterable[str], lost: list[str], first: int = 1) -> Iterator[Event]:
+    """Yields the events of these lines; `first` is the number of the first line. If the kernel lost events, a note is added to `lost`."""
+    names: dict[str, str] = {}  # task names by number: ftrace keeps only a few, and writes `<...>` for the others
+    for number, line in enumerate(lines, first):
+        found = LINE.match(line)
+        if not line.endswith("\n") and (first > 1 or not found):
+            raise Refusal(f"it is cut: line {number} isn't whole")
+        if ("LOST" in line or "DROPPED" in line) and (loss := LOST.search(line)):
+            lost.append(f"line {number} of the recording: the kernel lost {loss[1] or loss[2] or loss[3]} events")
+        elif found:
+            yield event_of(number, found, names)
+        elif not NO_EVENT.match(line):
+            raise Refusal(
+                f"line {number}: no line of ftrace, `trace-cmd report` or `perf script`: {line.strip()[:60]!r}"
+            )
+
+
+@contextlib.contextmanager
+def opened(recording: str) -> Iterator[Iterator[str]]:
+    """Opens a file, also as .gz, or standard input for `-`, and yields its lines. Fails if it isn't a text of events."""
+    check_input(recording)
+    try:
+        with files.opened(recording) as plain:
+            is_packed = recording.endswith(".gz") or plain.peek(2)[:2] == b"\x1f\x8b"
+            file: Any = gzip.GzipFile(fileobj=plain) if is_packed else plain
+            begin = file.peek(8)[:8]
+            if not begin:
+                raise Refusal("it is empty")
+            for magic, what in OTHERS.items():
+                if begin.startswith(magic):
+                    raise Refusal(what)
+            with io.TextIOWrapper(file, encoding="utf-8", errors="replace") as text:
+                yield lines_in(text, MOST_LINE, "ftrace")
+    except (EOFError, zlib.error, gzip.BadGzipFile) as error:
+        raise Refusal(f"it isn't whole: {error}") from None
+
+
+def head_in(lines: Iterator[str]) -> Head:
+    """Parses the head of fintaqush record's file, from the lines after the first one."""
+    head: Head = {}
+    for line in lines:
+        key, _, value = line.rstrip("\n").partition(" ")
+        if key == "trace" and not value:
+            return head
+        head[key] = value
+    raise Refusal("it is cut: its head has no end")
+
+
+def parts_of(lines: Iterator[str]) -> tuple[Head, Iterator[str]]:
+    """Returns the head, empty for text of other tools, and the lines of the trace."""
+    first = next(lines)
+    if first.rstrip("\n") == HEAD:
+        head = head_in(lines)
+        return head, lines
+    if first.startswith(HEAD.split()[0]):
+        raise Refusal(f"{first.strip()[:60]!r}: another version of fintaqush record wrote it; this one reads version 1")
+    return {}, itertools.chain([first], lines)
+
+
+def head_of(recording: str) -> Head:
+    """Returns the head of fintaqush record's file, by its keys; text of other tools has none."""
+    with opened(recording) as lines:
+        return parts_of(lines)[0]
+
+
+def events_in(recording: str, lost: list[str], head: Head | None = None) -> Iterator[Event]:
+    """Yields the events of a file, also as .gz, or of standard input for `-`. Fills `head` with the file's head, if a dictionary is given."""
+    with opened(recording) as lines:
+        found, lines = parts_of(lines)
+        if head is not None:
+            head.update(found)
+        if is_number(found.get("lost", "0")) and int(found.get("lost", "0")):
+            lost.append(f"the kernel lost {found['lost']} events")
+        count = 0
+        for event in events_of(lines, lost, len(found) + 3 if found else 1):
+            count += 1
+            yield event
+        if found and found.get("lines") != str(count):
+            raise Refusal(f"it is cut: {count} of {shown(found.get('lines', 'an unknown number of'))} events are there")
+
+
+def check_lost(lost: list[str]) -> None:
+    """Fails if the kernel lost events of a recording."""
+    if lost:
+        raise Refusal(
+            f"{lost[0]}, so results would be wrong: record for a shorter time, or with a larger buffer (fintaqush record "
+            "--buffer)"
+        )
+
+
+def is_by_thread(event: Event) -> bool:
+    """Returns whether a NAPI thread makes the poll, and not a softirq that interrupted the thread."""
+    return event.task.startswith("napi/") and event.flags[2:3] not in ("s", "h", "H")

@@ -1,0 +1,367 @@
+"""The launcher, which ./replay starts: its options, the trace, the runs, and what it prints about them."""
+
+from __future__ import annotations
+
+import csv
+import errno
+import os
+import re
+import shlex
+import subprocess
+import threading
+from collections.abc import Iterator, Sequence
+from typing import IO, Any, Optional
+
+from fintaqush_tools import builds
+from fintaqush_tools.builds import build, child, crates, kit, write
+from fintaqush_tools.errors import Refusal
+from fintaqush_tools.places import IS_CHECKOUT, TOP, usage_text, version
+from fintaqush_tools.progress import say, show
+from fintaqush_tools.reports import lines_of
+from fintaqush_tools.settings import RANGES, judge
+from fintaqush_tools.texts import quoted
+
+Answer = tuple[int, Optional[bytes], str]  # status, output if it was kept, messages
+
+CALLED = os.environ.get("FINTAQUSH_NAME", "./replay")  # as a subcommand of `fintaqush` was asked for it
+MOST_KEPT = 8 << 20  # no trace is longer unless it is padded
+UNREADABLE = {
+    errno.ENOENT: "there is no such file",
+    errno.ENXIO: "this is a socket, not a trace",
+    errno.EBADF: "this is closed",
+    errno.EISDIR: "this is a folder, not a trace",
+    errno.EAGAIN: "a read of it failed",
+}
+HEADER = "moment,device,event,value"
+PACKED = {  # by what the file begins with
+    rb"\x1f\x8b": "packed by gzip: gunzip -c",
+    rb"\x28\xb5\x2f\xfd": "packed by zstd: zstd -dc",
+    rb"\xfd7zX": "packed by xz: xz -dc",
+    rb"BZh": "packed by bzip2: bunzip2 -c",
+    rb"\xff\xfe|m\x00": "in UTF-16: iconv -f UTF-16LE -t UTF-8",
+    rb"\xfe\xff|\x00m": "in UTF-16: iconv -f UTF-16BE -t UTF-8",
+}
+CAUSES = {  # by the error's number and the line after it: the first that fits
+    "1 .*[;\t]": "the fields have {others} between them, and need commas",
+    "1 ": f"the first line has to be {HEADER}, in lower case and without spaces, or {HEADER},2 for version 2",
+    "2 [ \t]+$": "a line of spaces is a row; an empty line is none",
+    "2 .*[;\t]": "a row has four fields with commas between them, not {others}",
+    "2 ": "a row has four fields, and this one has {fields}",
+    "3 ": "moment, device and value are one to twenty digits, without sign, space or fraction",
+    "4 .*,busy,": f"a busy row needs the header of version 2: {HEADER},2",
+    "4 ": "the event is none of open rx tx done softirq kthread disable enable threaded, and busy in version 2, "
+    "in lower case and without spaces",
+    "5 .*,softirq,": "softirq has device 0 and value 0",
+    "5 .*,open,": "open has a device of 1..=16 and a value of 1..=65536, its places",
+    "5 .*,(rx|tx),": "rx and tx have a device of 1..=16 and a value of 1..=65535 bytes",
+    "5 .*,done,": "done has a device of 1..=16 and a value of 0..=65536 packets",
+    "5 .*,busy,": "busy has a device of 1..=16 and a value of 1..=65535 rounds",
+    "5 .*,threaded,": "threaded has a device of 1..=16 and a value of 0 or 1",
+    "5 .*,(kthread|disable|enable),": "it has a device of 1..=16 and the value 0",
+    "5 ": "its moment, device or value is out of range",
+    "6 ": "the device has to be opened by an open row before this one",
+    "7 ": "the device was opened by a row before this one",
+    "8 ": "a disable follows an open or an enable of its device, and an enable follows a disable",
+    "9 ": "a trace has at most 100000 rows: replay the first ones alone",
+    "12 ": "the disable is pending still: a softirq or kthread row has to finish the polling before the enable",
+}
+
+
+def for_bash(name: str) -> str:
+    """Returns the name itself if it is printable, otherwise quoted for bash, so that a terminal doesn't interpret it."""
+    return (
+        name
+        if name.isprintable()
+        else "$'%s'" % re.sub(rb"[^ -~]|['\\]", lambda it: b"\\%03o" % ord(it[0]), os.fsencode(name)).decode()
+    )
+
+
+def cause_of(fault: int, line: str, fields: int) -> str:
+    """Returns the likely cause of a fault at a line with so many fields."""
+    known = (why for pattern, why in CAUSES.items() if re.match(pattern, f"{fault} {line}"))
+    why = next(known, "see the faults in docs/FORMATS.md")
+    return why.format(fields=fields, others="semicolons" if ";" in line else "tabs")
+
+
+def record_in(lines: Sequence[str], row: int) -> tuple[int, int, int, int] | None:
+    """Returns of a row that isn't empty how many fields it has, how many empty ones are above it, and its first and its last line."""
+    csv.field_size_limit(1 << 30)
+    reader, empty, at = csv.reader(lines), 0, 0
+    for record, fields in enumerate(reader):
+        if fields and record - empty == row:
+            return len(fields), empty, at, reader.line_num
+        empty, at = empty + (not fields), reader.line_num
+    return None
+
+
+def about() -> str:
+    """Returns what --version prints."""
+    sources, of_kit = (
+        subprocess.run(["/usr/bin/env", *it], capture_output=True, text=True, check=False).stdout.strip()
+        for it in (("git", "-C", TOP, "describe", "--always", "--dirty"), ("rt", "version"))
+    )
+    serial, every = (
+        "proved and built" if crates()[name].is_built() else "not built here yet"
+        for name in ("napi_serial", "napi_replay")
+    )
+    return (
+        f"replay of Fintaqush {version()}\nit replays traces of version 1 and 2 by the NAPI polling of Linux 6.6\n"
+        f"sources: {sources or 'no git history here'}\n"
+        f"program of serial mode: {serial}\nprogram of every mode: {every}\nkit: {of_kit or 'no rt on PATH'}\n"
+    )
+
+
+class Run:
+    """A program that runs on the trace of a call, with this many MiB of memory: its status, its output if that is kept, and its
+    messages."""
+
+    told: tuple[Optional[bytes], bytes]
+
+    def __init__(self, call: Call, command: Sequence[str], memory: int = 0, is_kept: bool = True, **where: Any) -> None:
+        self.call, self.told = call, (None, b"")
+        self.process = subprocess.Popen(
+            command,
+            stdin=subprocess.PIPE,
+            stdout=subprocess.PIPE if is_kept else None,
+            stderr=subprocess.PIPE,
+            preexec_fn=lambda: child(memory=memory),
+            restore_signals=False,
+            **where,
+        )
+        to, self.process.stdin = self.process.stdin, None
+        threading.Thread(target=call.pass_on, args=(to, self.process), daemon=True).start()
+        self.reader = threading.Thread(target=self.read, daemon=True)
+        self.reader.start()
+
+    def read(self) -> None:
+        self.told = self.process.communicate()
+
+    def is_over(self) -> bool:
+        return not self.reader.is_alive()
+
+    def result(self) -> Answer:
+        self.reader.join()
+        if self.call.failed:
+            raise self.call.failed
+        output, said = self.told
+        return (
+            128 - status if (status := self.process.returncode) < 0 else status,
+            output,
+            said.decode(errors="replace"),
+        )
+
+
+class First:
+    """The report of an unproved run, which is printed once, as soon as it is complete, while the program is still being proved and
+    built."""
+
+    answer: Answer | None
+
+    def __init__(self, call: Call) -> None:
+        self.call, self.run, self.answer = call, call.begin_unproved(), None
+
+    def tell(self) -> None:
+        """Waits for the report, unless it was printed."""
+        if not self.answer:
+            result = self.run.result()
+            show("")
+            self.answer = self.call.end_unproved(
+                result,
+                "this was an UNPROVED run; the proof goes on. Ctrl-C leaves what is proved by "
+                "then, and the next call goes on from there",
+            )
+
+    def look(self) -> None:
+        if self.run.is_over():
+            self.tell()
+
+    def end(self) -> Answer | None:
+        """Ends the unproved run, if it isn't over yet; returns what it printed."""
+        if not self.answer:
+            self.run.process.terminate()
+        return self.answer
+
+
+class Call:
+    """A call of the launcher. An argument that is neither one of its own options nor a file is left to the program to reject."""
+
+    words: list[str]
+    files: list[str]
+    own: set[str]
+    failed: Refusal | None
+    rest: Iterator[bytes]
+
+    def __init__(self, given: Sequence[str]) -> None:
+        self.words, self.files, self.own, rest = [], [], set(), iter(given)
+        for word in rest:
+            if word in ("-h", "--help", "--version", "--unproved", "--build", "--json"):
+                self.own.add(word)
+            elif word == "-" or word and word[0] != "-":
+                self.files.append(word)
+            else:
+                self.words += [word, *([value] if word in RANGES and (value := next(rest, None)) is not None else [])]
+        is_every = re.search("--mode[= ](shared|threads)( |$)", " ".join(self.words))
+        self.crate = crates()["napi_replay" if is_every else "napi_serial"]
+        self.memory = os.environ.get("REPLAY_MEMORY", "2048")
+        self.name = None if self.files in ([], ["-"]) else for_bash(self.files[0])
+        self.which, self.kept, self.failed = self.name or "standard input", bytearray(), None
+
+    def answer(self) -> int:
+        if not re.fullmatch("[1-9][0-9]{0,6}|unlimited", self.memory):
+            raise Refusal(f"REPLAY_MEMORY={for_bash(self.memory)}: it is a number of MiB, or unlimited", 64)
+        if self.own & {"-h", "--help", "--version"}:
+            if not write((about() if "--version" in self.own else usage_text(CALLED)).encode()):
+                raise Refusal("the text couldn't be written", 4)
+            return 0
+        if "--build" in self.own:
+            if self.own != {"--build"} or self.words or self.files:
+                raise Refusal(f"--build replays nothing, and stands alone (see {CALLED} --help)", 64)
+            return build(["napi_serial", "napi_replay"])
+        is_unproved = "--unproved" in self.own
+        is_ready = is_unproved or self.crate.is_built()
+        self.check(self.open(), is_ready)
+        if is_unproved and not IS_CHECKOUT:
+            raise Refusal(
+                "--unproved runs the sources of a checkout, and this is an installed program, which is proved", 64
+            )
+        if is_unproved:
+            say("an unproved run: the program is made anew each time and nothing is checked (up to a minute)")
+            return self.end_unproved(self.begin_unproved().result(), "this was an UNPROVED run")[0]
+        return self.proved(self.built(is_ready))
+
+    def check(self, wrong: str, is_ready: bool) -> None:
+        """Fails if the trace can't be read, or an option is invalid: a mistyped one takes its value for a trace."""
+        if (wrong or not is_ready) and (why := judge(self.words)):
+            raise Refusal(f"{why} (see {CALLED} --help)", 64)
+        if wrong:
+            write(usage_text(CALLED).encode() if not self.files and os.isatty(0) else b"", 2)
+            raise Refusal(wrong, 66)
+
+    def built(self, is_ready: bool) -> Optional[Answer]:
+        """Builds the program. On a terminal a first result is printed while it is still being proved, and returned."""
+        if is_ready or not os.isatty(1) or not kit() or any(len(self.kept) > MOST_KEPT for _ in self.parts()):
+            build([self.crate.name])
+            return None
+        say("the program is to be proved and built: meanwhile the answer of an UNPROVED run, in up to a minute")
+        beside = First(self)
+        try:
+            build([self.crate.name], beside.look)
+        except Refusal:
+            beside.tell()
+            raise
+        return beside.end()
+
+    def proved(self, first: Optional[Answer]) -> int:
+        """Runs the program, and prints its report unless that is the first result. Returns its status."""
+        memory = 0 if self.memory == "unlimited" else int(self.memory)
+        last = Run(self, [self.crate.made, *self.words], memory, bool(first) or "--json" in self.own).result()
+        if first and first[:2] == last[:2] and last[2] in first[2]:
+            say("the proved program gives the same bytes")
+            return last[0]
+        if first:
+            say("the proved program gives OTHER bytes, and these count:")
+        return self.finish(*last)
+
+    def open(self) -> str:
+        """Opens the trace, or returns the reason why it can't. The launcher passes it on to the program, because not every input can be
+        read twice."""
+        if len(self.files) > 1:
+            return f"two traces are named, {self.name} and {for_bash(self.files[1])}: replay one at a time"
+        if not self.files and os.isatty(0):
+            return "no trace: name a file, or give one on standard input"
+        try:
+            # `/proc/kmsg` is a file too, but a read at its end would block
+            end = (
+                os.open(self.files[0], os.O_RDONLY | (os.O_NONBLOCK if os.path.isfile(self.files[0]) else 0))
+                if self.name
+                else 0
+            )
+            os.read(end, 0)  # a folder can be opened too
+        except OSError as error:
+            why = f"it can't be read: {(error.strerror or '').lower()}"
+            return f"{self.which}: " + UNREADABLE.get(error.errno or 0, why)
+        self.rest = iter(lambda: os.read(end, 1 << 16), b"")
+        return ""
+
+    def parts(self) -> Iterator[bytes]:
+        """Yields the trace: the part that was kept, and then what is read, which is kept up to a limit."""
+        yield bytes(self.kept)
+        try:
+            for text in self.rest:
+                self.kept += text if len(self.kept) <= MOST_KEPT else b""
+                yield text
+        except OSError:
+            raise Refusal(f"{self.which}: a read of it failed", 66) from None
+
+    def pass_on(self, to: IO[bytes], process: subprocess.Popen[bytes]) -> None:
+        """Passes the trace to a program. If a read fails, the program is ended, so that it doesn't accept a part of a trace as a whole
+        one."""
+        try:
+            all(write(text, to.fileno()) for text in self.parts())
+        except Refusal as stop:
+            self.failed = stop
+            process.kill()
+        to.close()
+
+    def begin_unproved(self) -> Run:
+        """Starts `rt try`, which runs the sources without their proofs and leaves no program."""
+        command = [f"{kit()}/bin/rt", "try", "--steps", "4000000000", "--seconds", "600", "--", *self.words]
+        return Run(self, command, cwd=f"{TOP}/crates/{self.crate.name}")
+
+    def end_unproved(self, result: Answer, line: str) -> Answer:
+        """Prints the output of such a run, without the toolchain's own lines about it."""
+        status, output, said = result
+        status = status if re.search("^run=ended ", said, re.M) else 70
+        said = re.sub("^(checked: |races: |run=).*\n", "", said, flags=re.M)
+        self.finish(status, output, said)
+        say(line)
+        return status, output, said
+
+    def finish(self, status: int, output: bytes | None, said: str) -> int:
+        """Prints the output, if it was kept, and the messages; then one line that explains the error, if there is more to say."""
+        is_json = "--json" in self.own and status == 0
+        if output and not write(lines_of(output.decode()).encode() if is_json else output):
+            raise Refusal(f"the report couldn't be written{' as JSON' * is_json}", 4)
+        write(said.encode(), 2)
+        fault = re.search(r"^trace fault (\d+) \w+ row (\d+)$", said, re.M)
+        if status == 64:
+            say(f"{judge(self.words) or 'the program knows no such words'} (see {CALLED} --help)")
+        elif said == "memory fault 11 OutOfMemory\n" and self.memory != "unlimited":
+            say(
+                f"{self.which}: it takes more memory than the program may have, {self.memory} MiB (REPLAY_MEMORY sets that)"
+            )
+        elif status not in (0, 141) and not said:  # (141: who read the report has enough)
+            say(f"{self.crate.name} ended with status {status}, and no line of it is there")
+        elif fault and len(self.kept) <= MOST_KEPT and (why := self.explain(int(fault[1]), int(fault[2]))):
+            say(f"{self.which}{why}")
+        return status
+
+    def explain(self, fault: int, row: int) -> str:
+        """Prints the line of the trace that the error names, its text and the likely cause. Rows count records, so nothing is printed if
+        the line isn't known for sure."""
+        data = bytes(self.kept)
+        packed = [packed for first, packed in PACKED.items() if fault == 1 and re.match(first, data)]
+        if packed:
+            return f": the file is {packed[0]}{' ' + shlex.quote(self.name) if self.name else ''} | {CALLED}"
+        text = data.decode("latin-1").removeprefix("\xef\xbb\xbf")
+        by_cr = "\n" not in text and re.search("\r[^\r]", text)
+        lines = [f"{it.rstrip(chr(13))}\n" for it in re.split("\r" if by_cr else "\n", text)]
+        try:
+            found = record_in(lines, row)
+        except csv.Error:
+            return ""  # a CR inside a line ends a record too, and what is a line of such a file is anybody's guess
+        if not found:
+            return f": there is no line with text in it: the first one has to be {HEADER}" if row == 0 else ""
+        fields, empty, at, end = found
+        line = lines[at].rstrip("\n")
+        why = cause_of(fault, line, fields)
+        if end == len(lines) and re.search(r'(^|,)"[^"]*\Z', "".join(lines[at:])):
+            why = "a quote that it opens isn't closed, so all that follows is one field"
+        why += "; the empty lines above it are no rows" if empty else ""
+        why += "; its lines end by CR alone, and are counted so" if by_cr else ""
+        return f" line {at + 1}, {quoted(line, 60)}: {why}"
+
+
+def start(words: Sequence[str]) -> None:
+    """Runs a call of the launcher, and ends the process."""
+    builds.run(lambda given: Call(given).answer(), words)

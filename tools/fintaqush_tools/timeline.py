@@ -1,0 +1,428 @@
+"""The activity on the processors of a recording: polls, interrupts, wake-ups and reads, each with its duration."""
+
+from __future__ import annotations
+
+import re
+from collections import Counter, defaultdict, deque
+from collections.abc import Iterable, Sequence
+from typing import Any
+
+from fintaqush_tools.errors import Refusal
+from fintaqush_tools.recording import NET_RX, POLLED, SENT, SOFTIRQ, Event, is_by_thread
+
+Handler = list[Any]  # its name, its beginning, and whether napi_watchdog ran in it
+
+HANDLER = re.compile(r"irq=(\d{1,9})(?: name=(.*))?")
+SWITCH = re.compile(
+    r"prev_comm=.* prev_pid=(\d{1,9}) prev_prio=-?\d+ prev_state=(\S+) ==> next_comm=(.*) next_pid=(\d{1,9}) "
+)
+SHORT_SWITCH = re.compile(r".*:(\d{1,9}) \[-?\d+\] (\S+) ==> (.*):(\d{1,9}) \[-?\d+\]")  # trace-cmd's form
+EXPIRES = re.compile(r"hrtimer=(\S+) .*\bexpires=(\d{1,20})")
+EXPIRED = re.compile(r"hrtimer=(\S+) .*\bnow=(\d{1,20})")
+RETURNED = re.compile(r"0x([0-9a-f]{1,16})$")
+WATCHDOG = "napi_watchdog"
+BACKLOG = "(no_device)"  # the name of a processor's backlog in napi_poll
+TIMER = f"the timer of {WATCHDOG}"
+# Interrupts between processors, which may start a softirq or a thread; and all interrupts with an entry and an exit event.
+BETWEEN = {"call_function_single", "call_function", "reschedule", "ipi"}
+HANDLERS = BETWEEN | {
+    "irq_handler",
+    "local_timer",
+    "irq_work",
+    "x86_platform_ipi",
+    "thermal_apic",
+    "threshold_apic",
+    "deferred_error_apic",
+    "error_apic",
+    "spurious_apic",
+}
+SOON = 50_000  # ns, from the end of an interrupt to the softirq that it requested
+SAME_CLOCK = 1_000_000  # ns
+EARLY = 100_000  # ns by which a poll may precede its sender's event, which follows the sending
+
+
+class Taken:
+    """How much time of a processor an activity takes in all; it may be nested."""
+
+    def __init__(self) -> None:
+        self.depth, self.since, self.total = 0, 0, 0
+
+    def begin(self, time: int) -> None:
+        if self.depth == 0:
+            self.since = time
+        self.depth += 1
+
+    def end(self, time: int) -> None:
+        if self.depth:
+            self.depth -= 1
+            if self.depth == 0:
+                self.total += time - self.since
+
+    def until(self, time: int) -> int:
+        return self.total + (time - self.since if self.depth else 0)
+
+
+class Processor:
+    """What is currently running on a processor."""
+
+    handlers: list[Handler]
+    ended: tuple[str, int, int] | None
+    softirq: tuple[int, int] | None
+    thread: tuple[int, int] | None
+    full: tuple[str, int, int] | None
+    by: tuple[str, int, int] | None
+    due: int | None
+
+    def __init__(self) -> None:
+        self.handlers = []  # those that began: each its name, its beginning, and whether napi_watchdog ran in it
+        self.ended = None  # the name, the duration and the end of the last handler
+        self.by_handlers, self.above_tasks = Taken(), Taken()
+        self.softirq = self.thread = None  # the beginning of the next poll's time there, and what was taken until then
+        self.full = None  # the device of the last poll, its end and what was taken until then, if it was full
+        self.is_first, self.by = False, None  # whether no poll was made since then, and the handler that requested it
+        # The task that runs, and the one before it: name, number, beginning.
+        self.task, self.before = ("", 0, 0), ("", 0, 0)
+        self.due = None  # expiry of the last NAPI timer
+
+
+class Reads:
+    """The reads of a program: it reads packets in the order of their delivery."""
+
+    called: dict[int, tuple[int, int]]
+    slept: dict[int, tuple[int, bool]]
+    delivered: deque[tuple[int, bool]]
+    ahead: list[tuple[int, bool]]
+    last: tuple[int, int, int, int, int] | None
+    calls: list[float]
+    uses: list[float]
+    wakes: list[float]
+    on: Counter[int]
+
+    def __init__(self, tasks: Iterable[int] = ()) -> None:
+        self.tasks, self.is_by_recv = set(tasks), False
+        # For each packet that waits for its read: when its poll ended, and whether the poll delivered only that packet.
+        self.delivered = deque()
+        self.forget()
+
+    def forget(self) -> None:
+        """Forgets all reads."""
+        self.called = {}  # for each task in a call: when the call began, and what was taken then
+        self.slept = {}  # for each task that slept since its last read: when it last did, and whether in a call
+        # Reads before the end of the packet's poll: the time of each, and whether the program had slept.
+        self.ahead = []
+        # The last read, if its task has run since: task, time, processor, packets, what was taken there until then.
+        self.last = None
+        self.calls, self.uses, self.wakes, self.on = [], [], [], Counter()
+        self.count, self.unmatched = 0, 0
+
+    def deliver(self, began: int, time: int, work: int) -> None:
+        """Delivers the packets of a poll; those that were read since the poll began belong to it."""
+        known = [read for read in self.ahead if read[0] >= began][:work]
+        if work == 1 and known and known[0][1]:
+            self.wakes.append(known[0][0] - time)
+        self.unmatched += len(self.ahead) - len(known)
+        self.ahead.clear()
+        self.delivered.extend([(time, work == 1)] * (work - len(known)))
+
+    def enter(self, processor: Processor, event: Event) -> None:
+        self.tasks.add(event.pid)
+        self.called[event.pid] = event.time, processor.above_tasks.until(event.time)
+
+    def leave_processor(self, task: int, time: int, is_sleep: bool) -> None:
+        if is_sleep and task in self.tasks:
+            self.slept[task] = time, task in self.called
+        if self.last and self.last[0] == task:
+            self.last = None
+
+    def leave(self, processor: Processor, event: Event) -> None:
+        """Handles the return of a read."""
+        by_recv = event.name.startswith("sys_exit_recv")
+        found, called = RETURNED.search(event.said), self.called.pop(event.pid, None)
+        if by_recv and not self.is_by_recv and self.count:  # its reads by other calls weren't packets
+            self.forget()
+        self.is_by_recv = self.is_by_recv or by_recv
+        if self.is_by_recv and not by_recv or not found or not 0 < int(found[1], 16) < 1 << 31:
+            return
+        packets = int(found[1], 16) if event.name.endswith("recvmmsg") else 1
+        self.count += packets
+        self.on[event.cpu] += 1
+        slept, is_in_call = self.slept.pop(event.pid, (None, False))
+        while is_in_call and slept is not None and self.delivered and self.delivered[0][0] < slept:
+            self.delivered.popleft()  # a read that sleeps finds no packet, so these weren't for it
+            self.unmatched += 1
+        taken = processor.above_tasks.until(event.time)
+        self.take(event, called, slept, taken, packets)
+        self.last = event.pid, event.time, event.cpu, packets, taken
+
+    def take(self, event: Event, called: tuple[int, int] | None, slept: int | None, taken: int, packets: int) -> None:
+        """Matches the packets that are read with those that were delivered first."""
+        known = [self.delivered.popleft() for _ in range(min(packets, len(self.delivered)))]
+        self.ahead += [(event.time, slept is not None)] * (packets - len(known))
+        if len(known) == packets:
+            if (
+                self.last
+                and (self.last[0], *self.last[2:4]) == (event.pid, event.cpu, packets)
+                and known[-1][0] <= self.last[1]
+            ):
+                self.uses.append((event.time - self.last[1] - (taken - self.last[4])) / packets)
+            if called and slept is None and known[-1][0] <= called[0]:
+                self.calls.append((event.time - called[0] - (taken - called[1])) / packets)
+        if packets == 1 and known and known[0][1] and slept is not None and slept <= known[0][0]:
+            self.wakes.append(event.time - known[0][0])
+
+
+class Polls:
+    """The polls of a device."""
+
+    polls: list[tuple[int, int]]
+    where: Counter[int]
+    handlers: defaultdict[str, list[int]]
+
+    def __init__(self) -> None:
+        self.polls, self.by_threads, self.where = [], 0, Counter()  # packets and ns of each poll
+        # The handlers that runs followed; how many runs followed none.
+        self.handlers, self.without = (defaultdict(list), 0)
+
+    def add(self, work: int, took: int, by_thread: bool, cpu: int) -> None:
+        self.polls.append((work, took))
+        self.by_threads += by_thread
+        self.where[cpu] += 1
+
+
+class Timeline:
+    """Sums up the times of a recording."""
+
+    of: defaultdict[str, Polls]
+    on: defaultdict[int, Processor]
+    wakes: defaultdict[str, list[int]]
+    busy_wakes: defaultdict[str, list[int]]
+    due: dict[str, int]
+    waiting: deque[tuple[int, int]]
+    sent_on: Counter[int]
+    tasks: defaultdict[int, Counter[str]]
+    left_out: dict[str, int]
+    devices: list[str]
+    polls: list[tuple[int, int]]
+    handlers: defaultdict[str, list[int]]
+    where: Counter[int]
+
+    def __init__(
+        self,
+        pairs: Iterable[Sequence[str]] = (),
+        polled: Iterable[str] = (),
+        irq: str | None = None,
+        interrupts: Iterable[str] = (),
+    ) -> None:
+        """`polled` are the devices whose polls count; `interrupts` are their interrupts, if known: other cards' interrupts don't request their polls."""
+        self.irq, self.polled, self.senders, self.interrupts = (
+            irq,
+            set(polled),
+            {sender for sender, _ in pairs},
+            set(interrupts),
+        )
+        self.on = defaultdict(Processor)
+        self.is_coarse, self.has_tasks, self.has_handlers = True, False, False
+        self.of, self.strays = defaultdict(Polls), 0  # per device
+        # Wake-ups by packets and by timers, on a processor that slept; and on one that ran another task.
+        self.wakes, self.busy_wakes = defaultdict(list), defaultdict(list)
+        self.due = {}  # for each timer
+        self.waiting, self.came, self.dropped, self.given, self.unmatched, self.sent_on = deque(), 0, 0, 0, 0, Counter()
+        self.owed = 0  # packets that were polled before their arrival
+        self.poll_end, self.was_full = 0, False  # of the last poll
+        self.reads = Reads()
+        self.tasks, self.first, self.last = defaultdict(Counter), 0, 0
+
+    def add(self, event: Event) -> None:
+        self.is_coarse = self.is_coarse and event.time % 1000 == 0
+        self.first = self.first or event.time
+        self.last = event.time
+        processor, name = self.on[event.cpu], event.name
+        if name.startswith("softirq_"):
+            self.softirq(processor, event)
+        elif name.startswith("hrtimer_"):
+            self.timer(processor, event)
+        elif name.startswith("sys_enter_"):
+            self.reads.enter(processor, event)
+        elif name.startswith("sys_exit_"):
+            self.reads.leave(processor, event)
+        elif name.rpartition("_")[0] in HANDLERS:
+            self.handler(processor, event)
+        elif name == "napi_poll":
+            self.poll(processor, event)
+        elif name == "sched_switch":
+            self.switch(processor, event)
+        elif name == "net_dev_xmit":
+            self.packet(event)
+
+    def handler(self, processor: Processor, event: Event) -> None:
+        """Handles the beginning or end of a handler: of a card's interrupt, of one between processors, or of the local timer."""
+        kind, _, end = event.name.rpartition("_")
+        self.has_handlers = True
+        if end == "entry":
+            name = (event.parts(HANDLER)[1] or "") if kind == "irq_handler" else kind
+            processor.handlers.append([name, event.time, False])
+            processor.by_handlers.begin(event.time)
+            processor.above_tasks.begin(event.time)
+        elif processor.handlers:
+            name, began, has_expired = processor.handlers.pop()
+            processor.by_handlers.end(event.time)
+            processor.above_tasks.end(event.time)
+            if kind == "irq_handler" and name == self.irq:
+                self.of[""].handlers[name].append(event.time - began)
+            is_own = kind == "irq_handler" and (not self.interrupts or name in self.interrupts)
+            if is_own or has_expired or name in BETWEEN:
+                processor.ended = (TIMER if has_expired else name, event.time - began, event.time)
+
+    def timer(self, processor: Processor, event: Event) -> None:
+        """Handles NAPI's timer: it is set, or expires in the current handler."""
+        if WATCHDOG not in event.said:
+            return
+        if event.name == "hrtimer_start":
+            timer, expires = event.parts(EXPIRES)
+            self.due[timer] = int(expires)
+        elif event.name == "hrtimer_expire_entry":
+            timer, stamp = event.parts(EXPIRED)
+            now = int(stamp)
+            due = self.due.pop(timer, now)
+            processor.due = due if abs(now - event.time) < SAME_CLOCK else event.time - max(0, now - due)
+            if processor.handlers:
+                processor.handlers[-1][2] = True
+
+    def softirq(self, processor: Processor, event: Event) -> None:
+        """Handles NET_RX: it begins, requested by the last handler, or ends."""
+        if event.name == "softirq_raise" or int(event.parts(SOFTIRQ)[0]) != NET_RX:
+            return
+        if event.name == "softirq_entry":
+            processor.softirq = event.time, processor.by_handlers.until(event.time)
+            self.begin(processor, event.time)
+            processor.above_tasks.begin(event.time)
+        else:
+            processor.softirq, processor.ended = None, None
+            processor.above_tasks.end(event.time)
+
+    @staticmethod
+    def begin(processor: Processor, time: int) -> None:
+        """Begins polls in a softirq or a thread."""
+        asked = processor.ended if processor.ended and time - processor.ended[2] <= SOON else None
+        processor.is_first, processor.by, processor.ended = True, asked, None
+
+    def switch(self, processor: Processor, event: Event) -> None:
+        found = SWITCH.match(event.said) or SHORT_SWITCH.match(event.said)
+        if not found:
+            raise Refusal(f"line {event.line}: sched_switch says {event.said[:60]!r}, an unknown format")
+        task, state, name, pid = found.groups()
+        self.has_tasks = True
+        if processor.task[0]:
+            self.tasks[event.cpu][processor.task[0]] += event.time - processor.task[2]
+        self.reads.leave_processor(int(task), event.time, not state.startswith("R"))
+        processor.before, processor.task, processor.thread = processor.task, (name, int(pid), event.time), None
+        if name.startswith("napi/"):
+            processor.thread = event.time, processor.above_tasks.until(event.time)
+            self.begin(processor, event.time)
+
+    def packet(self, event: Event) -> None:
+        """Handles a sent packet, which arrives at a device."""
+        sender, _, code = event.parts(SENT)
+        if sender in self.senders:
+            self.sent_on[event.cpu] += 1
+            if code in ("0", "0x0"):
+                self.came += 1
+                if self.owed and event.time - self.poll_end < EARLY:
+                    self.owed -= 1
+                else:
+                    self.waiting.append((event.time, event.cpu))
+            else:
+                self.dropped += code in ("1", "0x1")
+
+    def poll(self, processor: Processor, event: Event) -> None:
+        device, packets, budget = event.parts(POLLED)
+        work, by_thread = int(packets), is_by_thread(event)
+        is_full = work >= int(budget)
+        began = processor.thread if by_thread else processor.softirq
+        mark = event.time, (processor.above_tasks if by_thread else processor.by_handlers).until(event.time)
+        if began and by_thread:
+            processor.thread = mark
+        elif began:
+            processor.softirq = mark
+        if (
+            began
+            and processor.is_first
+            and processor.full
+            and processor.full[0] == device
+            and began[0] - processor.full[1] <= SOON
+        ):
+            began = processor.full[1:]  # it continues with what the full poll left
+        processor.full = (device, *mark) if is_full else None
+        if not self.polled or device in self.polled:
+            self.strays += not began
+            if began:
+                self.of[device].add(work, mark[0] - began[0] - (mark[1] - began[1]), by_thread, event.cpu)
+                if processor.is_first:
+                    self.run_begins(processor, began[0], work, event.cpu, self.of[device])
+            self.deliver(event.time, work, not is_full, began[0] if began else self.poll_end)
+            self.poll_end, self.was_full = event.time, is_full
+        processor.is_first, processor.by, processor.due, processor.ended = False, None, None, None
+
+    def run_begins(self, processor: Processor, began: int, work: int, cpu: int, polls: Polls) -> None:
+        """Handles the first poll of a softirq or a thread: which handler requested it, and the time from its cause to its beginning."""
+        name, took, _ = processor.by or (None, 0, 0)
+        if name is not None and not self.irq:
+            polls.handlers[name].append(took)
+        polls.without += name is None and not self.was_full
+        if processor.due is not None:
+            self.add_wake("timers", processor, processor.due, began - processor.due - took)
+        elif work and self.waiting and self.poll_end <= self.waiting[0][0] <= began:
+            came, sent_on = self.waiting[0]
+            if sent_on == cpu:
+                self.wakes["packets"].append(began - came - took)
+            else:
+                self.add_wake("packets", processor, came, began - came - took)
+
+    def add_wake(self, kind: str, processor: Processor, time: int, took: int) -> None:
+        """Adds a wake-up's time if neither the program nor a poll was running on the processor; another task's is counted separately."""
+        name, pid, since = processor.before if processor.task[0].startswith("napi/") else processor.task
+        if not self.has_tasks or name.startswith("swapper") and since <= time:
+            self.wakes[kind].append(took)
+        elif name and since <= time and pid not in self.reads.tasks and not name.startswith(("napi/", "ksoftirqd/")):
+            self.busy_wakes[kind].append(took)
+
+    def deliver(self, time: int, work: int, is_empty: bool, began: int) -> None:
+        """Delivers the packets that wait longest; a poll that wasn't full delivers all earlier ones."""
+        self.given += work
+        self.unmatched += self.owed
+        self.owed = 0
+        for _ in range(work):
+            if self.waiting:
+                self.waiting.popleft()
+            else:
+                self.owed += 1
+        while is_empty and self.waiting and self.waiting[0][0] < began:
+            self.waiting.popleft()
+            self.unmatched += 1
+        self.reads.deliver(began, time, work)
+
+    def settle(self) -> Timeline:
+        """Chooses the devices that count: the named ones, else all of them; a processor's backlog only if nothing else polls."""
+        names = sorted(name for name, polls in self.of.items() if polls.polls)
+        self.left_out = (
+            {BACKLOG: len(self.of[BACKLOG].polls)} if not self.polled and BACKLOG in names and len(names) > 1 else {}
+        )
+        self.devices = [name for name in names if name not in self.left_out]
+        chosen = [self.of[name] for name in ("", *self.devices) if name in self.of]
+        self.polls = [poll for each in chosen for poll in each.polls]
+        self.handlers = defaultdict(list)
+        for each in chosen:
+            for name, took in each.handlers.items():
+                self.handlers[name] += took
+        self.without, self.by_threads = sum(each.without for each in chosen), sum(each.by_threads for each in chosen)
+        self.where = sum((each.where for each in chosen), Counter())
+        return self
+
+    def processor(self) -> int | None:
+        """Returns the processor that polls most, if any does."""
+        return self.where.most_common(1)[0][0] if self.where else None
+
+    def shares(self, cpu: int | None) -> dict[str, float]:
+        """Returns each task's share of the recording on a processor."""
+        whole = self.last - self.first
+        return {name: took / whole for name, took in self.tasks[cpu].most_common()} if whole and cpu is not None else {}

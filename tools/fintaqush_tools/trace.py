@@ -1,0 +1,59 @@
+"""Traces of devices: docs/FORMATS.md, "The trace"."""
+
+from __future__ import annotations
+
+import csv
+import io
+from collections.abc import Iterable, Iterator, Sequence
+from itertools import islice
+
+from fintaqush_tools.errors import Refusal
+from fintaqush_tools.processes import program, run_program
+
+Row = tuple[int, int, str, int]  # time, device, event, value
+MOST_DEVICES = 16
+MOST_ROWS = 100000
+HEADERS = {1: "moment,device,event,value", 2: "moment,device,event,value,2"}  # by the version
+TICKS = {"ms": 1000, "us": 1000000}  # time units per second
+
+
+def records_of(text: bytes) -> list[Row]:
+    """Returns the rows of a trace that a program of ours accepted."""
+    records = [record for record in csv.reader(io.StringIO(text.decode("utf-8-sig"), newline="")) if record]
+    return [(int(moment), int(device), event, int(value)) for moment, device, event, value in records[1:]]
+
+
+def raise_option(restarts: int | str | None) -> str:
+    """Returns the option of napi_series that adds runs."""
+    return "--raise" if restarts is None else f"--raise={restarts}"
+
+
+def raised(text: bytes, words: Sequence[str], restarts: int | None = None, named: str | None = None) -> bytes:
+    """Returns a trace with the runs that the kernel would make with these options: one after each softirq row that leaves the list
+    nonempty, until it is empty or `restarts` were added."""
+    return run_program(program("napi_series", named), [raise_option(restarts), "--rows", *words], text).encode()
+
+
+def with_runs(arrivals: Iterable[Row], delay: int) -> Iterator[Row]:
+    """Yields rows of arrivals, in order, with a softirq row `delay` after the first waiting packet."""
+    run = None
+    for row in arrivals:
+        if run is not None and run < row[0]:
+            yield run, 0, "softirq", 0
+            run = None
+        yield row
+        if row[2] == "rx" and run is None:
+            run = row[0] + delay
+    if run is not None:
+        yield run, 0, "softirq", 0
+
+
+def trace_text(rows: Iterable[Row], version: int = 1) -> str:
+    """Returns the text of a trace with these rows; fails if it is too long."""
+    rows = iter(rows)
+    lines = [HEADERS[version], *(",".join(map(str, row)) for row in islice(rows, MOST_ROWS))]
+    more = sum(1 for _ in rows)
+    if more:
+        many = MOST_ROWS + more
+        raise Refusal(f"{many} rows, and a trace has at most {MOST_ROWS}: take some of them, or a shorter time")
+    return "".join(f"{line}\n" for line in lines)
