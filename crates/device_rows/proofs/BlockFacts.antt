@@ -1,10 +1,8 @@
 -- What remains of a source after the bytes that were read ahead from it.
 use Rattle.std.proofs.Common.{◌≡◌, ◌∙◌, ℕ, ◌+◌, ◌-◌, ◌≤◌, List, [], ◌∷◌, ◌++◌, Some, None, Option, length, take, drop, refl, sym, ap, arith}
 use Rattle.std.proofs.{Common.{append_assoc, length-append, take_all, take_at, take-take, drop_at}, lemmas.List.take-append-le}
-use Rattle.{std.specs.Io.KnownBytes.Consumes, csv.specs.declared.parser.State.State}
-use Rattle.csv.specs.Reading.{default_config, records_from, records_next, strip_bom}
-use Rattle.device_rows.specs.{Block.{Holds, fused_remaining, unread}, Plain.StartsWithTitles, declared.block.Block.{Block}}
-use Rattle.device_rows.proofs.RowsFacts.{records-next}
+use Rattle.{std.specs.Io.KnownBytes.Consumes, csv.specs.Reading.strip_bom}
+use Rattle.device_rows.specs.{Block.{Holds, fused_remaining, unread}, declared.block.Block.{Block}}
 use lib.Seq.{take-append-add}
 
 -- a line feed doesn't begin a byte-order mark
@@ -55,21 +53,4 @@ used-up {R} remaining old new text used rest left count is splits size behind sa
         known = ap (fused_remaining remaining) same ∙ holds.known;
         all = ap (λ t. t ++ holds.behind) (sym (behind ∙ left-over));
       },
-    )
-
--- the titles were consumed: the records after them are those of the remaining bytes
-pub titles-used : {R : Type 0} (remaining : R → Option (List ℕ)) (old new : Block R) (text rest bytes : List ℕ) (count version : ℕ)
-    → text ≡ unread old → (titles : StartsWithTitles text version rest) → count ≡ length text - length rest
-    → unread new ≡ drop count (unread old) → new.source ≡ old.source → Holds remaining old bytes
-    → (left : List ℕ) × Holds remaining new left × (records_from default_config 100002 State.StartRecord (strip_bom bytes)
-    ≡ titles.fields ∷ records_from default_config 100001 State.StartRecord left)
-titles-used {R} remaining old new text rest bytes count version is titles size behind same holds =
-    let starts = titles.title.starts in
-    let (more, all, stands) = used-up remaining old new text starts.used rest bytes count is starts.splits size behind same holds in (
-      rest ++ more,
-      stands,
-      ap (λ b. records_from default_config 100002 State.StartRecord (strip_bom b)) all
-          ∙ ap (records_from default_config 100002 State.StartRecord) (titles.title.unmarked more)
-          ∙ records-next 100002 100001 State.StartRecord (text ++ more) refl
-          ∙ ap (records_next (records_from default_config 100001)) (starts.reads more),
     )

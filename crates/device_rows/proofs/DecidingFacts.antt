@@ -1,10 +1,10 @@
 -- Which records of a text determine its trace: the first 100002, and those up to the first error.
 use Rattle.std.proofs.Common.{◌≡◌, ◌∙◌, ℕ, zero, suc, ◌+◌, ◌≤◌, Bool, true, false, List, [], ◌∷◌, ◌++◌, length, length-append, take, refl}
-use Rattle.std.{proofs.{Common.{sym, ap, arith, Some, None, Option}, lemmas.Bool.ltb-true}, specs.Prelude.{Result, Ok, Err, nat_lt}}
-use Rattle.{csv.specs.{Reading.{default_config, records_from, strip_bom}, declared.parser.State.State}, device_rows.specs.Record.row_of}
-use Rattle.device_rows.specs.{Record.version_of, Switch.{refusal, switch_of, unless_refused}, Trace.{records_of, rows_after, rows_behind}}
-use Rattle.device_rows.specs.{Trace.{trace_of, version_in, with_row}, declared.{fault.TraceFault.TraceFault, row.Row.Row}}
-use Rattle.device_rows.proofs.{RowsFacts.{rows-bad, rows-end, rows-good, rows-over}, RecordsFacts.{records-all, records-take}}
+use Rattle.std.{proofs.{Common.{sym, arith, Some, None, Option}, lemmas.Bool.ltb-true}, specs.Prelude.{Result, Ok, Err, nat_lt}}
+use Rattle.device_rows.specs.Record.{row_of}
+use Rattle.device_rows.specs.{Record.version_of, Switch.{refusal, switch_of, unless_refused}, Trace.{rows_after, rows_behind}}
+use Rattle.device_rows.specs.{Trace.{trace_of, with_row}, declared.{fault.TraceFault.TraceFault, row.Row.Row}}
+use Rattle.device_rows.proofs.RowsFacts.{rows-bad, rows-end, rows-good, rows-over}
 
 module _ (version : ℕ) where
   -- a row that is accepted makes the list one longer
@@ -49,31 +49,6 @@ first-decide (header ∷ records) (suc count) many = by (version_of header)
     by : (version : Option ℕ) → rows_behind version (take count records) ≡ rows_behind version records
     by None = refl
     by (Some version) = rows-enough version count [] records (omega arith) (omega arith)
-
--- if the first `count` records of a list determine a result, the first `count` records of a text determine it too
-asked-same : {A : Type 0} (told : List (List (List ℕ)) → A) (count : ℕ) (s : State) (bytes : List ℕ)
-    → ((records : List (List (List ℕ))) → told (take count records) ≡ told records)
-    → s ≡ State.StartRecord → told (records_of bytes) ≡ told (records_from default_config count s (strip_bom bytes))
-unfolding records_of
-asked-same told count s bytes decide at =
-    let xs = strip_bom bytes in
-    let more = count + length xs + 1 in
-    rw at (ap told (records-all (length xs + 1) more State.StartRecord xs refl (omega arith) (omega arith))
-    ∙ sym (decide (records_from default_config more State.StartRecord xs))
-    ∙ ap told (sym (records-take count more State.StartRecord xs (omega arith))))
-
-pub asked-decide : (count : ℕ) (s : State) (bytes : List ℕ) → 100002 ≤ count → s ≡ State.StartRecord
-    → trace_of (records_of bytes) ≡ trace_of (records_from default_config count s (strip_bom bytes))
-asked-decide count s bytes many at = asked-same trace_of count s bytes (λ records. first-decide records count many) at
-
-first-tells : (records : List (List (List ℕ))) (count : ℕ) → 1 ≤ count → version_in (take count records) ≡ version_in records
-first-tells records zero some = absurd (omega arith)
-first-tells [] (suc count) some = refl
-first-tells (header ∷ records) (suc count) some = refl
-
-pub asked-version : (count : ℕ) (s : State) (bytes : List ℕ) → 1 ≤ count → s ≡ State.StartRecord
-    → version_in (records_of bytes) ≡ version_in (records_from default_config count s (strip_bom bytes))
-asked-version count s bytes some at = asked-same version_in count s bytes (λ records. first-tells records count some) at
 
 module _ (version : ℕ) where
   rows-stand : (rows : List Row) (records more : List (List (List ℕ))) (fault : TraceFault) → rows_after version rows records ≡ Err fault

@@ -4,6 +4,7 @@ pub mod DecidingFacts
 pub mod NumeralFacts
 pub mod PlainFacts
 pub mod RecordsFacts
+pub mod RemainsFacts
 pub mod RowsFacts
 pub mod ShortFacts
 pub mod SwitchFacts

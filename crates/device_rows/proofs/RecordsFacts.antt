@@ -1,6 +1,8 @@
--- A text has at most as many records as bytes, and asking for fewer yields the first ones.
-use Rattle.std.proofs.Common.{◌≡◌, ℕ, zero, suc, ◌-◌, ◌<◌, ◌≤◌, Bool, true, false, List, [], ◌∷◌, ◌++◌, length, take, refl, ap, arith, Some}
+-- A text has at most as many records as bytes.
+use Rattle.std.proofs.Common.{◌≡◌, ◌∙◌, ℕ, zero, suc, ◌-◌, ◌<◌, ◌≤◌, Bool, true, false, List, [], ◌∷◌, ◌++◌, length, refl, ap, arith, Some}
 use Rattle.std.{proofs.Common.{None, Option}, specs.Prelude.{◌==◌, if◌then◌else◌}}
+use Rattle.csv.specs.{Reading.reader_state, declared.reader.Reader.Reader}
+use Rattle.device_rows.specs.Source.{ReadsNext}
 use Rattle.csv.specs.Machine.{Read, after_end, ends_at_end, ends_with, field_after, fields_after, in_field, is_end, next_record}
 use Rattle.csv.specs.{Machine.{start_field, start_record, step}, Reading.{default_config, records_from, records_next}}
 use Rattle.csv.specs.declared.parser.{Action.Action, State.State, Terminator.Terminator}
@@ -73,6 +75,23 @@ pub next-end : (s : State) → ends_at_end s ≡ false → next_record default_c
 unfolding next_record
 next-end s between = rw between refl
 
+pub records-next : (n m : ℕ) (s : State) (xs : List ℕ) → n ≡ suc m
+    → records_from default_config n s xs ≡ records_next (records_from default_config m) (next_record default_config s [] [] xs)
+unfolding records_from
+records-next n m s xs e = rw e refl
+
+-- no record is left
+pub records-none : {R : Type 0} (remaining : R → Option (List ℕ)) (reader after : Reader R) (fields : List (List ℕ)) (n m : ℕ)
+    (left : List ℕ) → n ≡ suc m
+    → ReadsNext remaining (next_record default_config (reader_state reader) [] [] left) false fields after
+    → records_from default_config n (reader_state reader) left ≡ []
+records-none {R} remaining reader after fields n m left e h =
+    records-next n m (reader_state reader) left e ∙ by (next_record default_config (reader_state reader) [] [] left) h
+  where
+    by : (o : Option Read) → ReadsNext remaining o false fields after → records_next (records_from default_config m) o ≡ []
+    by None h = refl
+    by (Some p) h = cc h.0
+
 -- any request for more records than the text has bytes returns all of them
 pub records-all : (n m : ℕ) (s : State) (xs : List ℕ) → ends_at_end s ≡ false → length xs < n → length xs < m
     → records_from default_config n s xs ≡ records_from default_config m s xs
@@ -91,16 +110,3 @@ records-all (suc n) (suc m) s (x ∷ xs) between a b =
     by same (Some p) e =
         let (tidy, short) = next-short s [] [] (x ∷ xs) p e in
         ap (λ (t : List (List (List ℕ))). p.0 ∷ t) (same p.1 p.2 tidy (omega arith) (omega arith))
-
--- a request for fewer records returns the first of them
-pub records-take : (n m : ℕ) (s : State) (xs : List ℕ) → n ≤ m
-    → records_from default_config n s xs ≡ take n (records_from default_config m s xs)
-unfolding records_from
-records-take zero m s xs few = refl
-records-take (suc n) zero s xs few = absurd (omega arith)
-records-take (suc n) (suc m) s xs few = by (λ t ys. records-take n m t ys (omega arith)) (next_record default_config s [] [] xs)
-  where
-    by : ((t : State) (ys : List ℕ) → records_from default_config n t ys ≡ take n (records_from default_config m t ys))
-        → (o : Option Read) → records_next (records_from default_config n) o ≡ take (suc n) (records_next (records_from default_config m) o)
-    by same None = refl
-    by same (Some p) = ap (λ (t : List (List (List ℕ))). p.0 ∷ t) (same p.1 p.2)

@@ -1,73 +1,15 @@
 -- The rows of the remaining records, by the next record.
-use Rattle.std.proofs.{Common.{◌<◌, length-append}, lemmas.Bool.lt-ltb}
-use Rattle.device_rows.specs.Adding.{rows_with}
-use Rattle.std.proofs.Common.{◌≡◌, ◌∙◌, ℕ, suc, ◌+◌, ◌-◌, ◌≤◌, true, false, List, [], ◌∷◌, ◌++◌, length, refl, sym, ap, arith, Some, None}
-use Rattle.{std.{proofs.Common.Option, specs.Prelude.{Result, Ok, Err, nat_lt}}, csv.specs.Machine.{Read, next_record}}
-use Rattle.csv.specs.{Reading.{default_config, reader_state, records_from, records_next}, declared.reader.Reader.Reader}
-use Rattle.{csv.specs.declared.parser.State.State, device_rows.specs.{Source.{StandsAt, ReadsNext}, Record.{row_of, version_of}}}
+use Rattle.std.proofs.{Common.{◌∙◌, ◌<◌, ap, append_assoc, arith}, lemmas.Bool.lt-ltb}
+use Rattle.device_rows.specs.Adding.{TakesRows}
+use Rattle.std.proofs.Common.{◌≡◌, ℕ, ◌+◌, true, false, List, [], ◌∷◌, ◌++◌, length, refl, sym, Some, None}
+use Rattle.{std.specs.Prelude.{Result, Ok, Err, nat_lt}, device_rows.specs.Record.{row_of, version_of}}
 use Rattle.device_rows.specs.{Switch.{refusal, switch_of}, Trace.{rows_after, trace_of, version_in, with_row}}
 use Rattle.device_rows.specs.declared.{fault.TraceFault.TraceFault, row.Row.Row}
-
-pub records-next : (n m : ℕ) (s : State) (xs : List ℕ) → n ≡ suc m
-    → records_from default_config n s xs ≡ records_next (records_from default_config m) (next_record default_config s [] [] xs)
-unfolding records_from
-records-next n m s xs e = rw e refl
-
-pub records-zero : (n : ℕ) (s : State) (xs : List ℕ) → n ≡ 0 → records_from default_config n s xs ≡ []
-unfolding records_from
-records-zero n s xs e = rw e refl
-
--- no record is left
-pub records-none : {R : Type 0} (remaining : R → Option (List ℕ)) (reader after : Reader R) (fields : List (List ℕ)) (n m : ℕ)
-    (left : List ℕ) → n ≡ suc m
-    → ReadsNext remaining (next_record default_config (reader_state reader) [] [] left) false fields after
-    → records_from default_config n (reader_state reader) left ≡ []
-records-none {R} remaining reader after fields n m left e h =
-    records-next n m (reader_state reader) left e ∙ by (next_record default_config (reader_state reader) [] [] left) h
-  where
-    by : (o : Option Read) → ReadsNext remaining o false fields after → records_next (records_from default_config m) o ≡ []
-    by None h = refl
-    by (Some p) h = cc h.0
-
--- one record, and then those that remain in the reader
-pub records-more : {R : Type 0} (remaining : R → Option (List ℕ)) (reader after : Reader R) (fields : List (List ℕ)) (n m : ℕ)
-    (left : List ℕ) → n ≡ suc m
-    → ReadsNext remaining (next_record default_config (reader_state reader) [] [] left) true fields after
-    → (rest : List ℕ) × StandsAt remaining after rest
-    × (records_from default_config n (reader_state reader) left ≡ fields ∷ records_from default_config m (reader_state after) rest)
-records-more {R} remaining reader after fields n m left e h =
-    rw (records-next n m (reader_state reader) left e) (by (next_record default_config (reader_state reader) [] [] left) h)
-  where
-    by : (o : Option Read) → ReadsNext remaining o true fields after → (rest : List ℕ) × StandsAt remaining after rest
-        × (records_next (records_from default_config m) o ≡ fields ∷ records_from default_config m (reader_state after) rest)
-    by None h = cc h
-    by (Some p) h = (p.2, h.3, rw (h.1, h.2) refl)
 
 module _ (version : ℕ) where
   pub rows-end : (rows : List Row) → rows_after version rows [] ≡ Ok rows
   unfolding rows_after
   rows-end rows = refl
-
-  -- the rows of all records are those of the next one and of the records after it
-  pub goes-on : {R : Type 0} (remaining : R → Option (List ℕ)) (reader after : Reader R) (fields : List (List ℕ)) (rows : List Row)
-      (all : Result (List Row) TraceFault) (left : List ℕ) → length rows ≤ 100000
-      → ReadsNext remaining (next_record default_config (reader_state reader) [] [] left) true fields after
-      → all ≡ rows_with version rows (reader_state reader) left → (rest : List ℕ) × StandsAt remaining after rest
-      × (all ≡ rows_after version rows (fields ∷ records_from default_config (100001 - (length rows + 1)) (reader_state after) rest))
-  goes-on {R} remaining reader after fields rows all left small next so_far =
-      let (rest, stands, one) =
-      records-more remaining reader after fields (100001 - length rows) (100001 - (length rows + 1)) left (omega (arith, small)) next in
-      (rest, stands, so_far ∙ ap (rows_after version rows) one)
-
-  -- if no record is left, or none was requested, the rows are those read so far
-  pub ends : {R : Type 0} (remaining : R → Option (List ℕ)) (reader after : Reader R) (fields : List (List ℕ)) (rows : List Row)
-      (all : Result (List Row) TraceFault) (left : List ℕ) → length rows ≤ 100000
-      → ReadsNext remaining (next_record default_config (reader_state reader) [] [] left) false fields after
-      → all ≡ rows_with version rows (reader_state reader) left → all ≡ Ok rows
-  ends {R} remaining reader after fields rows all left small next so_far =
-      so_far ∙ ap (rows_after version rows)
-      (records-none remaining reader after fields (100001 - length rows) (100001 - (length rows + 1)) left (omega (arith, small)) next)
-      ∙ rows-end rows
 
   pub rows-over : (rows : List Row) (fields : List (List ℕ)) (records : List (List (List ℕ))) → nat_lt (length rows) 100000 ≡ false
       → rows_after version rows (fields ∷ records) ≡ Err TraceFault.TooManyRows
@@ -104,25 +46,18 @@ module _ (version : ℕ) where
   unfolding with_row
   with_row-good rows fields row e h = rw (sym e, h) refl
 
--- a record that holds one more row
-pub with-next : (version : ℕ) (rows : List Row) (row : Row) (fields : List (List ℕ)) (state after : State) (text rest : List ℕ)
-    → length rows < 100000 → next_record default_config state [] [] text ≡ Some (fields, after, rest)
-    → with_row version rows fields ≡ Ok (rows ++ row ∷ [])
-    → rows_with version rows state text ≡ rows_with version (rows ++ row ∷ []) after rest
-with-next version rows row fields state after text rest below reads one =
-    let left = 100001 - length (rows ++ row ∷ []) in
-    ap (rows_after version rows) (records-next (100001 - length rows) left state text (omega (arith, below, length-append rows (row ∷ [])))
-    ∙ ap (records_next (records_from default_config left)) reads)
-    ∙ rows-good version rows (rows ++ row ∷ []) fields (records_from default_config left after rest) (lt-ltb _ _ below) one
+  pub takes-none : (rows : List Row) → TakesRows version rows [] rows
+  takes-none rows = record { same = λ more. refl; grows = omega arith }
 
--- an empty line at the front
-pub with-empty : (version : ℕ) (rows : List Row) (text : List ℕ) → length rows ≤ 100000
-    → rows_with version rows State.StartRecord text ≡ rows_with version rows State.StartRecord (10 ∷ text)
-unfolding next_record
-with-empty version rows text few =
-    let n : 100001 - length rows ≡ suc (100000 - length rows) = omega (arith, few) in
-    ap (rows_after version rows) (records-next (100001 - length rows) (100000 - length rows) State.StartRecord text n
-    ∙ sym (records-next (100001 - length rows) (100000 - length rows) State.StartRecord (10 ∷ text) n))
+  -- one more record holds one more row
+  pub takes-more : (before middle after : List Row) (front : List (List (List ℕ))) (fields : List (List ℕ))
+      → TakesRows version before front middle → length middle < 100000 → with_row version middle fields ≡ Ok after
+      → length after ≡ length middle + 1 → TakesRows version before (front ++ fields ∷ []) after
+  takes-more before middle after front fields takes below one count = record {
+    same = λ more. ap (rows_after version before) (append_assoc front (fields ∷ []) more) ∙ takes.same (fields ∷ more)
+        ∙ rows-good middle after fields more (lt-ltb _ _ below) one;
+    grows = omega (arith, takes.grows, count);
+  }
 
 -- no first record
 pub trace-none : (records : List (List (List ℕ))) → records ≡ [] → trace_of records ≡ Err TraceFault.BadHeader

@@ -1,8 +1,7 @@
--- Appending a row to the vector of rows.
-use Rattle.std.specs.Prelude.{◌≡◌, ◌≤◌, ◌+◌, ◌-◌, ℕ, List, [], Ok, Result, Vec, length, vec_capacity, vec_items, vec_len}
-use Rattle.csv.specs.{Reading.{default_config, records_from}, declared.parser.State.State}
-use Rattle.device_rows.specs.{Switch.Tracks, Trace.{AcceptedAfter, rows_after, with_row}}
-use Rattle.device_rows.specs.declared.{fault.TraceFault.TraceFault, row.Row.Row, switch.Switch.Switch}
+-- Adding rows to the rows so far of a trace.
+use Rattle.std.specs.Prelude.{◌≡◌, ◌≤◌, ◌<◌, ◌+◌, ◌++◌, ℕ, List, [], ◌∷◌, Ok, Err, Some, Vec, length, vec_capacity, vec_items, vec_len}
+use Rattle.device_rows.specs.{Range.IsWithin, Record.version_of, Switch.Tracks, Trace.{AcceptedAfter, rows_after, with_row}}
+use Rattle.device_rows.specs.declared.{fault.TraceFault.TraceFault, row.Row.Row, switch.Switch.Switch, trace.TraceRows.TraceRows}
 
 -- the rows so far, in a vector with room for all, and the table of the switches after them
 pub record IsSoFar {A : Type 0} (table : List Switch) (rows : Vec Row A) : Type 0 where
@@ -18,6 +17,27 @@ pub record AddsNext {A : Type 0} (version : ℕ) (fields : List (List ℕ)) (tab
   pub count : length (vec_items after) ≡ length (vec_items before) + 1
   pub so_far : IsSoFar table after
 
--- the rows so far and those of the bytes after them, or the first error among these
-abbrev pub rows_with : ℕ → List Row → State → List ℕ → Result (List Row) TraceFault
-rows_with version rows state bytes = rows_after version rows (records_from default_config (100001 - length rows) state bytes)
+-- these records are the next rows, and were taken
+pub record TakesRows (version : ℕ) (before : List Row) (front : List (List (List ℕ))) (after : List Row) : Type 0 where
+  pub same : (more : List (List (List ℕ))) → rows_after version before (front ++ more) ≡ rows_after version after more
+  pub grows : length before ≤ length after
+
+-- rows can be taken
+abbrev pub CanAdd : TraceRows → Type 0
+CanAdd so_far = IsWithin 1 2 so_far.version × IsSoFar so_far.switches.of so_far.rows
+
+-- the version is that of these titles
+pub record TakesTitles (before : TraceRows) (fields : List (List ℕ)) (after : TraceRows) : Type 0 where
+  pub version : version_of fields ≡ Some after.version
+  pub rows : after.rows ≡ before.rows
+
+-- these records are the next rows, one or more, and were taken
+pub record TakesMore (before : TraceRows) (front : List (List (List ℕ))) (after : TraceRows) : Type 0 where
+  pub version : after.version ≡ before.version
+  pub rows : TakesRows before.version (vec_items before.rows) front (vec_items after.rows)
+  pub some : length (vec_items before.rows) < length (vec_items after.rows)
+
+-- this record has this error as the next row
+abbrev pub RefusesRow : TraceRows → List (List ℕ) → TraceFault → Type 0
+RefusesRow before fields fault = (more : List (List (List ℕ)))
+    → rows_after before.version (vec_items before.rows) (fields ∷ more) ≡ Err fault

@@ -6,6 +6,7 @@ pub mod Laws
 pub mod Plain
 pub mod Record
 pub mod Row
+pub mod Rows
 pub mod Source
 pub mod Switch
 pub mod Trace

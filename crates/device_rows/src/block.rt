@@ -17,11 +17,11 @@ const FEWEST: usize = 512;
 const LONGEST_LINE: usize = 128;
 
 /// A reader of the records that remain: of the bytes that were read ahead, and of the source after them.
-pub type RecordsLeft<R> = Reader<Chain<Cursor<Vec<u8>>, Fused<R>>>;
+pub(crate) type RecordsLeft<R> = Reader<Chain<Cursor<Vec<u8>>, Fused<R>>>;
 
 /// A source, and bytes that were read ahead from it.
 #[derive(Drop)]
-pub struct Block<R> {
+pub(crate) struct Block<R> {
     source: Fused<R>,
     held: Vec<u8>,
     at: usize,
@@ -37,7 +37,7 @@ impl<R: Read> Block<R> {
     ghost use Rattle.device_rows.specs.Source.{HasCause, IsOpen, StandsAt};
 
     /// Returns a block of a source from which nothing was read yet.
-    pub fn new(alloc: Global, source: R) -> Block<R>
+    pub(crate) fn new(alloc: Global, source: R) -> Block<R>
         ensures { (bytes : List ℕ) → R.remaining source ≡ Some bytes
             → Holds R.remaining result bytes }
     {
@@ -50,14 +50,14 @@ impl<R: Read> Block<R> {
     }
 
     /// The bytes that were read and not yet consumed.
-    pub fn text(&self) -> &[u8]
+    pub(crate) fn text(&self) -> &[u8]
         ensures { result.now ≡ unread self.now }
     {
         &self.held[self.at..]
     }
 
     /// Consumes this many bytes.
-    pub fn advance(&mut self, count: usize)
+    pub(crate) fn advance(&mut self, count: usize)
         requires { count ≤ length (unread self.old) }
         ensures unread { unread self.new ≡ drop count (unread self.old) }
         ensures source { self.new.source ≡ self.old.source }
@@ -70,7 +70,7 @@ impl<R: Read> Block<R> {
     /// # Errors
     ///
     /// `ReadFailed`, `OutOfMemory`. The block can't be used after an error.
-    pub fn refill(&mut self, alloc: Global) -> Result<bool, ReadError>
+    pub(crate) fn refill(&mut self, alloc: Global) -> Result<bool, ReadError>
         ensures holds { OnOk result ((bytes : List ℕ) → Holds R.remaining self.old bytes
             → Holds R.remaining self.new bytes) }
         ensures fault { IfErr result HasCause }
@@ -93,7 +93,7 @@ impl<R: Read> Block<R> {
 
     /// Returns whether the unread bytes contain a line end, or are more than [`LONGEST_LINE`]. A carriage return counts too:
     /// the line feed after it may arrive much later.
-    pub fn has_line(&self) -> bool {
+    pub(crate) fn has_line(&self) -> bool {
         let text = self.text();
         text.len() > LONGEST_LINE || text.contains(&b'\n') || text.contains(&b'\r')
     }
@@ -103,7 +103,7 @@ impl<R: Read> Block<R> {
     /// # Errors
     ///
     /// Those of [`refill`](Block::refill).
-    pub fn fill_line(&mut self, alloc: Global) -> Result<(), ReadError>
+    pub(crate) fn fill_line(&mut self, alloc: Global) -> Result<(), ReadError>
         ensures holds { OnOk result ((bytes : List ℕ) → Holds R.remaining self.old bytes
             → Holds R.remaining self.new bytes) }
         ensures fault { IfErr result HasCause }
@@ -117,7 +117,7 @@ impl<R: Read> Block<R> {
     }
 
     /// Returns a reader of the records of a text of which nothing was consumed.
-    pub fn records(self, alloc: Global) -> RecordsLeft<R>
+    pub(crate) fn records(self, alloc: Global) -> RecordsLeft<R>
         ensures opened { IsOpen result }
         ensures start { (bytes : List ℕ) → Holds R.remaining self bytes
             → StandsAt (left_remaining R.remaining)
@@ -145,7 +145,7 @@ impl<R: Read + Drop> Block<R> {
 
     /// Returns a reader of the records after those that were consumed. An empty line is put in front, because a byte-order mark
     /// is skipped only at the start of a text; the line is no record.
-    pub fn records_left(self, alloc: Global) -> Result<RecordsLeft<R>, AllocError>
+    pub(crate) fn records_left(self, alloc: Global) -> Result<RecordsLeft<R>, AllocError>
         ensures opened { IfOk result (λ reader. IsOpen reader) }
         ensures start { IfOk result (λ reader. (bytes : List ℕ) → Holds R.remaining self bytes
             → StandsAt (left_remaining R.remaining)

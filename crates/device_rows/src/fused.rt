@@ -7,7 +7,7 @@ use std::io::{self, Read};
 /// A reader that isn't read again after its end, like an iterator after `Iterator::fuse`. Both the code that reads ahead and
 /// `csv` read to the end of a text: without this, a terminal would need a second Ctrl-D.
 #[derive(Drop)]
-pub struct Fused<R> {
+pub(crate) struct Fused<R> {
     source: R,
     has_ended: bool,
 }

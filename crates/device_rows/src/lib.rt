@@ -8,24 +8,26 @@
 mod block;
 mod event;
 mod fault;
+mod format;
 mod fused;
 mod laws;
 mod plain;
 mod record;
 mod row;
+mod rows;
 mod source;
 mod switch;
 mod trace;
 
-pub use block::{Block, RecordsLeft};
 pub use event::RowEvent;
 pub use fault::TraceFault;
-pub use fused::Fused;
+pub use format::Format;
 pub use laws::{first_fault_stands, first_records_decide};
 pub use plain::number;
 pub use record::number_below_21;
 pub use row::Row;
-pub use source::{NextRecord, ReadError, next_record, reader_of};
+pub use rows::Rows;
+pub use source::ReadError;
 pub use switch::Switch;
 pub use trace::{MOST_ROWS, Trace, read_trace};
 

@@ -1,13 +1,11 @@
 //! Reading records, one by one.
 
-ghost use Rattle.std.specs.Prelude.{◌≡◌, ℕ, List, [], Some, true, false};
+ghost use Rattle.std.specs.Prelude.{◌≡◌, ℕ, List, [], Some, Ok, IfErr, true, false};
 ghost use Rattle.csv.specs.Machine.{next_record};
 ghost use Rattle.csv.specs.Reading.{default_config, reader_state, strip_bom};
 ghost use Rattle.csv.specs.Records.{fields_of};
 ghost use Rattle.csv.specs.declared.parser.State.TheVariants as state;
-ghost use Rattle.device_rows.specs.Failures.{HasFailed, IsTraceOutOfMemory};
-ghost use Rattle.device_rows.specs.Source.{IsOpen, StandsAt, ReadsNext};
-ghost use Rattle.device_rows.specs.declared.source.NextRecord.TheVariants as next;
+ghost use Rattle.device_rows.specs.Source.{HasCause, IsOpen, StandsAt, ReadsNext};
 
 use csv::{ByteRecord, ErrorKind, Reader, ReaderBuilder};
 use std::alloc::{AllocError, Global};
@@ -15,7 +13,7 @@ use std::io::Read;
 use thiserror::Error;
 
 /// Returns a reader of records of any length, without a header row of its own.
-pub fn reader_of<R: Read>(alloc: Global, source: R) -> Reader<R>
+pub(crate) fn reader_of<R: Read>(alloc: Global, source: R) -> Reader<R>
     ensures opened { IsOpen result }
     ensures start { (bytes : List ℕ) → R.remaining source ≡ Some bytes
         → StandsAt R.remaining result (strip_bom bytes) }
@@ -48,40 +46,32 @@ impl From<AllocError> for ReadError {
     }
 }
 
-/// The result of a read.
-#[derive(Clone, Copy)]
-pub enum NextRecord {
-    /// A record.
-    Record,
-    /// The end of the text.
-    End,
-    /// The reader failed.
-    ReadFailed,
-    /// Out of memory.
-    OutOfMemory,
-}
-
-/// Reads the next record, which may have any length and any bytes. The result is a plain enum, which fits into a register.
-pub fn next_record<R: Read>(reader: &mut Reader<R>, fields: &mut ByteRecord) -> NextRecord
+/// Reads the next record, which may have any length and any bytes. Returns false at the end of the text.
+///
+/// # Errors
+///
+/// `ReadFailed`, `OutOfMemory`.
+pub(crate) fn next_record<R: Read>(
+    reader: &mut Reader<R>,
+    fields: &mut ByteRecord,
+) -> Result<bool, ReadError>
     requires { IsOpen reader.old }
-    ensures opened { result ≡ next.Record → IsOpen reader.new }
-    ensures record { result ≡ next.Record → (bytes : List ℕ) → StandsAt R.remaining reader.old bytes
+    ensures opened { result ≡ Ok true → IsOpen reader.new }
+    ensures record { result ≡ Ok true → (bytes : List ℕ) → StandsAt R.remaining reader.old bytes
         → ReadsNext R.remaining
         (next_record default_config (reader_state reader.old) [] [] bytes) true
         (fields_of fields.new) reader.new }
-    ensures end { result ≡ next.End → (bytes : List ℕ) → StandsAt R.remaining reader.old bytes
+    ensures end { result ≡ Ok false → (bytes : List ℕ) → StandsAt R.remaining reader.old bytes
         → ReadsNext R.remaining
         (next_record default_config (reader_state reader.old) [] [] bytes) false
         (fields_of fields.new) reader.new }
-    ensures failed { result ≡ next.ReadFailed → HasFailed }
-    ensures memory { result ≡ next.OutOfMemory → IsTraceOutOfMemory }
+    ensures fault { IfErr result HasCause }
 {
     match reader.read_byte_record(fields) {
-        Ok(true) => NextRecord::Record,
-        Ok(false) => NextRecord::End,
+        Ok(found) => Ok(found),
         Err(error) => match error.kind() {
-            ErrorKind::OutOfMemory => NextRecord::OutOfMemory,
-            ErrorKind::Io(_) => NextRecord::ReadFailed,
+            ErrorKind::OutOfMemory => Err(ReadError::OutOfMemory),
+            ErrorKind::Io(_) => Err(ReadError::ReadFailed),
             _ => unreachable!(),
         },
     }

@@ -1,36 +1,27 @@
 //! Reading a trace.
 
-ghost use Rattle.std.specs.Prelude.{◌≡◌, ◌≤◌, ◌<◌, ◌+◌, ◌++◌, length, OnOk, ◌⊎◌, ℕ, List, [], Option, Some, Ok, Err, IfOk, IfErr, MatchResult, true, false, vec_items};
-ghost use Rattle.csv.specs.Machine.{next_record};
-ghost use Rattle.csv.specs.Reading.{default_config, reader_state, records_from, strip_bom};
+ghost use Rattle.std.specs.Prelude.{◌≡◌, ◌≤◌, ◌<◌, ◌+◌, ◌++◌, length, OnOk, ◌⊎◌, ℕ, List, [], Some, Ok, Err, IfOk, IfErr, MatchResult, vec_items};
 ghost use Rattle.csv.specs.Records.{fields_of};
-ghost use Rattle.csv.specs.declared.parser.State.TheVariants as state;
 ghost use Rattle.device_rows.specs.Range.{IsWithin};
-ghost use Rattle.device_rows.specs.Adding.{AddsNext, IsSoFar, rows_with};
-ghost use Rattle.device_rows.specs.Block.{Holds};
-ghost use Rattle.device_rows.specs.Failures.{HasFailed, IsTraceOutOfMemory};
-ghost use Rattle.device_rows.specs.Source.{IsOpen, IsReadFailure, StandsAt, ReadsNext};
-ghost use Rattle.device_rows.specs.Trace.{AcceptedAfter, TraceView, records_of, rows_after, trace_of, version_in, with_row};
-ghost use Rattle.device_rows.specs.declared.source.NextRecord.TheVariants as next;
-ghost use Rattle.device_rows.specs.declared.row.Row.{Row};
+ghost use Rattle.device_rows.specs.Adding.{AddsNext, CanAdd, IsSoFar, TakesRows};
+ghost use Rattle.device_rows.specs.Rows.{StartsWithRecords};
+ghost use Rattle.device_rows.specs.Source.{IsReadFailure};
+ghost use Rattle.device_rows.specs.Trace.{AcceptedAfter, TraceView, records_of, trace_of, version_in, with_row};
 
-use crate::block::Block;
 use crate::fault::TraceFault;
+use crate::format::Format;
 use crate::plain::{plain_row, plain_titles};
 use crate::record::{row_of, version_of};
 use crate::row::Row;
-use crate::source::{NextRecord, next_record};
+use crate::rows::Rows;
 use crate::switch::Switches;
-use csv::{ByteRecord, Reader};
-use std::alloc::Global;
+use csv::ByteRecord;
+use std::alloc::{AllocError, Global};
 use std::io::Read;
 use std::marker::Model;
 
 /// The most rows of a trace.
 pub const MOST_ROWS: u32 = 100000;
-
-// Room for any row whose numbers have at most twenty digits, so that the record never grows for a valid row.
-const RECORD_BYTES: usize = 96;
 
 /// The version of a trace and its rows, in order: at most [`MOST_ROWS`], each with its numbers in their ranges and allowed by
 /// those before it.
@@ -99,10 +90,10 @@ fn add_plain<'t>(
 ) -> &'t [u8]
     requires { IsSoFar switches.old.of rows.old }
     ensures so_far { IsSoFar switches.new.of rows.new }
-    ensures behind { (used : List ℕ) × (text.now ≡ used ++ result.now) }
-    ensures same { (more : List ℕ)
-        → rows_with version (vec_items rows.old) state.StartRecord (text.now ++ more)
-        ≡ rows_with version (vec_items rows.new) state.StartRecord (result.now ++ more) }
+    ensures rows { (front : List (List (List ℕ))) × StartsWithRecords text.now front result.now
+        × TakesRows version (vec_items rows.old) front (vec_items rows.new) }
+    ensures kept { length (vec_items rows.new) ≡ length (vec_items rows.old)
+        → (rows.new ≡ rows.old) × (switches.new ≡ switches.old) }
 {
     let mut left = text;
     for before in rows.len() as u32..MOST_ROWS {
@@ -118,138 +109,101 @@ fn add_plain<'t>(
     left
 }
 
-// Appends the plain rows among the bytes that are read.
-fn add_held<R: Read>(
+// The rows of a trace that were taken so far.
+#[derive(Drop)]
+struct TraceRows {
     version: u32,
-    block: &mut Block<R>,
-    switches: &mut Switches,
-    rows: &mut Vec<Row>,
-)
-    requires { IsSoFar switches.old.of rows.old }
-    ensures so_far { IsSoFar switches.new.of rows.new }
-    ensures same { (bytes : List ℕ) → Holds R.remaining block.old bytes
-        → (left : List ℕ) × Holds R.remaining block.new left
-        × (rows_with version (vec_items rows.old) state.StartRecord bytes
-        ≡ rows_with version (vec_items rows.new) state.StartRecord left) }
-{
-    let left = add_plain(version, block.text(), switches, rows).len();
-    let used = block.text().len() - left;
-    block.advance(used);
+    switches: Switches,
+    rows: Vec<Row>,
 }
 
-// Appends the plain rows of a block, up to the first record that isn't plain or has an error.
-fn add_block<R: Read>(
-    alloc: Global,
-    version: u32,
-    block: &mut Block<R>,
-    switches: &mut Switches,
-    rows: &mut Vec<Row>,
-) -> Result<(), TraceFault>
-    requires { IsSoFar switches.old.of rows.old }
-    ensures so_far { OnOk result (IsSoFar switches.new.of rows.new) }
-    ensures same { OnOk result ((bytes : List ℕ) → Holds R.remaining block.old bytes
-        → (left : List ℕ) × Holds R.remaining block.new left
-        × (rows_with version (vec_items rows.old) state.StartRecord bytes
-        ≡ rows_with version (vec_items rows.new) state.StartRecord left)) }
-    ensures fault { IfErr result IsReadFailure }
-{
-    for _ in 0..u64::MAX {
-        add_held(version, block, switches, rows);
-        if block.has_line() {
-            return Ok(());
-        }
-        if !block.refill(alloc)? {
-            return Ok(());
-        }
+impl TraceRows {
+    ghost use Rattle.std.specs.Prelude.{◌≡◌, [], IfOk, vec_items};
+    ghost use Rattle.device_rows.specs.Adding.{CanAdd};
+
+    // Returns no rows, with room for all: memory that is never written costs nothing, and no row is moved.
+    fn new(alloc: Global) -> Result<TraceRows, AllocError>
+        ensures ready { IfOk result CanAdd }
+        ensures empty { IfOk result (λ so_far. vec_items so_far.rows ≡ []) }
+    {
+        Ok(TraceRows {
+            version: 1,
+            switches: Switches::new(),
+            rows: Vec::with_capacity(alloc, MOST_ROWS as usize)?,
+        })
     }
-    Ok(())
 }
 
-// Returns the trace of the rows so far and of those that remain in the reader, or the first error among these.
-fn read_rows<R: Read>(
-    alloc: Global,
-    version: u32,
-    reader: &mut Reader<R>,
-    mut switches: Switches,
-    mut rows: Vec<Row>,
-) -> Result<Trace, TraceFault>
-    requires reader { IsOpen reader.old }
-    requires version { IsWithin 1 2 version }
-    requires so_far { IsSoFar switches.of rows }
-    ensures version { IfOk result (λ trace. trace.version ≡ version) }
-    ensures rows { IfOk result (λ trace. (bytes : List ℕ) → StandsAt R.remaining reader.old bytes
-        → rows_with version (vec_items rows) (reader_state reader.old) bytes ≡ Ok trace.rows) }
-    ensures fault { IfErr result (λ fault. (bytes : List ℕ) → StandsAt R.remaining reader.old bytes
-        → IsReadFailure fault
-        ⊎ (rows_with version (vec_items rows) (reader_state reader.old) bytes ≡ Err fault)) }
-{
-    let mut fields = ByteRecord::with_capacity(alloc, RECORD_BYTES, 4)?;
-    for before in rows.len() as u32..MOST_ROWS + 1 {
-        match next_record(reader, &mut fields) {
-            NextRecord::Record => {}
-            NextRecord::End => break,
-            NextRecord::ReadFailed => return Err(TraceFault::ReadFailed),
-            NextRecord::OutOfMemory => return Err(TraceFault::OutOfMemory),
+impl Format for TraceRows {
+    type Fault = TraceFault;
+
+    ghost use Rattle.std.specs.Prelude.{◌≡◌, None};
+    ghost use Rattle.device_rows.specs.Adding.{CanAdd, RefusesRow, TakesMore, TakesTitles};
+    ghost use Rattle.device_rows.specs.Record.{version_of};
+    ghost use Rattle.device_rows.specs.Source.{IsReadFailure};
+    ghost use Rattle.device_rows.specs.declared.fault.TraceFault.TheVariants.{BadHeader};
+
+    ghost ready = { CanAdd };
+
+    ghost titled = { TakesTitles };
+
+    ghost untitled = { λ _ fields. version_of fields ≡ None };
+
+    ghost takes = { TakesMore };
+
+    ghost refuses = { RefusesRow };
+
+    ghost outside = { IsReadFailure };
+
+    ghost bad_titles = { BadHeader };
+
+    ghost causes = { λ _ _ gives cause. gives cause };
+
+    fn plain_titles<'t>(&mut self, text: &'t [u8]) -> Option<&'t [u8]> {
+        let (version, rest) = plain_titles(text)?;
+        self.version = version;
+        Some(rest)
+    }
+
+    fn titles(&mut self, fields: &ByteRecord) -> bool {
+        let Some(version) = version_of(fields) else {
+            return false;
+        };
+        self.version = version;
+        true
+    }
+
+    fn no_titles() -> TraceFault {
+        TraceFault::BadHeader
+    }
+
+    fn plain<'t>(&mut self, text: &'t [u8]) -> Option<&'t [u8]> {
+        let before = self.rows.len();
+        let rest = add_plain(self.version, text, &mut self.switches, &mut self.rows);
+        if self.rows.len() == before {
+            return None;
         }
+        Some(rest)
+    }
+
+    fn record(&mut self, fields: &ByteRecord) -> Result<(), TraceFault> {
+        let before = self.rows.len() as u32;
         if before == MOST_ROWS {
             return Err(TraceFault::TooManyRows);
         }
-        add_row(version, before + 1, &fields, &mut switches, &mut rows)?;
+        add_row(
+            self.version,
+            before + 1,
+            fields,
+            &mut self.switches,
+            &mut self.rows,
+        )?;
+        Ok(())
     }
-    Ok(Trace { version, rows })
 }
 
-// Returns the trace of a block after the titles.
-fn plain_trace<R: Read + Drop>(
-    alloc: Global,
-    version: u32,
-    mut block: Block<R>,
-) -> Result<Trace, TraceFault>
-    requires { IsWithin 1 2 version }
-    ensures version { IfOk result (λ trace. trace.version ≡ version) }
-    ensures rows { IfOk result (λ trace. (bytes : List ℕ) → Holds R.remaining block bytes
-        → rows_with version [] state.StartRecord bytes ≡ Ok trace.rows) }
-    ensures fault { IfErr result (λ fault. (bytes : List ℕ) → Holds R.remaining block bytes
-        → IsReadFailure fault ⊎ (rows_with version [] state.StartRecord bytes ≡ Err fault)) }
-{
-    // Room for all rows at once: memory that is never written costs nothing, and no row is moved.
-    let mut rows = Vec::with_capacity(alloc, MOST_ROWS as usize)?;
-    let mut switches = Switches::new();
-    add_block(alloc, version, &mut block, &mut switches, &mut rows)?;
-    let mut reader = block.records_left(alloc)?;
-    read_rows(alloc, version, &mut reader, switches, rows)
-}
-
-// Returns the trace of a reader of a text of which nothing was consumed.
-fn record_trace<R: Read>(alloc: Global, reader: &mut Reader<R>) -> Result<Trace, TraceFault>
-    requires reader { IsOpen reader.old }
-    ensures rows { IfOk result (λ trace. (bytes : List ℕ) → StandsAt R.remaining reader.old bytes
-        → trace_of (records_from default_config 100002 (reader_state reader.old) bytes)
-        ≡ Ok trace.rows) }
-    ensures version { IfOk result (λ trace. (bytes : List ℕ) → StandsAt R.remaining reader.old bytes
-        → trace.version
-        ≡ version_in (records_from default_config 100002 (reader_state reader.old) bytes)) }
-    ensures fault { IfErr result (λ fault. (bytes : List ℕ) → StandsAt R.remaining reader.old bytes
-        → IsReadFailure fault
-        ⊎ (trace_of (records_from default_config 100002 (reader_state reader.old) bytes)
-        ≡ Err fault)) }
-{
-    let mut fields = ByteRecord::with_capacity(alloc, RECORD_BYTES, 4)?;
-    match next_record(reader, &mut fields) {
-        NextRecord::Record => {}
-        NextRecord::End => return Err(TraceFault::BadHeader),
-        NextRecord::ReadFailed => return Err(TraceFault::ReadFailed),
-        NextRecord::OutOfMemory => return Err(TraceFault::OutOfMemory),
-    }
-    let Some(version) = version_of(&fields) else {
-        return Err(TraceFault::BadHeader);
-    };
-    let rows = Vec::with_capacity(alloc, MOST_ROWS as usize)?;
-    read_rows(alloc, version, reader, Switches::new(), rows)
-}
-
-/// Reads the rows of a trace, or its first error. It asks for at most 100002 records, of any length. It reads ahead of the row
-/// that decides, and a read error there is its result. After an error it keeps nothing.
+/// Reads the rows of a trace, or its first error. It reads ahead of the row that decides, and a read error there is its result.
+/// After an error it keeps nothing.
 pub fn read_trace<R: Read + Drop>(alloc: Global, source: R) -> Result<Trace, TraceFault>
     // The rows are those of the bytes read, if the source's bytes are known.
     ensures rows { IfOk result
@@ -262,12 +216,13 @@ pub fn read_trace<R: Read + Drop>(alloc: Global, source: R) -> Result<Trace, Tra
     ensures fault { IfErr result (λ fault. (bytes : List ℕ) → R.remaining source ≡ Some bytes
         → IsReadFailure fault ⊎ (trace_of (records_of bytes) ≡ Err fault)) }
 {
-    let mut block = Block::new(alloc, source);
-    block.fill_line(alloc)?;
-    let Some((version, left)) = plain_titles(block.text()) else {
-        return record_trace(alloc, &mut block.records(alloc));
-    };
-    let used = block.text().len() - left.len();
-    block.advance(used);
-    plain_trace(alloc, version, block)
+    let mut so_far = TraceRows::new(alloc)?;
+    let mut left = Rows::new(alloc, source, &mut so_far)?;
+    for _ in 0..MOST_ROWS + 1 {
+        if !left.take(&mut so_far)? {
+            break;
+        }
+    }
+    let TraceRows { version, rows, .. } = so_far;
+    Ok(Trace { version, rows })
 }

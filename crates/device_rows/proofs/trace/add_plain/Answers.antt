@@ -1,15 +1,14 @@
-use Rattle.std.proofs.Common.{◌≡◌, ◌∙◌, ◌+◌, ◌<◌, [], ◌∷◌, ◌++◌, Ok, length, vec_items, refl, sym, ap, arith, append_assoc}
-use Rattle.csv.specs.declared.parser.State.TheVariants as state
-use Rattle.device_rows.specs.{Adding.rows_with, Trace.{with_row}}
-use Rattle.device_rows.proofs.{Accepted.so_far-push, RowsFacts.{with-next, with_row-good}}
+use Rattle.std.proofs.Common.{◌≡◌, ◌∙◌, ◌+◌, ◌<◌, [], ◌∷◌, ◌++◌, Ok, length, vec_items, refl, sym, arith}
+use Rattle.device_rows.specs.Trace.{with_row}
+use Rattle.device_rows.proofs.{Accepted.so_far-push, RemainsFacts.{starts-more, starts-none}, RowsFacts.{takes-more, takes-none, with_row-good}}
 use Rattle.device_rows.proofs.trace.add_plain.Goals as goal
 
 pub loop-before-init : goal.loop-before-init
 loop-before-init c = record {
   so_far = c.requires;
   count = omega (arith, c.len-before.ensures, c.requires.filled);
-  behind = ([], refl);
-  same = λ more. refl;
+  rows = ([], starts-none c.args.text.now, takes-none c.args.version (vec_items c.args.rows.now));
+  kept = λ same. (refl, refl);
 }
 
 pub push_reserved-requires : goal.push_reserved-requires
@@ -37,18 +36,19 @@ loop-before-preserved c =
     let pushed =
     so_far-push c.loop-before.switches.of c.accept.new.self.of c.loop-before.rows c.push_reserved.new.self c.in-Some.row so_far below
     c.push_reserved.ensures.items c.push_reserved.ensures.len c.push_reserved.ensures.capacity tracks next in
-    let (used, splits) = c.loop-before.invariant.behind in
+    let count : length (vec_items c.push_reserved.new.self) ≡ length (vec_items c.loop-before.rows) + 1 =
+    omega (arith, c.push_reserved.ensures.len, pushed.filled, so_far.filled) in
+    let (front, reads, takes) = c.loop-before.invariant.rows in
     record {
       so_far = pushed;
-      count = omega (arith, c.push_reserved.ensures.len, pushed.filled, so_far.filled, c.loop-before.invariant.count);
-      behind = (
-        used ++ starts.starts.used,
-        splits ∙ ap (λ t. used ++ t) starts.starts.splits ∙ sym (append_assoc used starts.starts.used c.in-Some.behind.now),
+      count = omega (arith, count, c.loop-before.invariant.count);
+      rows = (
+        front ++ starts.fields ∷ [],
+        starts-more c.args.text.now c.loop-before.left.now c.in-Some.behind.now front starts.fields reads starts.starts,
+        takes-more c.args.version (vec_items c.args.rows.now) (vec_items c.loop-before.rows) (vec_items c.push_reserved.new.self) front
+            starts.fields takes below (rw c.push_reserved.ensures.items one) count,
       );
-      same = λ more. c.loop-before.invariant.same more
-          ∙ with-next c.args.version (vec_items c.loop-before.rows) c.in-Some.row starts.fields state.StartRecord state.StartRecord
-          (c.loop-before.left.now ++ more) (c.in-Some.behind.now ++ more) below (starts.starts.reads more) one
-          ∙ ap (λ r. rows_with c.args.version r state.StartRecord (c.in-Some.behind.now ++ more)) (sym c.push_reserved.ensures.items);
+      kept = λ same. absurd (omega (arith, same, count, takes.grows));
     }
 
 pub returns-then-not-accept-clause-so_far : goal.returns-then-not-accept-clause-so_far

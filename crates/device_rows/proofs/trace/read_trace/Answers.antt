@@ -1,56 +1,63 @@
-use Rattle.std.proofs.{Common.{◌∙◌, ◌-◌, length, refl, sym, ap, arith}, lemmas.Result.{IfErr-weaker, IfOk-weaker}}
-use Rattle.{csv.specs.Reading.strip_bom, device_rows.proofs.{BlockFacts.titles-used, DecidingFacts.{asked-decide, asked-version}}}
-use Rattle.device_rows.proofs.RowsFacts.{first-version, trace-rows}
+use Rattle.std.proofs.{Common.{◌≡◌, ◌∙◌, Ok, ap, arith, inl, inr, rules, sym, true, false, vec_items}, lemmas.Result.err_from_is_err_and}
+use Rattle.device_rows.{specs.Trace.rows_after, proofs.RowsFacts.{first-version, rows-end, trace-rows}}
+use Rattle.device_rows.proofs.trace.read_trace.Goals.{else-loop-test, then-loop-test+in_ok-take+then-not-branch}
 use Rattle.device_rows.proofs.trace.read_trace.Goals as goal
 
-pub returns-in_default-clause-rows : goal.returns-in_default-clause-rows
-returns-in_default-clause-rows g c =
-    IfOk-weaker c.record_trace.result _ _ (λ trace told bytes known.
-    let start = c.records.ensures.start bytes (c.in_ok-fill_line.ensures.holds bytes (c.new-block.ensures bytes known)) in
-    asked-decide 100002 _ bytes (omega arith) c.records.ensures.state ∙ told (strip_bom bytes) start) c.record_trace.ensures.rows
+pub loop-init : goal.loop-init
+loop-init g c = record {
+  opened = c.in_ok-left.ensures.opened;
+  ready = c.in_ok-left.ensures.ready;
+  count = omega arith;
+  goes_on = λ bytes known.
+      let first = c.in_ok-left.ensures.titles bytes known in
+      let version = c.new-2.new.format.version in (
+        first.rest,
+        first.remains,
+        trace-rows version _ first.header first.rest first.splits first.titles.version
+            ∙ ap (λ rows. rows_after version rows first.rest)
+            (sym (ap (λ rows. vec_items rows) first.titles.rows ∙ c.in_ok-so_far.ensures.empty)),
+        first-version version _ first.header first.rest first.splits first.titles.version,
+      );
+}
 
-pub returns-in_default-clause-version : goal.returns-in_default-clause-version
-returns-in_default-clause-version g c =
-    IfOk-weaker c.record_trace.result _ _ (λ trace told bytes known.
-    let start = c.records.ensures.start bytes (c.in_ok-fill_line.ensures.holds bytes (c.new-block.ensures bytes known)) in
-    told (strip_bom bytes) start ∙ sym (asked-version 100002 _ bytes (omega arith) c.records.ensures.state)) c.record_trace.ensures.version
+pub loop-preserved : goal.loop-preserved
+loop-preserved g c =
+    let found : c.take.result ≡ Ok true = search rules in
+    let (front, takes, follows) = c.take.ensures.rows found in
+    record {
+      opened = c.take.ensures.opened found;
+      ready = c.in_ok-take.ensures.ready;
+      count = omega (arith, c.loop.invariant.count, takes.some);
+      goes_on = λ bytes known.
+          let (records, remains, so_far, version) = c.loop.invariant.goes_on bytes known in
+          let (rest, splits, left) = follows records remains in (
+            rest,
+            left,
+            so_far ∙ ap (rows_after c.loop.so_far.version (vec_items c.loop.so_far.rows)) splits ∙ takes.rows.same rest
+                ∙ ap (λ v. rows_after v (vec_items c.take.new.format.rows) rest) (sym takes.version),
+            version ∙ sym takes.version,
+          );
+    }
 
-pub returns-in_default-clause-fault : goal.returns-in_default-clause-fault
-returns-in_default-clause-fault g c =
-    IfErr-weaker c.record_trace.result _ _ (λ fault told bytes known.
-    let start = c.records.ensures.start bytes (c.in_ok-fill_line.ensures.holds bytes (c.new-block.ensures bytes known)) in
-    rw (asked-decide 100002 _ bytes (omega arith) c.records.ensures.state) (told (strip_bom bytes) start)) c.record_trace.ensures.fault
+pub returns-in_err-take-clause-fault : goal.returns-in_err-take-clause-fault
+returns-in_err-take-clause-fault g c =
+    let p = err_from_is_err_and c.from_residual-in_err-take.result c.from_residual-in_err-take.ensures.1 in
+    rw (p.1, p.2) (λ bytes known.
+    let (records, remains, so_far, version) = c.loop.invariant.goes_on bytes known in
+    elim c.in_err-take.ensures.fault [
+      | inl is ↦ inl is
+      | inr faulty ↦
+          let (rest, splits) = faulty.next records remains in
+          inr (so_far ∙ ap (rows_after c.loop.so_far.version (vec_items c.loop.so_far.rows)) splits ∙ faulty.refused rest)
+    ])
 
 pub returns-clause-rows : goal.returns-clause-rows
-returns-clause-rows g c =
-    IfOk-weaker c.plain_trace.result _ _ (λ trace told bytes known.
-    let holds = c.in_ok-fill_line.ensures.holds bytes (c.new-block.ensures bytes known) in
-    let size = ap (λ t. length t - length c.in-Some.left.now) (c.text-2.ensures ∙ sym c.text.ensures) in
-    let titles = c.in-Some.ensures.titles in
-    let (left, stands, one) =
-    titles-used g.R.Read.remaining c.fill_line.new.self c.advance.new.self c.text.result.now c.in-Some.left.now bytes _ c.in-Some.version
-    c.text.ensures titles size c.advance.ensures.unread c.advance.ensures.source holds in
-    asked-decide 100002 _ bytes (omega arith) refl ∙ trace-rows _ _ _ _ one titles.tells ∙ told left stands) c.plain_trace.ensures.rows
-
-pub returns-clause-version : goal.returns-clause-version
-returns-clause-version g c =
-    IfOk-weaker c.plain_trace.result _ _ (λ trace told bytes known.
-    let holds = c.in_ok-fill_line.ensures.holds bytes (c.new-block.ensures bytes known) in
-    let size = ap (λ t. length t - length c.in-Some.left.now) (c.text-2.ensures ∙ sym c.text.ensures) in
-    let titles = c.in-Some.ensures.titles in
-    let (left, stands, one) =
-    titles-used g.R.Read.remaining c.fill_line.new.self c.advance.new.self c.text.result.now c.in-Some.left.now bytes _ c.in-Some.version
-    c.text.ensures titles size c.advance.ensures.unread c.advance.ensures.source holds in
-    told ∙ sym (asked-version 100002 _ bytes (omega arith) refl ∙ first-version _ _ _ _ one titles.tells)) c.plain_trace.ensures.version
-
-pub returns-clause-fault : goal.returns-clause-fault
-returns-clause-fault g c =
-    IfErr-weaker c.plain_trace.result _ _ (λ fault told bytes known.
-    let holds = c.in_ok-fill_line.ensures.holds bytes (c.new-block.ensures bytes known) in
-    let size = ap (λ t. length t - length c.in-Some.left.now) (c.text-2.ensures ∙ sym c.text.ensures) in
-    let titles = c.in-Some.ensures.titles in
-    let (left, stands, one) =
-    titles-used g.R.Read.remaining c.fill_line.new.self c.advance.new.self c.text.result.now c.in-Some.left.now bytes _ c.in-Some.version
-    c.text.ensures titles size c.advance.ensures.unread c.advance.ensures.source holds in
-    rw (asked-decide 100002 _ bytes (omega arith) refl ∙ trace-rows _ _ _ _ one titles.tells) (told left stands))
-    c.plain_trace.ensures.fault
+returns-clause-rows g c bytes known =
+    let (records, remains, so_far, version) = c.loop.invariant.goes_on bytes known in
+    elim c.loop-test.branch [
+      | else-loop-test w ↦ absurd (omega (arith, w.loop-test, c.loop.invariant.count, c.loop.invariant.ready.1.few))
+      | then-loop-test+in_ok-take+then-not-branch w ↦
+          let ended : w.take.result ≡ Ok false = search rules in
+          so_far ∙ ap (rows_after c.loop.so_far.version (vec_items c.loop.so_far.rows)) (w.take.ensures.end ended records remains)
+          ∙ rows-end c.loop.so_far.version (vec_items c.loop.so_far.rows) ∙ ap (λ t. Ok (vec_items t.rows)) (sym (w.so_far-is ∙ w.take.ensures.none ended))
+    ]
