@@ -6,7 +6,7 @@ use Rattle.csv.specs.{Machine.{Read, ends_at_end, next_record}, Reading.{default
 use Rattle.csv.specs.declared.{reader.Reader.Reader, parser.State.State}
 use Rattle.device_rows.specs.{Block.{Holds, left_remaining, unread}, Source.{StandsAt, ReadsNext}, Trace.records_of}
 use Rattle.device_rows.specs.Plain.{StartsWithRecord, StartsWithTitle}
-use Rattle.device_rows.specs.Rows.{Follows, IsFaulty, IsTitled, IsUntitled, RemainsIn, StartsWithRecords, records_in}
+use Rattle.device_rows.specs.Rows.{Follows, IsFaulty, IsUntitled, RemainsIn, StartsBy, StartsWithRecords, records_in}
 use Rattle.device_rows.specs.declared.{block.Block.Block, fused.Fused.Fused, rows.Left.Left}
 use Rattle.device_rows.proofs.{BlockFacts.used-up, RecordsFacts.{next-end, next-short, records-all, records-next, records-none}}
 
@@ -99,23 +99,18 @@ module _ {R : Type 0} (remaining : R → Option (List ℕ)) where
           record { state = State.StartRecord; bytes = rest ++ more; stands = (refl, stands); between = refl; are = refl },
         )
 
-    pub titles-held : {F : Type 0} (titled : F → List (List ℕ) → F → Type 0) (before after : F) (fields : List (List ℕ)) (bytes : List ℕ)
-        → StartsWithTitle text fields rest → titled before fields after → Holds remaining old bytes
-        → IsTitled remaining titled before (Left.Plain new) after (records_of bytes)
-    titles-held titled before after fields bytes title titles holds =
+    pub titles-held : (titles : List (List ℕ)) (bytes : List ℕ) → StartsWithTitle text titles rest → Holds remaining old bytes
+        → StartsBy remaining (Left.Plain new) titles (records_of bytes)
+    titles-held titles bytes title holds =
         let starts = title.starts in
         let (more, all, stands) = used-up remaining old new text starts.used rest bytes count is starts.splits size behind same holds in
-        let reads : next_record default_config State.StartRecord [] [] (strip_bom bytes)
-        ≡ Some (fields, State.StartRecord, rest ++ more) =
+        let reads : next_record default_config State.StartRecord [] [] (strip_bom bytes) ≡ Some (titles, State.StartRecord, rest ++ more) =
         ap (λ b. next_record default_config State.StartRecord [] [] (strip_bom b)) all
-        ∙ ap (next_record default_config State.StartRecord [] []) (title.unmarked more) ∙ starts.reads more in
-        record {
-          header = fields;
-          rest = records_in State.StartRecord (rest ++ more);
-          splits = all-in bytes ∙ (one-in State.StartRecord (fields, State.StartRecord, rest ++ more) (strip_bom bytes) refl reads).1;
-          titles = titles;
-          remains = record { state = State.StartRecord; bytes = rest ++ more; stands = (refl, stands); between = refl; are = refl };
-        }
+        ∙ ap (next_record default_config State.StartRecord [] []) (title.unmarked more) ∙ starts.reads more in (
+          records_in State.StartRecord (rest ++ more),
+          all-in bytes ∙ (one-in State.StartRecord (titles, State.StartRecord, rest ++ more) (strip_bom bytes) refl reads).1,
+          record { state = State.StartRecord; bytes = rest ++ more; stands = (refl, stands); between = refl; are = refl },
+        )
 
   -- the bytes of a block are read by csv from here on
   pub by-records : (block : Block R) (reader : RecordsLeft R) → reader_state reader ≡ State.StartRecord
@@ -204,8 +199,5 @@ module _ {R : Type 0} (remaining : R → Option (List ℕ)) where
           let (rest, splits, left) = record-taken reads _ (first _ refl) in
           subst (IsUntitled untitled old) (sym splits) other
 
-      pub titles-read : {F : Type 0} (titled : F → List (List ℕ) → F → Type 0) (old new : F) → Reads true → titled old fields new
-          → IsTitled remaining titled old (Left.Records after) new (records_in State.StartRecord bytes)
-      titles-read titled old new reads titles =
-          let (rest, splits, left) = record-taken reads _ (first _ refl) in
-          record { header = fields; rest = rest; splits = splits; titles = titles; remains = left }
+      pub titles-read : Reads true → StartsBy remaining (Left.Records after) fields (records_in State.StartRecord bytes)
+      titles-read reads = record-taken reads _ (first _ refl)

@@ -2,7 +2,7 @@
 use Rattle.std.proofs.{Common.{◌∙◌, ◌<◌, ap, append_assoc, arith}, lemmas.Bool.lt-ltb}
 use Rattle.device_rows.specs.Adding.{TakesRows}
 use Rattle.std.proofs.Common.{◌≡◌, ℕ, ◌+◌, true, false, List, [], ◌∷◌, ◌++◌, length, refl, sym, Some, None}
-use Rattle.{std.specs.Prelude.{Result, Ok, Err, nat_lt}, device_rows.specs.Record.{row_of, version_of}}
+use Rattle.{std.specs.Prelude.{Ok, Err, nat_lt}, device_rows.specs.Record.{row_of, version_of}}
 use Rattle.device_rows.specs.{Switch.{refusal, switch_of}, Trace.{rows_after, trace_of, version_in, with_row}}
 use Rattle.device_rows.specs.declared.{fault.TraceFault.TraceFault, row.Row.Row}
 

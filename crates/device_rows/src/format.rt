@@ -1,6 +1,6 @@
 //! A format of rows: what the reader of rows has to know of it.
 
-ghost use Rattle.std.specs.Prelude.{◌≡◌, ◌⊎◌, ℕ, List, [], ◌∷◌, None, IfErr, IfSome, MatchBool, OnOk};
+ghost use Rattle.std.specs.Prelude.{◌≡◌, ◌⊎◌, ℕ, List, [], ◌∷◌, None, IfErr, IfSome, MatchBool, OnErr, OnOk};
 ghost use Rattle.csv.specs.Records.{fields_of};
 ghost use Rattle.device_rows.specs.Plain.{StartsWithTitle};
 ghost use Rattle.device_rows.specs.Rows.{StartsWithRecords};
@@ -71,7 +71,8 @@ pub trait Format {
         ensures ready { OnOk result (ready self.new) }
         ensures row { OnOk result (takes self.old (fields_of fields.now ∷ []) self.new) }
         ensures fault { IfErr result (λ fault. outside fault
-            ⊎ refuses self.old (fields_of fields.now) fault) };
+            ⊎ refuses self.old (fields_of fields.now) fault) }
+        ensures kept { OnErr result (self.new ≡ self.old) };
 
     /// A reader or an allocation that failed is no error of the rows.
     ghost causes: { (error : ReadError) (fault : Self.Fault) → Self.Fault.from_gives error fault

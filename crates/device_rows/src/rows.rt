@@ -1,10 +1,10 @@
 //! The rows of a text, one after another, in any format.
 
-ghost use Rattle.std.specs.Prelude.{◌≡◌, ◌⊎◌, ℕ, List, [], ◌∷◌, None, Some, Ok, IfErr, IfOk, IfSome, OnOk, true, false};
+ghost use Rattle.std.specs.Prelude.{◌≡◌, ◌⊎◌, ℕ, List, [], ◌∷◌, None, Some, Ok, IfErr, IfOk, IfSome, OnErr, OnOk, true, false};
 ghost use Rattle.csv.specs.Reading.{reader_state};
 ghost use Rattle.csv.specs.declared.parser.State.TheVariants as state;
 ghost use Rattle.device_rows.specs.Block.{Holds, left_remaining};
-ghost use Rattle.device_rows.specs.Rows.{CanRead, Follows, IsByRecords, IsTitled, IsUntitled, TakesNext, records_in};
+ghost use Rattle.device_rows.specs.Rows.{CanRead, Follows, IsByRecords, StartsBy, IsUntitled, TakesNext, records_in};
 ghost use Rattle.device_rows.specs.Source.{HasCause, IsOpen, StandsAt};
 ghost use Rattle.device_rows.specs.declared.rows.Left.TheVariants as left;
 
@@ -61,10 +61,10 @@ fn titled<R: Read + Drop, F: Format>(
     requires ready { F.ready format.old }
     ensures opened { IfOk result CanRead }
     ensures ready { OnOk result (F.ready format.new) }
-    ensures titles { IfOk result (λ left. (bytes : List ℕ)
-        → StandsAt (left_remaining R.remaining) reader bytes
-        → IsTitled R.remaining F.titled format.old left format.new
-        (records_in state.StartRecord bytes)) }
+    ensures titles { IfOk result (λ left. (titles : List (List ℕ))
+        × F.titled format.old titles format.new
+        × ((bytes : List ℕ) → StandsAt (left_remaining R.remaining) reader bytes
+        → StartsBy R.remaining left titles (records_in state.StartRecord bytes))) }
     ensures fault { IfErr result (λ fault. (bytes : List ℕ)
         → StandsAt (left_remaining R.remaining) reader bytes → F.outside fault
         ⊎ ((fault ≡ F.bad_titles)
@@ -111,6 +111,7 @@ fn take_ahead<R: Read, F: Format>(
     ensures kept { result ≡ Ok false → (bytes : List ℕ) → Holds R.remaining block.old bytes
         → Holds R.remaining block.new bytes }
     ensures none { result ≡ Ok false → format.new ≡ format.old }
+    ensures failed { OnErr result (format.new ≡ format.old) }
     ensures fault { IfErr result HasCause }
 {
     if take_held(block, format) {
@@ -133,8 +134,8 @@ fn by_records<R: Read + Drop>(alloc: Global, rows: Left<R>) -> Result<Left<R>, A
 }
 
 impl<R: Read + Drop> Rows<R> {
-    ghost use Rattle.std.specs.Prelude.{◌≡◌, ◌⊎◌, ℕ, List, [], ◌∷◌, Some, Ok, IfErr, IfOk, OnOk, true, false};
-    ghost use Rattle.device_rows.specs.Rows.{Follows, IsByRecords, IsFaulty, IsOpenAt, IsTitled, IsUntitled, Remains, TakesNext};
+    ghost use Rattle.std.specs.Prelude.{◌≡◌, ◌⊎◌, ℕ, List, [], ◌∷◌, Some, Ok, IfErr, IfOk, OnErr, OnOk, true, false};
+    ghost use Rattle.device_rows.specs.Rows.{Follows, IsByRecords, IsFaulty, IsOpenAt, StartsBy, IsUntitled, Remains, TakesNext};
     ghost use Rattle.device_rows.specs.Source.{HasCause};
     ghost use Rattle.device_rows.specs.Trace.{records_of};
 
@@ -143,16 +144,14 @@ impl<R: Read + Drop> Rows<R> {
     /// # Errors
     ///
     /// That of a text without the titles, and those of a reader or an allocation that failed.
-    pub fn new<F: Format>(
-        alloc: Global,
-        source: R,
-        format: &mut F,
-    ) -> Result<Rows<R>, F::Fault>
+    pub fn new<F: Format>(alloc: Global, source: R, format: &mut F) -> Result<Rows<R>, F::Fault>
         requires { F.ready format.old }
         ensures opened { IfOk result IsOpenAt }
         ensures ready { OnOk result (F.ready format.new) }
-        ensures titles { IfOk result (λ rows. (bytes : List ℕ) → R.remaining source ≡ Some bytes
-            → IsTitled R.remaining F.titled format.old rows.left format.new (records_of bytes)) }
+        ensures titles { IfOk result (λ rows. (titles : List (List ℕ))
+            × F.titled format.old titles format.new
+            × ((bytes : List ℕ) → R.remaining source ≡ Some bytes
+            → StartsBy R.remaining rows.left titles (records_of bytes))) }
         ensures fault { IfErr result (λ fault. (bytes : List ℕ) → R.remaining source ≡ Some bytes
             → F.outside fault ⊎ ((fault ≡ F.bad_titles)
             × IsUntitled F.untitled format.old (records_of bytes))) }
@@ -200,6 +199,7 @@ impl<R: Read + Drop> Rows<R> {
         ensures records { result ≡ Ok false → IsByRecords self.new.left }
         ensures same { result ≡ Ok false → Follows R.remaining self.old.left [] self.new.left }
         ensures none { result ≡ Ok false → format.new ≡ format.old }
+        ensures kept { OnErr result (format.new ≡ format.old) }
         ensures fault { IfErr result HasCause }
     {
         let Left::Plain(block) = &mut self.left else {
@@ -223,6 +223,7 @@ impl<R: Read + Drop> Rows<R> {
         ensures end { result ≡ Ok false → (records : List (List (List ℕ)))
             → Remains R.remaining self.old records → records ≡ [] }
         ensures none { result ≡ Ok false → format.new ≡ format.old }
+        ensures kept { OnErr result (format.new ≡ format.old) }
         ensures fault { IfErr result (λ fault. F.outside fault
             ⊎ IsFaulty R.remaining F.refuses self.old.left format.old fault) }
     {
@@ -253,6 +254,7 @@ impl<R: Read + Drop> Rows<R> {
         ensures end { result ≡ Ok false → (records : List (List (List ℕ)))
             → Remains R.remaining self.old records → records ≡ [] }
         ensures none { result ≡ Ok false → format.new ≡ format.old }
+        ensures kept { OnErr result (format.new ≡ format.old) }
         ensures fault { IfErr result (λ fault. F.outside fault
             ⊎ IsFaulty R.remaining F.refuses self.old.left format.old fault) }
     {

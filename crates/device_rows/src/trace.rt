@@ -1,6 +1,6 @@
 //! Reading a trace.
 
-ghost use Rattle.std.specs.Prelude.{◌≡◌, ◌≤◌, ◌<◌, ◌+◌, ◌++◌, length, OnOk, ◌⊎◌, ℕ, List, [], Some, Ok, Err, IfOk, IfErr, MatchResult, vec_items};
+ghost use Rattle.std.specs.Prelude.{◌≡◌, ◌≤◌, ◌<◌, ◌+◌, ◌++◌, length, OnErr, OnOk, ◌⊎◌, ℕ, List, [], Some, Ok, Err, IfOk, IfErr, MatchResult, vec_items};
 ghost use Rattle.csv.specs.Records.{fields_of};
 ghost use Rattle.device_rows.specs.Range.{IsWithin};
 ghost use Rattle.device_rows.specs.Adding.{AddsNext, CanAdd, IsSoFar, TakesRows};
@@ -70,9 +70,10 @@ fn add_row(
     requires number { number ≡ length (vec_items rows.old) + 1 }
     requires room { length (vec_items rows.old) < 100000 }
     requires so_far { IsSoFar switches.old.of rows.old }
-    ensures { MatchResult result
+    ensures row { MatchResult result
         (λ _. AddsNext version (fields_of fields.now) switches.new.of rows.old rows.new)
         (λ fault. with_row version (vec_items rows.old) (fields_of fields.now) ≡ Err fault) }
+    ensures kept { OnErr result ((switches.new ≡ switches.old) × (rows.new ≡ rows.old)) }
 {
     let row = row_of(version, number, fields)?;
     switches.admit(number, row)?;

@@ -1,74 +1,45 @@
 -- The position of a reader of arrivals.
-use Rattle.std.specs.Prelude.{◌≡◌, ⊤, ℕ, ◌+◌, false, List, [], ◌∷◌, ◌++◌, length, Option, Some, None, Result, Ok}
-use Rattle.csv.specs.{Machine.{ends_at_end, next_record}, Reading.{default_config, reader_state, records_from}, declared.parser.State.State}
-use Rattle.device_rows.specs.{Block.{Holds, left_remaining}, Source.{IsOpen, StandsAt}}
-use Rattle.machine.specs.Arrivals.{arrivals_after, arrival_fields, last_moment, arrival_of_fields}
-use Rattle.machine.specs.declared.arrivals.Arrivals.{Arrivals}
-use Rattle.machine.specs.declared.arrivals.ArrivalRows.{ArrivalRows}
-use Rattle.machine.specs.declared.arrivals.ArrivalRows.TheVariants.{Plain, Records, Failed}
-use Rattle.machine.specs.declared.arrival.Arrival.{Arrival}
+use Rattle.std.specs.Prelude.{◌≡◌, ℕ, ◌+◌, true, false, List, [], ◌∷◌, ◌++◌, length, Option, Some, None, Result, Ok, Err}
+use Rattle.device_rows.specs.Rows.{Remains}
+use Rattle.machine.specs.Arrivals.{IsInRange, arrivals_after, arrival_fields, arrival_of_fields, is_arrivals_title, last_moment}
+use Rattle.machine.specs.declared.{arrivals.Arrivals.Arrivals, arrival.Arrival.Arrival, format.ArrivalRows.ArrivalRows}
 use Rattle.machine.specs.declared.fault.MachineFault.{MachineFault}
-use Rattle.{device_rows.specs.declared.block.Block.Block, machine_model.specs.declared.settings.MachineSettings.MachineSettings}
 
--- all records of these bytes; the state of csv is one between two records
-abbrev pub records_in : State → List ℕ → List (List (List ℕ))
-records_in state bytes = records_from default_config (length bytes + 1) state bytes
+-- this record is the header
+pub record TakesHeader (before : ArrivalRows) (header : List (List ℕ)) (after : ArrivalRows) : Type 0 where
+  pub same : after ≡ before
+  pub is_one : is_arrivals_title before.settings.queues (arrival_fields before.settings.queues header) ≡ true
 
--- the next record can be read
-abbrev pub IsOpenAt : {R : Type 0} → ArrivalRows R → Type 0
-IsOpenAt (Plain block) = ⊤
-IsOpenAt (Records reader) = IsOpen reader
-IsOpenAt Failed = ⊥
+-- this record isn't the header
+abbrev pub IsNoHeader : ArrivalRows → List (List ℕ) → Type 0
+IsNoHeader before header = is_arrivals_title before.settings.queues (arrival_fields before.settings.queues header) ≡ false
 
--- csv reads the next record
-abbrev pub IsByRecords : {R : Type 0} → ArrivalRows R → Type 0
-IsByRecords (Plain block) = ⊥
-IsByRecords (Records reader) = IsOpen reader
-IsByRecords Failed = ⊥
+-- the next arrival of a record, or its error
+abbrev pub next_arrival : ArrivalRows → List (List ℕ) → Result Arrival MachineFault
+next_arrival before fields =
+    arrival_of_fields before.settings (before.rows + 1) before.last.moment (arrival_fields before.settings.queues fields)
 
--- these bytes remain to be read, in this state of csv
-abbrev pub LeftAt : {R : Type 0} → (R → Option (List ℕ)) → ArrivalRows R → State → List ℕ → Type 0
-LeftAt remaining (Plain block) state bytes = (state ≡ State.StartRecord) × Holds remaining block bytes
-LeftAt remaining (Records reader) state bytes = (state ≡ reader_state reader) × StandsAt (left_remaining remaining) reader bytes
-LeftAt remaining Failed state bytes = ⊥
-
--- the header was read: the arrivals of the text are those of the remaining bytes
-pub record IsTitled {R : Type 0} (remaining : R → Option (List ℕ)) (s : MachineSettings) (rows : ArrivalRows R)
-    (all : Result (List Arrival) MachineFault) : Type 0 where
-  pub state : State
-  pub left : List ℕ
-  pub stands : LeftAt remaining rows state left
-  pub between : ends_at_end state ≡ false
-  pub gives : all ≡ arrivals_after s [] (records_in state left)
-
--- the next record of these bytes is a plain row with this arrival, and the block continues after it
-pub record TakesPlain {R : Type 0} (remaining : R → Option (List ℕ)) (s : MachineSettings) (row last : ℕ) (bytes : List ℕ)
-    (arrival : Arrival)
-    (after : Block R) : Type 0 where
+-- the next record was taken, and is this arrival
+pub record TakesArrival (before : ArrivalRows) (front : List (List (List ℕ))) (after : ArrivalRows) : Type 0 where
   pub fields : List (List ℕ)
-  pub rest : List ℕ
-  pub holds : Holds remaining after rest
-  pub reads : next_record default_config State.StartRecord [] [] bytes ≡ Some (fields, State.StartRecord, rest)
-  pub tells : arrival_of_fields s row last (arrival_fields s.queues fields) ≡ Ok arrival
+  pub one : front ≡ fields ∷ []
+  pub settings : after.settings ≡ before.settings
+  pub rows : after.rows ≡ before.rows + 1
+  pub arrival : next_arrival before fields ≡ Ok after.last
+  pub range : IsInRange before.settings.processors after.last
 
--- the same records remain
-pub record LeavesSame {R : Type 0} (remaining : R → Option (List ℕ)) (after : ArrivalRows R) (state : State) (bytes : List ℕ) : Type 0 where
-  pub state_after : State
-  pub left : List ℕ
-  pub stands : LeftAt remaining after state_after left
-  pub between : ends_at_end state_after ≡ false
-  pub same : records_in state bytes ≡ records_in state_after left
+-- the next record has this error
+abbrev pub RefusesArrival : ArrivalRows → List (List ℕ) → MachineFault → Type 0
+RefusesArrival before fields fault = next_arrival before fields ≡ Err fault
 
 -- these arrivals were returned; together with the remaining ones they are all arrivals of the text
 pub record HasGiven {R : Type 0} (remaining : R → Option (List ℕ)) (arrivals : Arrivals R) (earlier : List Arrival)
     (all : Result (List Arrival) MachineFault) : Type 0 where
-  pub state : State
-  pub left : List ℕ
-  pub stands : LeftAt remaining arrivals.source state left
-  pub between : ends_at_end state ≡ false
-  pub rows : arrivals.rows ≡ length earlier
-  pub last : arrivals.last ≡ last_moment earlier
-  pub gives : all ≡ arrivals_after arrivals.settings earlier (records_in state left)
+  pub records : List (List (List ℕ))
+  pub remain : Remains remaining arrivals.left records
+  pub rows : arrivals.so_far.rows ≡ length earlier
+  pub last : arrivals.so_far.last.moment ≡ last_moment earlier
+  pub gives : all ≡ arrivals_after arrivals.so_far.settings earlier records
 
 -- the next arrival is returned, or there is none left
 abbrev pub GivesNextArrival : {R : Type 0} → (R → Option (List ℕ)) → Arrivals R → List Arrival → Result (List Arrival) MachineFault

@@ -14,6 +14,7 @@
 mod arrival;
 mod arrivals;
 mod fault;
+mod format;
 mod laws;
 mod plain;
 mod report;

@@ -1,4 +1,4 @@
-use Rattle.std.proofs.Common.{◌≡◌, ◌≤◌, List, ℕ, length, vec_items}
+use Rattle.std.proofs.Common.{◌≡◌, List, ℕ, length, vec_items}
 use Rattle.device_rows.specs.{Adding.{IsSoFar, TakesRows}, Rows.StartsWithRecords}
 use Rattle.device_rows.proofs.trace.add_plain.Given as goal
 

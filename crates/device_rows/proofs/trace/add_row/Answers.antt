@@ -2,21 +2,21 @@ use Rattle.std.proofs.{Common.{length-append, vec_items}, lemmas.Result.err_from
 use Rattle.device_rows.proofs.{Accepted.so_far-push, RowsFacts.{with_row-bad, with_row-good, with_row-refused}}
 use Rattle.device_rows.proofs.trace.add_row.Goals as goal
 
-pub returns-in_err-row : goal.returns-in_err-row
-returns-in_err-row c =
+pub returns-in_err-row-clause-row : goal.returns-in_err-row-clause-row
+returns-in_err-row-clause-row c =
     let p = err_from_is_err_and c.from_residual.result c.from_residual.ensures.1 in
     let row = rw c.requires.number at c.in_err-row.ensures.row in
     rw (p.1, p.2) (with_row-bad _ _ _ _ row)
 
-pub returns-in_err-admit : goal.returns-in_err-admit
-returns-in_err-admit c =
+pub returns-in_err-admit-clause-row : goal.returns-in_err-admit-clause-row
+returns-in_err-admit-clause-row c =
     let p = err_from_is_err_and c.from_residual-in_err-admit.result c.from_residual-in_err-admit.ensures.1 in
     let row = rw c.requires.number at c.in_ok-row.ensures.row in
     let refused = rw c.requires.number at (c.in_err-admit.ensures.admits (vec_items c.args.rows.now) c.requires.so_far.tracks) in
     rw (p.1, p.2) (with_row-refused _ _ _ _ _ row refused)
 
-pub returns : goal.returns
-returns c =
+pub returns-clause-row : goal.returns-clause-row
+returns-clause-row c =
     let row = rw c.requires.number at c.in_ok-row.ensures.row in
     let admits = rw c.requires.number at (c.in_ok-admit.ensures.admits (vec_items c.args.rows.now) c.requires.so_far.tracks) in
     record {

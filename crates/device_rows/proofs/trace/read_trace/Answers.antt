@@ -4,21 +4,22 @@ use Rattle.device_rows.proofs.trace.read_trace.Goals.{else-loop-test, then-loop-
 use Rattle.device_rows.proofs.trace.read_trace.Goals as goal
 
 pub loop-init : goal.loop-init
-loop-init g c = record {
-  opened = c.in_ok-left.ensures.opened;
-  ready = c.in_ok-left.ensures.ready;
-  count = omega arith;
-  goes_on = λ bytes known.
-      let first = c.in_ok-left.ensures.titles bytes known in
-      let version = c.new-2.new.format.version in (
-        first.rest,
-        first.remains,
-        trace-rows version _ first.header first.rest first.splits first.titles.version
-            ∙ ap (λ rows. rows_after version rows first.rest)
-            (sym (ap (λ rows. vec_items rows) first.titles.rows ∙ c.in_ok-so_far.ensures.empty)),
-        first-version version _ first.header first.rest first.splits first.titles.version,
-      );
-}
+loop-init g c =
+    let (titles, are, starts) = c.in_ok-left.ensures.titles in
+    let version = c.new-2.new.format.version in
+    record {
+      opened = c.in_ok-left.ensures.opened;
+      ready = c.in_ok-left.ensures.ready;
+      count = omega arith;
+      goes_on = λ bytes known.
+          let (rest, splits, remains) = starts bytes known in (
+            rest,
+            remains,
+            trace-rows version _ titles rest splits are.version
+                ∙ ap (λ rows. rows_after version rows rest) (sym (ap (λ rows. vec_items rows) are.rows ∙ c.in_ok-so_far.ensures.empty)),
+            first-version version _ titles rest splits are.version,
+          );
+    }
 
 pub loop-preserved : goal.loop-preserved
 loop-preserved g c =

@@ -14,17 +14,17 @@ returns-in_err-add_row-clause-fault c =
     let p = err_from_is_err_and c.from_residual.result c.from_residual.ensures.1 in
     let room : nat_lt (length (vec_items c.args.self.now.rows)) 100000 ≡ true = lt-ltb _ _ (search rules) in
     rw (p.1, p.2) (inr (λ more. rows-bad c.args.self.now.version (vec_items c.args.self.now.rows) (fields_of c.args.fields.now) more
-    c.in_err-add_row.field-0.0 room c.in_err-add_row.ensures))
+    c.in_err-add_row.field-0.0 room c.in_err-add_row.ensures.row))
 
 pub returns-clause-row : goal.returns-clause-row
 returns-clause-row c =
     let room : nat_lt (length (vec_items c.args.self.now.rows)) 100000 ≡ true = lt-ltb _ _ (search rules) in
-    let count = c.in_ok-add_row.ensures.count in
+    let count = c.in_ok-add_row.ensures.row.count in
     record {
       version = refl;
       rows = record {
         same = λ more. rows-good c.args.self.now.version (vec_items c.args.self.now.rows) (vec_items c.add_row.new.rows)
-            (fields_of c.args.fields.now) more room c.in_ok-add_row.ensures.rows;
+            (fields_of c.args.fields.now) more room c.in_ok-add_row.ensures.row.rows;
         grows = omega (arith, count);
       };
       some = omega (arith, count);
