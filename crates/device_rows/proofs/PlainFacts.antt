@@ -5,11 +5,11 @@ use Rattle.std.proofs.Common.{append_assoc, arith, Some, slice_index_or, take-ap
 use Rattle.std.proofs.lemmas.{Bool.{and_parts, le-leb, Decides.nat_tests}, List.{drop_more, take_more}}
 use Rattle.std.proofs.lemmas.Int.Digits.{digits_value_push}
 use Rattle.std.specs.{Prelude.{◌&&◌, nat_le}, Char.{digit_value, is_ascii_digit}, Str.all_ascii_digits}
-use Rattle.csv.specs.{Machine.next_record, Reading.{default_config, strip_bom}, Writing.{default_writer, needs_byte}}
+use Rattle.csv.specs.{Machine.next_record, Reading.default_config, Writing.{default_writer, needs_byte}}
 use Rattle.csv.specs.Records.{field_at}
 use Rattle.csv.proofs.RoundTrip.{field-run, record-same}
 use Rattle.csv.specs.declared.parser.State.TheVariants as state
-use Rattle.device_rows.specs.Plain.{IsPlain, StartsWithEvent, StartsWithNumber, StartsWithRecord, StartsWithRow, StartsWithTitle}
+use Rattle.device_rows.specs.Plain.{IsPlain, StartsWithEvent, StartsWithNumber, StartsWithRecord, StartsWithRow}
 use Rattle.device_rows.specs.Plain.{StartsWithTitles}
 use Rattle.device_rows.specs.Record.{event_of, four_of, is_numeral, numeral, version_of}
 use Rattle.device_rows.specs.declared.{event.RowEvent.RowEvent}
@@ -173,29 +173,24 @@ titles-of-two = 109 ∷ 111 ∷ 109 ∷ 101 ∷ 110 ∷ 116 ∷ 44 ∷ 100 ∷ 1
 
 pub title-starts : (title : List ℕ) (fields : List (List ℕ)) (text rest : List ℕ)
     → ((rest : List ℕ) → next_record default_config state.StartRecord [] [] (title ++ rest) ≡ Some (fields, state.StartRecord, rest))
-    → ((rest : List ℕ) → strip_bom (title ++ rest) ≡ title ++ rest) → text ≡ title ++ rest → StartsWithTitle text fields rest
-title-starts title fields text rest reads unmarked splits =
-    let all : (more : List ℕ) → text ++ more ≡ title ++ (rest ++ more) =
-    λ more. ap (λ t. t ++ more) splits ∙ append_assoc title rest more in
-    record {
-      starts = record {
-        used = title;
-        splits = splits;
-        reads = λ more. ap (next_record default_config state.StartRecord [] []) (all more) ∙ reads (rest ++ more);
-      };
-      unmarked = λ more. ap strip_bom (all more) ∙ unmarked (rest ++ more) ∙ sym (all more);
-    }
+    → text ≡ title ++ rest → StartsWithRecord text fields rest
+title-starts title fields text rest reads splits = record {
+  used = title;
+  splits = splits;
+  reads = λ more. ap (λ t. next_record default_config state.StartRecord [] [] (t ++ more)) splits
+      ∙ ap (next_record default_config state.StartRecord [] []) (append_assoc title rest more) ∙ reads (rest ++ more);
+}
 
 pub titles-start : (text rest : List ℕ) → text ≡ titles ++ rest → StartsWithTitles text 1 rest
-unfolding next_record strip_bom version_of field_at
+unfolding next_record version_of field_at
 titles-start text rest splits =
     let fields : List (List ℕ) = (109 ∷ 111 ∷ 109 ∷ 101 ∷ 110 ∷ 116 ∷ []) ∷ (100 ∷ 101 ∷ 118 ∷ 105 ∷ 99 ∷ 101 ∷ [])
     ∷ (101 ∷ 118 ∷ 101 ∷ 110 ∷ 116 ∷ []) ∷ (118 ∷ 97 ∷ 108 ∷ 117 ∷ 101 ∷ []) ∷ [] in
-    record { fields = fields; title = title-starts titles fields text rest (λ rest. refl) (λ rest. refl) splits; tells = refl }
+    record { fields = fields; starts = title-starts titles fields text rest (λ rest. refl) splits; tells = refl }
 
 pub titles-of-two-start : (text rest : List ℕ) → text ≡ titles-of-two ++ rest → StartsWithTitles text 2 rest
-unfolding next_record strip_bom version_of field_at
+unfolding next_record version_of field_at
 titles-of-two-start text rest splits =
     let fields : List (List ℕ) = (109 ∷ 111 ∷ 109 ∷ 101 ∷ 110 ∷ 116 ∷ []) ∷ (100 ∷ 101 ∷ 118 ∷ 105 ∷ 99 ∷ 101 ∷ [])
     ∷ (101 ∷ 118 ∷ 101 ∷ 110 ∷ 116 ∷ []) ∷ (118 ∷ 97 ∷ 108 ∷ 117 ∷ 101 ∷ []) ∷ (50 ∷ []) ∷ [] in
-    record { fields = fields; title = title-starts titles-of-two fields text rest (λ rest. refl) (λ rest. refl) splits; tells = refl }
+    record { fields = fields; starts = title-starts titles-of-two fields text rest (λ rest. refl) splits; tells = refl }

@@ -1,12 +1,12 @@
 -- The records that remain, from those after the next ones.
-use Rattle.std.proofs.Common.{◌≡◌, ◌∙◌, ℕ, ◌+◌, ◌-◌, ◌<◌, ◌≤◌, Bool, false, true, List, [], ◌∷◌, ◌++◌, drop, length, refl, sym, ap, arith, subst}
-use Rattle.std.proofs.Common.{Vec, Some, None, Option, append_assoc, ◌⊎◌, inl, inr}
-use Rattle.std.specs.{Global.Global, declared.io.{impls.Cursor.Cursor, traits.Chain.Chain}}
+use Rattle.std.proofs.Common.{◌≡◌, ◌∙◌, ℕ, ◌+◌, ◌-◌, ◌<◌, ◌≤◌, Bool, false, true, List, [], ◌∷◌, ◌++◌, drop, length, refl, sym, ap, arith}
+use Rattle.std.proofs.Common.{Vec, get_or, Some, None, Option, append_assoc, ◌⊎◌, inl, inr}
+use Rattle.std.specs.{Prelude.◌==◌, Global.Global, declared.io.{impls.Cursor.Cursor, traits.Chain.Chain}}
 use Rattle.csv.specs.{Machine.{Read, ends_at_end, next_record}, Reading.{default_config, reader_state, records_from, records_next, strip_bom}}
 use Rattle.csv.specs.declared.{reader.Reader.Reader, parser.State.State}
 use Rattle.device_rows.specs.{Block.{Holds, left_remaining, unread}, Source.{StandsAt, ReadsNext}, Trace.records_of}
-use Rattle.device_rows.specs.Plain.{StartsWithRecord, StartsWithTitle}
-use Rattle.device_rows.specs.Rows.{Follows, IsFaulty, IsUntitled, RemainsIn, StartsBy, StartsWithRecords, records_in}
+use Rattle.device_rows.specs.Plain.{StartsWithRecord}
+use Rattle.device_rows.specs.Rows.{Follows, IsFaulty, RemainsIn, StartsWithRecords, records_in}
 use Rattle.device_rows.specs.declared.{block.Block.Block, fused.Fused.Fused, rows.Left.Left}
 use Rattle.device_rows.proofs.{BlockFacts.used-up, RecordsFacts.{next-end, next-short, records-all, records-next, records-none}}
 
@@ -85,6 +85,10 @@ starts-more text left rest front fields first next = record {
       ∙ sym (append_assoc front (fields ∷ []) (records_in State.StartRecord (rest ++ more)));
 }
 
+pub starts-one : (text rest : List ℕ) (fields : List (List ℕ)) → StartsWithRecord text fields rest
+    → StartsWithRecords text (fields ∷ []) rest
+starts-one text rest fields next = starts-more text text rest [] fields (starts-none text) next
+
 module _ {R : Type 0} (remaining : R → Option (List ℕ)) where
   -- records of a block were consumed
   module _ (old new : Block R) (text rest : List ℕ) (count : ℕ) (is : text ≡ unread old) (size : count ≡ length text - length rest)
@@ -96,19 +100,6 @@ module _ {R : Type 0} (remaining : R → Option (List ℕ)) where
         let (more, all, stands) = used-up remaining old new text starts.used rest remains.bytes count is starts.splits size behind same holds in (
           records_in State.StartRecord (rest ++ more),
           remains.are ∙ ap (λ s. records_in s remains.bytes) at ∙ ap (records_in State.StartRecord) all ∙ starts.reads more,
-          record { state = State.StartRecord; bytes = rest ++ more; stands = (refl, stands); between = refl; are = refl },
-        )
-
-    pub titles-held : (titles : List (List ℕ)) (bytes : List ℕ) → StartsWithTitle text titles rest → Holds remaining old bytes
-        → StartsBy remaining (Left.Plain new) titles (records_of bytes)
-    titles-held titles bytes title holds =
-        let starts = title.starts in
-        let (more, all, stands) = used-up remaining old new text starts.used rest bytes count is starts.splits size behind same holds in
-        let reads : next_record default_config State.StartRecord [] [] (strip_bom bytes) ≡ Some (titles, State.StartRecord, rest ++ more) =
-        ap (λ b. next_record default_config State.StartRecord [] [] (strip_bom b)) all
-        ∙ ap (next_record default_config State.StartRecord [] []) (title.unmarked more) ∙ starts.reads more in (
-          records_in State.StartRecord (rest ++ more),
-          all-in bytes ∙ (one-in State.StartRecord (titles, State.StartRecord, rest ++ more) (strip_bom bytes) refl reads).1,
           record { state = State.StartRecord; bytes = rest ++ more; stands = (refl, stands); between = refl; are = refl },
         )
 
@@ -182,22 +173,36 @@ module _ {R : Type 0} (remaining : R → Option (List ℕ)) where
     record-fails outside refuses old fault reads (inl is) = inl is
     record-fails outside refuses old fault reads (inr refused) = inr (record-faulty refuses old fault reads refused)
 
-    -- the first record
-    module _ (start : reader_state reader ≡ State.StartRecord) (bytes : List ℕ)
-        (stands : StandsAt (left_remaining remaining) reader bytes) where
-      first : (records : List (List (List ℕ))) → records ≡ records_in State.StartRecord bytes
-          → RemainsIn remaining (Left.Records reader) records
-      first records are = record { state = State.StartRecord; bytes = bytes; stands = (sym start, stands); between = refl; are = are }
+-- a text that doesn't start with a byte-order mark
+no-mark-first : (first : ℕ) (bytes : List ℕ) → (first == 239) ≡ false → strip_bom (first ∷ bytes) ≡ first ∷ bytes
+unfolding strip_bom
+no-mark-first first [] other = refl
+no-mark-first first (b ∷ []) other = refl
+no-mark-first first (b ∷ c ∷ bytes) other = rw other refl
 
-      pub titles-none : {F : Type 0} (untitled : F → List (List ℕ) → Type 0) (old : F) → Reads false
-          → IsUntitled untitled old (records_in State.StartRecord bytes)
-      titles-none untitled old reads = subst (IsUntitled untitled old) (sym (record-none reads _ (first _ refl))) tt
+-- nothing was taken yet from a block
+pub block_first : {R : Type 0} (remaining : R → Option (List ℕ)) (block : Block R) (text : List ℕ) (bytes : List ℕ) → text ≡ unread block
+    → (length text == 0) ≡ false → (get_or text 0 0 == 239) ≡ false → Holds remaining block bytes
+    → RemainsIn remaining (Left.Plain block) (records_of bytes)
+block_first remaining block [] bytes is some other holds = cc some
+block_first remaining block (first ∷ text) bytes is some other holds =
+    let starts : bytes ≡ first ∷ (text ++ holds.behind) = holds.all ∙ ap (λ t. t ++ holds.behind) (sym is) in
+    record {
+      state = State.StartRecord;
+      bytes = bytes;
+      stands = (refl, holds);
+      between = refl;
+      are = all-in bytes ∙ ap (records_in State.StartRecord) (rw starts (no-mark-first first (text ++ holds.behind) other));
+    }
 
-      pub titles-other : {F : Type 0} (untitled : F → List (List ℕ) → Type 0) (old : F) → Reads true → untitled old fields
-          → IsUntitled untitled old (records_in State.StartRecord bytes)
-      titles-other untitled old reads other =
-          let (rest, splits, left) = record-taken reads _ (first _ refl) in
-          subst (IsUntitled untitled old) (sym splits) other
-
-      pub titles-read : Reads true → StartsBy remaining (Left.Records after) fields (records_in State.StartRecord bytes)
-      titles-read reads = record-taken reads _ (first _ refl)
+-- nothing was taken yet from a reader
+pub reader_first : {R : Type 0} (remaining : R → Option (List ℕ)) (reader : RecordsLeft R) (bytes : List ℕ)
+    → reader_state reader ≡ State.StartRecord → StandsAt (left_remaining remaining) reader (strip_bom bytes)
+    → RemainsIn remaining (Left.Records reader) (records_of bytes)
+reader_first remaining reader bytes start stands = record {
+  state = State.StartRecord;
+  bytes = strip_bom bytes;
+  stands = (sym start, stands);
+  between = refl;
+  are = all-in bytes;
+}

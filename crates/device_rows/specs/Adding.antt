@@ -1,7 +1,8 @@
 -- Adding rows to the rows so far of a trace.
-use Rattle.std.specs.Prelude.{◌≡◌, ◌≤◌, ◌<◌, ◌+◌, ◌++◌, ℕ, List, [], ◌∷◌, Ok, Err, Some, Vec, length, vec_capacity, vec_items, vec_len}
+use Rattle.std.specs.Prelude.{◌≡◌, ◌≤◌, ◌<◌, ◌+◌, ◌++◌, ℕ, List, [], ◌∷◌, Ok, Err, Some, None, Vec, length, vec_capacity, vec_items, vec_len}
 use Rattle.device_rows.specs.{Range.IsWithin, Record.version_of, Switch.Tracks, Trace.{AcceptedAfter, rows_after, with_row}}
-use Rattle.device_rows.specs.declared.{fault.TraceFault.TraceFault, row.Row.Row, switch.Switch.Switch, trace.TraceRows.TraceRows}
+use Rattle.device_rows.specs.declared.{fault.TraceFault.{TraceFault, TheVariants.BadHeader}, row.Row.Row, switch.Switch.Switch}
+use Rattle.device_rows.specs.declared.trace.{TraceRows.TraceRows, TraceTitles.TraceTitles}
 
 -- the rows so far, in a vector with room for all, and the table of the switches after them
 pub record IsSoFar {A : Type 0} (table : List Switch) (rows : Vec Row A) : Type 0 where
@@ -26,10 +27,19 @@ pub record TakesRows (version : ℕ) (before : List Row) (front : List (List (Li
 abbrev pub CanAdd : TraceRows → Type 0
 CanAdd so_far = IsWithin 1 2 so_far.version × IsSoFar so_far.switches.of so_far.rows
 
--- the version is that of these titles
-pub record TakesTitles (before : TraceRows) (fields : List (List ℕ)) (after : TraceRows) : Type 0 where
-  pub version : version_of fields ≡ Some after.version
-  pub rows : after.rows ≡ before.rows
+-- the version is one
+abbrev pub HasVersion : TraceTitles → Type 0
+HasVersion titles = IsWithin 1 2 titles.version
+
+-- the next record is the titles, and tells the version
+pub record TakesTitles (before : TraceTitles) (front : List (List (List ℕ))) (after : TraceTitles) : Type 0 where
+  pub header : List (List ℕ)
+  pub one : front ≡ header ∷ []
+  pub version : version_of header ≡ Some after.version
+
+-- the next record isn't the titles
+abbrev pub RefusesTitles : TraceTitles → List (List ℕ) → TraceFault → Type 0
+RefusesTitles before fields fault = (version_of fields ≡ None) × (fault ≡ BadHeader)
 
 -- these records are the next rows, one or more, and were taken
 pub record TakesMore (before : TraceRows) (front : List (List (List ℕ))) (after : TraceRows) : Type 0 where

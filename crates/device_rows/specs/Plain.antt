@@ -1,7 +1,7 @@
 -- Plain rows: digits, commas, an event's name, a line feed.
 use Rattle.std.specs.Prelude.{◌≡◌, ℕ, true, false, List, [], ◌∷◌, ◌++◌, Some, Ok}
 use Rattle.std.specs.List.{list_any}
-use Rattle.csv.specs.{Machine.next_record, Reading.{default_config, strip_bom}, Writing.{default_writer, needs_byte}}
+use Rattle.csv.specs.{Machine.next_record, Reading.default_config, Writing.{default_writer, needs_byte}}
 use Rattle.csv.specs.declared.parser.State.TheVariants as state
 use Rattle.device_rows.specs.{Record.{event_of, is_numeral, numeral, row_of, version_of}, Row.{device_fits, value_fits}}
 use Rattle.device_rows.specs.declared.{event.RowEvent.RowEvent, row.Row.Row}
@@ -38,13 +38,8 @@ pub record StartsWithRow (version : ℕ) (text : List ℕ) (row : Row) (rest : L
   pub tells : device_fits row.event row.device ≡ true → value_fits row.event row.value ≡ true
       → (number : ℕ) → row_of version number fields ≡ Ok row
 
--- a text starts with this record, and not with a byte-order mark
-pub record StartsWithTitle (text : List ℕ) (fields : List (List ℕ)) (rest : List ℕ) : Type 0 where
-  pub starts : StartsWithRecord text fields rest
-  pub unmarked : (more : List ℕ) → strip_bom (text ++ more) ≡ text ++ more
-
 -- a text starts with the titles of a trace of this version
 pub record StartsWithTitles (text : List ℕ) (version : ℕ) (rest : List ℕ) : Type 0 where
   pub fields : List (List ℕ)
-  pub title : StartsWithTitle text fields rest
+  pub starts : StartsWithRecord text fields rest
   pub tells : version_of fields ≡ Some version

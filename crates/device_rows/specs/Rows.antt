@@ -55,15 +55,6 @@ Follows remaining before front after = (records : List (List (List ℕ))) → Re
 abbrev pub TakesNext : {R F : Type 0} → (R → Option (List ℕ)) → (F → List (List (List ℕ)) → F → Type 0) → Left R → F → Left R → F → Type 0
 TakesNext remaining takes before old after new = (front : List (List (List ℕ))) × takes old front new × Follows remaining before front after
 
--- this is the first of these records, and the others remain
-abbrev pub StartsBy : {R : Type 0} → (R → Option (List ℕ)) → Left R → List (List ℕ) → List (List (List ℕ)) → Type 0
-StartsBy remaining left first records = (rest : List (List (List ℕ))) × (records ≡ first ∷ rest) × RemainsIn remaining left rest
-
--- there is no first record, or it isn't the titles
-abbrev pub IsUntitled : {F : Type 0} → (F → List (List ℕ) → Type 0) → F → List (List (List ℕ)) → Type 0
-IsUntitled untitled old [] = ⊤
-IsUntitled untitled old (header ∷ records) = untitled old header
-
 -- the next record has this error
 pub record IsFaulty {R F E : Type 0} (remaining : R → Option (List ℕ)) (refuses : F → List (List ℕ) → E → Type 0) (left : Left R) (old : F)
     (fault : E) : Type 0 where

@@ -98,24 +98,6 @@ impl<R: Read> Block<R> {
         text.len() > LONGEST_LINE || text.contains(&b'\n') || text.contains(&b'\r')
     }
 
-    /// Reads until the unread bytes contain a line end, or are more than [`LONGEST_LINE`], or the source ends.
-    ///
-    /// # Errors
-    ///
-    /// Those of [`refill`](Block::refill).
-    pub(crate) fn fill_line(&mut self, alloc: Global) -> Result<(), ReadError>
-        ensures holds { OnOk result ((bytes : List ℕ) → Holds R.remaining self.old bytes
-            → Holds R.remaining self.new bytes) }
-        ensures fault { IfErr result HasCause }
-    {
-        for _ in 0..u64::MAX {
-            if self.has_line() || !self.refill(alloc)? {
-                break;
-            }
-        }
-        Ok(())
-    }
-
     /// Returns a reader of the records of a text of which nothing was consumed.
     pub(crate) fn records(self, alloc: Global) -> RecordsLeft<R>
         ensures opened { IsOpen result }

@@ -1,8 +1,7 @@
 //! A format of rows: what the reader of rows has to know of it.
 
-ghost use Rattle.std.specs.Prelude.{◌≡◌, ◌⊎◌, ℕ, List, [], ◌∷◌, None, IfErr, IfSome, MatchBool, OnErr, OnOk};
+ghost use Rattle.std.specs.Prelude.{◌≡◌, ◌⊎◌, ⊤, ℕ, List, [], ◌∷◌, None, IfErr, IfSome, OnErr, OnOk};
 ghost use Rattle.csv.specs.Records.{fields_of};
-ghost use Rattle.device_rows.specs.Plain.{StartsWithTitle};
 ghost use Rattle.device_rows.specs.Rows.{StartsWithRecords};
 ghost use Rattle.device_rows.specs.Source.{HasCause};
 ghost use Rattle.device_rows.specs.declared.source.ReadError.{ReadError};
@@ -17,13 +16,7 @@ pub trait Format {
     type Fault: From<ReadError>;
 
     /// Rows can be taken.
-    ghost ready: { Self → Type 0 };
-
-    /// `titled before fields after`: this record is the titles.
-    ghost titled: { Self → List (List ℕ) → Self → Type 0 };
-
-    /// `untitled before fields`: this record isn't the titles.
-    ghost untitled: { Self → List (List ℕ) → Type 0 };
+    ghost ready: { Self → Type 0 } = { λ _. ⊤ };
 
     /// `takes before records after`: these records are the next rows, and were taken.
     ghost takes: { Self → List (List (List ℕ)) → Self → Type 0 };
@@ -33,28 +26,6 @@ pub trait Format {
 
     /// The error isn't in the rows: the reader or an allocation failed.
     ghost outside: { Self.Fault → Type 0 };
-
-    /// The error of a text that doesn't start with the titles.
-    ghost bad_titles: { Self.Fault };
-
-    /// Returns the text after the titles and a line feed, if a text starts with them.
-    fn plain_titles<'t>(&mut self, text: &'t [u8]) -> Option<&'t [u8]>
-        requires { ready self.old }
-        ensures ready { ready self.new }
-        ensures titles { IfSome result (λ rest. (fields : List (List ℕ))
-            × StartsWithTitle text.now fields rest.now × titled self.old fields self.new) }
-        ensures none { result ≡ None → self.new ≡ self.old };
-
-    /// Returns whether a record is the titles.
-    fn titles(&mut self, fields: &ByteRecord) -> bool
-        requires { ready self.old }
-        ensures ready { ready self.new }
-        ensures titles { MatchBool result (titled self.old (fields_of fields.now) self.new)
-            (untitled self.old (fields_of fields.now)) };
-
-    /// Returns the error of a text that doesn't start with the titles.
-    fn no_titles() -> Self::Fault
-        ensures { result ≡ bad_titles };
 
     /// Takes one or more plain rows at the start of a text, and returns the text after them. `None` means that the first row
     /// isn't plain or has an error.

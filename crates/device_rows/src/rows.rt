@@ -1,11 +1,10 @@
 //! The rows of a text, one after another, in any format.
 
-ghost use Rattle.std.specs.Prelude.{◌≡◌, ◌⊎◌, ℕ, List, [], ◌∷◌, None, Some, Ok, IfErr, IfOk, IfSome, OnErr, OnOk, true, false};
-ghost use Rattle.csv.specs.Reading.{reader_state};
-ghost use Rattle.csv.specs.declared.parser.State.TheVariants as state;
-ghost use Rattle.device_rows.specs.Block.{Holds, left_remaining};
-ghost use Rattle.device_rows.specs.Rows.{CanRead, Follows, IsByRecords, StartsBy, IsUntitled, TakesNext, records_in};
-ghost use Rattle.device_rows.specs.Source.{HasCause, IsOpen, StandsAt};
+ghost use Rattle.std.specs.Prelude.{◌≡◌, ℕ, List, [], Ok, IfErr, IfOk, OnErr, true, false};
+ghost use Rattle.device_rows.specs.Block.{Holds};
+ghost use Rattle.device_rows.specs.Rows.{CanRead, Follows, IsByRecords, RemainsIn, TakesNext};
+ghost use Rattle.device_rows.specs.Trace.{records_of};
+ghost use Rattle.device_rows.specs.Source.{HasCause};
 ghost use Rattle.device_rows.specs.declared.rows.Left.TheVariants as left;
 
 use crate::block::{Block, RecordsLeft};
@@ -38,62 +37,32 @@ pub struct Rows<R> {
     fields: ByteRecord,
 }
 
-// Returns the start of a text, with its first line, and a record for its fields.
-fn start<R: Read + Drop>(alloc: Global, source: R) -> Result<(Block<R>, ByteRecord), ReadError>
-    ensures holds { IfOk result (λ start. (bytes : List ℕ) → R.remaining source ≡ Some bytes
-        → Holds R.remaining start.0 bytes) }
-    ensures fault { IfErr result HasCause }
+// Returns all rows of a block. `csv` reads them if a byte-order mark may be in front, which starts with 239, because it skips it.
+#[tactic(auto, using(crate::proofs::RemainsFacts::reader_first, crate::proofs::RemainsFacts::block_first))]
+fn all_of<R: Read + Drop>(alloc: Global, block: Block<R>) -> Left<R>
+    ensures opened { CanRead result }
+    ensures records { (bytes : List ℕ) → Holds R.remaining block bytes
+        → RemainsIn R.remaining result (records_of bytes) }
 {
-    let fields = ByteRecord::with_capacity(alloc, RECORD_BYTES, 4)?;
-    let mut block = Block::new(alloc, source);
-    block.fill_line(alloc)?;
-    Ok((block, fields))
-}
-
-// Returns the rows after the titles, which `csv` reads.
-fn titled<R: Read + Drop, F: Format>(
-    mut reader: RecordsLeft<R>,
-    fields: &mut ByteRecord,
-    format: &mut F,
-) -> Result<Left<R>, F::Fault>
-    requires opened { IsOpen reader }
-    requires state { reader_state reader ≡ state.StartRecord }
-    requires ready { F.ready format.old }
-    ensures opened { IfOk result CanRead }
-    ensures ready { OnOk result (F.ready format.new) }
-    ensures titles { IfOk result (λ left. (titles : List (List ℕ))
-        × F.titled format.old titles format.new
-        × ((bytes : List ℕ) → StandsAt (left_remaining R.remaining) reader bytes
-        → StartsBy R.remaining left titles (records_in state.StartRecord bytes))) }
-    ensures fault { IfErr result (λ fault. (bytes : List ℕ)
-        → StandsAt (left_remaining R.remaining) reader bytes → F.outside fault
-        ⊎ ((fault ≡ F.bad_titles)
-        × IsUntitled F.untitled format.old (records_in state.StartRecord bytes))) }
-{
-    if !next_record(&mut reader, fields)? || !format.titles(fields) {
-        return Err(F::no_titles());
+    if block.text().is_empty() {
+        return Left::Records(block.records(alloc));
     }
-    Ok(Left::Records(reader))
+    if block.text()[0] == 239 {
+        return Left::Records(block.records(alloc));
+    }
+    Left::Plain(block)
 }
 
-// Lets the format take plain rows from the unread bytes. Returns whether it took any.
-#[inline(always)]
-fn take_held<R: Read, F: Format>(block: &mut Block<R>, format: &mut F) -> bool
-    requires { F.ready format.old }
-    ensures ready { F.ready format.new }
-    ensures rows { result ≡ true
-        → TakesNext R.remaining F.takes (left.Plain block.old) format.old
-        (left.Plain block.new) format.new }
-    ensures kept { result ≡ false → block.new ≡ block.old }
-    ensures none { result ≡ false → format.new ≡ format.old }
+// Returns a reader of the same rows by `csv`.
+fn by_records<R: Read + Drop>(alloc: Global, rows: Left<R>) -> Result<Left<R>, AllocError>
+    requires { CanRead rows }
+    ensures opened { IfOk result IsByRecords }
+    ensures same { IfOk result (λ after. Follows R.remaining rows [] after) }
 {
-    let Some(rest) = format.plain(block.text()) else {
-        return false;
-    };
-    let left = rest.len();
-    let used = block.text().len() - left;
-    block.advance(used);
-    true
+    match rows {
+        Left::Plain(block) => Ok(Left::Records(block.records_left(alloc)?)),
+        left => Ok(left),
+    }
 }
 
 // Lets the format take plain rows, and reads more bytes if none has a whole line. Returns whether it took any.
@@ -114,61 +83,42 @@ fn take_ahead<R: Read, F: Format>(
     ensures failed { OnErr result (format.new ≡ format.old) }
     ensures fault { IfErr result HasCause }
 {
-    if take_held(block, format) {
-        return Ok(true);
+    for _ in 0..u64::MAX {
+        if let Some(rest) = format.plain(block.text()) {
+            let left = rest.len();
+            let used = block.text().len() - left;
+            block.advance(used);
+            return Ok(true);
+        }
+        if block.has_line() || !block.refill(alloc)? {
+            break;
+        }
     }
-    block.fill_line(alloc)?;
-    Ok(take_held(block, format))
-}
-
-// Returns a reader of the same rows by `csv`.
-fn by_records<R: Read + Drop>(alloc: Global, rows: Left<R>) -> Result<Left<R>, AllocError>
-    requires { CanRead rows }
-    ensures opened { IfOk result IsByRecords }
-    ensures same { IfOk result (λ after. Follows R.remaining rows [] after) }
-{
-    match rows {
-        Left::Plain(block) => Ok(Left::Records(block.records_left(alloc)?)),
-        left => Ok(left),
-    }
+    Ok(false)
 }
 
 impl<R: Read + Drop> Rows<R> {
     ghost use Rattle.std.specs.Prelude.{◌≡◌, ◌⊎◌, ℕ, List, [], ◌∷◌, Some, Ok, IfErr, IfOk, OnErr, OnOk, true, false};
-    ghost use Rattle.device_rows.specs.Rows.{Follows, IsByRecords, IsFaulty, IsOpenAt, StartsBy, IsUntitled, Remains, TakesNext};
+    ghost use Rattle.device_rows.specs.Rows.{Follows, IsByRecords, IsFaulty, IsOpenAt, Remains, TakesNext};
     ghost use Rattle.device_rows.specs.Source.{HasCause};
     ghost use Rattle.device_rows.specs.Trace.{records_of};
 
-    /// Reads the titles of a text.
+    /// Returns the rows of a text, of which the titles are the first.
     ///
     /// # Errors
     ///
-    /// That of a text without the titles, and those of a reader or an allocation that failed.
-    pub fn new<F: Format>(alloc: Global, source: R, format: &mut F) -> Result<Rows<R>, F::Fault>
-        requires { F.ready format.old }
+    /// `ReadFailed`, `OutOfMemory`.
+    pub fn new(alloc: Global, source: R) -> Result<Rows<R>, ReadError>
         ensures opened { IfOk result IsOpenAt }
-        ensures ready { OnOk result (F.ready format.new) }
-        ensures titles { IfOk result (λ rows. (titles : List (List ℕ))
-            × F.titled format.old titles format.new
-            × ((bytes : List ℕ) → R.remaining source ≡ Some bytes
-            → StartsBy R.remaining rows.left titles (records_of bytes))) }
-        ensures fault { IfErr result (λ fault. (bytes : List ℕ) → R.remaining source ≡ Some bytes
-            → F.outside fault ⊎ ((fault ≡ F.bad_titles)
-            × IsUntitled F.untitled format.old (records_of bytes))) }
+        ensures records { IfOk result (λ rows. (bytes : List ℕ) → R.remaining source ≡ Some bytes
+            → Remains R.remaining rows (records_of bytes)) }
+        ensures fault { IfErr result HasCause }
     {
-        let (mut block, mut fields) = start(alloc, source)?;
-        let Some(rest) = format.plain_titles(block.text()) else {
-            let left = titled(block.records(alloc), &mut fields, format)?;
-            return Ok(Rows {
-                left,
-                alloc,
-                fields,
-            });
-        };
-        let used = block.text().len() - rest.len();
-        block.advance(used);
+        let fields = ByteRecord::with_capacity(alloc, RECORD_BYTES, 4)?;
+        let mut block = Block::new(alloc, source);
+        block.refill(alloc)?;
         Ok(Rows {
-            left: Left::Plain(block),
+            left: all_of(alloc, block),
             alloc,
             fields,
         })
@@ -182,8 +132,8 @@ impl<R: Read + Drop> Rows<R> {
         ensures opened { OnOk result (IsByRecords self.new.left) }
         ensures same { OnOk result (Follows R.remaining self.old.left [] self.new.left) }
     {
-        let rows = mem::replace(&mut self.left, Left::Failed);
-        self.left = by_records(self.alloc, rows)?;
+        let left = mem::replace(&mut self.left, Left::Failed);
+        self.left = by_records(self.alloc, left)?;
         Ok(())
     }
 

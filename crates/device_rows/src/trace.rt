@@ -110,7 +110,44 @@ fn add_plain<'t>(
     left
 }
 
-// The rows of a trace that were taken so far.
+// The version that the titles of a trace tell.
+#[derive(Drop)]
+struct TraceTitles {
+    version: u32,
+}
+
+impl Format for TraceTitles {
+    type Fault = TraceFault;
+
+    ghost use Rattle.device_rows.specs.Adding.{HasVersion, RefusesTitles, TakesTitles};
+    ghost use Rattle.device_rows.specs.Source.{IsReadFailure};
+
+    ghost ready = { HasVersion };
+
+    ghost takes = { TakesTitles };
+
+    ghost refuses = { RefusesTitles };
+
+    ghost outside = { IsReadFailure };
+
+    ghost causes = { λ _ _ gives cause. gives cause };
+
+    fn plain<'t>(&mut self, text: &'t [u8]) -> Option<&'t [u8]> {
+        let (version, rest) = plain_titles(text)?;
+        self.version = version;
+        Some(rest)
+    }
+
+    fn record(&mut self, fields: &ByteRecord) -> Result<(), TraceFault> {
+        let Some(version) = version_of(fields) else {
+            return Err(TraceFault::BadHeader);
+        };
+        self.version = version;
+        Ok(())
+    }
+}
+
+// The rows of a trace that were taken so far, and the state of each device after them.
 #[derive(Drop)]
 struct TraceRows {
     version: u32,
@@ -121,14 +158,17 @@ struct TraceRows {
 impl TraceRows {
     ghost use Rattle.std.specs.Prelude.{◌≡◌, [], IfOk, vec_items};
     ghost use Rattle.device_rows.specs.Adding.{CanAdd};
+    ghost use Rattle.device_rows.specs.Range.{IsWithin};
 
     // Returns no rows, with room for all: memory that is never written costs nothing, and no row is moved.
-    fn new(alloc: Global) -> Result<TraceRows, AllocError>
+    fn new(alloc: Global, version: u32) -> Result<TraceRows, AllocError>
+        requires { IsWithin 1 2 version }
         ensures ready { IfOk result CanAdd }
+        ensures version { IfOk result (λ so_far. so_far.version ≡ version) }
         ensures empty { IfOk result (λ so_far. vec_items so_far.rows ≡ []) }
     {
         Ok(TraceRows {
-            version: 1,
+            version,
             switches: Switches::new(),
             rows: Vec::with_capacity(alloc, MOST_ROWS as usize)?,
         })
@@ -138,17 +178,10 @@ impl TraceRows {
 impl Format for TraceRows {
     type Fault = TraceFault;
 
-    ghost use Rattle.std.specs.Prelude.{◌≡◌, None};
-    ghost use Rattle.device_rows.specs.Adding.{CanAdd, RefusesRow, TakesMore, TakesTitles};
-    ghost use Rattle.device_rows.specs.Record.{version_of};
+    ghost use Rattle.device_rows.specs.Adding.{CanAdd, RefusesRow, TakesMore};
     ghost use Rattle.device_rows.specs.Source.{IsReadFailure};
-    ghost use Rattle.device_rows.specs.declared.fault.TraceFault.TheVariants.{BadHeader};
 
     ghost ready = { CanAdd };
-
-    ghost titled = { TakesTitles };
-
-    ghost untitled = { λ _ fields. version_of fields ≡ None };
 
     ghost takes = { TakesMore };
 
@@ -156,27 +189,7 @@ impl Format for TraceRows {
 
     ghost outside = { IsReadFailure };
 
-    ghost bad_titles = { BadHeader };
-
     ghost causes = { λ _ _ gives cause. gives cause };
-
-    fn plain_titles<'t>(&mut self, text: &'t [u8]) -> Option<&'t [u8]> {
-        let (version, rest) = plain_titles(text)?;
-        self.version = version;
-        Some(rest)
-    }
-
-    fn titles(&mut self, fields: &ByteRecord) -> bool {
-        let Some(version) = version_of(fields) else {
-            return false;
-        };
-        self.version = version;
-        true
-    }
-
-    fn no_titles() -> TraceFault {
-        TraceFault::BadHeader
-    }
 
     fn plain<'t>(&mut self, text: &'t [u8]) -> Option<&'t [u8]> {
         let before = self.rows.len();
@@ -203,8 +216,8 @@ impl Format for TraceRows {
     }
 }
 
-/// Reads the rows of a trace, or its first error. It reads ahead of the row that decides, and a read error there is its result.
-/// After an error it keeps nothing.
+/// Reads the rows of a trace, or its first error. It asks for at most 100002 records, of any length. It reads ahead of the row
+/// that decides, and a read error there is its result. After an error it keeps nothing.
 pub fn read_trace<R: Read + Drop>(alloc: Global, source: R) -> Result<Trace, TraceFault>
     // The rows are those of the bytes read, if the source's bytes are known.
     ensures rows { IfOk result
@@ -217,8 +230,12 @@ pub fn read_trace<R: Read + Drop>(alloc: Global, source: R) -> Result<Trace, Tra
     ensures fault { IfErr result (λ fault. (bytes : List ℕ) → R.remaining source ≡ Some bytes
         → IsReadFailure fault ⊎ (trace_of (records_of bytes) ≡ Err fault)) }
 {
-    let mut so_far = TraceRows::new(alloc)?;
-    let mut left = Rows::new(alloc, source, &mut so_far)?;
+    let mut left = Rows::new(alloc, source)?;
+    let mut titles = TraceTitles { version: 1 };
+    if !left.take(&mut titles)? {
+        return Err(TraceFault::BadHeader);
+    }
+    let mut so_far = TraceRows::new(alloc, titles.version)?;
     for _ in 0..MOST_ROWS + 1 {
         if !left.take(&mut so_far)? {
             break;

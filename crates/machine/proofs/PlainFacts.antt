@@ -1,7 +1,7 @@
 -- How csv reads plain rows of arrivals (numbers, commas, a line feed).
 use Rattle.std.proofs.Common.{◌≡◌, ℕ, true, false, List, [], ◌∷◌, ◌++◌, Some, refl}
 use Rattle.std.specs.Prelude.{◌==◌}
-use Rattle.csv.specs.{Machine.next_record, Reading.strip_bom, Records.field_at}
+use Rattle.csv.specs.{Machine.next_record, Records.field_at}
 use Rattle.device_rows.specs.Plain.{StartsWithNumber}
 use Rattle.device_rows.proofs.PlainFacts.{begins-first, begins-next, numeral-plain, record-ends, title-starts}
 use Rattle.machine.specs.Arrivals.{arrival_fields, is_arrivals_title, arrival_of_fields}
@@ -57,10 +57,10 @@ header-of end = 109 ∷ 111 ∷ 109 ∷ 101 ∷ 110 ∷ 116 ∷ 44 ∷ 100 ∷ 1
 -- the header of a machine with one queue per device, `moment,device,bytes`
 pub three-titles : (queues : ℕ) (text rest : List ℕ) → (queues == 1) ≡ true → text ≡ header-of (10 ∷ []) ++ rest
     → StartsWithHeader queues text rest
-unfolding next_record strip_bom arrival_fields field_at
+unfolding next_record arrival_fields field_at
 three-titles queues text rest one splits = record {
   fields = titles;
-  title = title-starts (header-of (10 ∷ [])) titles text rest (λ rest. refl) (λ rest. refl) splits;
+  starts = title-starts (header-of (10 ∷ [])) titles text rest (λ rest. refl) splits;
   tells = titled;
 }
   where
@@ -73,12 +73,12 @@ three-titles queues text rest one splits = record {
 -- the header of a machine with several queues per device, `moment,device,bytes,flow`
 pub four-titles : (queues : ℕ) (text rest : List ℕ) → (queues == 1) ≡ false
     → text ≡ header-of (44 ∷ 102 ∷ 108 ∷ 111 ∷ 119 ∷ 10 ∷ []) ++ rest → StartsWithHeader queues text rest
-unfolding next_record strip_bom arrival_fields field_at
+unfolding next_record arrival_fields field_at
 four-titles queues text rest several splits =
     record {
       fields = titles ++ flow-title ∷ [];
-      title = title-starts (header-of (44 ∷ 102 ∷ 108 ∷ 111 ∷ 119 ∷ 10 ∷ [])) (titles ++ flow-title ∷ []) text rest (λ rest. refl)
-          (λ rest. refl) splits;
+      starts = title-starts (header-of (44 ∷ 102 ∷ 108 ∷ 111 ∷ 119 ∷ 10 ∷ [])) (titles ++ flow-title ∷ []) text rest (λ rest. refl)
+          splits;
       tells = titled;
     }
   where

@@ -1,6 +1,6 @@
 -- Plain rows of arrivals: numbers, commas, a line feed.
 use Rattle.std.specs.Prelude.{◌≡◌, ℕ, true, List, Ok}
-use Rattle.{device_rows.specs.Plain.{StartsWithRecord, StartsWithTitle}}
+use Rattle.device_rows.specs.Plain.{StartsWithRecord}
 use Rattle.{machine_model.specs.declared.settings.MachineSettings.MachineSettings}
 use Rattle.machine.specs.Arrivals.{arrival_fields, is_arrivals_title, arrival_of_fields, arrival_in_range}
 use Rattle.machine.specs.declared.arrival.Arrival.{Arrival}
@@ -22,5 +22,5 @@ pub record StartsWithArrival (s : MachineSettings) (n last : ℕ) (text : List �
 -- a text starts with the header
 pub record StartsWithHeader (queues : ℕ) (text rest : List ℕ) : Type 0 where
   pub fields : List (List ℕ)
-  pub title : StartsWithTitle text fields rest
+  pub starts : StartsWithRecord text fields rest
   pub tells : is_arrivals_title queues (arrival_fields queues fields) ≡ true

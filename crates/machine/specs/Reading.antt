@@ -2,17 +2,19 @@
 use Rattle.std.specs.Prelude.{◌≡◌, ℕ, ◌+◌, true, false, List, [], ◌∷◌, ◌++◌, length, Option, Some, None, Result, Ok, Err}
 use Rattle.device_rows.specs.Rows.{Remains}
 use Rattle.machine.specs.Arrivals.{IsInRange, arrivals_after, arrival_fields, arrival_of_fields, is_arrivals_title, last_moment}
-use Rattle.machine.specs.declared.{arrivals.Arrivals.Arrivals, arrival.Arrival.Arrival, format.ArrivalRows.ArrivalRows}
-use Rattle.machine.specs.declared.fault.MachineFault.{MachineFault}
+use Rattle.machine.specs.declared.{arrivals.{Arrivals.Arrivals, ArrivalRows.ArrivalRows, Header.Header}, arrival.Arrival.Arrival}
+use Rattle.machine.specs.declared.fault.MachineFault.{MachineFault, TheVariants.BadHeader}
 
--- this record is the header
-pub record TakesHeader (before : ArrivalRows) (header : List (List ℕ)) (after : ArrivalRows) : Type 0 where
-  pub same : after ≡ before
-  pub is_one : is_arrivals_title before.settings.queues (arrival_fields before.settings.queues header) ≡ true
+-- the next record is the header
+pub record TakesHeader (before : Header) (front : List (List (List ℕ))) (after : Header) : Type 0 where
+  pub header : List (List ℕ)
+  pub one : front ≡ header ∷ []
+  pub is_one : is_arrivals_title before.queues (arrival_fields before.queues header) ≡ true
 
--- this record isn't the header
-abbrev pub IsNoHeader : ArrivalRows → List (List ℕ) → Type 0
-IsNoHeader before header = is_arrivals_title before.settings.queues (arrival_fields before.settings.queues header) ≡ false
+-- the next record isn't the header
+abbrev pub RefusesHeader : Header → List (List ℕ) → MachineFault → Type 0
+RefusesHeader before fields fault =
+    (is_arrivals_title before.queues (arrival_fields before.queues fields) ≡ false) × (fault ≡ BadHeader)
 
 -- the next arrival of a record, or its error
 abbrev pub next_arrival : ArrivalRows → List (List ℕ) → Result Arrival MachineFault

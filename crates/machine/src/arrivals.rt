@@ -1,12 +1,89 @@
 //! The arrivals of a text, one row at a time.
 
-use crate::arrival::Arrival;
+use crate::arrival::{Arrival, arrival_of, is_title};
 use crate::fault::MachineFault;
-use crate::format::ArrivalRows;
-use device_rows::Rows;
+use crate::plain::{after_header, plain_arrival};
+use csv::ByteRecord;
+use device_rows::{Format, Rows};
 use machine_model::MachineSettings;
 use std::alloc::Global;
 use std::io::Read;
+
+// The header of arrivals, for a machine with this many queues per device.
+#[derive(Drop)]
+struct Header {
+    queues: u32,
+}
+
+impl Format for Header {
+    type Fault = MachineFault;
+
+    ghost use Rattle.machine.specs.Fault.{IsArrivalReadFailure};
+    ghost use Rattle.machine.specs.Reading.{RefusesHeader, TakesHeader};
+
+    ghost takes = { TakesHeader };
+
+    ghost refuses = { RefusesHeader };
+
+    ghost outside = { IsArrivalReadFailure };
+
+    ghost causes = { λ _ _ gives cause. gives cause };
+
+    fn plain<'t>(&mut self, text: &'t [u8]) -> Option<&'t [u8]> {
+        after_header(self.queues, text)
+    }
+
+    fn record(&mut self, fields: &ByteRecord) -> Result<(), MachineFault> {
+        if is_title(self.queues, fields) {
+            Ok(())
+        } else {
+            Err(MachineFault::BadHeader)
+        }
+    }
+}
+
+// The settings of the machine, how many arrivals were taken so far, and the last one.
+#[derive(Drop)]
+struct ArrivalRows {
+    settings: MachineSettings,
+    rows: u64,
+    last: Arrival,
+}
+
+impl Format for ArrivalRows {
+    type Fault = MachineFault;
+
+    ghost use Rattle.machine.specs.Fault.{IsArrivalReadFailure};
+    ghost use Rattle.machine.specs.Reading.{RefusesArrival, TakesArrival};
+
+    ghost takes = { TakesArrival };
+
+    ghost refuses = { RefusesArrival };
+
+    ghost outside = { IsArrivalReadFailure };
+
+    ghost causes = { λ _ _ gives cause. gives cause };
+
+    #[inline(always)]
+    fn plain<'t>(&mut self, text: &'t [u8]) -> Option<&'t [u8]> {
+        let row = self.rows.checked_add(1)?;
+        let (arrival, rest) = plain_arrival(&self.settings, row, self.last.moment, text)?;
+        self.rows = row;
+        self.last = arrival;
+        Some(rest)
+    }
+
+    fn record(&mut self, fields: &ByteRecord) -> Result<(), MachineFault> {
+        // no text has this many rows
+        let Some(row) = self.rows.checked_add(1) else {
+            return Err(MachineFault::ReadFailed);
+        };
+        let arrival = arrival_of(&self.settings, row, self.last.moment, fields)?;
+        self.rows = row;
+        self.last = arrival;
+        Ok(())
+    }
+}
 
 /// The arrivals of a text, read one row at a time.
 #[derive(Drop)]
@@ -45,9 +122,24 @@ impl<R: Read + Drop> Arrivals<R> {
             (λ bytes fault. arrivals_of settings.now (records_of bytes) ≡ Err fault)
             (R.remaining source)) }
     {
-        let mut so_far = ArrivalRows::new(settings);
-        let left = Rows::new(alloc, source, &mut so_far)?;
-        Ok(Arrivals { left, so_far })
+        let mut left = Rows::new(alloc, source)?;
+        let mut header = Header {
+            queues: settings.queues,
+        };
+        if !left.take(&mut header)? {
+            return Err(MachineFault::BadHeader);
+        }
+        Ok(Arrivals {
+            left,
+            so_far: ArrivalRows {
+                settings: *settings,
+                rows: 0,
+                last: Arrival {
+                    moment: 0,
+                    device: 1,
+                },
+            },
+        })
     }
 
     /// Returns the next arrival, or `None` at the end of the text.
@@ -71,6 +163,6 @@ impl<R: Read + Drop> Arrivals<R> {
         if !self.left.take(&mut self.so_far)? {
             return Ok(None);
         }
-        Ok(Some(self.so_far.last()))
+        Ok(Some(self.so_far.last))
     }
 }

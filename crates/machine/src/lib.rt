@@ -14,7 +14,6 @@
 mod arrival;
 mod arrivals;
 mod fault;
-mod format;
 mod laws;
 mod plain;
 mod report;

@@ -1,9 +1,10 @@
 //! A whole run of the machine: from the bytes of arrivals to the bytes of its report.
 
 ghost use Rattle.std.specs.Prelude.{◌≡◌, ◌≤◌, ◌⊎◌, ℕ, [], List, Some, Ok, Err, IfErr, IfOk, OnOk, Result, length, string_bytes};
+ghost use Rattle.device_rows.specs.Rows.{IsOpenAt};
 ghost use Rattle.machine.specs.Answer.{IsArrivalsFault, IsReportOf, TakesArrivals};
 ghost use Rattle.machine.specs.Fault.{IsArrivalReadFailure, IsMachineOutside};
-ghost use Rattle.machine.specs.Reading.{HasGiven, IsOpenAt};
+ghost use Rattle.machine.specs.Reading.{HasGiven};
 ghost use Rattle.machine.specs.declared.arrival.Arrival.{Arrival};
 ghost use Rattle.machine.specs.declared.fault.MachineFault.{MachineFault};
 ghost use Rattle.machine.specs.declared.fault.MachineFault.TheVariants.{OutputFailed};
@@ -23,8 +24,8 @@ fn take_all<R: Read + Drop>(
     arrivals: &mut Arrivals<R>,
     machine: &mut Machine,
 ) -> Result<(), MachineFault>
-    requires opened { IsOpenAt arrivals.old.source }
-    requires processors { arrivals.old.settings.processors ≡ length machine.old }
+    requires opened { IsOpenAt arrivals.old.left }
+    requires processors { arrivals.old.so_far.settings.processors ≡ length machine.old }
     ensures taken { OnOk result ((all : Result (List Arrival) MachineFault)
         → HasGiven R.remaining arrivals.old [] all
         → (given : List Arrival) × (all ≡ Ok given) × TakesArrivals given machine.old machine.new) }
