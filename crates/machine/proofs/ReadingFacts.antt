@@ -5,7 +5,8 @@ use Rattle.std.specs.Prelude.{Result, Ok, Err, fold}
 use Rattle.device_rows.specs.Rows.{Follows, IsFaulty, Remains}
 use Rattle.machine.specs.Arrivals.{arrival_of, arrivals_after, arrivals_of, arrival_fields, is_arrivals_title}
 use Rattle.machine.specs.Reading.{HasGiven, RefusesArrival, TakesArrival, next_arrival}
-use Rattle.machine.specs.declared.{arrival.Arrival.Arrival, arrivals.Arrivals.Arrivals, fault.MachineFault.MachineFault}
+use Rattle.machine.specs.declared.{arrival.Arrival.Arrival, arrivals.Arrivals.Arrivals}
+use Rattle.machine.specs.declared.fault.MachineFault.{MachineFault}
 use Rattle.machine_model.specs.declared.settings.MachineSettings.{MachineSettings}
 
 module _ (s : MachineSettings) where

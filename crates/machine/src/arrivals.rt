@@ -30,7 +30,8 @@ impl Format for Header {
     ghost causes = { λ _ _ gives cause. gives cause };
 
     fn plain<'t>(&mut self, text: &'t [u8]) -> Option<&'t [u8]> {
-        after_header(self.queues, text)
+        let rest = after_header(self.queues, text)?;
+        Some(rest)
     }
 
     fn record(&mut self, fields: &ByteRecord) -> Result<(), MachineFault> {
