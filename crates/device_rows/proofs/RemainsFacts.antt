@@ -2,11 +2,12 @@
 use Rattle.std.proofs.Common.{◌≡◌, ◌∙◌, ℕ, ◌+◌, ◌-◌, ◌<◌, ◌≤◌, Bool, false, true, List, [], ◌∷◌, ◌++◌, drop, length, refl, sym, ap, arith}
 use Rattle.std.proofs.Common.{Vec, get_or, Some, None, Option, append_assoc, ◌⊎◌, inl, inr}
 use Rattle.std.specs.{Prelude.◌==◌, Global.Global, declared.io.{impls.Cursor.Cursor, traits.Chain.Chain}}
-use Rattle.csv.specs.{Machine.{Read, ends_at_end, next_record}, Reading.{default_config, reader_state, records_from, records_next, strip_bom}}
+use Rattle.csv.specs.{Machine.{Read, ends_at_end, next_record}}
+use Rattle.csv.specs.Reading.{default_config, reader_state, records_from, records_next, strip_bom}
 use Rattle.csv.specs.declared.{reader.Reader.Reader, parser.State.State}
 use Rattle.device_rows.specs.{Block.{Holds, left_remaining, unread}, Source.{StandsAt, ReadsNext}, Trace.records_of}
 use Rattle.device_rows.specs.Plain.{StartsWithRecord}
-use Rattle.device_rows.specs.Rows.{Follows, IsFaulty, RemainsIn, StartsWithRecords, records_in}
+use Rattle.device_rows.specs.Rows.{StandsAfter, IsFaulty, RemainsIn, StartsWithRecords, records_in}
 use Rattle.device_rows.specs.declared.{block.Block.Block, fused.Fused.Fused, rows.Left.Left}
 use Rattle.device_rows.proofs.{BlockFacts.used-up, RecordsFacts.{next-end, next-short, records-all, records-next, records-none}}
 
@@ -94,10 +95,11 @@ module _ {R : Type 0} (remaining : R → Option (List ℕ)) where
   module _ (old new : Block R) (text rest : List ℕ) (count : ℕ) (is : text ≡ unread old) (size : count ≡ length text - length rest)
       (behind : unread new ≡ drop count (unread old)) (same : new.source ≡ old.source) where
     pub held-taken : (front : List (List (List ℕ))) → StartsWithRecords text front rest
-        → Follows remaining (Left.Plain old) front (Left.Plain new)
+        → StandsAfter remaining (Left.Plain old) front (Left.Plain new)
     held-taken front starts records remains =
         let (at, holds) = remains.stands in
-        let (more, all, stands) = used-up remaining old new text starts.used rest remains.bytes count is starts.splits size behind same holds in (
+        let (more, all, stands) =
+        used-up remaining old new text starts.used rest remains.bytes count is starts.splits size behind same holds in (
           records_in State.StartRecord (rest ++ more),
           remains.are ∙ ap (λ s. records_in s remains.bytes) at ∙ ap (records_in State.StartRecord) all ∙ starts.reads more,
           record { state = State.StartRecord; bytes = rest ++ more; stands = (refl, stands); between = refl; are = refl },
@@ -106,7 +108,7 @@ module _ {R : Type 0} (remaining : R → Option (List ℕ)) where
   -- the bytes of a block are read by csv from here on
   pub by-records : (block : Block R) (reader : RecordsLeft R) → reader_state reader ≡ State.StartRecord
       → ((bytes : List ℕ) → Holds remaining block bytes → StandsAt (left_remaining remaining) reader (10 ∷ bytes))
-      → Follows remaining (Left.Plain block) [] (Left.Records reader)
+      → StandsAfter remaining (Left.Plain block) [] (Left.Records reader)
   by-records block reader start stands records remains =
       let (at, holds) = remains.stands in (
         records,
@@ -122,7 +124,7 @@ module _ {R : Type 0} (remaining : R → Option (List ℕ)) where
 
   -- the same records remain
   pub fails-behind : {F E : Type 0} (outside : E → Type 0) (refuses : F → List (List ℕ) → E → Type 0) (old : F) (fault : E)
-      (before after : Left R) → Follows remaining before [] after → outside fault ⊎ IsFaulty remaining refuses after old fault
+      (before after : Left R) → StandsAfter remaining before [] after → outside fault ⊎ IsFaulty remaining refuses after old fault
       → outside fault ⊎ IsFaulty remaining refuses before old fault
   fails-behind outside refuses old fault before after same (inl is) = inl is
   fails-behind outside refuses old fault before after same (inr faulty) = inr (record {
@@ -146,7 +148,7 @@ module _ {R : Type 0} (remaining : R → Option (List ℕ)) where
         remains.are ∙ ap (λ s. records_in s remains.bytes) at
         ∙ none-in (left_remaining remaining) reader after fields remains.bytes (reads remains.bytes stands)
 
-    pub record-taken : Reads true → Follows remaining (Left.Records reader) (fields ∷ []) (Left.Records after)
+    pub record-taken : Reads true → StandsAfter remaining (Left.Records reader) (fields ∷ []) (Left.Records after)
     record-taken reads records remains =
         let (at, stands) = remains.stands in
         let between : ends_at_end (reader_state reader) ≡ false = rw at at remains.between in

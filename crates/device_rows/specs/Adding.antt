@@ -1,5 +1,6 @@
 -- Adding rows to the rows so far of a trace.
-use Rattle.std.specs.Prelude.{◌≡◌, ◌≤◌, ◌<◌, ◌+◌, ◌++◌, ℕ, List, [], ◌∷◌, Ok, Err, Some, None, Vec, length, vec_capacity, vec_items, vec_len}
+use Rattle.std.specs.Prelude.{◌≡◌, ◌≤◌, ◌<◌, ◌+◌, ◌++◌, ℕ, List, [], ◌∷◌, Ok, Err, Some, None, length}
+use Rattle.std.specs.Prelude.{Vec, vec_capacity, vec_items, vec_len}
 use Rattle.device_rows.specs.{Range.IsWithin, Record.version_of, Switch.Tracks, Trace.{AcceptedAfter, rows_after, with_row}}
 use Rattle.device_rows.specs.declared.{fault.TraceFault.{TraceFault, TheVariants.BadHeader}, row.Row.Row, switch.Switch.Switch}
 use Rattle.device_rows.specs.declared.trace.{TraceRows.TraceRows, TraceTitles.TraceTitles}

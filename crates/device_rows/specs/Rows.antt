@@ -47,13 +47,14 @@ pub record StartsWithRecords (text : List ℕ) (front : List (List (List ℕ))) 
   pub reads : (more : List ℕ) → records_in State.StartRecord (text ++ more) ≡ front ++ records_in State.StartRecord (rest ++ more)
 
 -- these were the next records of the first reader, and the second one is after them
-abbrev pub Follows : {R : Type 0} → (R → Option (List ℕ)) → Left R → List (List (List ℕ)) → Left R → Type 0
-Follows remaining before front after = (records : List (List (List ℕ))) → RemainsIn remaining before records
+abbrev pub StandsAfter : {R : Type 0} → (R → Option (List ℕ)) → Left R → List (List (List ℕ)) → Left R → Type 0
+StandsAfter remaining before front after = (records : List (List (List ℕ))) → RemainsIn remaining before records
     → (rest : List (List (List ℕ))) × (records ≡ front ++ rest) × RemainsIn remaining after rest
 
 -- the next records were taken, by a format that was in this state before and after
 abbrev pub TakesNext : {R F : Type 0} → (R → Option (List ℕ)) → (F → List (List (List ℕ)) → F → Type 0) → Left R → F → Left R → F → Type 0
-TakesNext remaining takes before old after new = (front : List (List (List ℕ))) × takes old front new × Follows remaining before front after
+TakesNext remaining takes before old after new =
+    (front : List (List (List ℕ))) × takes old front new × StandsAfter remaining before front after
 
 -- the next record has this error
 pub record IsFaulty {R F E : Type 0} (remaining : R → Option (List ℕ)) (refuses : F → List (List ℕ) → E → Type 0) (left : Left R) (old : F)

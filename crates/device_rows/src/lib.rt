@@ -1,8 +1,8 @@
 //! Internal crate of the facade `device_model`: the rows of a trace, read from the bytes of a text.
 //!
 //! `specs/Trace.antt` defines which rows a text has, or which is its first error, and the contract of [`read_trace`] says that
-//! it returns these. docs/FORMATS.md describes the format. [`Block`], [`number`], [`next_record`] and [`number_below_21`] also
-//! read the arrivals of the machine: the first two plain rows, the others all rows.
+//! it returns these. docs/FORMATS.md describes the format. [`Rows`] reads rows of any [`Format`]: those of a trace, and the
+//! arrivals of the machine, which also use [`number`] and [`number_below_21`].
 #![tactic(auto)]
 
 mod block;

@@ -2,7 +2,7 @@
 
 ghost use Rattle.std.specs.Prelude.{◌≡◌, ℕ, List, [], Ok, IfErr, IfOk, OnErr, true, false};
 ghost use Rattle.device_rows.specs.Block.{Holds};
-ghost use Rattle.device_rows.specs.Rows.{CanRead, Follows, IsByRecords, RemainsIn, TakesNext};
+ghost use Rattle.device_rows.specs.Rows.{CanRead, StandsAfter, IsByRecords, RemainsIn, TakesNext};
 ghost use Rattle.device_rows.specs.Trace.{records_of};
 ghost use Rattle.device_rows.specs.Source.{HasCause};
 ghost use Rattle.device_rows.specs.declared.rows.Left.TheVariants as left;
@@ -57,7 +57,7 @@ fn all_of<R: Read + Drop>(alloc: Global, block: Block<R>) -> Left<R>
 fn by_records<R: Read + Drop>(alloc: Global, rows: Left<R>) -> Result<Left<R>, AllocError>
     requires { CanRead rows }
     ensures opened { IfOk result IsByRecords }
-    ensures same { IfOk result (λ after. Follows R.remaining rows [] after) }
+    ensures same { IfOk result (λ after. StandsAfter R.remaining rows [] after) }
 {
     match rows {
         Left::Plain(block) => Ok(Left::Records(block.records_left(alloc)?)),
@@ -99,7 +99,7 @@ fn take_ahead<R: Read, F: Format>(
 
 impl<R: Read + Drop> Rows<R> {
     ghost use Rattle.std.specs.Prelude.{◌≡◌, ◌⊎◌, ℕ, List, [], ◌∷◌, Some, Ok, IfErr, IfOk, OnErr, OnOk, true, false};
-    ghost use Rattle.device_rows.specs.Rows.{Follows, IsByRecords, IsFaulty, IsOpenAt, Remains, TakesNext};
+    ghost use Rattle.device_rows.specs.Rows.{StandsAfter, IsByRecords, IsFaulty, IsOpenAt, Remains, TakesNext};
     ghost use Rattle.device_rows.specs.Source.{HasCause};
     ghost use Rattle.device_rows.specs.Trace.{records_of};
 
@@ -130,7 +130,7 @@ impl<R: Read + Drop> Rows<R> {
     fn leave_plain(&mut self) -> Result<(), AllocError>
         requires { IsOpenAt self.old }
         ensures opened { OnOk result (IsByRecords self.new.left) }
-        ensures same { OnOk result (Follows R.remaining self.old.left [] self.new.left) }
+        ensures same { OnOk result (StandsAfter R.remaining self.old.left [] self.new.left) }
     {
         let left = mem::replace(&mut self.left, Left::Failed);
         self.left = by_records(self.alloc, left)?;
@@ -147,7 +147,7 @@ impl<R: Read + Drop> Rows<R> {
         ensures rows { result ≡ Ok true
             → TakesNext R.remaining F.takes self.old.left format.old self.new.left format.new }
         ensures records { result ≡ Ok false → IsByRecords self.new.left }
-        ensures same { result ≡ Ok false → Follows R.remaining self.old.left [] self.new.left }
+        ensures same { result ≡ Ok false → StandsAfter R.remaining self.old.left [] self.new.left }
         ensures none { result ≡ Ok false → format.new ≡ format.old }
         ensures kept { OnErr result (format.new ≡ format.old) }
         ensures fault { IfErr result HasCause }

@@ -2,7 +2,7 @@
 use Rattle.std.proofs.lemmas.Grind.{common_steps}
 use Rattle.std.proofs.Common.{◌≡◌, ◌∙◌, ℕ, ◌+◌, true, false, List, [], ◌∷◌, ◌++◌, length, length-append, refl, sym, ap, arith, Option}
 use Rattle.std.specs.Prelude.{Result, Ok, Err, fold}
-use Rattle.device_rows.specs.Rows.{Follows, IsFaulty, Remains}
+use Rattle.device_rows.specs.Rows.{StandsAfter, IsFaulty, Remains}
 use Rattle.machine.specs.Arrivals.{arrival_of, arrivals_after, arrivals_of, arrival_fields, is_arrivals_title}
 use Rattle.machine.specs.Reading.{HasGiven, RefusesArrival, TakesArrival, next_arrival}
 use Rattle.machine.specs.declared.{arrival.Arrival.Arrival, arrivals.Arrivals.Arrivals}
@@ -53,7 +53,7 @@ module _ {R : Type 0} (remaining : R → Option (List ℕ)) (old : Arrivals R) (
 
   -- one more arrival was returned
   pub given-next : (new : Arrivals R) (front : List (List (List ℕ))) → TakesArrival old.so_far front new.so_far
-      → Follows remaining old.left.left front new.left.left → HasGiven remaining new (earlier ++ new.so_far.last ∷ []) all
+      → StandsAfter remaining old.left.left front new.left.left → HasGiven remaining new (earlier ++ new.so_far.last ∷ []) all
   given-next new front takes follows =
       let (rest, splits, remain) = follows given.records given.remain in
       record {

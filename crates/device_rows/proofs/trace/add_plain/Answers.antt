@@ -1,6 +1,7 @@
 use Rattle.std.proofs.Common.{◌≡◌, ◌+◌, ◌<◌, [], ◌∷◌, ◌++◌, Ok, length, vec_items, refl, sym, arith}
 use Rattle.device_rows.specs.Trace.{with_row}
-use Rattle.device_rows.proofs.{Accepted.so_far-push, RemainsFacts.{starts-more, starts-none}, RowsFacts.{takes-more, takes-none, with_row-good}}
+use Rattle.device_rows.proofs.{Accepted.so_far-push, RemainsFacts.{starts-more, starts-none}}
+use Rattle.device_rows.proofs.RowsFacts.{takes-more, takes-none, with_row-good}
 use Rattle.device_rows.proofs.trace.add_plain.Goals as goal
 
 pub loop-before-init : goal.loop-before-init

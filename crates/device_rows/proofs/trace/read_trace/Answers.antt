@@ -1,4 +1,5 @@
-use Rattle.std.proofs.{Common.{◌≡◌, ◌∙◌, ◌++◌, Ok, ap, arith, inl, inr, rules, sym, true, false, vec_items}, lemmas.Result.err_from_is_err_and}
+use Rattle.std.proofs.Common.{◌≡◌, ◌∙◌, ◌++◌, Ok, ap, arith, inl, inr, rules, sym, true, false, vec_items}
+use Rattle.std.proofs.lemmas.Result.{err_from_is_err_and}
 use Rattle.device_rows.{specs.Trace.{records_of, rows_after}, proofs.RowsFacts.{first-version, rows-end, trace-rows}}
 use Rattle.device_rows.proofs.trace.read_trace.Goals.{else-loop-test, then-loop-test+in_ok-take-2+then-not-branch-2}
 use Rattle.device_rows.proofs.trace.read_trace.Goals as goal
@@ -63,5 +64,6 @@ returns-clause-rows g c bytes known =
       | then-loop-test+in_ok-take-2+then-not-branch-2 w ↦
           let ended : w.take-in-loop.result ≡ Ok false = search rules in
           so_far ∙ ap (rows_after c.loop.so_far.version (vec_items c.loop.so_far.rows)) (w.take-in-loop.ensures.end ended records remains)
-          ∙ rows-end c.loop.so_far.version (vec_items c.loop.so_far.rows) ∙ ap (λ t. Ok (vec_items t.rows)) (sym (w.so_far-is ∙ w.take-in-loop.ensures.none ended))
+          ∙ rows-end c.loop.so_far.version (vec_items c.loop.so_far.rows)
+          ∙ ap (λ t. Ok (vec_items t.rows)) (sym (w.so_far-is ∙ w.take-in-loop.ensures.none ended))
     ]
