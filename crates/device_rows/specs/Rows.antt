@@ -1,5 +1,5 @@
 -- The records of a text that weren't taken yet: in the bytes that were read ahead, or in csv's reader.
-use Rattle.std.specs.Prelude.{◌≡◌, ⊤, ℕ, ◌+◌, false, List, [], ◌∷◌, ◌++◌, length, Option}
+use Rattle.std.specs.Prelude.{◌≡◌, ⊤, ℕ, ◌+◌, false, List, ◌∷◌, ◌++◌, length, Option}
 use Rattle.csv.specs.{Machine.ends_at_end, Reading.{default_config, reader_state, records_from}, declared.parser.State.State}
 use Rattle.device_rows.specs.{Block.{Holds, left_remaining}, Source.{IsOpen, StandsAt}}
 use Rattle.device_rows.specs.declared.rows.{Rows.Rows, Left.{Left, TheVariants.{Plain, Records, Failed}}}

@@ -10,6 +10,7 @@ pub use Rattle.machine_model.specs.Machine
 pub use Rattle.machine_model.specs.Processor
 pub use Rattle.text_io.specs.declared.args.WordFault
 pub use Rattle.text_io.specs.Written
+pub use Rattle.device_rows.specs.Rows
 pub mod Answer
 pub mod Arrivals
 pub mod Endless
