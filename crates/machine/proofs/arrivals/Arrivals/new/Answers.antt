@@ -1,4 +1,4 @@
-use Rattle.std.proofs.{Common.{◌≡◌, ◌∙◌, ◌++◌, [], Ok, Err, ap, inl, inr, refl, rules, sym, true, false}, lemmas.Result.err_from_is_err_and}
+use Rattle.std.proofs.{Common.{◌≡◌, ◌∙◌, ◌++◌, Ok, Err, ap, inl, inr, refl, rules, sym, true, false}, lemmas.Result.err_from_is_err_and}
 use Rattle.device_rows.specs.Trace.{records_of}
 use Rattle.machine.proofs.ReadingFacts.{arrivals-behind, arrivals-none, arrivals-other}
 use Rattle.machine.proofs.arrivals.Arrivals.new.Goals as goal
