@@ -1,6 +1,6 @@
 -- The arrivals of the remaining records, from those after the next record.
 use Rattle.std.proofs.lemmas.Grind.{common_steps}
-use Rattle.std.proofs.Common.{◌≡◌, ◌∙◌, ℕ, ◌+◌, true, false, List, [], ◌∷◌, ◌++◌, length, length-append, refl, sym, ap, arith, Option}
+use Rattle.std.proofs.Common.{◌≡◌, ◌∙◌, ℕ, ◌+◌, true, false, List, [], ◌∷◌, ◌++◌, length-append, refl, sym, ap, arith, Option}
 use Rattle.std.specs.Prelude.{Result, Ok, Err, fold}
 use Rattle.device_rows.specs.Rows.{StandsAfter, IsFaulty, Remains}
 use Rattle.machine.specs.Arrivals.{arrival_of, arrivals_after, arrivals_of, arrival_fields, is_arrivals_title}
