@@ -373,7 +373,7 @@ RECORDED = (("tests/tools/soft-gso-23", 23), ("tests/tools/soft-tcp", 300), ("ex
 
 
 def made_by(tool, *arguments, check=True):
-    return subprocess.run([sys.executable, "-BES", TOP / "tools" / tool, *arguments], capture_output=True, text=True, check=check).stdout
+    return subprocess.run([TOP / "fintaqush", tool, *arguments], capture_output=True, text=True, check=check).stdout
 
 
 def recorded_arrivals(name, folder):
