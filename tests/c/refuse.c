@@ -217,7 +217,7 @@ int main(void) {
     want(refuse_each("a shared instance", make_shared, shared_works) > 8, "a shared instance takes no memory", 0);
     want(refuse_each("a replay", make_replay, replay_works) > 0, "a replay takes no memory", 0);
     want(refuse_each("the machine", make_machine, machine_works) > 5, "the machine takes no memory", 0);
-    want(refuse_each("a raised trace", make_raised, raised_works) > 20, "a raised trace takes no memory", 0);
+    want(refuse_each("a raised trace", make_raised, raised_works) > 15, "a raised trace takes no memory", 0);
     want(refuse_each("a bare instance", make_bare, bare_works) > 8, "a bare instance takes no memory", 0);
     want(refuse_each("a split", make_split, split_works) > 1, "a split takes no memory", 0);
     take_none();
