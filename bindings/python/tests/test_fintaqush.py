@@ -20,7 +20,7 @@ from fintaqush import (ArrivalsFault, DeviceState, Driver, Fault, Kind, Limit, L
 TOP = pathlib.Path(__file__).resolve().parents[3]
 HEADER = re.sub(r"/\*.*?\*/", "", (TOP / "include/fintaqush.h").read_text(), flags=re.S)
 sys.path += [str(TOP / "tools"), str(TOP / "bindings/python/examples")]
-import reports  # noqa: E402
+from fintaqush_tools import reports  # noqa: E402
 import simulation  # noqa: E402
 
 
