@@ -24,7 +24,8 @@ static uint64_t held_product(uint64_t a, uint64_t b) { return b && a > MOST / b 
 
 enum Option {
     PROCESSORS, QUEUES, RING, SOCKET, BACKLOG, BUDGET, WEIGHT, WINDOW, TIME_LIMIT, RX_NSECS, RX_FRAMES, DEFER_HARD_IRQS,
-    GRO_FLUSH_TIMEOUT, THREADED, APART, APP_WAKE, INTERRUPT, POLL, PACKET, USE, WAKE, OPTIONS
+    GRO_FLUSH_TIMEOUT, THREADED, APART, APP_WAKE, INTERRUPT, POLL, PACKET, USE, WAKE, RX_GAP, LATCHED, GRO_BATCH, TAKE, HEEDLESS, TIMER,
+    TIMER_WAKE, OPTIONS
 };
 struct Range {
     const char *name;
@@ -35,7 +36,8 @@ static const Range ranges[OPTIONS] = {{"processors", 1, 64}, {"queues", 1, 64}, 
     {"backlog", 0, 1}, {"budget", 0, 65535}, {"weight", 1, 64}, {"window", 1, 65535}, {"time-limit", 1, LONGEST},
     {"rx-nsecs", 0, LONGEST}, {"rx-frames", 0, 65535}, {"defer-hard-irqs", 0, 65535}, {"gro-flush-timeout", 0, LONGEST},
     {"threaded", 0, 1}, {"apart", 0, 1}, {"app-wake", 0, LONGEST}, {"interrupt", 0, LONGEST}, {"poll", 0, LONGEST},
-    {"packet", 0, LONGEST}, {"use", 0, LONGEST}, {"wake", 0, LONGEST}};
+    {"packet", 0, LONGEST}, {"use", 0, LONGEST}, {"wake", 0, LONGEST}, {"rx-gap", 0, LONGEST}, {"latched", 0, 2},
+    {"gro-batch", 0, 64}, {"take", 0, LONGEST}, {"heedless", 0, 1}, {"timer", 0, LONGEST}, {"timer-wake", 0, LONGEST}};
 static uint64_t settings[OPTIONS] = {1, 1, 256, 512, 0, 300, 64, 1024, 8000000, 0, 0, 0, 0, 0, 0, 0, 4000, 1000, 1000, 2000, 0};
 
 /* The number that these digits denote, at most 2^64 - 1; with a divisor its remainder, of any number. */
@@ -71,6 +73,10 @@ static void read_options(int count, char **arguments) {
         given[found - ranges] = true;
         settings[found - ranges] = value;
     }
+    if (!given[TIMER]) settings[TIMER] = settings[INTERRUPT];
+    if (!given[TIMER_WAKE]) settings[TIMER_WAKE] = settings[WAKE];
+    const bool is_coalescing = settings[RX_NSECS] || settings[RX_FRAMES];
+    if (settings[TAKE] > settings[PACKET] || (settings[RX_GAP] && is_coalescing)) stop(64, "usage fault 64\n");
 }
 
 // ---- what a processor has
@@ -139,29 +145,32 @@ class Waits {
 struct Device {
     Queue<uint64_t> ring{settings[RING]};
     Queue<uint64_t> taken{settings[BACKLOG] ? settings[RING] : 0}; // what process_backlog moved out of the ring
-    bool is_masked = false;
+    bool is_masked = false, is_caused = false, is_scheduled = false, is_missed = false, met_scheduled = false;
+    bool has_asserted = false;
+    uint64_t asserted = 0; // when the card last asked for an interrupt
     uint64_t frames = 0, deferrals = 0;
     uint64_t arrived = 0, dropped = 0, interrupts = 0, polls = 0;
     Waits waits;
 };
 
-/* The timers of a processor's devices. A device has at most one: while it is masked its NAPI timer, otherwise its card's. */
+/* The timers of a processor's devices: of device d number 2 d is the card's timer, and 2 d + 1 the NAPI timer. */
 class Timers {
   public:
-    bool expire_by(uint64_t moment) const { return is_set && least <= moment; }
-    bool has(unsigned at) const { return is_set >> at & 1; }
+    bool expire_by(uint64_t moment) const { return first < 2 * DEVICES && least <= moment; }
+    bool has(unsigned at) const { return is_set[at & 1] >> at / 2 & 1; }
     uint64_t soonest() const { return least; }
     void set(unsigned at, uint64_t time) {
-        if (!is_set || time < least || (time == least && at < first)) {
+        unset(at);
+        if (time < least || (time == least && at < first)) {
             least = time;
             first = at;
         }
-        is_set |= 1ull << at;
+        is_set[at & 1] |= 1ull << at / 2;
         times[at] = time;
     }
     void unset(unsigned at) {
         if (!has(at)) return;
-        is_set &= ~(1ull << at);
+        is_set[at & 1] &= ~(1ull << at / 2);
         if (at == first) search();
     }
     unsigned take() {
@@ -173,17 +182,19 @@ class Timers {
   private:
     void search() {
         least = MOST;
-        first = DEVICES;
-        for (uint64_t rest = is_set; rest; rest &= rest - 1) {
-            const unsigned at = static_cast<unsigned>(__builtin_ctzll(rest));
-            if (first < DEVICES && times[at] >= least) continue;
-            least = times[at];
-            first = at;
-        }
+        first = 2 * DEVICES;
+        for (uint64_t rest = is_set[0] | is_set[1]; rest; rest &= rest - 1)
+            for (unsigned kind = 0; kind < 2; kind++) {
+                const unsigned at = 2 * static_cast<unsigned>(__builtin_ctzll(rest)) + kind;
+                if (!has(at) || (first < 2 * DEVICES && times[at] >= least)) continue;
+                least = times[at];
+                first = at;
+            }
     }
-    std::array<uint64_t, DEVICES> times;
-    uint64_t is_set = 0, least = MOST;
-    unsigned first = DEVICES;
+    std::array<uint64_t, 2 * DEVICES> times;
+    std::array<uint64_t, 2> is_set{};
+    uint64_t least = MOST;
+    unsigned first = 2 * DEVICES;
 };
 
 /* The application on its own processor. */
@@ -211,7 +222,8 @@ class Processor {
             return;
         }
         device.ring.put(moment);
-        if (!device.is_masked) notify(device, at, moment);
+        if (settings[LATCHED] && (device.is_masked || raised >> at & 1)) device.is_caused = true;
+        else if (!device.is_masked) notify(device, at, moment);
         disturb(moment);
     }
     void finish() {
@@ -220,12 +232,16 @@ class Processor {
     }
 
   private:
-    enum Kind { NOTHING, AN_INTERRUPT, A_POLL, A_PACKET, A_USE } under_way = NOTHING;
+    enum Kind { NOTHING, AN_INTERRUPT, A_POLL, A_PACKET, A_TAKE, A_HANDOVER, A_USE } under_way = NOTHING;
     static const unsigned THE_APPLICATION = DEVICES; // among the tasks, after the numbers of devices
     uint64_t began = 0, ends = 0; // the work under way
     uint64_t packet = 0; // when the packet arrived that is polled or used
     unsigned busy = 0; // the device whose interrupt or poll is under way
     uint64_t polled = 0; // packets of this poll
+    bool is_timer = false; // the interrupt under way is that of a NAPI timer
+    bool sleeps = true; // the application on the processor that receives
+    Queue<uint64_t> batch{settings[GRO_BATCH]}; // packets that GRO holds
+    bool is_last = false; // the poll ends when they are handed over
     uint64_t raised = 0, fired = 0; // sets of devices
     Timers timers;
     bool has_rest = false; // of an interrupted use
@@ -247,8 +263,13 @@ class Processor {
 
     void expire() {
         const uint64_t time = timers.soonest();
-        const unsigned at = timers.take();
-        (devices[at]->is_masked ? fired : raised) |= 1ull << at;
+        const unsigned timer = timers.take(), at = timer / 2;
+        if (timer & 1) {
+            fired |= 1ull << at;
+            devices[at]->met_scheduled = devices[at]->is_scheduled;
+        } else {
+            assert_interrupt(*devices[at], at, time);
+        }
         disturb(time);
     }
 
@@ -256,8 +277,9 @@ class Processor {
         if (under_way == NOTHING) {
             clock = time;
             if (!(raised | fired)) return;
-            interrupting = held(interrupting, settings[WAKE]);
-            clock = held(time, settings[WAKE]);
+            const uint64_t wake = settings[raised ? WAKE : TIMER_WAKE];
+            interrupting = held(interrupting, wake);
+            clock = held(time, wake);
             take_up();
         } else if (under_way == A_USE && (raised | fired)) {
             has_rest = true;
@@ -269,13 +291,33 @@ class Processor {
         }
     }
 
+    void assert_interrupt(Device &device, unsigned at, uint64_t time) {
+        raised |= 1ull << at;
+        device.has_asserted = true;
+        device.asserted = time;
+    }
+
     void notify(Device &device, unsigned at, uint64_t time) {
+        const unsigned timer = 2 * at;
+        const bool is_raised = raised >> at & 1;
+        const uint64_t gap = settings[RX_GAP];
+        if (gap) {
+            if (is_raised) return;
+            const uint64_t end = device.has_asserted ? held(device.asserted, gap) : 0;
+            if (end > time) {
+                if (!timers.has(timer)) timers.set(timer, end);
+                return;
+            }
+            assert_interrupt(device, at, time);
+            timers.unset(timer);
+            return;
+        }
         device.frames++;
         if (settings[RX_NSECS] == 0 || (settings[RX_FRAMES] != 0 && device.frames >= settings[RX_FRAMES])) {
             raised |= 1ull << at;
-            timers.unset(at);
-        } else if (!(raised >> at & 1) && !timers.has(at)) {
-            timers.set(at, held(time, settings[RX_NSECS]));
+            timers.unset(timer);
+        } else if (!is_raised && !timers.has(timer)) {
+            timers.set(timer, held(time, settings[RX_NSECS]));
         }
     }
 
@@ -291,10 +333,21 @@ class Processor {
         sum = held(sum, ends - began);
         clock = ends;
         under_way = NOTHING;
-        if (kind == A_USE) waits.add(clock - packet);
-        else if (kind == A_POLL) next_packet();
-        else if (kind == A_PACKET) end_packet();
-        else if (settings[BUDGET] == 0) end_interrupt_without_polling();
+        switch (kind) {
+        case A_USE:
+            waits.add(clock - packet);
+            if (!socket.size()) sleeps = true;
+            break;
+        case A_POLL: look(); break;
+        case A_PACKET: end_packet(); break;
+        case A_TAKE: end_take(); break;
+        case A_HANDOVER: end_handover(); break;
+        case AN_INTERRUPT:
+            if (settings[BUDGET] == 0) end_interrupt_without_polling();
+            else if (settings[LATCHED] == 2 && !is_timer) devices[busy]->is_caused = false;
+            break;
+        case NOTHING: break;
+        }
         if (under_way == NOTHING) take_up();
     }
 
@@ -314,20 +367,28 @@ class Processor {
         busy = static_cast<unsigned>(__builtin_ctzll(raised | fired));
         const uint64_t bit = 1ull << busy;
         Device &device = *devices[busy];
-        if (fired & bit) {
+        is_timer = fired & bit;
+        if (is_timer) {
             fired ^= bit;
             expired++;
-        } else {
-            raised ^= bit;
-            device.frames = 0;
-            timers.unset(busy);
-            device.interrupts++;
-            interrupts++;
-            if (settings[BUDGET] == 0) return start(AN_INTERRUPT, settings[INTERRUPT] + settings[PACKET]);
-            device.is_masked = true;
+            if (!device.met_scheduled) schedule(device, busy);
+            return start(AN_INTERRUPT, settings[TIMER]);
         }
-        (settings[THREADED] ? tasks : list).put(busy);
+        raised ^= bit;
+        device.frames = 0;
+        timers.unset(2 * busy);
+        device.interrupts++;
+        interrupts++;
+        if (settings[BUDGET] == 0) return start(AN_INTERRUPT, settings[INTERRUPT] + settings[PACKET]);
+        device.is_masked = true;
+        if (device.is_scheduled) device.is_missed = true;
+        else schedule(device, busy);
         start(AN_INTERRUPT, settings[INTERRUPT]);
+    }
+
+    void schedule(Device &device, unsigned at) {
+        device.is_scheduled = true;
+        (settings[THREADED] ? tasks : list).put(at);
     }
 
     void end_interrupt_without_polling() {
@@ -385,7 +446,8 @@ class Processor {
 
     void use() {
         packet = socket.take();
-        start(A_USE, settings[USE]);
+        start(A_USE, settings[USE] + (sleeps ? settings[APP_WAKE] : 0));
+        sleeps = false;
     }
 
     // ---- a poll
@@ -395,6 +457,40 @@ class Processor {
         polled = 0;
         devices[at]->polls++;
         start(A_POLL, settings[POLL]);
+    }
+
+    bool has_batches() const { return settings[GRO_BATCH] && !settings[BACKLOG]; }
+
+    void look() { has_batches() ? next_take() : next_packet(); }
+
+    /* The next packet is taken; those that GRO holds are handed over if there is none, or if they are a batch. */
+    void next_take() {
+        Device &device = *devices[busy];
+        if (polled == settings[WEIGHT] || !device.ring.size()) {
+            is_last = true;
+            return hand_over();
+        }
+        packet = device.ring.take();
+        start(A_TAKE, settings[TAKE]);
+    }
+
+    void end_take() {
+        polled++;
+        batch.put(packet);
+        is_last = false;
+        if (batch.size() == settings[GRO_BATCH]) return hand_over();
+        next_take();
+    }
+
+    void hand_over() {
+        if (batch.size()) return start(A_HANDOVER, settings[PACKET] - settings[TAKE]);
+        if (is_last) end_poll(*devices[busy]);
+        else next_take();
+    }
+
+    void end_handover() {
+        deliver(*devices[busy], batch.take());
+        hand_over();
     }
 
     void end_packet() {
@@ -415,25 +511,42 @@ class Processor {
 
     void end_poll(Device &device) {
         const bool is_full = polled == settings[WEIGHT];
+        const unsigned at = busy;
         if (settings[THREADED]) {
             polls++;
             work += polled;
-            if (!is_full) tasks.take();
         } else {
             run_polls++;
             run_work += polled;
-            if (is_full) again.put(busy);
+            if (is_full) again.put(at);
         }
-        if (!is_full) complete(device);
+        if (is_full) return;
+        if (complete(device, at)) {
+            if (!settings[THREADED]) list.put(at);
+        } else if (settings[THREADED]) {
+            tasks.take();
+        }
     }
 
-    void complete(Device &device) {
+    /* napi_complete_done, and the driver after it. Returns whether the instance is scheduled again. */
+    bool complete(Device &device, unsigned at) {
+        device.is_scheduled = device.is_missed;
         if (polled) device.deferrals = settings[DEFER_HARD_IRQS];
-        if (device.deferrals) {
-            device.deferrals--;
-            if (settings[GRO_FLUSH_TIMEOUT]) return timers.set(busy, held(clock, settings[GRO_FLUSH_TIMEOUT]));
+        const bool defers = device.deferrals && settings[GRO_FLUSH_TIMEOUT];
+        if (device.deferrals) device.deferrals--;
+        if (!device.is_missed && defers) timers.set(2 * at + 1, held(clock, settings[GRO_FLUSH_TIMEOUT]));
+        device.is_missed = false;
+        if (defers && !settings[HEEDLESS]) return device.is_scheduled;
+        if (!settings[LATCHED] && !settings[HEEDLESS] && device.ring.size()) {
+            device.is_scheduled = true;
+            return true;
         }
         device.is_masked = false;
+        if (settings[LATCHED] ? device.is_caused : device.ring.size() > 0) {
+            device.is_caused = false;
+            notify(device, at, clock);
+        }
+        return device.is_scheduled;
     }
 
     void deliver(Device &device, uint64_t arrived) {

@@ -3,6 +3,9 @@
 
 VERSION is 1, where none is given, or 2, which has busy rows too. About every sixth trace has a row that is refused; in half of
 them each ring has a place for every packet, as threads mode wants it."""
+
+from __future__ import annotations
+
 import random
 import sys
 
@@ -10,7 +13,7 @@ KINDS = ["rx", "tx", "done", "softirq", "kthread", "disable", "enable", "threade
 WEIGHTS = [40, 8, 8, 18, 6, 3, 9, 5, 3]
 
 
-def refused(dice, device):
+def refused(dice: random.Random, device: int) -> str:
     """A row that a reader rejects, or that is none; the last four if the device is in the wrong state."""
     return dice.choice([
         "1,%d,rx" % device,
@@ -39,28 +42,28 @@ def refused(dice, device):
 
 
 class Trace:
-    def __init__(self, seed, version):
+    def __init__(self, seed: int, version: int) -> None:
         self.dice = random.Random(seed)
         self.version = version
         self.rows = self.dice.choice([5, 20, 60, 200, 600])
         self.roomy = self.dice.random() < 0.5
-        self.is_on = {}
+        self.is_on: dict[int, bool] = {}
         self.moment = 0
-        self.lines = []
+        self.lines: list[str] = []
 
-    def row(self, device, event, value):
+    def row(self, device: int, event: str, value: int) -> None:
         # moments needn't increase
         self.moment = max(0, self.moment + self.dice.choice([0, 1, 1, 2, 500, 2000, -3]))
         self.lines.append("%d,%d,%s,%d" % (self.moment, device, event, value))
 
-    def open(self):
+    def open(self) -> None:
         closed = [device for device in range(1, 17) if device not in self.is_on]
         if closed:
             device = self.dice.choice(closed)
             self.row(device, "open", 1024 if self.roomy else self.dice.choice([1, 2, 4, 16, 64, 256]))
             self.is_on[device] = True
 
-    def event(self, kind):
+    def event(self, kind: str) -> None:
         if kind == "open" or not self.is_on:
             return self.open()
         device = self.dice.choice(sorted(self.is_on))
@@ -85,7 +88,7 @@ class Trace:
         elif kind == "enable":
             self.enable()
 
-    def enable(self):
+    def enable(self) -> None:
         off = [device for device in sorted(self.is_on) if not self.is_on[device]]
         if not off:
             return
@@ -100,7 +103,7 @@ class Trace:
         self.row(device, "enable", 0)
         self.is_on[device] = True
 
-    def text(self):
+    def text(self) -> str:
         header = "moment,device,event,value" + (",2" if self.version == 2 else "")
         kinds, weights = list(KINDS), list(WEIGHTS)
         if self.version == 2:

@@ -21,6 +21,9 @@ minutes of processor time, and a compiler may choose other registers than RULES 
     22  host: more words than memory has, calls that a signal ends, and input read ahead, which the reader of records never does
     30  csv: fields that are trimmed, titles that are kept, and reading on after the end
 """
+
+from __future__ import annotations
+
 import concurrent.futures
 import itertools
 import os
@@ -29,11 +32,13 @@ import re
 import subprocess
 import sys
 import tempfile
+from collections.abc import Iterable, Iterator, Sequence
 
 TOP = pathlib.Path(__file__).resolve().parent.parent
 sys.path.insert(0, str(TOP / "tests"))
 import runs
 
+Piece = tuple[int, ...]  # the addresses of instructions, from jump to jump
 ENDS = re.compile("jmp|ret|ud2")
 # A function, what is in a part of it or leads there (`>` marks where the part begins), and why no run reaches it.
 RULES = [
@@ -45,9 +50,9 @@ RULES = [
     ("main", r"cmp +\$0x4,%eax; jne [^;]* > dec|\$0xffffffffffffffff,%\w+; jne [^;]* > jmp|test +%\w+,%\w+; jne [^;]* > xor|dec +%\w+; jne [^;]* > .*seta", "host"),
     ("add_row", r"bt +%edx,%edi; jb [^;]* > cmp", "excluded"),
     ("end_by", r"(ring|worker) fault|> mov +\$0x3,%bl", "threads"),
-    ("report_rows", r"cmp +\$0x201,|cmp +\$0x20000,%\w+; jne [^;]* > jmp|movabs +\$0x100000000,.*> xor|cmpb +\$0x1,\(%\w+,%\w+,1\); jne [^;]* > movl +\$0x0", "excluded"),
-    ("report_rows", r"test +%\w+,%\w+; (mov [^;]*; )?je [^;]* > xor +%\w+,%\w+; jmp|test +%edx,%edx;.*> .*movl +\$0x1", "excluded"),
-    ("report_rows", r"cmp +\$0x10,%\w+; (mov [^;]*; )?ja [^;]* > movq +\$0x0|> mov +\$0x2,%\w+; (mov +\$0x1|jmp)", "threads"),
+    ("write_report", r"cmp +\$0x201,|cmp +\$0x20000,%\w+; jne [^;]* > jmp|movabs +\$0x100000000,.*> xor|cmpb +\$0x1,\(%\w+,%\w+,1\); jne [^;]* > movl +\$0x0", "excluded"),
+    ("write_report", r"test +%\w+,%\w+; (mov [^;]*; )?je [^;]* > xor +%\w+,%\w+; jmp|test +%edx,%edx;.*> .*movl +\$0x1", "excluded"),
+    ("write_report", r"cmp +\$0x10,%\w+; (mov [^;]*; )?ja [^;]* > movq +\$0x0|> mov +\$0x2,%\w+; (mov +\$0x1|jmp)", "threads"),
     ("read_words", r"cmpq +\$0x0,[^;]*; jne [^;]* > jmp", "freed"),
     ("read_words", r"cmpb +\$0x0,[^;]*; je [^;]* > mov +%r15b", "clap"),
     ("read_words", r"test +%rbp,%rbp;[^>]*je [^;]* > mov +\$0x1,%r15b|sete[^>]*je [^;]* > mov [^;]*; jmp [^;]*$", "clap"),
@@ -63,10 +68,10 @@ RULES = [
 CALLGRIND = "callgrind-amd64-linux"  # called itself, so that nothing is refused to a launcher
 HEADER = b"moment,device,event,value,2\n"
 SMALL = HEADER + b"0,1,open,4\n0,16,open,4\n1,1,rx,100\n1,1,tx,9\n1,16,rx,1\n2,0,softirq,0\n3,1,kthread,0\n4,1,busy,1\n"
-REFUSED = [([], SMALL), (["--budget=7", "--weight", "3"], HEADER), (["--budget=x"], HEADER), ([], SMALL + b"5,1,rx\n")]
+REFUSED: list[tuple[list[str], bytes]] = [([], SMALL), (["--budget=7", "--weight", "3"], HEADER), (["--budget=x"], HEADER), ([], SMALL + b"5,1,rx\n")]
 
 
-def own_functions(program):
+def own_functions(program: str) -> Iterator[tuple[str, int, int]]:
     """The program's own functions: name, first address, end."""
     crates = tuple(path.name + "::" for path in (TOP / "crates").iterdir())
     listed = subprocess.run(["nm", "-S", program], capture_output=True, text=True, check=True).stdout
@@ -76,7 +81,7 @@ def own_functions(program):
             yield words[3], int(words[0], 16), int(words[0], 16) + int(words[1], 16)
 
 
-def instructions(program):
+def instructions(program: str) -> dict[int, str]:
     """Each instruction's address with its text, in order, except padding."""
     constants = pathlib.Path(program).read_bytes()
     listed = subprocess.run(["objdump", "-d", "--no-show-raw-insn", program], capture_output=True, text=True, check=True).stdout
@@ -84,15 +89,18 @@ def instructions(program):
     return {at: named(text, constants) for at, text in pairs if not re.match(r"nop|cs nop|data16|xchg +%ax,%ax", text)}
 
 
-def named(text, constants):
+def named(text: str, constants: bytes) -> str:
     """The text of an instruction, with the letters of the constant that it names: constants are in the file at the address to
     which they are loaded."""
     where = re.search(r"(.*)# ([0-9a-f]+) <", text)
-    letters = re.match(rb"[ -~]*", constants[int(where[2], 16):][:24])[0].decode() if where else ""
-    return '%s# "%s"' % (where[1], letters) if where else re.sub(r"::<#\w+>", "", text)
+    if not where:
+        return re.sub(r"::<#\w+>", "", text)
+    letters = re.match(rb"[ -~]*", constants[int(where[2], 16):][:24])
+    assert letters  # there may be none of them
+    return '%s# "%s"' % (where[1], letters[0].decode())
 
 
-def places_of(out, program):
+def places_of(out: pathlib.Path, program: str) -> set[int]:
     """The program's addresses in callgrind's output."""
     places, is_own = set(), False
     for line in out.read_text(errors="replace").splitlines():
@@ -106,29 +114,29 @@ def places_of(out, program):
 class Runs:
     """Concurrent runs of the program under callgrind."""
 
-    def __init__(self, program, folder):
+    def __init__(self, program: str, folder: str) -> None:
         self.program, self.folder = program, pathlib.Path(folder)
         self.tools = next(path.parent for path in map(pathlib.Path, ("/usr/libexec/valgrind/" + CALLGRIND, "/usr/lib/valgrind/" + CALLGRIND)) if path.exists())
         self.refuse = str(self.folder / "refuse.so")
         self.pool = concurrent.futures.ThreadPoolExecutor(4)
         subprocess.run(["cc", "-O1", "-shared", "-fPIC", "-o", self.refuse, TOP / "bench/refuse.c", "-ldl"], check=True)
 
-    def play(self, words, text, refused=None):
+    def play(self, words: Sequence[str], text: bytes, refused: tuple[str, int] | None = None) -> tuple[set[int], bool]:
         """The addresses that a run reaches, and whether a call failed."""
         with tempfile.TemporaryDirectory(dir=self.folder) as room:
             out, mark = pathlib.Path(room) / "out", pathlib.Path(room) / "mark"
             more = {refused[0]: str(refused[1]), "LD_PRELOAD": self.refuse, "REFUSED": str(mark)} if refused else {}
             ends = dict(os.environ, VALGRIND_LIB=str(self.tools), VALGRIND_LAUNCHER="/usr/bin/valgrind", **more)
             subprocess.run([str(self.tools / CALLGRIND), "--tool=callgrind", "-q", "--dump-instr=yes", "--compress-pos=no", "--compress-strings=no",
-                            f"--callgrind-out-file={out}", self.program] + words, input=text, capture_output=True, env=ends)
+                            f"--callgrind-out-file={out}", self.program, *words], input=text, capture_output=True, env=ends)
             return places_of(out, self.program), mark.exists()
 
-    def all(self, plays):
+    def all(self, plays: Iterable[tuple[Sequence[str], bytes]]) -> set[int]:
         return set().union(*(places for places, _ in self.pool.map(lambda play: self.play(*play), plays)))
 
-    def refusals(self):
+    def refusals(self) -> set[int]:
         """What is reached while each call of a kind fails in turn, until there is none with that number."""
-        found = set()
+        found: set[int] = set()
         for (words, text), kind in itertools.product(REFUSED, ("REFUSE_MEMORY", "REFUSE_READ", "REFUSE_WRITE")):
             for first in itertools.count(1, 8):
                 some = list(self.pool.map(lambda number: self.play(words, text, (kind, number)), range(first, first + 8)))
@@ -141,12 +149,12 @@ class Runs:
 class Left:
     """What isn't reached of a function, in pieces from jump to jump, each with its reason."""
 
-    def __init__(self, own, known, places):
+    def __init__(self, own: list[int], known: dict[int, str], places: set[int]) -> None:
         self.known, self.places = known, places
         self.pieces = list(self.cut(own))
         self.piece_at = {at: piece for piece in self.pieces for at in piece}
-        self.ways = {piece: [] for piece in self.pieces}  # the instructions that lead into each piece from outside
-        for before, at, behind in zip([None] + own, own, own[1:] + [None]):
+        self.ways: dict[Piece, list[int]] = {piece: [] for piece in self.pieces}  # the instructions that lead into each piece from outside
+        for before, at, behind in zip([None, *own], own, [*own[1:], None]):
             goes = re.match(r"j\w+ +([0-9a-f]+) <", known[at])
             for end in [int(goes[1], 16)] if goes else []:
                 self.lead(at, end)
@@ -155,31 +163,31 @@ class Left:
         self.order = {at: number for number, at in enumerate(own)}
         self.own = own
 
-    def cut(self, own):
+    def cut(self, own: list[int]) -> Iterator[Piece]:
         piece = []
-        for at in own + [None]:
+        for at in [*own, None]:
             if at is not None and at not in self.places:
                 piece.append(at)
             if piece and (at is None or at in self.places or ENDS.match(self.known[at])):
                 yield tuple(piece)
                 piece = []
 
-    def lead(self, at, end):
-        piece = self.piece_at.get(end)
+    def lead(self, at: int, end: int | None) -> None:
+        piece = None if end is None else self.piece_at.get(end)
         if piece and at not in piece:
             self.ways[piece].append(at)
 
-    def texts(self, piece):
+    def texts(self, piece: Piece) -> list[str]:
         """The piece's text, once after each reached way into it: what that compares, and `>`."""
         body = "; ".join(self.known[at] for at in piece)
         reached = [self.order[at] for at in self.ways[piece] if at in self.places]
         return ["; ".join(self.known[at] for at in self.own[max(0, way - 7):way + 1]) + " > " + body for way in reached] or ["> " + body]
 
-    def rule(self, name, piece):
+    def rule(self, name: str, piece: Piece) -> str | None:
         texts = self.texts(piece)
         return next((reason for function, words, reason in RULES if re.search(function, name) and any(re.search(words, text) for text in texts)), None)
 
-    def reasons(self, name):
+    def reasons(self, name: str) -> dict[Piece, str | None]:
         """The reason of each piece. One that only others lead to has theirs; one without a rule has that of the one it goes to."""
         inner = {piece: [self.piece_at[at] for at in ways] for piece, ways in self.ways.items() if ways and not self.places.intersection(ways)}
         found = {piece: self.rule(name, piece) for piece in self.pieces if piece not in inner}
@@ -191,11 +199,11 @@ class Left:
         return found
 
 
-def share(name, count, whole):
+def share(name: str, count: int, whole: int) -> None:
     print("%6d of %6d, %.1f %%: %s" % (count, whole, 100 * count / whole, name))
 
 
-def tell(left, known):
+def tell(left: dict[str | None, list[tuple[str, Piece]]], known: dict[int, str]) -> bool:
     """Each reason with its pieces; whether there is one without a reason, or more of one than this head has."""
     table = {reason: int(most) for most, reason in re.findall(r"^ +(\d+)  (\w+)", __doc__, re.M)}
     fails = False
@@ -208,14 +216,14 @@ def tell(left, known):
     return fails
 
 
-def main(program, traces):
+def main(program: str, traces: list[str]) -> bool:
     known = instructions(program)
     with tempfile.TemporaryDirectory() as folder:
         side = Runs(program, folder)
         by_runs = side.all([(words, text) for _, words, text in runs.runs()] + [([], pathlib.Path(trace).read_bytes()) for trace in traces])
         places = by_runs | side.refusals()
     functions = [(name, [at for at in known if start <= at < end]) for name, start, end in own_functions(program)]
-    left = {}
+    left: dict[str | None, list[tuple[str, Piece]]] = {}
     for name, own in sorted(functions, key=lambda one: -len(one[1])):
         share(name.split("::<")[0], sum(at in places for at in own), len(own))
         for piece, reason in Left(own, known, places).reasons(name).items():

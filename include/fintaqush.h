@@ -8,18 +8,18 @@
  * What the caller must ensure, because nothing here can check it:
  * - A pointer points to a whole object of its type, or to as many as its count says. None is null (also for a count of 0), and no two
  *   arguments of one call point to the same memory.
- * - Calls on one object don't overlap. An object may move from thread to thread if a lock, a thread's start or join, or a sequentially
- *   consistent atomic orders the calls. The ring's input, each seat and the controller of one shared instance are separate objects,
- *   which may be used at the same time, each by one thread.
+ * - Calls on one object don't overlap, not even those that only read. An object may move from thread to thread if a lock, a thread's start
+ *   or join, or a sequentially consistent atomic orders the calls. The ring's input, each seat and the controller of one shared instance
+ *   are separate objects, which may be used at the same time, each by one thread.
  * - A struct fq_handle or fq_dql isn't copied, and only calls write its fields. An unset handle is all zero.
  * - No call is made from a signal handler, or from the forked child of a process with threads.
  *
  * No call blocks, sleeps, locks or starts a thread. fq_seat_schedule_prep, fq_seat_complete_done, fq_seat_end and fq_control_step, and
  * the inline functions over them, repeat an attempt while other threads change the instance: some thread always makes progress. Every
  * call returns: after 2^64 attempts, which take centuries, these return FQ_CHANGED, and do nothing more. fq_ring_new, fq_ring_split,
- * fq_tx_new, fq_list_new, fq_driver_new, fq_shared_new, fq_shared_bare, fq_replay, fq_raise and fq_machine allocate memory, after they have checked
- * their arguments; if an allocation fails, they free what they allocated, and nothing has changed. fq_free, fq_abandon and fq_ring_finish
- * free memory. No other call allocates or frees.
+ * fq_tx_new, fq_list_new, fq_driver_new, fq_shared_new, fq_shared_bare, fq_replay, fq_raise and fq_machine allocate memory, after they have
+ * checked their arguments; if an allocation fails, they free what they allocated, and nothing has changed. fq_free, fq_abandon and
+ * fq_ring_finish free memory. No other call allocates or frees.
  *
  * Memory order: what a thread wrote before it put a packet is visible to the thread whose poll returns that packet. A poll frees the
  * places of the packets that it returns, all at once: what was done before that poll is visible to the put that finds one of them free.
@@ -60,55 +60,57 @@
 extern "C" {
 #endif
 
-/* The statuses that calls return. 0: success. 1 to 15: errors of a queue limit; the operation isn't made. 16 to 99: results. After
- * FQ_NOT_THERE, FQ_BUSY, FQ_CHANGED, FQ_STOPPED, FQ_MORE_THAN_SENT and FQ_NOT_DUE nothing has changed, and after FQ_FULL neither, except
- * for a burst. 100 and above: errors; the operation isn't made. */
+/* ---- status: statuses, kinds, flags and sizes. */
+
+/* The statuses that calls return, each with the calls that it is of, if not of all, and its message. 0: success. 1 to 15: errors of a queue
+ * limit; the operation isn't made. 16 to 99: results. After FQ_NOT_THERE, FQ_BUSY, FQ_CHANGED, FQ_STOPPED, FQ_MORE_THAN_SENT and FQ_NOT_DUE
+ * nothing has changed, and after FQ_FULL neither, except for a burst. 100 and above: errors; the operation isn't made. */
 enum fq_status FQ_NUMBER {
-    FQ_OK = 0,
-    FQ_BAD_BOUNDS = 1,         /* limit: min is above max, or max is above 1879048192 */
-    FQ_TOO_LARGE = 2,          /* limit, send: an object above 268435455 bytes */
+    FQ_OK = 0,                 /* done */
+    FQ_BAD_BOUNDS = 1,         /* limit: min is above max, or max above 1879048192 bytes */
+    FQ_TOO_LARGE = 2,          /* limit, send: an object of more than 268435455 bytes */
     FQ_TOO_MUCH_IN_FLIGHT = 3, /* limit, send: more than 1073741823 bytes would be in flight */
-    FQ_MORE_THAN_QUEUED = 4,   /* limit: more bytes completed than are in flight */
+    FQ_MORE_THAN_QUEUED = 4,   /* limit: more bytes are completed than are in flight */
 
-    FQ_GRANTED = 16,   /* schedule: the caller owns the instance, and has to queue it */
-    FQ_MISSED = 17,    /* schedule: already scheduled; one more poll follows, unless the controller owns it */
-    FQ_DISABLED = 18,  /* schedule: a disable is pending; nothing is requested */
-    FQ_TAKEN = 19,     /* take, busy take, take disable: the caller owns the instance */
-    FQ_NOT_THERE = 20, /* take: the instance isn't queued for this kind; remove: neither the list nor its run has the number */
-    FQ_RELEASED = 21,  /* complete: no caller owns the instance any more */
-    FQ_AGAIN = 22,     /* complete: a request was missed; the caller owns the instance, and has to queue it again */
-    FQ_HELD = 23,      /* complete: the caller busy polls, and continues; end: also after a thread's full poll */
-    FQ_BUSY = 24,      /* busy take, take disable: the instance isn't idle; remove: only the run has the number */
-    FQ_CHANGED = 25,   /* shared instances: another thread changed the instance, nothing is done; call again */
-    FQ_FULL = 26,      /* put, push, send: there is no room */
-    FQ_DONE = 27,      /* run: no device is left to poll */
-    FQ_STOPPED = 28,   /* send: the limit has stopped the queue */
-    FQ_MORE_THAN_SENT = 29, /* done: more packets than the transmit ring holds */
-    FQ_NOT_DUE = 30,        /* driver: this action isn't due, and nothing has changed */
+    FQ_GRANTED = 16,           /* schedule: the caller owns the instance, and has to queue it */
+    FQ_MISSED = 17,            /* schedule: already scheduled: one more poll follows, unless the instance is disabled */
+    FQ_DISABLED = 18,          /* schedule: a disable is pending, and no poll was requested */
+    FQ_TAKEN = 19,             /* take, busy take, take disable: the caller owns the instance */
+    FQ_NOT_THERE = 20,         /* take, remove: the instance is not queued there, or the number is not on the list */
+    FQ_RELEASED = 21,          /* complete: no caller owns the instance any more */
+    FQ_AGAIN = 22,             /* complete: a request was missed: the caller has to queue the instance again */
+    FQ_HELD = 23,              /* complete, end: the caller keeps polling */
+    FQ_BUSY = 24,              /* busy take, take disable, remove: another caller owns the instance, or a run has the number */
+    FQ_CHANGED = 25,           /* shared instances: another thread interfered, and nothing is decided: call again */
+    FQ_FULL = 26,              /* put, push, send: there is no room */
+    FQ_DONE = 27,              /* next: no poll is left in the run */
+    FQ_STOPPED = 28,           /* send: the limit has stopped the queue */
+    FQ_MORE_THAN_SENT = 29,    /* done: more packets are completed than were sent */
+    FQ_NOT_DUE = 30,           /* driver: this is not due, and nothing has changed */
 
-    FQ_NOT_ALLOWED = 100,   /* the object's state doesn't allow this call */
-    FQ_BAD_KIND = 101,      /* not a number of enum fq_kind */
-    FQ_BAD_HANDLE = 110,    /* the handle is unset, or refers to an object of another kind */
-    FQ_IN_USE = 111,        /* the handle is set already; push, polled: the list has the number already */
-    FQ_OUT_OF_MEMORY = 112,
-    FQ_BAD_CAPACITY = 113,  /* the capacity of a ring isn't 1 to 65536 */
-    FQ_BAD_WEIGHT = 114,    /* a weight isn't 1 to 64 */
-    FQ_NO_ROOM = 115,       /* poll: the array is shorter than the weight; replay, machine: the array is shorter than the report */
-    FQ_BAD_BUDGET = 116,    /* run, replay: a budget or a window isn't 1 to 65535 */
-    FQ_BAD_COUNT = 117,     /* shared instance: there aren't 2 to 8 seats; driver: there aren't 1 to 64 devices */
-    FQ_BAD_NEXT = 118,      /* not a number of enum fq_next */
-    FQ_BAD_WORK = 119,      /* run, driver: more packets than the weight */
-    FQ_BAD_TRACE = 120,     /* replay: the bytes aren't a trace, or a row of it can't be processed */
-    FQ_BAD_DEVICE = 121,    /* driver: it has no device with this number */
-    FQ_BAD_SIZE = 122,      /* the size of a struct isn't one that this library knows */
-    FQ_BAD_SETTING = 123,   /* machine: a setting is out of its range */
-    FQ_BAD_ARRIVALS = 124   /* machine: the bytes aren't arrivals */
+    FQ_NOT_ALLOWED = 100,      /* the state of the object does not allow this call */
+    FQ_BAD_KIND = 101,         /* the kind is 0 (list) or 1 (thread) */
+    FQ_BAD_HANDLE = 110,       /* the handle has no object, or one of another kind */
+    FQ_IN_USE = 111,           /* the handle is set already, or the number is listed already */
+    FQ_OUT_OF_MEMORY = 112,    /* out of memory */
+    FQ_BAD_CAPACITY = 113,     /* the capacity of a ring is 1 to 65536 */
+    FQ_BAD_WEIGHT = 114,       /* a weight is 1 to 64 packets */
+    FQ_NO_ROOM = 115,          /* the array is too short */
+    FQ_BAD_BUDGET = 116,       /* budget and window are 1 to 65535 */
+    FQ_BAD_COUNT = 117,        /* a shared instance has 2 to 8 seats, a driver 1 to 64 devices */
+    FQ_BAD_NEXT = 118,         /* how a poll ended is 0 to 4 (enum fq_next) */
+    FQ_BAD_WORK = 119,         /* a poll is reported with more packets than the weight */
+    FQ_BAD_TRACE = 120,        /* replay, raise: the bytes are not a trace, or a row of it can't be processed */
+    FQ_BAD_DEVICE = 121,       /* the driver has no device with this number */
+    FQ_BAD_SIZE = 122,         /* a struct's size is not one that the library knows */
+    FQ_BAD_SETTING = 123,      /* machine: a setting of the machine is out of its range */
+    FQ_BAD_ARRIVALS = 124      /* machine: the bytes are not arrivals */
 };
 
 /* Each call writes a text to an array of `room` bytes, with a terminating 0: the library's FQ_VERSION; the name of a status, or its
  * message ("?" for an unknown number); the name of a trace's fault. It returns the length of the text; if that isn't below `room`, the
- * array is unchanged. FQ_MESSAGE_ROOM bytes are enough for each text. */
-#define FQ_MESSAGE_ROOM 96
+ * array is unchanged. */
+#define FQ_MESSAGE_ROOM 96 /* bytes of an array that has room for each text and its terminating 0 */
 FQ_NONNULL size_t fq_version(char *to, size_t room);
 FQ_NONNULL size_t fq_status_text(uint32_t status, char *to, size_t room);
 FQ_NONNULL size_t fq_status_message(uint32_t status, char *to, size_t room);
@@ -126,73 +128,56 @@ size_t fq_struct_size(uint32_t which);
 /* Returns the name of a status, for example "FQ_GRANTED"; "?" for an unknown number. */
 static inline const char *fq_status_name(uint32_t status) {
     switch (status) {
-    case FQ_OK: return "FQ_OK";
-    case FQ_BAD_BOUNDS: return "FQ_BAD_BOUNDS";
-    case FQ_TOO_LARGE: return "FQ_TOO_LARGE";
-    case FQ_TOO_MUCH_IN_FLIGHT: return "FQ_TOO_MUCH_IN_FLIGHT";
-    case FQ_MORE_THAN_QUEUED: return "FQ_MORE_THAN_QUEUED";
-    case FQ_GRANTED: return "FQ_GRANTED";
-    case FQ_MISSED: return "FQ_MISSED";
-    case FQ_DISABLED: return "FQ_DISABLED";
-    case FQ_TAKEN: return "FQ_TAKEN";
-    case FQ_NOT_THERE: return "FQ_NOT_THERE";
-    case FQ_RELEASED: return "FQ_RELEASED";
-    case FQ_AGAIN: return "FQ_AGAIN";
-    case FQ_HELD: return "FQ_HELD";
-    case FQ_BUSY: return "FQ_BUSY";
-    case FQ_CHANGED: return "FQ_CHANGED";
-    case FQ_FULL: return "FQ_FULL";
-    case FQ_DONE: return "FQ_DONE";
-    case FQ_STOPPED: return "FQ_STOPPED";
-    case FQ_MORE_THAN_SENT: return "FQ_MORE_THAN_SENT";
-    case FQ_NOT_DUE: return "FQ_NOT_DUE";
-    case FQ_NOT_ALLOWED: return "FQ_NOT_ALLOWED";
-    case FQ_BAD_KIND: return "FQ_BAD_KIND";
-    case FQ_BAD_HANDLE: return "FQ_BAD_HANDLE";
-    case FQ_IN_USE: return "FQ_IN_USE";
-    case FQ_OUT_OF_MEMORY: return "FQ_OUT_OF_MEMORY";
-    case FQ_BAD_CAPACITY: return "FQ_BAD_CAPACITY";
-    case FQ_BAD_WEIGHT: return "FQ_BAD_WEIGHT";
-    case FQ_NO_ROOM: return "FQ_NO_ROOM";
-    case FQ_BAD_BUDGET: return "FQ_BAD_BUDGET";
-    case FQ_BAD_COUNT: return "FQ_BAD_COUNT";
-    case FQ_BAD_NEXT: return "FQ_BAD_NEXT";
-    case FQ_BAD_WORK: return "FQ_BAD_WORK";
-    case FQ_BAD_TRACE: return "FQ_BAD_TRACE";
-    case FQ_BAD_DEVICE: return "FQ_BAD_DEVICE";
-    case FQ_BAD_SIZE: return "FQ_BAD_SIZE";
-    case FQ_BAD_SETTING: return "FQ_BAD_SETTING";
-    case FQ_BAD_ARRIVALS: return "FQ_BAD_ARRIVALS";
+    /* scripts/abi.py: begin statuses */
+    case FQ_OK: return "FQ_OK"; case FQ_BAD_BOUNDS: return "FQ_BAD_BOUNDS"; case FQ_TOO_LARGE: return "FQ_TOO_LARGE";
+    case FQ_TOO_MUCH_IN_FLIGHT: return "FQ_TOO_MUCH_IN_FLIGHT"; case FQ_MORE_THAN_QUEUED: return "FQ_MORE_THAN_QUEUED";
+    case FQ_GRANTED: return "FQ_GRANTED"; case FQ_MISSED: return "FQ_MISSED"; case FQ_DISABLED: return "FQ_DISABLED";
+    case FQ_TAKEN: return "FQ_TAKEN"; case FQ_NOT_THERE: return "FQ_NOT_THERE"; case FQ_RELEASED: return "FQ_RELEASED";
+    case FQ_AGAIN: return "FQ_AGAIN"; case FQ_HELD: return "FQ_HELD"; case FQ_BUSY: return "FQ_BUSY"; case FQ_CHANGED: return "FQ_CHANGED";
+    case FQ_FULL: return "FQ_FULL"; case FQ_DONE: return "FQ_DONE"; case FQ_STOPPED: return "FQ_STOPPED";
+    case FQ_MORE_THAN_SENT: return "FQ_MORE_THAN_SENT"; case FQ_NOT_DUE: return "FQ_NOT_DUE"; case FQ_NOT_ALLOWED: return "FQ_NOT_ALLOWED";
+    case FQ_BAD_KIND: return "FQ_BAD_KIND"; case FQ_BAD_HANDLE: return "FQ_BAD_HANDLE"; case FQ_IN_USE: return "FQ_IN_USE";
+    case FQ_OUT_OF_MEMORY: return "FQ_OUT_OF_MEMORY"; case FQ_BAD_CAPACITY: return "FQ_BAD_CAPACITY";
+    case FQ_BAD_WEIGHT: return "FQ_BAD_WEIGHT"; case FQ_NO_ROOM: return "FQ_NO_ROOM"; case FQ_BAD_BUDGET: return "FQ_BAD_BUDGET";
+    case FQ_BAD_COUNT: return "FQ_BAD_COUNT"; case FQ_BAD_NEXT: return "FQ_BAD_NEXT"; case FQ_BAD_WORK: return "FQ_BAD_WORK";
+    case FQ_BAD_TRACE: return "FQ_BAD_TRACE"; case FQ_BAD_DEVICE: return "FQ_BAD_DEVICE"; case FQ_BAD_SIZE: return "FQ_BAD_SIZE";
+    case FQ_BAD_SETTING: return "FQ_BAD_SETTING"; case FQ_BAD_ARRIVALS: return "FQ_BAD_ARRIVALS";
+    /* scripts/abi.py: end statuses */
     }
     return "?";
 }
 
-/* Where an instance is queued: on a poll list, or for its own thread. Calls that read the kind from the state word say so. */
-enum fq_kind FQ_NUMBER { FQ_LIST = 0, FQ_THREAD = 1 };
+/* Where an instance is queued. Calls that read the kind from the state word say so. */
+enum fq_kind FQ_NUMBER {
+    FQ_LIST = 0,  /* on a poll list */
+    FQ_THREAD = 1 /* for its own thread */
+};
 
-/* How a poll ended. FQ_NEXT_GONE: the device leaves the list. FQ_NEXT_AGAIN: it has to be listed again. FQ_NEXT_AGAIN_THREAD: it is
- * queued for its thread. FQ_NEXT_REPOLL: it returned its whole weight, and is polled again after all others. FQ_NEXT_ABSENT: its instance
- * wasn't queued there. */
-enum fq_next FQ_NUMBER { FQ_NEXT_GONE = 0, FQ_NEXT_AGAIN = 1, FQ_NEXT_AGAIN_THREAD = 2, FQ_NEXT_REPOLL = 3, FQ_NEXT_ABSENT = 4 };
+/* How a poll ended. */
+enum fq_next FQ_NUMBER {
+    FQ_NEXT_GONE = 0,         /* the device leaves the list */
+    FQ_NEXT_AGAIN = 1,        /* it has to be listed again */
+    FQ_NEXT_AGAIN_THREAD = 2, /* it is queued for its thread */
+    FQ_NEXT_REPOLL = 3,       /* it returned its whole weight, and is polled again after all others */
+    FQ_NEXT_ABSENT = 4        /* its instance wasn't queued there */
+};
 
-/* The bits of a state word: the kernel's NAPI_STATE_.., and two of this library. FQ_BIT_QUEUED: the instance is on a poll list, and
- * wasn't taken yet. FQ_BIT_TO_THREAD: it is queued for its thread, and wasn't taken yet. FQ_BIT_LISTED and FQ_BIT_WITH_THREAD are
- * deprecated names of these two, for programs that use them; the kernel's NAPI_STATE_LISTED is a different flag, bit 4, which the
- * library doesn't have. */
-#define FQ_BIT_SCHED (UINT64_C(1) << 0)
-#define FQ_BIT_MISSED (UINT64_C(1) << 1)
-#define FQ_BIT_DISABLE (UINT64_C(1) << 2)
-#define FQ_BIT_NPSVC (UINT64_C(1) << 3)
-#define FQ_BIT_IN_BUSY_POLL (UINT64_C(1) << 6)
-#define FQ_BIT_THREADED (UINT64_C(1) << 8)
-#define FQ_BIT_SCHED_THREADED (UINT64_C(1) << 9)
-#define FQ_BIT_QUEUED (UINT64_C(1) << 32)
-#define FQ_BIT_TO_THREAD (UINT64_C(1) << 33)
-#define FQ_BIT_LISTED FQ_BIT_QUEUED
-#define FQ_BIT_WITH_THREAD FQ_BIT_TO_THREAD
+/* The bits of a state word: the kernel's NAPI_STATE_.., and two of this library. The kernel's NAPI_STATE_LISTED is a different flag, bit 4,
+ * which the library doesn't have. */
+#define FQ_BIT_SCHED (UINT64_C(1) << 0) /* NAPI_STATE_SCHED */
+#define FQ_BIT_MISSED (UINT64_C(1) << 1) /* NAPI_STATE_MISSED */
+#define FQ_BIT_DISABLE (UINT64_C(1) << 2) /* NAPI_STATE_DISABLE */
+#define FQ_BIT_NPSVC (UINT64_C(1) << 3) /* NAPI_STATE_NPSVC */
+#define FQ_BIT_IN_BUSY_POLL (UINT64_C(1) << 6) /* NAPI_STATE_IN_BUSY_POLL */
+#define FQ_BIT_THREADED (UINT64_C(1) << 8) /* NAPI_STATE_THREADED */
+#define FQ_BIT_SCHED_THREADED (UINT64_C(1) << 9) /* NAPI_STATE_SCHED_THREADED */
+#define FQ_BIT_QUEUED (UINT64_C(1) << 32) /* on a poll list, and not taken yet */
+#define FQ_BIT_TO_THREAD (UINT64_C(1) << 33) /* queued for its thread, and not taken yet */
 
-/* ---- Byte queue limits (lib/dynamic_queue_limits.c), in the caller's memory. Times are milliseconds of the caller's clock. */
+/* ---- dql: byte queue limits (lib/dynamic_queue_limits.c). They are in the caller's memory. Times are milliseconds of the caller's
+ * clock. */
 
+/* A byte queue limit. It isn't copied, and only calls write its fields. */
 struct fq_dql {
     uint32_t private_a[8];
     uint64_t private_b;
@@ -200,9 +185,10 @@ struct fq_dql {
     uint64_t private_d;
 };
 
+/* What fq_dql_new returns. */
 struct fq_dql_made {
-    struct fq_dql dql;
-    uint32_t status;
+    struct fq_dql dql; /* the limit; a limit of 0 unless the status is FQ_OK */
+    uint32_t status;   /* FQ_OK or FQ_BAD_BOUNDS */
 };
 
 /* Returns a new limit between `min` and `max` bytes, with the slack hold time `hold_ms` (dql_init), and the status FQ_OK or
@@ -241,13 +227,21 @@ FQ_NONNULL static inline int64_t fq_dql_avail_here(const struct fq_dql *dql) {
     return (int64_t)dql->private_a[3] - (int64_t)fq_dql_in_flight_here(dql);
 }
 
-/* ---- An instance of one thread (struct napi_struct), in the caller's memory. A caller is a number; the controller's is set when the
- * instance is made. Any bytes of the struct represent a state, the same one in all calls. */
+/* ---- napi: an instance of one thread (struct napi_struct). It is in the caller's memory. A caller is a number; the controller's is set
+ * when the instance is made. Any bytes of the struct represent a state, the same one in all calls. */
 
+/* An instance of one thread. Each flag is set unless its byte is 0. */
 struct fq_napi {
-    uint8_t sched, missed, disable, npsvc, in_busy_poll, threaded, sched_threaded; /* each flag is set unless its byte is 0 */
-    uint8_t place; /* 0 no owner, 1 granted, 2 listed, 3 queued for its thread, 4 polled, any other number: owned by the controller */
-    uint32_t owner, controller;
+    uint8_t sched;          /* NAPI_STATE_SCHED */
+    uint8_t missed;         /* NAPI_STATE_MISSED */
+    uint8_t disable;        /* NAPI_STATE_DISABLE */
+    uint8_t npsvc;          /* NAPI_STATE_NPSVC */
+    uint8_t in_busy_poll;   /* NAPI_STATE_IN_BUSY_POLL */
+    uint8_t threaded;       /* NAPI_STATE_THREADED */
+    uint8_t sched_threaded; /* NAPI_STATE_SCHED_THREADED */
+    uint8_t place;          /* 0 no owner, 1 granted, 2 listed, 3 queued for its thread, 4 polled, otherwise: owned by the controller */
+    uint32_t owner;         /* the number of its owner */
+    uint32_t controller;    /* the number of the caller that enables and disables it */
 };
 
 /* Returns a new instance (netif_napi_add), which is disabled. */
@@ -286,8 +280,9 @@ FQ_CHECKED enum fq_status fq_napi_enable(struct fq_napi *napi, uint32_t who, boo
 /* Returns the state word, a sum of FQ_BIT_.. */
 FQ_NONNULL uint64_t fq_napi_word(const struct fq_napi *napi);
 
-/* ---- Objects on the library's heap. */
+/* ---- handle: free, abandon and move objects of the library. They are on the library's heap. */
 
+/* A handle to an object of the library. It isn't copied, and only calls write its fields. */
 struct fq_handle {
     bool private_set;
     void *private_at;
@@ -296,21 +291,22 @@ struct fq_handle {
 /* An unset handle: it refers to no object. */
 #define FQ_NONE {false, NULL}
 
-/* Frees the object of a handle, which is unset after that. Returns FQ_OK; FQ_BAD_HANDLE; FQ_NOT_ALLOWED, and nothing changes, for a seat
- * that isn't at rest, for a controller that isn't off, and for a list in a run. Packets in a ring are lost, so poll them before. The
- * status may be ignored. */
-FQ_NONNULL enum fq_status fq_free(struct fq_handle *handle);
+/* Frees the object of a handle, which is unset after that. Returns FQ_OK; FQ_BAD_HANDLE; FQ_NOT_ALLOWED, and nothing is freed, for a seat
+ * that isn't at rest, for a controller that isn't off, and for a list in a run: then the handle still has its object, which leaks unless a
+ * later call frees it. Packets in a ring are lost, so poll them before. */
+FQ_CHECKED enum fq_status fq_free(struct fq_handle *handle);
 /* Frees the object of a handle in any state. Returns FQ_OK; FQ_BAD_HANDLE. An instance whose poller was abandoned is never polled again.
  * The status may be ignored. */
 FQ_NONNULL enum fq_status fq_abandon(struct fq_handle *handle);
 /* Moves the object of `from` to `to`; `from` is unset after that. Returns FQ_OK; FQ_IN_USE if `to` is set; FQ_BAD_HANDLE. */
 FQ_CHECKED enum fq_status fq_move(struct fq_handle *FQ_RESTRICT from, struct fq_handle *FQ_RESTRICT to);
 
-/* ---- Receive rings. The caller chooses a packet's number: an index, a pointer. */
+/* ---- ring: receive rings. */
 
+/* A packet. */
 struct fq_packet {
-    uint64_t number;
-    uint32_t bytes;
+    uint64_t number; /* a number that the caller chooses: an index, a pointer */
+    uint32_t bytes;  /* its size in bytes */
 };
 
 /* Makes a ring of capacity 1 to 65536. Returns FQ_OK; FQ_IN_USE; FQ_BAD_CAPACITY; FQ_OUT_OF_MEMORY. */
@@ -326,18 +322,27 @@ FQ_CHECKED enum fq_status fq_ring_put_all(struct fq_handle *FQ_RESTRICT ring, co
  * ring whose poll end belongs to an instance or to another handle. */
 FQ_CHECKED enum fq_status fq_ring_poll(struct fq_handle *FQ_RESTRICT ring, size_t weight, struct fq_packet *FQ_RESTRICT out, size_t len, size_t *FQ_RESTRICT count);
 
+/* The counts of a ring's polls, each of which saturates at its maximum. */
 struct fq_counts {
-    uint64_t polls, packets, bytes; /* each count saturates at its maximum */
+    uint64_t polls;   /* the polls */
+    uint64_t packets; /* the packets that they returned */
+    uint64_t bytes;   /* the bytes of these packets */
 };
 
+/* The counts of a whole ring, each of which saturates at its maximum. */
 struct fq_totals {
-    uint64_t put, polled, left, bytes; /* bytes: those of all packets put */
+    uint64_t put;    /* the packets that were put */
+    uint64_t polled; /* the packets that polls returned */
+    uint64_t left;   /* the packets that were left in the ring */
+    uint64_t bytes;  /* the bytes of all packets that were put */
 };
 
 /* Sets *counts to the counts of a ring's polls. The handle has to own the poll end: it is a ring, or the poll end of one that was split;
  * a seat that polls; the controller of a disabled instance. Returns FQ_OK; FQ_BAD_HANDLE; FQ_NOT_ALLOWED for any other. *counts is
  * unchanged unless it returns FQ_OK. */
 FQ_CHECKED enum fq_status fq_count(struct fq_handle *FQ_RESTRICT handle, struct fq_counts *FQ_RESTRICT counts);
+
+/* The state of a ring, or of its input. */
 struct fq_ring_shown {
     uint64_t put;  /* the packets put so far, a count that saturates; minus the packets of fq_count, it is the number in the ring */
     size_t places; /* the ring's capacity in packets */
@@ -352,15 +357,16 @@ FQ_CHECKED enum fq_status fq_ring_split(struct fq_handle *FQ_RESTRICT ring, stru
  * nothing changes. */
 FQ_CHECKED enum fq_status fq_ring_finish(struct fq_handle *FQ_RESTRICT ring, struct fq_totals *FQ_RESTRICT totals);
 
-/* ---- Transmit rings under a byte queue limit (netdev_tx_sent_queue, netdev_tx_completed_queue). The ring keeps the sizes of the
+/* ---- tx: transmit rings under a byte queue limit (netdev_tx_sent_queue, netdev_tx_completed_queue). The ring keeps the sizes of the
  * packets that were sent and aren't completed, in order; the packets themselves stay with the caller. Times are milliseconds. */
 
+/* The state of a transmit ring. */
 struct fq_tx_shown {
     uint32_t queued;    /* the bytes of all packets ever sent, modulo 2^32 */
     uint32_t completed; /* the bytes of all packets ever completed, modulo 2^32: queued - completed are in flight */
-    uint32_t limit;     /* in bytes */
+    uint32_t limit;     /* the limit in bytes */
     int64_t avail;      /* the bytes that may still be sent; if negative, the queue is over its limit */
-    bool stopped;       /* the limit has stopped the queue, and no completion has started it since */
+    bool stopped;       /* whether the limit has stopped the queue, and no completion has started it since */
 };
 
 /* Makes a ring of capacity 1 to 65536, not stopped, over a new limit between `min` and `max` bytes, with the slack hold time `hold_ms`
@@ -378,17 +384,17 @@ FQ_CHECKED enum fq_status fq_tx_state(struct fq_handle *FQ_RESTRICT tx, struct f
 
 /* What a driver's watchdog timer keeps about a transmit ring (dev_watchdog): all 0 at first. */
 struct fq_tx_watchdog {
-    bool private_stopped;
+    uint8_t private_stopped;
     uint32_t private_completed;
     uint64_t private_since;
 };
 
 /* Checks a ring at each tick of that timer. Sets *stuck to whether the ring has been stopped, with no byte completed, for `limit_ms`
  * since the first check that found it so; if the clock went back to before that check, 0 ms have passed. Returns FQ_OK; FQ_BAD_HANDLE,
- * and *stuck is false. */
+ * and *stuck is false. Since 1.1. */
 FQ_CHECKED enum fq_status fq_tx_watch(struct fq_handle *FQ_RESTRICT tx, struct fq_tx_watchdog *FQ_RESTRICT watchdog, uint64_t limit_ms, uint64_t now_ms, bool *FQ_RESTRICT stuck);
 
-/* ---- Instances that threads share. */
+/* ---- shared: instances that threads share. */
 
 /* Makes an instance over the ring's poll end, with its controller and an array of `count` (2 to 8) seats, one for each caller. It is
  * disabled. After it, `ring` is only the ring's input. Returns FQ_OK; FQ_IN_USE; FQ_BAD_COUNT; FQ_BAD_HANDLE; FQ_OUT_OF_MEMORY. */
@@ -403,7 +409,7 @@ FQ_CHECKED enum fq_status fq_shared_bare(struct fq_handle *FQ_RESTRICT control, 
  * seat at rest, which owns nothing, may request a poll (napi_schedule_prep), take the instance from the list or as its thread, take it to
  * busy poll it (napi_busy_loop), and set whether polls are queued for its thread (dev_set_threaded). */
 FQ_CHECKED enum fq_status fq_seat_schedule(struct fq_handle *seat);      /* FQ_GRANTED, FQ_MISSED, FQ_DISABLED, FQ_CHANGED */
-FQ_CHECKED enum fq_status fq_seat_schedule_prep(struct fq_handle *seat); /* FQ_GRANTED, FQ_MISSED, FQ_DISABLED */
+FQ_CHECKED enum fq_status fq_seat_schedule_prep(struct fq_handle *seat); /* FQ_GRANTED, FQ_MISSED, FQ_DISABLED, since 1.1 */
 FQ_CHECKED enum fq_status fq_seat_take(struct fq_handle *seat, uint32_t kind); /* FQ_TAKEN, FQ_NOT_THERE */
 FQ_CHECKED enum fq_status fq_seat_busy_take(struct fq_handle *seat); /* FQ_TAKEN, FQ_BUSY, FQ_CHANGED */
 FQ_CHECKED enum fq_status fq_seat_set_threaded(struct fq_handle *seat, bool threaded); /* FQ_OK */
@@ -413,17 +419,22 @@ FQ_CHECKED enum fq_status fq_seat_hand(struct fq_handle *seat, uint32_t kind); /
 FQ_CHECKED enum fq_status fq_seat_poll(struct fq_handle *FQ_RESTRICT seat, size_t weight, struct fq_packet *FQ_RESTRICT out, size_t len, size_t *FQ_RESTRICT count);
 FQ_CHECKED enum fq_status fq_seat_requeue(struct fq_handle *seat);       /* FQ_OK: it is on the list again */
 FQ_CHECKED enum fq_status fq_seat_complete(struct fq_handle *seat);      /* FQ_RELEASED, FQ_AGAIN, FQ_CHANGED; FQ_HELD for a busy poller */
-FQ_CHECKED enum fq_status fq_seat_complete_done(struct fq_handle *seat); /* FQ_RELEASED, FQ_AGAIN; FQ_HELD for a busy poller */
+FQ_CHECKED enum fq_status fq_seat_complete_done(struct fq_handle *seat); /* FQ_RELEASED, FQ_AGAIN; FQ_HELD for a busy poller, since 1.1 */
 /* A seat that busy polls may poll and complete, and stops (busy_poll_stop): it then polls once more. */
 FQ_CHECKED enum fq_status fq_seat_busy_stop(struct fq_handle *seat); /* FQ_OK, FQ_CHANGED */
 
 /* Sets *word to the state word, a sum of FQ_BIT_.., in any state of the seat. Returns FQ_OK; FQ_BAD_HANDLE. */
 FQ_CHECKED enum fq_status fq_seat_look(struct fq_handle *FQ_RESTRICT seat, uint64_t *FQ_RESTRICT word);
 
-struct fq_answers { /* each count saturates at its maximum */
-    uint64_t granted, missed, disabled; /* requests (FQ_GRANTED ..) */
-    uint64_t released, again, held;     /* completions */
-    uint64_t changed;                   /* attempts of any call that failed because another thread changed the instance */
+/* How often a seat's calls returned each result. Each count saturates at its maximum. */
+struct fq_answers {
+    uint64_t granted;  /* requests that were granted */
+    uint64_t missed;   /* requests that were missed */
+    uint64_t disabled; /* requests while a disable was pending */
+    uint64_t released; /* completions that released the instance */
+    uint64_t again;    /* completions that found a missed request */
+    uint64_t held;     /* completions of a busy poller */
+    uint64_t changed;  /* attempts of any call that failed because another thread changed the instance */
 };
 
 /* Sets *answers to how often the seat's calls returned each result since it was made. Returns FQ_OK; FQ_BAD_HANDLE, and *answers is
@@ -440,7 +451,8 @@ struct fq_card {
 };
 
 /* Queues a granted instance as the kernel does (____napi_schedule): for its thread if FQ_BIT_THREADED is set. Sets *next to
- * FQ_NEXT_AGAIN or FQ_NEXT_AGAIN_THREAD. Returns FQ_OK; FQ_BAD_HANDLE; FQ_NOT_ALLOWED. *next is FQ_NEXT_GONE unless it returns FQ_OK. */
+ * FQ_NEXT_AGAIN or FQ_NEXT_AGAIN_THREAD. Returns FQ_OK; FQ_BAD_HANDLE; FQ_NOT_ALLOWED. *next is FQ_NEXT_GONE unless it returns FQ_OK.
+ * Since 1.1. */
 FQ_CHECKED enum fq_status fq_seat_hand_again(struct fq_handle *FQ_RESTRICT seat, uint32_t *FQ_RESTRICT next);
 
 /* Handles an interrupt: requests a poll (fq_seat_schedule_prep); if granted, masks the card and queues the instance, in the kernel's
@@ -481,7 +493,7 @@ FQ_CHECKED static inline enum fq_status fq_seat_request(struct fq_handle *FQ_RES
  * FQ_NEXT_REPOLL. After FQ_NEXT_AGAIN and FQ_NEXT_REPOLL the number still has to be listed, after FQ_NEXT_AGAIN_THREAD the thread still
  * has to be woken; that may follow a poll from the list too. Returns FQ_OK; FQ_HELD: the seat keeps polling, as a busy poller does;
  * FQ_NOT_ALLOWED if it doesn't poll; FQ_BAD_HANDLE. *next is FQ_NEXT_GONE unless it returns FQ_OK. A seat polls as the thread while
- * FQ_BIT_SCHED_THREADED is set, which fq_seat_requeue doesn't clear. */
+ * FQ_BIT_SCHED_THREADED is set, which fq_seat_requeue doesn't clear. Since 1.1. */
 FQ_CHECKED enum fq_status fq_seat_end(struct fq_handle *FQ_RESTRICT seat, bool full, uint32_t *FQ_RESTRICT next);
 
 #if defined(__GNUC__)
@@ -536,7 +548,7 @@ FQ_CHECKED enum fq_status fq_control_try_take(struct fq_handle *control);       
 /* Makes one step of a driver's open (`on`) or stop; repeat it between the driver's polls until it returns FQ_OK. After FQ_OK the
  * instance is enabled, and a poll still has to be requested once (fq_control_open does so); or it is off. Returns FQ_OK, also to stop an
  * instance that is off; FQ_BUSY: a disable is pending, and the owner has to complete the instance before the next step; FQ_NOT_ALLOWED
- * to open one that isn't off; FQ_BAD_HANDLE. */
+ * to open one that isn't off; FQ_BAD_HANDLE. Since 1.1. */
 FQ_CHECKED enum fq_status fq_control_step(struct fq_handle *control, bool on, bool threaded);
 
 /* Opens a driver's instance: enables it, and requests a poll once by a seat at rest (as virtnet_napi_enable does), so that what came
@@ -549,12 +561,14 @@ FQ_CHECKED static inline enum fq_status fq_control_open(struct fq_handle *FQ_RES
     return said == FQ_OK ? fq_seat_request(seat, card, next) : said;
 }
 
-/* ---- Polling runs (net_rx_action), driven by the caller: fq_run_begin; while fq_run_next returns FQ_OK, poll that device and report
- * the poll by fq_run_polled; fq_run_end. Each call on a list checks for FQ_BAD_HANDLE first. */
+/* ---- run: poll lists and polling runs (net_rx_action). The caller drives a run: fq_run_begin; while fq_run_next returns FQ_OK, poll that
+ * device and report the poll by fq_run_polled; fq_run_end. Each call on a list checks for FQ_BAD_HANDLE first. */
 
+/* The report of a polling run. */
 struct fq_run_report {
-    uint32_t polls, work;
-    bool squeezed; /* the run stopped because its budget or its window was used up, whether or not anything was left */
+    uint32_t polls; /* the polls, at most the window */
+    uint32_t work;  /* the packets of all polls */
+    bool squeezed;  /* whether the run stopped because its budget or its window was used up, whether or not anything was left */
 };
 
 /* Makes a poll list for up to 64 numbers of devices; for more devices use more lists, for example one for each processor. A number
@@ -566,7 +580,7 @@ FQ_CHECKED enum fq_status fq_list_push(struct fq_handle *list, uint32_t id);
 /* Removes a number from the list, for a device that goes away; the others keep their order. It may be called during a run. Returns FQ_OK;
  * FQ_BUSY if it isn't on the list, but the run over it has it, which polls it, will poll it, or lists it at its end: then end its poll with
  * FQ_NEXT_GONE, or end the run first; FQ_NOT_THERE if neither the list nor its run has it; FQ_BAD_HANDLE. Nothing changes unless it returns
- * FQ_OK. */
+ * FQ_OK. Since 1.1. */
 FQ_CHECKED enum fq_status fq_list_remove(struct fq_handle *list, uint32_t id);
 /* Sets *len to how many numbers the list and its run hold, including the one that is being polled. Returns FQ_OK; FQ_BAD_HANDLE. */
 FQ_CHECKED enum fq_status fq_list_len(struct fq_handle *FQ_RESTRICT list, uint32_t *FQ_RESTRICT len);
@@ -585,8 +599,8 @@ FQ_CHECKED enum fq_status fq_run_polled(struct fq_handle *list, uint32_t work, u
  * FQ_NOT_ALLOWED. */
 FQ_CHECKED enum fq_status fq_run_end(struct fq_handle *FQ_RESTRICT list, struct fq_run_report *FQ_RESTRICT report);
 
-/* ---- A driver of up to 64 devices on one thread: their instances, the poll list and the runs over it. It does no input or output and
- * calls nothing back: fq_driver_step reports that an action was done at a card, and says what has to be done next. A loop needs only
+/* ---- driver: a driver of up to 64 devices on one thread. It has their instances, the poll list and the runs over it. It does no input
+ * or output and calls nothing back: fq_driver_step reports that an action was done at a card, and says what has to be done next. A loop needs only
  * this call:
  *
  *     struct fq_todo todo = FQ_TODO_INIT;
@@ -624,61 +638,67 @@ enum fq_what FQ_NUMBER {
     FQ_TODO_ENDED = 5   /* a run ended, with the report `run` (net_rx_action): do other work first, if there is some */
 };
 
+/* An action that has to be done. */
 struct fq_todo {
-    size_t size;              /* sizeof(struct fq_todo): set by the caller, once (FQ_TODO_INIT), since the struct may grow */
+    size_t size;              /* the size of this struct: set by the caller, once (FQ_TODO_INIT), because the struct may grow */
     uint64_t number;          /* the number under which to report it: each action has another one; 0 if there is nothing to report */
     uint32_t what;            /* what has to be done: a number of enum fq_what */
-    uint32_t device;          /* 0 for FQ_TODO_SLEEP and FQ_TODO_ENDED */
+    uint32_t device;          /* the device; 0 for FQ_TODO_SLEEP and FQ_TODO_ENDED */
     uint32_t most;            /* the packets that a fetch may take, the driver's weight; 0 for anything else */
-    uint32_t packets;         /* 0 at first; the caller sets it after a look and a fetch */
+    uint32_t packets;         /* the packets of a look and a fetch: 0 at first; the caller sets it after a look and a fetch */
     struct fq_run_report run; /* the report of the run that ended; all 0 for anything else */
 };
 
 #define FQ_TODO_INIT {sizeof(struct fq_todo), 0, FQ_TODO_SLEEP, 0, 0, 0, {0, 0, false}}
 
 /* Makes a driver of 1 to 64 devices, all closed, their cards masked. Budget, weight and window are those of fq_run_begin. fq_free frees
- * it in any state. Returns FQ_OK; FQ_IN_USE; FQ_BAD_COUNT; FQ_BAD_WEIGHT; FQ_BAD_BUDGET; FQ_OUT_OF_MEMORY. */
+ * it in any state. Returns FQ_OK; FQ_IN_USE; FQ_BAD_COUNT; FQ_BAD_WEIGHT; FQ_BAD_BUDGET; FQ_OUT_OF_MEMORY. Since 1.1. */
 FQ_CHECKED enum fq_status fq_driver_new(struct fq_handle *driver, uint32_t devices, uint32_t budget, uint32_t weight, uint32_t window);
 
 /* Opens a closed device (napi_enable): its card will be unmasked and looked at, so that packets which came before are polled too.
- * Returns FQ_OK; FQ_NOT_DUE if it isn't closed; FQ_BAD_DEVICE; FQ_BAD_HANDLE. */
+ * Returns FQ_OK; FQ_NOT_DUE if it isn't closed; FQ_BAD_DEVICE; FQ_BAD_HANDLE. Since 1.1. */
 FQ_CHECKED enum fq_status fq_driver_open(struct fq_handle *driver, uint32_t device);
 
 /* Stops an open device (napi_disable). Polls that were requested are still made, its card is masked, and then it is closed, which
  * fq_driver_show shows. Packets that stay in the card are polled after the next open. Returns FQ_OK; FQ_NOT_DUE if it is closed or
- * being stopped; FQ_BAD_DEVICE; FQ_BAD_HANDLE. */
+ * being stopped; FQ_BAD_DEVICE; FQ_BAD_HANDLE. Since 1.1. */
 FQ_CHECKED enum fq_status fq_driver_stop(struct fq_handle *driver, uint32_t device);
 
 /* Reports an interrupt of a card (napi_schedule), at any time, also before an action that is due is reported. Returns FQ_GRANTED: a
  * poll was requested, whose first action is to mask the card; FQ_MISSED: a poll is requested already, and one more follows, or the
  * device is closed; FQ_DISABLED: it is being stopped; FQ_BAD_DEVICE; FQ_BAD_HANDLE. It may be called too often: an interrupt without
- * packets costs one empty poll. */
+ * packets costs one empty poll. Since 1.1. */
 FQ_CHECKED enum fq_status fq_driver_interrupt(struct fq_handle *driver, uint32_t device);
 
 /* Sets *todo to what has to be done now. It is the same action, with the same number, until that is reported or isn't due any more.
  * Returns FQ_OK; FQ_BAD_HANDLE, and *todo is set to sleep; FQ_BAD_SIZE if todo->size is too small, and *todo is unchanged. The status may
- * be ignored if `size` and the handle are right. */
+ * be ignored if `size` and the handle are right. Since 1.1. */
 FQ_NONNULL enum fq_status fq_driver_next(struct fq_handle *FQ_RESTRICT driver, struct fq_todo *FQ_RESTRICT todo);
 
 /* Reports that the action in *todo was done, with todo->packets; only todo->number and todo->packets are read. Call it before the next
  * call of fq_driver_next, or not at all: an action that isn't reported is returned again. Returns FQ_OK; FQ_BAD_HANDLE; FQ_BAD_SIZE if
  * todo->size is too small; FQ_NOT_DUE: the driver doesn't wait for this report any more, because of an interrupt, an open, a stop or an
  * earlier report, and fq_driver_next says what is due instead, so the status may be ignored; FQ_BAD_WORK if a fetch took more than
- * `most`. Nothing changes unless it returns FQ_OK. */
+ * `most`. Nothing changes unless it returns FQ_OK. Since 1.1. */
 FQ_NONNULL enum fq_status fq_driver_done(struct fq_handle *FQ_RESTRICT driver, const struct fq_todo *FQ_RESTRICT todo);
 
 /* Reports the action in *todo, unless its number is 0, and sets *todo to what has to be done now: fq_driver_done and then fq_driver_next
  * in one call. Report interrupts that came meanwhile before it, so that they count before the next poll. Returns FQ_OK; FQ_BAD_HANDLE,
  * and *todo is set to sleep; FQ_BAD_SIZE if todo->size is too small, and nothing changes; FQ_NOT_DUE: the driver didn't wait for this
  * report any more, and *todo is what is due instead, so the status may be ignored; FQ_BAD_WORK if a fetch took more than `most`, and
- * nothing changes: *todo is still that fetch. */
+ * nothing changes: *todo is still that fetch. Since 1.1. */
 FQ_NONNULL enum fq_status fq_driver_step(struct fq_handle *FQ_RESTRICT driver, struct fq_todo *FQ_RESTRICT todo);
 
 /* The states of a device. */
-enum fq_device_state FQ_NUMBER { FQ_DEVICE_CLOSED = 0, FQ_DEVICE_OPEN = 1, FQ_DEVICE_STOPPING = 2 };
+enum fq_device_state FQ_NUMBER {
+    FQ_DEVICE_CLOSED = 0,  /* closed, and its card is masked */
+    FQ_DEVICE_OPEN = 1,    /* open */
+    FQ_DEVICE_STOPPING = 2 /* being stopped */
+};
 
+/* The state of a device, and the counts of its polls. */
 struct fq_device_shown {
-    size_t size;      /* sizeof(struct fq_device_shown): set by the caller */
+    size_t size;      /* the size of this struct, which the caller sets */
     uint32_t state;   /* the device's state: a number of enum fq_device_state */
     bool scheduled;   /* whether a poll is requested and isn't completed (NAPI_STATE_SCHED); set for a closed device too, as in the kernel */
     bool missed;      /* whether an interrupt came meanwhile (NAPI_STATE_MISSED) */
@@ -687,12 +707,13 @@ struct fq_device_shown {
 };
 
 /* Sets *shown to the state of a device and the counts of its polls. Returns FQ_OK; FQ_BAD_HANDLE; FQ_BAD_SIZE if shown->size is too
- * small; FQ_BAD_DEVICE. *shown is unchanged unless it returns FQ_OK. */
+ * small; FQ_BAD_DEVICE. *shown is unchanged unless it returns FQ_OK. Since 1.1. */
 FQ_CHECKED enum fq_status fq_driver_show(struct fq_handle *FQ_RESTRICT driver, uint32_t device, struct fq_device_shown *FQ_RESTRICT shown);
 
-/* ---- A word of pending bits. Only its poller uses a list: another thread sets the bit of a device in such a word, and wakes the poller,
+/* ---- word: a word of pending bits. Only its poller uses a list: another thread sets the bit of a device in such a word, and wakes the poller,
  * which takes all bits and pushes their numbers. All operations are sequentially consistent. */
 
+/* Pending bits, which threads share. */
 struct fq_word {
     uint64_t private_bits; /* 0 at first */
 };
@@ -710,9 +731,10 @@ FQ_NONNULL static inline bool fq_word_any(const struct fq_word *word) { return _
 FQ_NONNULL static inline uint64_t fq_word_take(struct fq_word *word) { return __atomic_exchange_n(&word->private_bits, UINT64_C(0), __ATOMIC_SEQ_CST); }
 #endif
 
-/* ---- The whole replay on one thread (napi_replay --mode=serial): a trace's bytes in, its report's bytes out. docs/FORMATS.md describes
- * the formats and faults. */
+/* ---- replay: the replay of a trace, and the runs that the kernel would add (napi_replay --mode=serial). A trace's bytes go in, its
+ * report's bytes come out. docs/FORMATS.md describes the formats and faults. */
 
+/* The settings of a replay. */
 struct fq_settings {
     uint32_t budget; /* packets that a run polls before it is squeezed, 1 to 65535 (netdev_budget) */
     uint32_t weight; /* packets that one poll returns at most, 1 to 64 (NAPI_POLL_WEIGHT) */
@@ -722,9 +744,10 @@ struct fq_settings {
 /* The default settings of napi_replay. */
 #define FQ_DEFAULT_SETTINGS {300, 64, 1024}
 
+/* What a replay returns besides its status. */
 struct fq_replayed {
     size_t length;  /* the length of the report or trace in bytes, even if there is no room for it; 0 if there is none */
-    uint32_t fault; /* the number of the trace's fault, 1 to 12; 0 if it has none */
+    uint32_t fault; /* the trace's fault: a number of enum fq_fault; 0 if it has none */
     uint32_t row;   /* the row that the fault names, counted from 1; 0 if it names none */
 };
 
@@ -739,23 +762,38 @@ FQ_CHECKED enum fq_status fq_replay(const struct fq_settings *FQ_RESTRICT settin
  * list: each softirq row that leaves some is repeated until the list is empty, at most `restarts` times; with FQ_UNTIL_EMPTY, or any number
  * from 100000 on, only the list decides. A softirq row that is followed by one at the same time isn't repeated. Numbers are written in
  * decimal, and nothing is quoted. Returns what fq_replay returns, and replayed->length is the length of the trace that it writes. A trace
- * that would have more than 100000 rows has fault 9; the row of fault 12 counts added rows. */
-#define FQ_UNTIL_EMPTY UINT32_MAX
+ * that would have more than 100000 rows has fault 9; the row of fault 12 counts added rows. Since 1.1. */
+#define FQ_UNTIL_EMPTY UINT32_MAX /* as many added runs as empty the list */
 FQ_CHECKED enum fq_status fq_raise(const struct fq_settings *FQ_RESTRICT settings, uint32_t restarts, const uint8_t *FQ_RESTRICT trace, size_t len, uint8_t *FQ_RESTRICT out, size_t room, struct fq_replayed *FQ_RESTRICT replayed);
+
+/* The faults of a trace, in the order in which docs/FORMATS.md describes them. */
+enum fq_fault FQ_NUMBER {
+    FQ_FAULT_BAD_HEADER = 1, FQ_FAULT_BAD_FIELDS = 2, FQ_FAULT_BAD_NUMBER = 3, FQ_FAULT_BAD_EVENT = 4, FQ_FAULT_OUT_OF_RANGE = 5,
+    FQ_FAULT_UNKNOWN_DEVICE = 6, FQ_FAULT_OPEN_TWICE = 7, FQ_FAULT_WRONG_STATE = 8, FQ_FAULT_TOO_MANY_ROWS = 9, FQ_FAULT_READ_FAILED = 10,
+    FQ_FAULT_OUT_OF_MEMORY = 11, FQ_FAULT_PENDING = 12
+};
 
 /* Returns the name of a trace's fault, for example "BadHeader"; "?" for an unknown number. */
 static inline const char *fq_fault_name(uint32_t fault) {
-    static const char *const names[] = {"?", "BadHeader", "BadFields", "BadNumber", "BadEvent", "OutOfRange", "UnknownDevice",
-        "OpenTwice", "WrongState", "TooManyRows", "ReadFailed", "OutOfMemory", "Pending"};
-    return fault < sizeof names / sizeof names[0] ? names[fault] : "?";
+    switch (fault) {
+    /* scripts/abi.py: begin faults */
+    case FQ_FAULT_BAD_HEADER: return "BadHeader"; case FQ_FAULT_BAD_FIELDS: return "BadFields";
+    case FQ_FAULT_BAD_NUMBER: return "BadNumber"; case FQ_FAULT_BAD_EVENT: return "BadEvent";
+    case FQ_FAULT_OUT_OF_RANGE: return "OutOfRange"; case FQ_FAULT_UNKNOWN_DEVICE: return "UnknownDevice";
+    case FQ_FAULT_OPEN_TWICE: return "OpenTwice"; case FQ_FAULT_WRONG_STATE: return "WrongState";
+    case FQ_FAULT_TOO_MANY_ROWS: return "TooManyRows"; case FQ_FAULT_READ_FAILED: return "ReadFailed";
+    case FQ_FAULT_OUT_OF_MEMORY: return "OutOfMemory"; case FQ_FAULT_PENDING: return "Pending";
+    /* scripts/abi.py: end faults */
+    }
+    return "?";
 }
 
-/* ---- The machine (napi_machine): arrivals of packets in, a report of latencies, drops and processor time out, by Linux's rules and
- * timers. docs/FORMATS.md describes arrivals and report, docs/TIMING.md the rules. */
+/* ---- machine: the receiving machine in time (napi_machine). Arrivals of packets go in, a report of latencies, drops and processor time
+ * comes out, by Linux's rules and timers. docs/FORMATS.md describes arrivals and report, docs/TIMING.md the rules. */
 
-/* The members after `size` are the options of napi_machine, with their ranges and defaults. */
+/* The settings of the machine. The members after `size` are the options of napi_machine, with their ranges and defaults. */
 struct fq_machine_settings {
-    size_t size; /* sizeof(struct fq_machine_settings), which fq_machine_default sets */
+    size_t size; /* the size of this struct, which fq_machine_default sets */
     /* scripts/options.py: begin */
     uint32_t processors;        /* processors that receive; queue q belongs to processor (q - 1) mod N, and each serves at most 64 queues, 1 to 64 (1) */
     uint32_t queues;            /* queues of each device, chosen by the packet's flow (RSS: ethtool -L, -X), 1 to 64 (1) */
@@ -778,11 +816,13 @@ struct fq_machine_settings {
     uint32_t packet;            /* time of each packet of a poll, 0 to 1000000000 ns (1000) */
     uint32_t use_time;          /* time that the application takes for a packet, 0 to 1000000000 ns (2000) */
     uint32_t wake;              /* time to wake an idle processor, which counts as interrupt time, 0 to 1000000000 ns (0) */
+    uint32_t heedless;          /* 1: the driver unmasks the queue whatever napi_complete_done returns (vmxnet3, tg3, be2net, mana), 0 to 1 (0) */
     /* scripts/options.py: end */
 };
 
+/* What a run of the machine returns besides its status. */
 struct fq_machine_ran {
-    size_t size;      /* sizeof(struct fq_machine_ran), which the caller sets */
+    size_t size;      /* the size of this struct, which the caller sets */
     size_t length;    /* the length of the report in bytes, even if there is no room for it; 0 if there is none */
     uint64_t row;     /* the row that the fault of the arrivals names, counted from 1; 0 if it names none */
     uint32_t fault;   /* the number of that fault, 1 to 8; 0 if they have none */
@@ -791,13 +831,13 @@ struct fq_machine_ran {
 };
 
 /* Sets all settings to the defaults of napi_machine, in a struct of `size` bytes: call it with sizeof *settings, and then set others.
- * Returns FQ_OK; FQ_BAD_SIZE, and the struct is unchanged. */
+ * Returns FQ_OK; FQ_BAD_SIZE, and the struct is unchanged. Since 1.1. */
 FQ_CHECKED enum fq_status fq_machine_default(struct fq_machine_settings *settings, size_t size);
 /* Runs the machine on arrivals of `len` bytes, and writes its report to an array of `room` bytes. Returns FQ_BAD_SIZE if a struct's
  * `size` isn't set, and *ran is unchanged; FQ_BAD_SETTING, and ran->setting says which; FQ_OUT_OF_MEMORY; FQ_BAD_ARRIVALS, and
  * ran->fault, ran->row and ran->message say why; FQ_NO_ROOM, and ran->length is the room that the report needs; FQ_OK, and the first
  * ran->length bytes of the array are the report, with no terminating 0. All other bytes of the array are unchanged, and all of
- * them unless it returns FQ_OK. For empty arrivals or an empty array the pointer still points to some byte. */
+ * them unless it returns FQ_OK. For empty arrivals or an empty array the pointer still points to some byte. Since 1.1. */
 FQ_CHECKED enum fq_status fq_machine(const struct fq_machine_settings *FQ_RESTRICT settings, const uint8_t *FQ_RESTRICT arrivals, size_t len, uint8_t *FQ_RESTRICT report, size_t room, struct fq_machine_ran *FQ_RESTRICT ran);
 
 #ifdef __cplusplus

@@ -142,7 +142,7 @@ marked:
 init {
     atomic { run Scheduler(0); run Scheduler(1); run Poller(); run Controller() };
     schedulers_ended == 2 && controller_ended;
-    closed = true;                                                                /* poll_engine/signals close */
+    closed = true;                                                                /* poll_engine/setup/signals close */
     poller_ended;
     assert(word == (SCHED | NPSVC) || word == (SCHED | NPSVC | MISSED))
 }

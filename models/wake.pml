@@ -7,7 +7,8 @@
    is 1; a ring has room for all packets; memory is sequentially consistent; memory is never refused.
    FAULT plants one: 1 a thread that isn't woken, 2 a wake before its push, 3 a waker that is never closed, 4 a hand-on without a
    wake, 5 a refused start that isn't passed on, 6 a poller that never started is waited for: a deadlock, 7 a completion that drops
-   MISSED, 8 an enable that doesn't restore THREADED. */
+   MISSED, 8 an enable that doesn't restore THREADED, 9 a thread whose queue is closed before its instance is disabled, 10 a push
+   before its hand-over, 11 pollers that are waited for before their queues are closed: a deadlock. */
 #ifndef WORKERS
 #define WORKERS 1
 #endif
@@ -57,9 +58,9 @@ inline unpark(waker) {
     atomic { was_parked = (word[waker] == PARKED); word[waker] = NOTIFIED };      /* kit crossbeam_utils/sync/parker/ruled unpark_as */
     if :: was_parked -> atomic { asleep[waker] = false; was_parked = false } :: else fi  /* kit crossbeam_utils/sync/parker/ruled unpark_as */
 }
-inline wake(waker) { unpark(waker) }                                              /* poll_engine/signals wake */
-inline close(waker) { closed[waker] = true; unpark(waker) }                           /* poll_engine/signals close */
-inline wait(waker) {                                                             /* poll_engine/signals wait */
+inline wake(waker) { unpark(waker) }                                              /* poll_engine/setup/signals wake */
+inline close(waker) { closed[waker] = true; unpark(waker) }                           /* poll_engine/setup/signals close */
+inline wait(waker) {                                                             /* poll_engine/setup/signals wait */
     atomic { if :: word[waker] == EMPTY -> word[waker] = PARKED :: else fi };     /* kit crossbeam_utils/sync/parker/ruled park_as */
     do
     :: atomic { word[waker] == NOTIFIED -> word[waker] = EMPTY; break }           /* kit crossbeam_utils/sync/parker/ruled park_as */
@@ -75,10 +76,13 @@ inline push(number) {                                                           
     atomic { published[at] = true; at = 0 }                                     /* kit crossbeam_queue/array_queue/ruled push_as */
 }
 inline hand_to_list(number) {                                                   /* poll_engine/worker hand_to_list */
-    mark[number] = LISTED;                                                      /* napi_calls/granted hand */
     if
-    :: FAULT == 2 -> wake(LIST_OF(number)); push(number)
-    :: else -> push(number); wake(LIST_OF(number))                              /* poll_engine/worker hand_to_list */
+    :: FAULT == 10 -> push(number); mark[number] = LISTED; wake(LIST_OF(number))
+    :: else -> mark[number] = LISTED;                                           /* napi_calls/granted hand */
+       if
+       :: FAULT == 2 -> wake(LIST_OF(number)); push(number)
+       :: else -> push(number); wake(LIST_OF(number))                           /* poll_engine/outbox queue */
+       fi
     fi
 }
 
@@ -111,7 +115,7 @@ proctype Worker(byte number) {
     turn_on(number);                                                            /* poll_engine/worker run */
     do
     :: act < (number == 0 -> ACTS : OTHER_ACTS) ->                              /* poll_engine/worker make_acts */
-       if :: refused || stopped -> break :: else fi;                            /* poll_engine/context stop */
+       if :: refused || stopped -> break :: else fi;                            /* poll_engine/setup/context stop */
        if :: true :: stopped = true; break fi;                                  /* poll_engine/worker stop_before */
        if
        :: ring[number] = ring[number] + 1;                                      /* poll_engine/worker make_act */
@@ -132,8 +136,9 @@ proctype Worker(byte number) {
        act++
     :: else -> break
     od;
+    if :: number < THREADS && FAULT == 9 -> close(THREAD(number)) :: else fi;
     turn_off(number);                                                           /* poll_engine/worker run */
-    if :: number < THREADS && FAULT != 3 -> close(THREAD(number)) :: else fi;    /* poll_engine/worker run */
+    if :: number < THREADS && FAULT != 3 && FAULT != 9 -> close(THREAD(number)) :: else fi; /* poll_engine/worker run */
     workers_ended++
 }
 
@@ -174,9 +179,9 @@ proctype Poller(byte list) {
              :: else                                                            /* poll_engine/handle poll */
              fi
           fi;
-          snoozed = false                                                       /* poll_engine/signals reset */
+          snoozed = false                                                       /* poll_engine/setup/signals reset */
        :: number == NOBODY && is_last -> break                                  /* poll_engine/poller serve */
-       :: atomic { number == NOBODY && !is_last && !snoozed -> snoozed = true } /* poll_engine/signals wait */
+       :: atomic { number == NOBODY && !is_last && !snoozed -> snoozed = true } /* poll_engine/setup/signals wait */
        :: number == NOBODY && !is_last && snoozed -> wait(list); snoozed = false        /* poll_engine/poller serve */
        fi
     od;
@@ -219,9 +224,9 @@ proctype Thread(byte number) {
        :: else
        fi;                                                                      /* poll_engine/thread_poller hand_on */
        if
-       :: found -> snoozed = false                                              /* poll_engine/signals reset */
+       :: found -> snoozed = false                                              /* poll_engine/setup/signals reset */
        :: !found && is_last -> break                                            /* poll_engine/poller serve */
-       :: atomic { !found && !is_last && !snoozed -> snoozed = true }           /* poll_engine/signals wait */
+       :: atomic { !found && !is_last && !snoozed -> snoozed = true }           /* poll_engine/setup/signals wait */
        :: !found && !is_last && snoozed -> wait(THREAD(number)); snoozed = false        /* poll_engine/poller serve */
        fi
     od;
@@ -233,7 +238,7 @@ ended:
 
 init {
     byte number; bool was_parked;
-    d_step { number = 0; do :: number < WORKERS -> sched[number] = true; npsvc[number] = true; number++ :: else -> break od; number = 0 };  /* poll_engine/opening open_all */
+    d_step { number = 0; do :: number < WORKERS -> sched[number] = true; npsvc[number] = true; number++ :: else -> break od; number = 0 };  /* poll_engine/setup/opening open_all */
     do
     :: number < THREADS ->
        if :: run Thread(number) :: unpolled = true; threads_ended++ fi;         /* poll_engine/tasks spawn */
@@ -256,8 +261,9 @@ init {
     :: else -> break
     od;
     workers_ended == WORKERS;                                                   /* poll_engine/tasks join_all */
+    if :: FAULT == 11 -> pollers_ended == POLLERS :: else fi;
     number = 0;
-    do :: number < POLLERS -> close(number); number++ :: else -> break od;       /* poll_engine/driving drive */
+    do :: number < POLLERS -> close(number); number++ :: else -> break od;       /* poll_engine/driving close_all */
     pollers_ended == POLLERS && threads_ended == THREADS;                       /* poll_engine/tasks join_all */
     number = 0;
     do

@@ -1,10 +1,15 @@
 # shellcheck shell=sh
-# For scripts to source: checks of their arguments. A wrong one is rejected with a message and status 64.
+# For scripts to source: how they end with an error, and checks of their arguments. A wrong one is rejected with a message and status 64.
 
-refuse() {
+# stop STATUS TEXT ..: ends the script with this status and a message.
+stop() {
+    status=$1
+    shift
     echo "$(basename "$0"): $*" >&2
-    exit 64
+    exit "$status"
 }
+
+refuse() { stop 64 "$@"; }
 
 # at_most COUNT "$@": the script has at most this many arguments.
 at_most() {

@@ -47,10 +47,7 @@ has() {
 }
 
 # header_calls: prints the calls that the C header declares and the library exports, without the inline ones.
-header_calls() {
-    awk '/static inline/ { next } match($0, /fq_[a-z_]+\(/) && /^(FQ_|struct |uint|size_t)/ {
-        print substr($0, RSTART, RLENGTH - 1) }' "$top/include/fintaqush.h" | sort
-}
+header_calls() { python3 -EsSB "$top/scripts/abi.py" --calls | sort; }
 
 # sum_up: prints `N passed, M failed, K skipped`, and returns whether none failed.
 sum_up() {

@@ -40,9 +40,9 @@ HEAD = re.compile(r"^( *)(?:pub(?:\([a-z]+\))? )?(?:const |unsafe |extern \"C\" 
 def block_of(text: str) -> str:
     """Returns the prover's name for the `impl` in which this text ends: its type, its trait, and their type arguments, if these aren't
     parameters."""
-    generics, head = re.findall(r"^(?:impl|(?:pub )?trait)(<.*?>)? (?=\w)(.*) \{$", text, re.M)[-1]
+    generics, head = re.findall(r"^(?:impl|(?:pub )?trait)(<[^{]*?>)? (?=\w)([^{]*) \{$", text, re.M)[-1]
     known = [*re.findall(r"(?:<|, )([A-Z]\w*)", generics.replace("'", "")), "for"]
-    trait, _, of = head.rpartition(" for ")
+    trait, _, of = " ".join(head.split()).rpartition(" for ")
     words = [[it for it in re.findall(r"(?<!')\b[A-Z]\w*", part) if it not in known] for part in (of, trait)]
     return "+".join(words[0]) + "".join(words[1])
 
@@ -181,8 +181,11 @@ def check(crate: Crate, texts: Texts, names: Sequence[str]) -> tuple[str, bool |
             "errors": "replace",
         }
         ran = subprocess.run(words, cwd=room, preexec_fn=child, check=False, **how)
-    if ran.returncode == 2 and names:  # one that the prover has by another name
-        return check(crate, texts, [])
+    if (
+        ran.returncode == 2 and names
+    ):  # the prover has some by other names: the edits of these are tried alone, then with all functions
+        unknown = re.findall(r"has no function `([^`]+)`", ran.stdout)
+        return check(crate, texts, [it for it in names if it not in unknown] if {*unknown} & {*names} else [])
     judged = re.match(r"logic=(not-)?proved|only=\d+ proved=\d+", ran.stdout.rstrip("\n").rpartition("\n")[2])
     return ran.stdout, None if not judged or ran.returncode > 1 else ran.returncode == 0
 
@@ -192,27 +195,42 @@ def texts_of(crate: Crate) -> Texts:
     return {it: read(f"{crate.folder}/{it}") for it in crate.texts()}
 
 
-def try_edits(crate: Crate) -> list[Tried]:
-    """Yields for each edit of the crate: its name, whether it passed, and what to print."""
-    texts, folder, is_seen = texts_of(crate), f"{crate.folder}/must-fail", False
-    names = sorted(os.listdir(folder))
-    told = [(it, False, "BAD EDIT: its name doesn't end in .edit") for it in names if not it.endswith((".edit", ".md"))]
-    rounds, alone = rounds_of([Edit(crate, f"{folder}/{it}") for it in names if it.endswith(".edit")], texts)
-    for it in rounds:
-        said, proved = check(crate, it.texts, [function.name for _, function in it.edits])
-        is_seen |= bool(re.search(r"^fn \S+: proved$", said, re.M))
-        for edit, function in it.edits:
-            if proved is False and (line := function.refusal(said)):
-                told.append((edit.name, True, f"refused: {line}"))
-            else:
-                alone.append(edit)
-    if rounds and not is_seen:
-        said, proved = check(crate, texts, [rounds[0].edits[0][1].name])
+def told_of(crate: Crate, tried: Sequence[Tried]) -> list[Tried]:
+    """Returns these results with the crate in front of each name."""
+    return [(f"{crate.name}/{name}", well, text) for name, well, text in tried]
+
+
+def try_alone(edit: Edit, texts: Texts) -> list[Tried]:
+    return told_of(edit.crate, [(edit.name, *edit.alone(texts))])
+
+
+def try_round(crate: Crate, it: Round, texts: Texts, is_first: bool) -> list[Tried]:
+    """Tries the edits of a round at once, and then alone those of which nothing is said. In the first round of a crate, a function without
+    an edit has to be proved by the same words."""
+    said, proved = check(crate, it.texts, [function.name for _, function in it.edits])
+    lines = [(edit, function.refusal(said) if proved is False else None) for edit, function in it.edits]
+    told = [(edit.name, True, f"refused: {line}") for edit, line in lines if line]
+    if is_first and not re.search(r"^fn \S+: proved$", said, re.M):
+        said, proved = check(crate, texts, [it.edits[0][1].name])
         told.append(
             ("a function as it is", proved is True, "proved" if proved else f"NOT PROVED by the same words: {said}")
         )
-    told += [(it.name, *it.alone(texts)) for it in alone]
-    return [(f"{crate.name}/{name}", well, text) for name, well, text in told]
+    return told_of(crate, told) + [tried for edit, line in lines if not line for tried in try_alone(edit, texts)]
+
+
+def tries_of(crate: Crate) -> list[Callable[[], list[Tried]]]:
+    """Returns the calls that try the edits of the crate. Each returns for each of its edits a name, whether it passed, and what to print."""
+    texts, folder = texts_of(crate), f"{crate.folder}/must-fail"
+    names = sorted(os.listdir(folder))
+    others = [
+        (it, False, "BAD EDIT: its name doesn't end in .edit") for it in names if not it.endswith((".edit", ".md"))
+    ]
+    rounds, alone = rounds_of([Edit(crate, f"{folder}/{it}") for it in names if it.endswith(".edit")], texts)
+    return [
+        *(functools.partial(try_round, crate, it, texts, it is rounds[0]) for it in rounds),
+        *(functools.partial(try_alone, it, texts) for it in alone),
+        *([functools.partial(told_of, crate, others)] if others else []),
+    ]
 
 
 def try_text(crate: Crate, file: str) -> list[Tried]:
@@ -253,7 +271,7 @@ def all_edits(names: Sequence[str]) -> tuple[int, int]:
     """Tries the edits of these crates, or of all; those of the largest crate come first."""
     asked = [it for it in named(names) if os.path.isdir(f"{it.folder}/must-fail")]
     asked.sort(key=lambda it: -it.size)
-    return try_all([functools.partial(try_edits, it) for it in asked], asked, "must-fail")
+    return try_all([call for it in asked for call in tries_of(it)], asked, "must-fail")
 
 
 def all_texts() -> tuple[int, int]:

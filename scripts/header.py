@@ -1,171 +1,238 @@
-"""The reference of the C library, from include/fintaqush.h. Groups begin at the comments `/* ---- TITLE`.
+"""Reads include/fintaqush.h, the description of the C library's ABI, by clang's syntax tree. scripts/abi.py keeps what was read in
+scripts/abi.json, so that all others read that file and need no clang.
 
-header.py FOLDER writes the manual pages of section 3: fintaqush_GROUP.3 for each group, and for each call CALL.3, which leads there.
-header.py --names prints their names. header.py --doxygen FILE prints a header with its comments as Doxygen reads them.
+Its groups begin at a comment `/* ---- NAME: TITLE. MORE`. In a group a comment is about the declarations below it, up to the next comment
+or a blank line; a comment at the end of a declaration's line is a note on it. A comment or a note of a call that ends with `Since 1.1.` says
+with which version it came.
 """
 
 from __future__ import annotations
 
-from collections.abc import Iterator, Sequence
-import pathlib
+import hashlib
+import json
 import re
-import sys
-import textwrap
+import subprocess
+from collections.abc import Iterator, Mapping, Sequence
+from pathlib import Path
+from typing import Any
 
-HEADER = pathlib.Path(__file__).resolve().parent.parent / "include/fintaqush.h"
-# For a group whose name isn't in its first call: by its first call, the group's name, and what its manual page says that it is. The name of
-# any other group is in its first call, and its comment says what it is.
-KNOWN = {
-    "fq_version": ("status", "statuses, kinds, flags and sizes"),
-    "fq_dql_new": ("dql", "byte queue limits"),
-    "fq_napi_new": ("napi", "an instance of one thread"),
-    "fq_free": ("handle", "free, abandon and move objects of the library"),
-    "fq_ring_new": ("ring", "receive rings"),
-    "fq_tx_new": ("tx", "transmit rings under a byte queue limit"),
-    "fq_shared_new": ("shared", "instances that threads share"),
-    "fq_list_new": ("run", "poll lists and polling runs"),
-    "fq_driver_new": ("driver", "a driver of up to 64 devices on one thread"),
-    "fq_word_raise": ("word", "a word of pending bits"),
-    "fq_replay": ("replay", "the replay of a trace, and the runs that the kernel would add"),
-    "fq_machine_default": ("machine", "the receiving machine in time"),
-}
-Group = tuple[str, str, str, str]  # its name, what it is, its comment, and its text
-BANNER = re.compile(r"/\* ---- (.*?)\*/", re.S)
-# A pattern for the comment of the first declaration that belongs to a group.
-FIRST = re.compile(r"/\*(?:(?!\*/).)*\*/\nenum fq_status", re.S)
+Node = dict[str, Any]  # of clang's tree
+Item = dict[str, Any]  # a declaration: its kind, name, text and note, and what its kind has besides
+
+TOP = Path(__file__).resolve().parent.parent
+HEADER = TOP / "include/fintaqush.h"
+ABI = TOP / "scripts/abi.json"
+FIRST = "1.0"  # the version of calls that don't say one
+BANNER = "---- "
+# What isn't part of a declaration's text: macros that say no more than its comment, or that differ by compiler, and a script's marks.
+OMITTED = re.compile(r"\b(?:FQ_CHECKED|FQ_NONNULL|FQ_RESTRICT|FQ_NUMBER|static inline) |^ */\* scripts/[^\n]*\n", re.M)
+COMMENT_OR_MACRO = re.compile(
+    r"/\*(?P<comment>.*?)\*/|^#define (?P<macro>FQ_\w+) [^\n]*?(?= */\*|$)|(?P<blank>\n[ \t]*(?=\n))", re.S | re.M
+)
 
 
-def groups() -> list[Group]:
-    """Returns each group: its name, what it is, its comment, and the header's text up to the next group."""
-    text = HEADER.read_text()
-    parts = BANNER.split(text[next(FIRST.finditer(text)).start() :])
-    found = []
-    for comment, part in zip(["", *parts[1::2]], parts[::2]):
-        first = calls_of(part)[0]
-        name, what = KNOWN.get(first, (first.split("_")[1], re.split(r"[.(]", prose(comment))[0].strip()))
-        found.append((name, what, comment, part))
-    return found
+class WrongHeader(Exception):
+    """The header isn't as this reader needs it."""
+
+
+def abi() -> dict[str, Any]:
+    """Returns what was read of the header: `version`, `header` (the SHA-256 of its text), and `groups`."""
+    read: dict[str, Any] = json.loads(ABI.read_text())
+    return read
+
+
+def items_of(read: Mapping[str, Any], kind: str) -> list[Item]:
+    """Returns all declarations of a kind: `function`, `struct`, `enum` or `macro`."""
+    items = [item for group in read["groups"] for block in group["blocks"] for item in block["items"]]
+    return [item for item in items if item["kind"] == kind]
+
+
+def digest(header: Path = HEADER) -> str:
+    return hashlib.sha256(header.read_bytes()).hexdigest()
+
+
+def read_header(header: Path = HEADER) -> dict[str, Any]:
+    """Reads the header with clang."""
+    text = header.read_text()
+    version = re.search(r'^#define FQ_VERSION "(.*)"$', text, re.M)
+    if not version:
+        raise WrongHeader("it has no FQ_VERSION")
+    if not text.isascii():
+        raise WrongHeader("it isn't all ASCII, and clang counts places in bytes")
+    groups = groups_of(text, declarations_of(tree(f'#include "{header}"\n')))
+    read = {"version": version[1], "header": digest(header), "groups": groups}
+    set_values(header, items_of(read, "macro"))
+    return read
+
+
+def tree(program: str) -> list[Node]:
+    """Returns the declarations at the top of a C program, as clang's tree has them."""
+    command = ["clang", "-x", "c", "-std=c11", "-Xclang", "-ast-dump=json", "-fsyntax-only", "-"]
+    ended = subprocess.run(command, input=program, capture_output=True, text=True)
+    if ended.returncode:
+        raise WrongHeader(ended.stderr)
+    nodes: list[Node] = json.loads(ended.stdout)["inner"]
+    return nodes
+
+
+def declarations_of(nodes: Sequence[Node]) -> list[Node]:
+    """Returns the header's own declarations: those whose name begins with fq_."""
+    kinds = ("FunctionDecl", "RecordDecl", "EnumDecl")
+    own = [node for node in nodes if node["kind"] in kinds and node.get("name", "").startswith("fq_")]
+    return [node for node in own if node["kind"] != "RecordDecl" or node.get("completeDefinition")]
+
+
+def begin_of(node: Node) -> int:
+    """Returns where a node begins in the header, also if a macro begins it."""
+    begin = node["range"]["begin"]
+    return int(begin.get("expansionLoc", begin)["offset"])
+
+
+def end_of(node: Node) -> int:
+    end = node["range"]["end"]
+    end = end.get("expansionLoc", end)
+    return int(end["offset"] + end["tokLen"])
+
+
+# ---- the groups
+
+
+def groups_of(text: str, nodes: Sequence[Node]) -> list[dict[str, Any]]:
+    """Returns the groups; a comment with its declarations is a block. What is before the first group's comment belongs to none."""
+    groups: list[dict[str, Any]] = []
+    for part in parts_of(text, nodes):
+        if part["kind"] == "comment" and part["text"].startswith(BANNER):
+            groups.append(group_of(part["text"]))
+        elif not groups or (part["kind"] == "blank" and not groups[-1]["blocks"][-1]["items"]):
+            continue
+        elif part["kind"] in ("comment", "blank"):
+            groups[-1]["blocks"].append({"about": part["text"], "items": []})
+        elif part["kind"] == "note":
+            groups[-1]["blocks"][-1]["items"][-1]["note"] = part["text"]
+        else:
+            groups[-1]["blocks"][-1]["items"].append(part)
+    for group in groups:
+        group["blocks"] = [block for block in group["blocks"] if block["about"] or block["items"]]
+        for block in group["blocks"]:
+            set_versions(block)
+    return groups
+
+
+def group_of(banner: str) -> dict[str, Any]:
+    found = re.fullmatch(r"(\w+): (.*?)\.(?: (.*))?", banner[len(BANNER) :])
+    if not found:
+        raise WrongHeader(f"a group begins with `/* {BANNER}NAME: TITLE.`, not with {banner!r}")
+    return {"name": found[1], "title": found[2], "about": found[3] or "", "blocks": [{"about": "", "items": []}]}
+
+
+def parts_of(text: str, nodes: Sequence[Node]) -> Iterator[Item]:
+    """Yields, in order: the comments, the notes, the blank lines, the macros and the declarations."""
+    at = 0
+    for node in nodes:
+        yield from between(text[at : begin_of(node)])
+        yield declaration(text, node)
+        at = end_of(node)
+    yield from between(text[at:])
+
+
+def between(text: str) -> Iterator[Item]:
+    """Yields what is between two declarations: a comment that begins in the line of the first is its note."""
+    line_ended = False
+    at = 0
+    for found in COMMENT_OR_MACRO.finditer(text):
+        line_ended = line_ended or "\n" in text[at : found.start()]
+        at = found.end()
+        if found["macro"]:
+            yield {"kind": "macro", "name": found["macro"], "text": found[0].rstrip(), "note": ""}
+            line_ended = False
+        elif found["comment"]:
+            yield {"kind": "comment" if line_ended else "note", "text": prose(found["comment"])}
+        else:
+            line_ended = True
+            yield {"kind": "blank", "text": ""}
 
 
 def prose(comment: str) -> str:
-    """Returns a comment's text, with one line for each paragraph."""
-    return " ".join(re.sub(r"^ ?\* ?", "", line).strip() for line in comment.strip().splitlines()).strip()
+    """Returns a comment's text in one line, without the star that begins each line but the first."""
+    first, *lines = comment.strip().splitlines()
+    return " ".join([first.strip(), *(re.sub(r"^\s*\* ?", "", line).strip() for line in lines)]).strip()
 
 
-def declarations(text: str) -> Iterator[tuple[str, list[tuple[str, str]]]]:
-    """Yields pairs of a comment and the declarations below it. Each declaration is its text without a body, and the comment at its end."""
-    doc, lines = "", iter(text.splitlines())
-    found: list[tuple[str, str]] = []
-    for line in lines:
-        if line.startswith("/*"):
-            if doc or found:
-                yield doc, found
-            while "*/" not in line:
-                line += "\n" + next(lines)
-            doc, found = prose(line.strip()[2:-2]), []
-        elif not line and found:
-            yield doc, found
-            doc, found = "", []
-        elif line.startswith("#define FQ_"):
-            found.append((line, ""))
-        elif re.match(r"[A-Za-z]", line) and not line.startswith("extern "):
-            found.append(declaration(line, lines))
-    if doc or found:
-        yield doc, found
+def set_versions(block: dict[str, Any]) -> None:
+    """Sets the version with which each exported call of a block came."""
+    for item in block["items"]:
+        if item["kind"] == "function" and not item["inline"]:
+            found = re.search(r"[Ss]ince (\d+\.\d+)\.?$", item["note"] or block["about"])
+            item["since"] = found[1] if found else FIRST
 
 
-def declaration(line: str, lines: Iterator[str]) -> tuple[str, str]:
-    """Returns a declaration without its body and without parts that say no more than the comments, and the comment at its end."""
-    behind = ""
-    if "static inline" in line:
-        end = line
-        while not end.endswith("}") or end.startswith(" "):
-            end = next(lines)
-        line = line[: line.index(") {") + 1] + ";"
-    elif re.search(r"[{][^}]*$", line):
-        while not line.splitlines()[-1].startswith("}"):
-            line += "\n" + next(lines)
-    elif comment := re.fullmatch(r"(.*;) +/\*(.*)\*/", line):
-        line, behind = comment[1], prose(comment[2])
-    line = re.sub(r"^(?:FQ_CHECKED |FQ_NONNULL |static inline )+", "", line)
-    return line.replace("FQ_RESTRICT ", "").replace("FQ_NUMBER ", ""), behind
+def set_values(header: Path, macros: Sequence[Item]) -> None:
+    """Sets the value of each macro that is a number, and None for the others."""
+    numbers = [item for item in macros if not re.match(r'#define \w+ [{"]', item["text"])]
+    values = "".join(f"    value_of_{item['name']} = {item['name']},\n" for item in numbers)
+    nodes = tree(f'#include "{header}"\nenum fq_values {{\n{values}}};\n')
+    found = [value for _, value, _ in enumerators("", nodes[-1])]
+    for item in macros:
+        item["value"] = found[numbers.index(item)] if item in numbers else None
 
 
-def calls_of(text: str) -> list[str]:
-    return [name for _, found in declarations(text) for code, _ in found if (name := call_of(code))]
+# ---- a declaration
 
 
-def call_of(code: str) -> str | None:
-    name = re.match(r"[\w* ]*?(fq_\w+)\(", code)
-    return name[1] if name else None
+def declaration(text: str, node: Node) -> Item:
+    """Returns a declaration, with its text, without a body, as a manual page shows it."""
+    inner = node.get("inner", [])
+    whole = text[begin_of(node) : end_of(node)]
+    item: Item = {"kind": "struct", "name": node["name"], "text": OMITTED.sub("", whole) + ";", "note": ""}
+    if node["kind"] == "RecordDecl":
+        return {**item, "members": members(text, [one for one in inner if one["kind"] == "FieldDecl"], end_of(node))}
+    if node["kind"] == "EnumDecl":
+        return {**item, "kind": "enum", "values": enumerators(text, node)}
+    bodies = [begin_of(one) for one in inner if one["kind"] == "CompoundStmt"]
+    if bodies:
+        item["text"] = OMITTED.sub("", text[begin_of(node) : bodies[0]].rstrip()) + ";"
+    return {
+        **item,
+        "kind": "function",
+        "inline": bool(bodies),
+        "returns": plain(node["type"]["qualType"].partition("(")[0]),
+        "parameters": [[one["name"], type_of(one)] for one in inner if one["kind"] == "ParmVarDecl"],
+    }
 
 
-def roff(text: str) -> str:
-    return re.sub(r"^([.'])", r"\\&\1", text.replace("\\", "\\e").replace("-", "\\-"), flags=re.M)
+def type_of(node: Node) -> str:
+    return plain(node["type"]["qualType"])
 
 
-def manual(name: str, what: str, comment: str, text: str, version: str) -> Iterator[str]:
-    calls = calls_of(text)
-    yield f'.TH FINTAQUSH_{name.upper()} 3 "" "Fintaqush {version}"'
-    yield f".SH NAME\n{', '.join([f'fintaqush_{name}', *calls])} \\- {what}"
-    yield f".SH SYNOPSIS\n.nf\n.B #include <{HEADER.name}>\n.fi"
-    yield ".SH DESCRIPTION"
-    if comment:
-        yield roff(prose(comment))
-    for doc, found in declarations(text):
-        for code, _ in found:
-            lines = code.splitlines() if "\n" in code else textwrap.wrap(code, 72, subsequent_indent="    ")
-            yield ".PP\n.nf\n" + roff("\n".join(lines)) + "\n.fi"
-        said = " ".join(filter(None, [doc, *(f"{call_of(code)}: {behind}." for code, behind in found if behind)]))
-        if said:
-            yield f".RS 4\n{roff(said)}\n.RE" if found else f".PP\n{roff(said)}"
-    others = [group[0] for group in groups() if group[0] != name]
-    yield ".SH SEE ALSO\n.BR fintaqush (3),\n" + ",\n".join(f".BR fintaqush_{other} (3)" for other in others)
+def plain(qualified: str) -> str:
+    """Returns a type without restrict; some versions of clang write bool as _Bool."""
+    return re.sub(r" ?\b(?:restrict|__restrict)\b", "", qualified).replace("_Bool", "bool").strip()
 
 
-def pages() -> Iterator[tuple[str, str]]:
-    """Yields each manual page's name and text."""
-    version = re.findall(r'^#define FQ_VERSION "(.*)"$', HEADER.read_text(), re.M)[0]
-    for name, what, comment, text in groups():
-        yield f"fintaqush_{name}.3", "\n".join(manual(name, what, comment, text, version)) + "\n"
-        yield from ((f"{call}.3", f".so man3/fintaqush_{name}.3\n") for call in calls_of(text))
+def members(text: str, fields: Sequence[Node], end: int) -> list[list[str]]:
+    """Returns a struct's members: the name, the type and the note of each."""
+    ends = [*(begin_of(field) for field in fields[1:]), end]
+    return [[field["name"], type_of(field), note(text[end_of(field) : after])] for field, after in zip(fields, ends)]
 
 
-def for_doxygen(path: pathlib.Path) -> str:
-    """Returns a header's text with comments that Doxygen reads: the comment before the code becomes the main page, and groups become
-    modules."""
-    text = path.read_text()
-    if path.suffix == ".hpp":
-        text = re.sub(r"^( *)// ", r"\1/// ", text, flags=re.M)
-        return (
-            "/** @file */\n"
-            + re.sub(r"\b(fq_\w+|FQ_[A-Z_]+)\b", r"#\1", text[: text.index("#ifndef")])
-            + text[text.index("#ifndef") :]
-        )
-    text = re.sub(r"(?<=\S)( +)/\* ", r"\1/**< ", text)
-    text = re.sub(r"^( *)/\*(?=[ \n])", r"\1/**", text, flags=re.M)
-    text = "/** @file */\n" + text.replace("/**\n", "/** @mainpage Calls of C and C++\n", 1)
-    status, *others = [(name, what[0].upper() + what[1:]) for name, what, _, _ in groups()]
-    for name, what in others:
-        text = text.replace("/** ---- ", f"/** @}} */\n/** @defgroup {name} {what}\n * @{{\n * ", 1)
-    begin, end = next(FIRST.finditer(text)).start(), text.rindex("#ifdef __cplusplus")
-    text = f"{text[:begin]}/** @defgroup {status[0]} {status[1]}\n * @{{ */\n{text[begin:end]}/** @}} */\n{text[end:]}"
-    return re.sub(
-        r"/\*\*.*?\*/", lambda comment: re.sub(r"\b(fq_\w+|FQ_[A-Z_]*[A-Z])\b", r"#\1", comment[0]), text, flags=re.S
-    )
+def enumerators(text: str, node: Node) -> list[list[Any]]:
+    """Returns an enum's constants: the name, the value and the note of each."""
+    constants = [one for one in node["inner"] if one["kind"] == "EnumConstantDecl"]
+    ends = [*(begin_of(one) for one in constants[1:]), end_of(node)]
+    return [[one["name"], value_of(one), note(text[end_of(one) : after])] for one, after in zip(constants, ends)]
 
 
-def main(words: Sequence[str]) -> None:
-    if words[0] == "--names":
-        print(*(name for name, _ in pages()), sep="\n")
-    elif words[0] == "--doxygen":
-        sys.stdout.write(for_doxygen(pathlib.Path(words[1])))
-    else:
-        folder = pathlib.Path(words[0])
-        folder.mkdir(parents=True, exist_ok=True)
-        for name, text in pages():
-            (folder / name).write_text(text)
+def value_of(constant: Node) -> int:
+    """Returns a constant's value, which is in an expression below casts."""
+    node = constant
+    while node.get("kind") != "ConstantExpr":
+        if not node.get("inner"):
+            raise WrongHeader(f"{constant['name']} has no value of its own")
+        node = node["inner"][0]
+    return int(node["value"])
 
 
-if __name__ == "__main__":
-    main(sys.argv[1:])
+def note(text: str) -> str:
+    """Returns the comment that begins in the first line."""
+    found = re.match(r"[;,]? */\*(.*?)\*/", text, re.S)
+    return prose(found[1]) if found else ""

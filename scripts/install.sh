@@ -11,6 +11,7 @@
 set -euo pipefail
 unset CDPATH
 top=$(dirname "$(dirname "$(readlink -f "${BASH_SOURCE[0]}")")")
+. "$top/scripts/arguments.sh"
 # each is a crate of that name; one without a manual page of its own has that of napi_replay
 programs=(napi_replay napi_serial napi_series napi_machine)
 prefix=
@@ -19,13 +20,6 @@ is_python=
 is_uninstall=
 libdir=lib
 usage='usage: scripts/install.sh [--library] [--python] [--libdir=FOLDER] [--uninstall] PREFIX'
-
-stop() {
-    local status=$1
-    shift
-    echo "install: $*" >&2
-    exit "$status"
-}
 
 for word in "$@"; do
     case $word in
@@ -51,7 +45,7 @@ examples=("$top"/examples/c/*)
 library_files=("$libdir"/{libfintaqush.a,"libfintaqush.so.$version","libfintaqush.so.$major",libfintaqush.so,pkgconfig/fintaqush.pc}
     "$libdir"/cmake/Fintaqush/{FintaqushConfig,FintaqushConfigVersion}.cmake include/{fintaqush.h,fintaqush.hpp,fintaqush_tsan.h}
     share/man/man3/fintaqush.3 "${pages[@]/#/$guide/}" "${examples[@]/#"$top"/$guide}")
-mapfile -t call_pages < <(python3 -EsSB "$top/scripts/header.py" --names) # a page for each group of calls, and one for each call, which leads there
+mapfile -t call_pages < <(python3 -EsSB "$top/scripts/manual.py" --names) # a page for each group of calls, and one for each call, which leads there
 library_files+=("${call_pages[@]/#/share/man/man3/}")
 home=lib/fintaqush # where what `fintaqush` runs lies, as in a checkout
 parts=(fintaqush scripts/start.py docs/usage.txt examples/{linux-veth-bursts,busy-poll}.csv examples/veth-backlog.rec)
@@ -183,7 +177,7 @@ put 644 "$scratch/fintaqush.pc" "$libdir/pkgconfig/fintaqush.pc"
 put 644 "$scratch/FintaqushConfig.cmake" "$libdir/cmake/Fintaqush/FintaqushConfig.cmake"
 put 644 "$scratch/FintaqushConfigVersion.cmake" "$libdir/cmake/Fintaqush/FintaqushConfigVersion.cmake"
 put 644 "$top/docs/man/fintaqush.3" share/man/man3/fintaqush.3
-python3 -EsSB "$top/scripts/header.py" "$scratch/calls" || stop 70 "the manual pages of the calls couldn't be made, by python3"
+python3 -EsSB "$top/scripts/manual.py" "$scratch/calls" || stop 70 "the manual pages of the calls couldn't be made, by python3"
 for name in "${call_pages[@]}"; do
     put 644 "$scratch/calls/$name" "share/man/man3/$name"
 done

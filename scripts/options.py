@@ -11,12 +11,12 @@ import json
 import re
 import sys
 from collections.abc import Callable, Iterable, Sequence
-from pathlib import Path
 from typing import Any
+
+from parts import NoPart, TOP, marked, put, with_part
 
 Option = dict[str, Any]  # a row of the table
 
-TOP = Path(__file__).resolve().parent.parent
 TABLE = TOP / "crates/machine_model/src/settings.rt"
 FIELDS = ("name", "least", "most", "default", "unit", "what")
 MEMBERS = {"use": "use_time"}  # options whose name is a keyword of a language
@@ -53,17 +53,11 @@ def header(options: Sequence[Option]) -> Iterable[str]:
     return [f"    uint32_t {option['member'] + ';':{wide}} /* {described(option)} */" for option in options]
 
 
-def rust(options: Sequence[Option]) -> Iterable[str]:
-    for option in options:
-        what = described(option)
-        yield from (f"    /// {what[0].upper()}{what[1:]}.", f"    pub {option['member']}: u32,")
-
-
-def names(options: Sequence[Option], key: str) -> list[str]:
+def names(options: Sequence[Option]) -> list[str]:
     """Returns the names, quoted, with commas, in lines of at most 120 columns."""
     lines = [""]
     for option in options:
-        word = f'"{option[key]}", '
+        word = f'"{option["name"]}", '
         lines[-1:] = [lines[-1] + word] if len(lines[-1] + word) <= 112 else [lines[-1], word]
     return [f"        {line.rstrip()}" for line in lines]
 
@@ -88,22 +82,10 @@ def page(options: Sequence[Option]) -> Iterable[str]:
 # The files with such a part: how its two comments begin and end, and what makes its lines.
 PARTS: dict[str, tuple[str, str, Callable[[Sequence[Option]], Iterable[str]]]] = {
     "include/fintaqush.h": ("    /* ", " */", header),
-    "bindings/rust/src/sys.rs": ("    // ", "", rust),
-    "bindings/python/fintaqush/_library.py": ("        # ", "", lambda options: names(options, "member")),
-    "tests/c/machine.c": ("        /* ", " */", lambda options: names(options, "name")),
+    "tests/c/machine.c": ("        /* ", " */", names),
     "docs/man/napi_machine.1": ('.\\" ', "", manual),
     "docs/TIMING.md": ("<!-- ", " -->", page),
 }
-
-
-def with_part(path: Path, before: str, after: str, lines: Iterable[str]) -> str:
-    """Returns the text of a file with these lines in its part."""
-    first, last = (f"{before}scripts/options.py: {end}{after}\n" for end in ("begin", "end"))
-    head, _, rest = path.read_text().partition(first)
-    _, found, tail = rest.partition(last)
-    if not found:
-        sys.exit(f"{path}: no lines '{first.strip()}' and '{last.strip()}'")
-    return head + first + "".join(f"{line}\n" for line in lines) + last + tail
 
 
 def main() -> int:
@@ -112,21 +94,14 @@ def main() -> int:
         return 64
     options = table()
     texts = {TOP / "tools/fintaqush_tools/options.json": as_json(options)}
-    texts.update(
-        {
-            TOP / name: with_part(TOP / name, before, after, lines(options))
-            for name, (before, after, lines) in PARTS.items()
-        }
-    )
-    differ = [path for path, text in texts.items() if not path.exists() or path.read_text() != text]
-    for path in differ:
-        if sys.argv[1:]:
-            print(
-                f"{path.relative_to(TOP)} doesn't have the options of {TABLE.relative_to(TOP)}: scripts/options.py writes them"
-            )
-        else:
-            path.write_text(texts[path])
-    return 1 if differ and sys.argv[1:] else 0
+    for name, (before, after, lines) in PARTS.items():
+        path = TOP / name
+        try:
+            texts[path] = with_part(path.read_text(), *marked(before, "options.py", after), lines(options))
+        except NoPart as fault:
+            sys.exit(f"{name}: {fault}")
+    is_check = bool(sys.argv[1:])
+    return 1 if put(texts, is_check, "options.py") and is_check else 0
 
 
 if __name__ == "__main__":

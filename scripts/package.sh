@@ -12,13 +12,7 @@
 set -euo pipefail
 unset CDPATH
 top=$(dirname "$(dirname "$(readlink -f "${BASH_SOURCE[0]}")")")
-
-stop() {
-    local status=$1
-    shift
-    echo "package: $*" >&2
-    exit "$status"
-}
+. "$top/scripts/arguments.sh"
 
 [ "$#" = 1 ] && [ -n "$1" ] || stop 64 'usage: scripts/package.sh FOLDER'
 [ -d "$1" ] && [ -w "$1" ] || stop 73 "$1: no folder that can be written to"

@@ -7,13 +7,7 @@
 set -euo pipefail
 unset CDPATH
 top=$(dirname "$(dirname "$(readlink -f "${BASH_SOURCE[0]}")")")
-
-stop() {
-    local status=$1
-    shift
-    echo "release.sh: $*" >&2
-    exit "$status"
-}
+. "$top/scripts/arguments.sh"
 
 [ "$#" = 1 ] && [ -n "$1" ] || stop 64 'usage: scripts/release.sh FOLDER'
 command -v dpkg-deb > /dev/null || stop 69 "there is no dpkg-deb, which makes the packages"

@@ -7,13 +7,7 @@
 set -euo pipefail
 unset CDPATH
 top=$(dirname "$(dirname "$(readlink -f "${BASH_SOURCE[0]}")")")
-
-stop() {
-    local status=$1
-    shift
-    echo "site.sh: $*" >&2
-    exit "$status"
-}
+. "$top/scripts/arguments.sh"
 
 [ "$#" = 1 ] && [ -n "$1" ] || stop 64 'usage: scripts/site.sh FOLDER'
 command -v pandoc > /dev/null || stop 69 "there is no pandoc, which makes HTML of the pages"
@@ -33,7 +27,7 @@ made=$scratch/made
 
 make_manuals() {
     local name
-    python3 -EsSB scripts/header.py "$scratch/calls" || return
+    python3 -EsSB scripts/manual.py "$scratch/calls" || return
     mkdir -p "$made/docs/man"
     mv "$scratch"/calls/fintaqush_*.3 "$made/docs/man"
     ./fintaqush --manual > "$made/docs/man/fintaqush.1" || return
@@ -46,7 +40,7 @@ make_c() {
     cat > "$scratch/Doxyfile" << END
 PROJECT_NAME = "Fintaqush: C and C++"
 INPUT = include/fintaqush.h include/fintaqush.hpp
-INPUT_FILTER = "python3 -EsSB scripts/header.py --doxygen"
+INPUT_FILTER = "python3 -EsSB scripts/manual.py --doxygen"
 STRIP_FROM_INC_PATH = include
 OUTPUT_DIRECTORY = "$new/reference/c"
 HTML_OUTPUT = .
@@ -153,7 +147,7 @@ group_of() {
         docs/man/*) ;;
         docs/OPERATORS.md | docs/NAPI.md | docs/GUIDE.md | docs/LIMITS.md | docs/EXAMPLES.md) echo Guides ;;
         docs/FAQ.md | docs/GLOSSARY.md | docs/COMPARISON.md) echo Guides ;;
-        docs/TOOLS.md | docs/FORMATS.md | docs/TIMING.md | docs/RULES.md | docs/KERNELS.md) echo References ;;
+        docs/TOOLS.md | docs/FORMATS.md | docs/TIMING.md | docs/RULES.md) echo References ;;
         docs/C.md | docs/SPEED.md | bindings/* | examples/*) echo References ;;
         crates/*) echo Crates ;;
         README.md | reference/README.md) ;;

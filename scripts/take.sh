@@ -10,13 +10,6 @@ top=$(dirname "$(dirname "$(readlink -f "${BASH_SOURCE[0]}")")")
 . "$top/scripts/arguments.sh"
 parts=(src specs proofs)
 
-stop() {
-    local status=$1
-    shift
-    echo "take: $*" >&2
-    exit "$status"
-}
-
 # read_lines FILE ARRAY: reads the line of each crate that the file lists.
 read_lines() {
     local -n into=$2

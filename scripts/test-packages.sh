@@ -1,9 +1,9 @@
 #!/usr/bin/env bash
 # scripts/test-packages.sh [--list | --gives | --fetch]: installs on Debian all packages that a test of this repository needs
-# (tests/needs.txt), and downloads the kernel sources and the kernel image that tests read, into out/ and ~/.cache/fintaqush.
-# Then ./test skips only what needs no package. --list only prints the packages to install, --gives also what each gives to
-# tests, --fetch only downloads, which needs no root. Exit status: 0; 64 other arguments; 69 no root, or no apt-get; 70 a
-# package couldn't be installed or downloaded.
+# (tests/needs.txt), and downloads what tests read without installing it, into out/ and ~/.cache/fintaqush: the kernel sources, the
+# kernel image, and the guests of emulated cards. Then ./test skips only what needs no package. --list only prints the packages to
+# install, --gives also what each gives to tests, --fetch only downloads, which needs no root. Exit status: 0; 64 other arguments; 69 no
+# root, or no apt-get; 70 a package couldn't be installed or downloaded.
 set -euo pipefail
 unset CDPATH
 top=$(dirname "$(dirname "$(readlink -f "${BASH_SOURCE[0]}")")")
@@ -21,6 +21,7 @@ packages() { awk '{ sub(/#.*/, "") } NF && $2 != "-" && $1 !~ /^linux-/ { for (i
 fetch() {
     "$top/tests/kernel.sh" --fetch || stop 70 'the sources of Linux could not be fetched'
     fetch_image
+    "$top/tests/cards.sh" --fetch || stop 70 'the packages of tests/cards.sh could not be fetched'
 }
 
 # depends PACKAGE: prints the packages of Debian's kernel on which it depends.
@@ -42,9 +43,9 @@ fetch_image() {
     mv "$room/image" "$image"
 }
 
-# gives: prints each package, and what it provides for tests.
+# gives: prints each package, and what it provides for tests; of those that are only downloaded the kernels.
 gives() {
-    awk -F ' # ' '!/^#/ && NF == 2 { n = split($1, it, " "); for (i = 2; i <= n; i++) { more = (it[i] in what) ? what[it[i]] "; " : ""; what[it[i]] = more $2 } }
+    awk -F ' # ' '!/^#/ && NF == 2 { n = split($1, it, " "); for (i = 2; i <= n; i++) if ($1 !~ /^linux-/ || it[i] ~ /^linux-/) { more = (it[i] in what) ? what[it[i]] "; " : ""; what[it[i]] = more $2 } }
         END { for (name in what) print name ": " what[name] }' "$top/tests/needs.txt" | sort
 }
 

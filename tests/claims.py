@@ -4,16 +4,22 @@ A claim is a bullet of a facade's page under a heading of what is proved. Its la
 `` `Type::call`: `clause`, `clause`; `other` ``; a function without clauses after it has one contract without a name. A program's
 functions are its own, and count as public.
 """
+
+from __future__ import annotations
+
 import pathlib
 import re
+from collections.abc import Iterable, Iterator
 
 FUNCTION = re.compile(r'( *)(?:pub(?:\(crate\))? )?(?:const )?(?:unsafe )?(?:extern "C" )?fn (\w+)')
 OWNER = re.compile(r"(?:unsafe )?impl(?:<.*?>)? (?:.* for )?(?:&'?\w* ?)?(\w+)|(?:pub )?trait (\w+)")
 
 
-def clauses_of(path):
+def clauses_of(path: pathlib.Path) -> Iterator[tuple[str, set[str]]]:
     """Pairs of a public function of a file, alone and with its type before it, and the names of its clauses."""
-    owner, names, indent, of_all = None, None, "", (path.parent / "main.rt").exists()
+    owner: str | None = None
+    names: set[str] | None = None
+    indent, of_all = "", (path.parent / "main.rt").exists()
     for line in path.read_text().splitlines():
         if not line.startswith(" ") and (place := OWNER.match(line)):
             owner, of_trait = place[1] or place[2], bool(re.match(r"pub trait|(?:unsafe )?impl(?:<.*?>)? .* for ", line))
@@ -31,9 +37,10 @@ def clauses_of(path):
                 names = None
 
 
-def functions(crates):
+def functions(crates: Iterable[str]) -> dict[str, set[str]]:
     """All functions of these crates by name, each with the clauses of all functions with that name."""
-    found, others = {}, []
+    found: dict[str, list[set[str]]] = {}
+    others: list[tuple[str, str]] = []
     for crate in crates:
         for path in pathlib.Path("crates", crate, "src").rglob("*.rt"):
             for name, names in clauses_of(path):
@@ -43,10 +50,10 @@ def functions(crates):
             others += re.findall(r"\b(\w+) as (\w+)", " ".join(re.findall(r"^pub use ([^;]*);", path.read_text(), re.M)))
     for own, name in [(f"{own}::", f"{name}::") for own, name in others]:
         found.update({call.replace(own, name): names for call, names in found.items() if call.startswith(own)})
-    return {name: set().union(*sets) for name, sets in found.items()}
+    return {name: {clause for names in sets for clause in names} for name, sets in found.items()}
 
 
-def claims(text):
+def claims(text: str) -> Iterator[list[str]]:
     """The claims of a page, each its bullet's lines."""
     for part in re.split(r"^## ", text, flags=re.M)[1:]:
         if "roved" in part.splitlines()[0]:
@@ -54,7 +61,7 @@ def claims(text):
                 yield bullet.split("\n\n")[0].splitlines()
 
 
-def judge(page, crates):
+def judge(page: pathlib.Path, crates: Iterable[str]) -> Iterator[str]:
     """What is wrong with the claims of a page over these crates."""
     known, count = functions(crates), 0
     for bullet in claims(page.read_text()):

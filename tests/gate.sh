@@ -47,6 +47,13 @@ mv "$scratch/low/crates/one/must-fail/the-second-one.edit.edit" "$scratch/low/cr
 status=0
 gate() { python3 -EsSB "$scratch/low/scripts/gate.py" "$@" > "$scratch/out" 2>&1; }
 is_refused() { gate "$@"; [ "$?" = 64 ] && grep -q -- '--help says more' "$scratch/out"; }
+names() { [ "$(python3 -EsSB -c 'import sys; sys.path.insert(0, sys.argv[1]); import gate; print(gate.block_of(sys.argv[2]))' "$top/scripts" "$1")" = "$2" ]; }
+check 'a block with a head of two lines has its name' names "impl Other {
+}
+
+impl<'t, R: Wait + Copy + Drop, D: Device + Drop> Task
+    for Worker<'t, R, D> {
+" WorkerTask
 gate --help
 check 'its help is printed, and nothing is proved' grep -q '^scripts/gate.py proofs ROOM' "$scratch/out"
 check 'it has to know what to do' is_refused

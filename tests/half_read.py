@@ -1,6 +1,9 @@
 """Runs a command on half of a trace, after which a read fails: standard input is this process's memory, up to the end of what
 is mapped of it. With --rows before the command the half ends after a row. Its status is the command's.
 """
+
+from __future__ import annotations
+
 import ctypes
 import mmap
 import os
@@ -10,7 +13,7 @@ import sys
 TRACE = b"moment,device,event,value\n0,1,open,4\n1,1,rx,100\n2,0,softirq,0\n3,1,r"
 
 
-def main():
+def main() -> int:
     rows = sys.argv[1] == "--rows"
     text = TRACE[: TRACE.rindex(b"\n") + 1] if rows else TRACE
     libc = ctypes.CDLL(None, use_errno=True)

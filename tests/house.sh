@@ -44,7 +44,7 @@ planted() {
     [ "$(sed -n 's,^crates/wide/src/lib.rt: \([0-9]\) places .*,\1,p' "$scratch/told")" = "$1" ]
 }
 mkdir -p "$scratch/tests" "$scratch/crates/wide/src"
-cp "$top/tests/out_of_memory.py" "$scratch/tests"
+cp "$top"/tests/{judging,out_of_memory}.py "$scratch/tests"
 git -C "$scratch" init -q
 check 'an answer without an allocation is seen' planted 1 'if rows > 50000 { return Err(AllocError); }'
 check 'so is one by another name' planted 1 'return Err(AllocError.into());'

@@ -4,7 +4,7 @@
 # folder, built there with tests/kernel/, and replay the same traces as napi_serial: each report has to be the same, byte by
 # byte. Some traces are raised: napi_series adds the runs for which net_rx_action raises the softirq. A report that isn't the same is
 # printed with its smallest trace. Then the same with the functions of linux-source-7.3, the newest
-# that Debian has: docs/KERNELS.md says what differs. Each is skipped if its sources can't be had. Nothing of the kernel's is
+# that Debian has: docs/RULES.md says what differs. Each is skipped if its sources can't be had. Nothing of the kernel's is
 # kept in the repository. The last line is `N passed, M failed, K skipped`. Needs python3 and a C compiler.
 #
 # usage: [LINUX=FOLDER] tests/kernel.sh [--fetch | [--traces N] [--small ROWS] [--seed N]]

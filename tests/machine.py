@@ -4,6 +4,10 @@ plain model prints, or what queueing theory or a recording of Linux says. PROGRA
     python3 -B tests/machine.py examples|random|one_queue|faults|texts|options|ends|queue|livelock|recorded PROGRAM [SEED COUNT]
     python3 -B tests/machine.py simulated REPORT FILE
 """
+
+from __future__ import annotations
+
+import functools
 import itertools
 import os
 import pathlib
@@ -15,38 +19,40 @@ import sys
 import tempfile
 import time
 from collections import Counter
+from collections.abc import Callable, Iterable, Iterator, Sequence
+from typing import Any
 
 import machine_model
-from machine_model import OPTIONS, Fault
+from machine_model import OPTIONS, Fault, Settings
 
 TOP = pathlib.Path(__file__).resolve().parent.parent
 HEADER = "moment,device,bytes"
 
 
-def ran(program, arguments, text):
+def ran(program: str, arguments: Sequence[str | bytes], text: str | bytes) -> tuple[str, str, int]:
     command, sent = [*shlex.split(program), *arguments], text if isinstance(text, bytes) else text.encode()
     done = subprocess.run(command, input=sent, capture_output=True, check=False, timeout=600)
     return done.stdout.decode("latin-1"), done.stderr.decode("latin-1"), done.returncode
 
 
-def modelled(arguments, text):
+def modelled(arguments: Sequence[str], text: str) -> tuple[str, str, int]:
     try:
         return machine_model.machine(arguments, text), "", 0
     except Fault as fault:
         return "", fault.line + "\n", fault.status
 
 
-def values(line):
+def values(line: str) -> dict[str, int]:
     """The numbers of a line of the report, by their names."""
     fields = line.split()
     return dict(zip(fields[::2], map(int, fields[1::2])))
 
 
-def text_of(rows, header=HEADER):
+def text_of(rows: Iterable[Sequence[object]], header: str = HEADER) -> str:
     return "".join(f"{line}\n" for line in [header, *(",".join(map(str, row)) for row in rows)])
 
 
-def same(program, arguments, text):
+def same(program: str, arguments: Sequence[str], text: str) -> str:
     """Returns what both print; if they differ, prints both and exits."""
     mine, theirs = modelled(arguments, text), ran(program, arguments, text)
     if mine != theirs:
@@ -55,48 +61,89 @@ def same(program, arguments, text):
     return mine[0]
 
 
+# The rules of cards, which a program may lack. It then also lacks --app-wake on the processor that polls.
+OF_CARDS = "rx-gap", "latched", "gro-batch", "take", "heedless", "timer", "timer-wake"
+
+
+@functools.lru_cache(None)
+def options_of(program: str) -> dict[str, tuple[int, int, int | str]]:
+    """Returns the model's options that the program has."""
+    lacks = [name for name in OF_CARDS if ran(program, [f"--{name}", "0"], text_of([]))[2] != 0]
+    if lacks:
+        print(f"not compared, because {program} lacks them: {' '.join(lacks)}, and app-wake on the processor that polls")
+    return {name: row for name, row in OPTIONS.items() if name not in lacks}
+
+
+def has_cards(program: str) -> bool:
+    return options_of(program).keys() == OPTIONS.keys()
+
+
 # ---- reports that were worked out by hand
 
-def examples(program):
-    wrong, count = [], 0
-    for example in (TOP / "tests/machine_examples.txt").read_text(encoding="ascii").split("\n\n"):
-        of = {"report": []}
-        for line in example.splitlines():
-            name, sign, rest = line.partition(": ")
-            if line.startswith("#"):
-                continue
-            if sign:
-                of.setdefault(name, []).append(rest)
-            else:
-                of["report"].append(line)
+def example_of(text: str) -> dict[str, list[str]]:
+    """An example: `options`, `arrivals`, and the report's lines, or what it `contains`."""
+    of: dict[str, list[str]] = {"report": [], "contains": []}
+    for line in text.splitlines():
+        name, sign, rest = line.partition(": ")
+        if sign and not line.startswith("#"):
+            of.setdefault(name, []).append(rest)
+        elif not line.startswith("#"):
+            of["report"].append(line)
+    return of
+
+
+def examples(program: str) -> list[str]:
+    wrong: list[str] = []
+    known, count, left_out = options_of(program), 0, 0
+    for of in map(example_of, (TOP / "tests/machine_examples.txt").read_text(encoding="ascii").split("\n\n")):
         if "options" not in of:
             continue
-        out, _, _ = ran(program, of["options"][0].split(), text_of(row.split(",") for row in of["arrivals"][0].split()))
-        is_right = all(part in out for part in of["contains"]) if "contains" in of else out.splitlines() == of["report"]
+        arguments = of["options"][0].split()
+        if not {word[2:] for word in arguments if word.startswith("--")} <= known.keys():
+            left_out += 1
+            continue
+        out, _, _ = ran(program, arguments, text_of(row.split(",") for row in of["arrivals"][0].split()))
+        is_right = all(part in out for part in of["contains"]) and of["report"] in ([], out.splitlines())
         wrong += [] if is_right else [f"{of['options'][0]}\n{out}"]
         count += 1
-    return wrong if count == 5 else [f"there are {count} examples", *wrong]
+    return wrong if count >= 5 and count + left_out == 12 else [f"there are {count} examples, and {left_out} are left out", *wrong]
 
 
 # ---- random arrivals with random options
 
-def random_options(chance):
-    """Costs that are equal, or 0, or fall on the grid of the arrivals, cause ties."""
+def random_options(chance: random.Random, program: str) -> list[str]:
+    """Options that the program has. Costs that are equal, or 0, or fall on the grid of the arrivals, cause ties."""
     costs = (0, 1, 500, 1000, 1000, 2000, 4000, chance.randrange(20000), chance.randrange(10**6))
     choices = {
         "processors": (1, 2, 3, chance.randint(1, 64)), "queues": (1, 1, 2, 3, 8, 64), "ring": (1, 2, 4, 16, 256), "socket": (1, 2, 8, 512),
         "backlog": (0, 1), "budget": (0, 1, 2, 3, 16, 64, 300), "weight": (1, 2, 3, 8, 64), "window": (1, 2, 3, 1024),
         "time-limit": (1, 1000, 5000, 20000, 8000000), "rx-nsecs": (0, 1, 500, 3000, 20000, 100000), "rx-frames": (0, 1, 2, 5),
-        "defer-hard-irqs": (0, 1, 2, 2, 9), "gro-flush-timeout": (0, 500, 1000, 20000, 20000), "threaded": (0, 1), "apart": (0, 1)}
-    share, arguments = chance.choice((0.15, 0.4, 0.8)), []
-    for name in chance.sample(list(OPTIONS), len(OPTIONS)):
-        if chance.random() < share:
-            value = str(chance.choice(choices.get(name, costs))).zfill(chance.choice((1, 1, 1, 10)))
-            arguments += [f"--{name}={value}"] if chance.random() < 0.5 else [f"--{name}", value]
-    return arguments
+        "defer-hard-irqs": (0, 1, 2, 2, 9), "gro-flush-timeout": (0, 500, 1000, 20000, 20000), "threaded": (0, 1), "apart": (0, 1),
+        "rx-gap": (0, 1, 500, 20000, 100000), "latched": (0, 1, 2), "gro-batch": (0, 1, 2, 8, 64), "heedless": (0, 1)}
+    chosen: dict[str, int] = {}
+    share, known = chance.choice((0.15, 0.4, 0.8)), options_of(program)
+    # Without these three few instances are scheduled again at their completion.
+    kinds: list[tuple[tuple[str, ...], tuple[str, ...]]] = [((), ()), ((), ()), (("gro-batch", "threaded"), ("backlog", "budget", "latched"))]
+    always, never = chance.choice(kinds)
+    for name in chance.sample(list(known), len(known)):
+        if name in always or name not in never and chance.random() < share:
+            chosen[name] = chance.choice(choices.get(name, costs))
+    if chosen.get("rx-gap") and (chosen.get("rx-nsecs") or chosen.get("rx-frames")):
+        del chosen["rx-gap"]
+    if chosen.get("take", 0) > chosen.get("packet", int(OPTIONS["packet"][2])):
+        del chosen["take"]
+    if not has_cards(program) and not chosen.get("apart"):
+        chosen.pop("app-wake", None)
+    return [word for name, value in chosen.items() for word in written(chance, name, str(value))]
 
 
-def random_rows(chance, settings):
+def written(chance: random.Random, name: str, value: str) -> tuple[str, ...]:
+    """An option in one word or in two, with zeros or without."""
+    value = value.zfill(chance.choice((1, 1, 1, 10)))
+    return chance.choice(((f"--{name}={value}",), (f"--{name}", value)))
+
+
+def random_rows(chance: random.Random, settings: Settings) -> Iterator[tuple[int, ...]]:
     """Bursts and pauses, at some devices, on a grid or not; rarely for a queue that is out of range."""
     highest = 64 * settings["processors"]
     last = highest if chance.random() < 0.1 else max(1, highest // settings["queues"])
@@ -112,24 +159,26 @@ def random_rows(chance, settings):
         yield row if settings["queues"] > 1 else row[:3]
 
 
-def counted(calls, name):
+def counted(calls: Counter[str], name: str) -> None:
     """Counts how often the model's rule with this name applies."""
     rule = getattr(machine_model, name)
 
-    def call(*arguments):
+    def call(*arguments: Any) -> Any:
         held = rule(*arguments)
         calls[name] += held is not False
         return held
     setattr(machine_model, name, call)
 
 
-def random_arrivals(program, seed="1", count="300"):
+def random_arrivals(program: str, seed: str = "1", count: str = "300") -> list[str]:
     """The model's bytes for this many arrivals, which together reach each case of the rules."""
-    chance, reached, calls = random.Random(int(seed)), Counter(), Counter()
-    for name in ("go_on_with_rest", "wake_application", "end_interrupt_without_polling"):
+    chance = random.Random(int(seed))
+    reached: Counter[str] = Counter()
+    calls: Counter[str] = Counter()
+    for name in ("go_on_with_rest", "wake_application", "end_interrupt_without_polling", "schedule_again", "gro_normal_list", "notify_with_gap"):
         counted(calls, name)
     for _ in range(int(count)):
-        arguments = random_options(chance)
+        arguments = random_options(chance, program)
         settings = machine_model.settings_of(arguments)
         rows = list(random_rows(chance, settings))
         calls.clear()
@@ -137,17 +186,36 @@ def random_arrivals(program, seed="1", count="300"):
         if not printed:
             reached["out of range"] += 1
             continue
-        total = values(printed.splitlines()[-1].removeprefix("total "))
-        if (total["arrived"], total["polled"]) != (total["dropped"] + total["polled"], total["refused"] + total["used"]):
-            return [f"packets are lost by {' '.join(arguments)}\n{printed}"]
+        if broken := broken_law(settings, rows, printed):
+            return [f"{broken} with {' '.join(arguments)}\n{printed}"]
         reached.update(cases_of(settings, rows, printed, calls))
+        if has_cards(program):
+            reached.update(cases_of_cards(settings, printed, calls))
     print(f"{count} random arrivals: {', '.join(f'{name} {number}' for name, number in sorted(reached.items()))}")
     return [f"{name} is reached {number} times" for name, number in reached.items() if number < int(count) // 100]
 
 
-def cases_of(settings, rows, printed, calls):
+def broken_law(settings: Settings, rows: list[tuple[int, ...]], printed: str) -> str:
+    """The law that a report breaks, if any."""
+    of: dict[str, list[dict[str, int]]] = {line.split()[0]: [] for line in printed.splitlines()}
+    for line in printed.splitlines():
+        of[line.split()[0]].append(values(line.removeprefix("total ")))
+    total, = of["total"]
+    if (total["arrived"], total["polled"]) != (total["dropped"] + total["polled"], total["refused"] + total["used"]):
+        return "packets are lost"
+    for device in of.get("device", []):
+        end = of["time"][(device["device"] - 1) % settings["processors"]]["end"]
+        if not settings["latched"] and device["interrupts"] > device["polled"]:
+            return f"device {device['device']} has more interrupts than packets"
+        if settings["budget"] and settings["rx-gap"] and device["interrupts"] > (end - rows[0][0]) // settings["rx-gap"] + 1:
+            return f"device {device['device']} has interrupts that are nearer to each other than the gap"
+    return ""
+
+
+def cases_of(settings: Settings, rows: list[tuple[int, ...]], printed: str, calls: Counter[str]) -> dict[str, bool]:
     """Which cases of the rules these arrivals reach."""
-    total, of = values(printed.splitlines()[-1].removeprefix("total ")), Counter()
+    total = values(printed.splitlines()[-1].removeprefix("total "))
+    of: Counter[str] = Counter()
     for line in printed.splitlines():
         if line.startswith("processor"):
             of.update(values(line))
@@ -159,25 +227,38 @@ def cases_of(settings, rows, printed, calls):
         "no cost": 0 in (settings["poll"], settings["packet"], settings["use"]),
         "several devices": total["devices"] > settings["processors"], "full weight": of["work"] > 2 * settings["weight"],
         "several packets at one time": len({row[0] for row in rows}) < len(rows), "an interrupted use": calls["go_on_with_rest"] > 0,
-        "NAPI timers": of["timers"] > 0, "threads": settings["threaded"] and polls_on,
-        "threads with timers": settings["threaded"] and of["timers"] > 0, "queues": settings["queues"] > 1 and total["devices"] > 1,
-        "backlog": settings["backlog"] and polls_on, "wake": settings["wake"] > 0 and polls_on,
+        "NAPI timers": of["timers"] > 0, "threads": settings["threaded"] > 0 and polls_on,
+        "threads with timers": settings["threaded"] > 0 and of["timers"] > 0, "queues": settings["queues"] > 1 and total["devices"] > 1,
+        "backlog": settings["backlog"] > 0 and polls_on, "wake": settings["wake"] > 0 and polls_on,
         "coalescing": settings["rx-nsecs"] > 0 and polls_on,
         "coalescing by frames": settings["rx-nsecs"] > 0 and settings["rx-frames"] > 1 and polls_on,
         "apart": calls["wake_application"] > 1, "apart, refused": calls["wake_application"] > 1 and total["refused"] > 0}
 
 
+def cases_of_cards(settings: Settings, printed: str, calls: Counter[str]) -> dict[str, bool]:
+    """Which cases of the rules of cards these arrivals reach."""
+    lines = [values(line) for line in printed.splitlines() if line.startswith("processor")]
+    polls_on, timers = any(line["polls"] > 1 for line in lines), any(line["timers"] > 0 for line in lines)
+    return {
+        "a gap": calls["notify_with_gap"] > 1, "GRO's batches": calls["gro_normal_list"] > 2, "scheduled again": calls["schedule_again"] > 0,
+        "scheduled again, threads": calls["schedule_again"] > 0 and settings["threaded"] > 0,
+        "latched": settings["latched"] == 1 and polls_on, "latched, and read": settings["latched"] == 2 and polls_on,
+        "heedless": settings["heedless"] == 1 and polls_on, "heedless with timers": settings["heedless"] == 1 and timers,
+        "timers at a cost of their own": timers and settings["timer"] != settings["interrupt"],
+        "app-wake on the processor that polls": settings["app-wake"] > 0 and not settings["apart"] and polls_on}
+
+
 # ---- what a setting doesn't change
 
-LIMITS = "--budget", "--window", "--time-limit", "--queues"
+LIMITS = "--budget", "--window", "--time-limit", "--queues", "--take"  # --take is at most --packet
 
 
-def one_queue(program, seed="1", count="60"):
+def one_queue(program: str, seed: str = "1", count: str = "60") -> list[str]:
     """With one queue per processor, budgets, windows and time limits change nothing in a report but its runs, squeezed and
     late."""
     chance = random.Random(int(seed))
     for _ in range(int(count)):
-        arguments = [each for each in random_options(chance) if "=" in each and not each.startswith(LIMITS)]
+        arguments = [each for each in random_options(chance, program) if "=" in each and not each.startswith(LIMITS)]
         settings = machine_model.settings_of(arguments)
         text = text_of((moment, 1, size) for moment, _, size in random_rows(chance, {**settings, "queues": 1}))
         limits = [[f"--budget={budget}", f"--window={window}", f"--time-limit={limit}"] for budget, window, limit in (
@@ -190,9 +271,9 @@ def one_queue(program, seed="1", count="60"):
 
 # ---- what is rejected
 
-def faults(program):
+def faults(program: str) -> list[str]:
     """Each error of the rows with its message and status, and with nothing written; in a row that has several the lowest one."""
-    wrong = []
+    wrong: list[str] = []
     good = "0,1,60\n"
     for rows, number, name, row in (
             (None, 1, "BadHeader", 0), ("moment,device,event,value\n", 1, "BadHeader", 0), ("moment,device,bytes,2\n", 1, "BadHeader", 0),
@@ -211,9 +292,10 @@ def faults(program):
     return wrong + faults_of_flows(program)
 
 
-def faults_of_flows(program):
+def faults_of_flows(program: str) -> list[str]:
     """With --queues above 1 a fourth column, and queues that are within the processor's 64."""
-    wrong, four = [], "moment,device,bytes,flow"
+    wrong: list[str] = []
+    four = "moment,device,bytes,flow"
     for rows, number, name, row in (
             (f"{HEADER}\n0,1,60\n", 1, "BadHeader", 0), (f"{four}\n0,1,60\n", 2, "BadFields", 1),
             (f"{four}\n0,1,60,1,\n", 2, "BadFields", 1), (f"{four}\n0,1,60,\n", 3, "BadNumber", 1),
@@ -227,13 +309,13 @@ def faults_of_flows(program):
     return wrong
 
 
-def not_faulty(program, arguments, text, line):
+def not_faulty(program: str, arguments: Sequence[str], text: str, line: str) -> list[str]:
     wanted = "", line, 2
     both = modelled(arguments, text), ran(program, arguments, text)
     return [f"{text!r} gives {printed}, and not {wanted}" for printed in both if printed != wanted]
 
 
-def texts(program):
+def texts(program: str) -> list[str]:
     """Arrivals as other programs write them: other line ends, a byte-order mark, quotes in all rows or in one, many zeros, the bounds
     of the ranges."""
     plain = f"{HEADER}\n0,1,60\n{2**62 - 1},128,65535\n"
@@ -246,31 +328,36 @@ def texts(program):
     return [f"{text!r} gives {printed}" for text in others if (printed := ran(program, ["--processors", "2"], text)) != (wanted, "", 0)]
 
 
-def options(program):
+def options(program: str) -> list[str]:
     """Options that are rejected before anything is read, and the bounds of each range, which are accepted."""
-    wrong = []
-    refused = [["-h"], ["--"], ["-"], ["x"], [""], ["--budget"], ["--budget="], ["--budget=x"], ["--budget", "+1"], ["--budget", " 1"],
+    wrong: list[str] = []
+    refused: list[list[str | bytes]] = [["-h"], ["--"], ["-"], ["x"], [""], ["--budget"], ["--budget="], ["--budget=x"], ["--budget", "+1"], ["--budget", " 1"],
                ["--budg", "1"], ["-budget", "1"], ["--budget", "1", "--budget", "1"], ["--budget=1", "--budget", "2"], ["--mode", "serial"],
                ["--budget", "1", "2"], ["--budget", "--weight"], ["--budget", "1.0"], [b"--budget\xff=1"], ["--budget", b"\xff"],
                ["--slice", "1"], ["--longest", "1"], ["--threaded"], ["--rx_nsecs", "1"]]
-    taken = []
-    for name, (low, high, _) in OPTIONS.items():
+    taken: list[list[str]] = []
+    if has_cards(program):
+        refused += [["--take", "1001"], ["--packet", "5", "--take", "6"], ["--take", "6", "--packet", "5"], ["--rx-gap", "1", "--rx-nsecs", "1"],
+                    ["--rx-frames", "1", "--rx-gap", "1"]]
+    for name, (low, high, _) in options_of(program).items():
         refused += [[f"--{name}", str(high + 1)], [f"--{name}={'1'.zfill(11)}"], [f"--{name}", "99999999999999999999"]]
         refused += [[f"--{name}", str(low - 1)]] if low else [[f"--{name}=-1"]]
-        taken += [[f"--{name}", str(low)], [f"--{name}={str(high).zfill(10)}"]]
+        more = {"take": [f"--packet={high}"], "app-wake": ["--apart=1"]}.get(name, [])  # what the greatest value needs
+        taken += [[f"--{name}", str(low), *more], [f"--{name}={str(high).zfill(10)}", *more]]
     for each in refused:
         if (printed := ran(program, each, "what\n")) != ("", "usage fault 64\n", 64):
             wrong.append(f"{each}: {printed}")
-    for each in taken:
-        settings = machine_model.settings_of(each)
-        rows = [(0, 1, 60, 0), (0, 1, 60, 1), (10**6, 1, 60, 2)] if settings["queues"] > 1 else [(0, 1, 60), (0, 2, 60), (10**6, 1, 60)]
-        same(program, each, text_of(rows, machine_model.header(settings)))
+    for words in taken:
+        settings = machine_model.settings_of(words)
+        rows: list[tuple[int, ...]] = [(0, 1, 60, 0), (0, 1, 60, 1), (10**6, 1, 60, 2)] if settings["queues"] > 1 else [(0, 1, 60), (0, 2, 60), (10**6, 1, 60)]
+        same(program, words, text_of(rows, machine_model.header(settings)))
     return wrong
 
 
-def ends(program):
+def ends(program: str) -> list[str]:
     """A reader and a writer that fail."""
-    wrong, folder = [], os.open("/", os.O_RDONLY)
+    wrong: list[str] = []
+    folder = os.open("/", os.O_RDONLY)
     try:
         done = subprocess.run(shlex.split(program), stdin=folder, capture_output=True, text=True, check=False)
     finally:
@@ -285,9 +372,10 @@ def ends(program):
     return wrong + slow_ends(program)
 
 
-def slow_ends(program):
+def slow_ends(program: str) -> list[str]:
     """A pipe that gives some bytes at a time, and a terminal, on which one Ctrl-D ends the text."""
-    wrong, text = [], text_of([(0, 1, 60), (5, 1, 60), (9, 1, 60)])
+    wrong: list[str] = []
+    text = text_of([(0, 1, 60), (5, 1, 60), (9, 1, 60)])
     wanted = ran(program, [], text)[0]
     for name, (read, write), end in (("a slow pipe", os.pipe(), b""), ("a terminal", os.openpty()[::-1], b"\x04")):
         with subprocess.Popen(shlex.split(program), stdin=read, stdout=subprocess.PIPE, text=True) as child:
@@ -312,16 +400,17 @@ def slow_ends(program):
 
 # ---- what theory says
 
-def poisson(rate, length, seed):
+def poisson(rate: float, length: int, seed: int) -> Iterator[tuple[int, ...]]:
     chance, moment = random.Random(seed), 0.0
     while (moment := moment + chance.expovariate(rate)) < length:
         yield int(moment), 1, 60
 
 
-def queue(program):
+def queue(program: str) -> list[str]:
     """M/D/1: packets of a Poisson process, each polled in its own run, and nothing else takes time. A packet has left when it
     is delivered, on average its cost c and r c / (2 (1 - r)) after its arrival, at load r (Pollaczek and Khinchine)."""
-    wrong, cost = [], 1000
+    wrong: list[str] = []
+    cost = 1000
     given = {"budget": 1, "weight": 1, "interrupt": 0, "poll": 0, "packet": cost, "use": 0, "ring": 65536, "socket": 65536}
     for load in (0.3, 0.6, 0.8):
         rows = text_of(poisson(load / cost, 10**9, 7))
@@ -333,15 +422,17 @@ def queue(program):
     return wrong
 
 
-def livelock(program):
+def livelock(program: str) -> list[str]:
     """At a load whose interrupts take all of the processor nothing is used while packets arrive, and no budget changes that,
     because softirqs run before tasks. Coalescing does: four devices, each with an interrupt of 4 us and a poll of 1 us per
     period, leave the application the time that these and 1 us per packet don't take, and a packet's use takes 2 us."""
-    wrong, used, load, packets = [], {}, 400_000, 80_000
+    wrong: list[str] = []
+    used: dict[int, int] = {}
+    load, packets = 400_000, 80_000
     rows = text_of((number * 10**9 // load, 1 + number % 4, 1000) for number in range(packets))
     slow = text_of((number * 10**9 // 100_000, 1 + number % 4, 1000) for number in range(packets))
 
-    def used_by(text, **given):
+    def used_by(text: str, **given: object) -> int:
         out, _, status = ran(program, [f"--{name.replace('_', '-')}={value}" for name, value in given.items()], text)
         if status != 0:
             wrong.append(f"{given}: status {status}")
@@ -372,26 +463,28 @@ RECORDED = (("tests/tools/soft-gso-23", 23), ("tests/tools/soft-tcp", 300), ("ex
             ("examples/linux-veth-small-budget", 64))
 
 
-def made_by(tool, *arguments, check=True):
-    return subprocess.run([TOP / "fintaqush", tool, *arguments], capture_output=True, text=True, check=check).stdout
+def made_by(tool: str, *arguments: object, check: bool = True) -> str:
+    command = [str(TOP / "fintaqush"), tool, *map(str, arguments)]
+    return subprocess.run(command, capture_output=True, text=True, check=check).stdout
 
 
-def recorded_arrivals(name, folder):
+def recorded_arrivals(name: str, folder: str) -> tuple[str, list[str]]:
     """The arrivals of a recording, and the options for its costs if they are known."""
     if not (text := TOP / f"{name}.txt").exists():
-        rows = (line.split(",") for line in (TOP / f"{name}.csv").read_text(encoding="ascii").splitlines())
-        rows = sorted((int(row[0]) * 10**6, row[1], row[3]) for row in rows if row[2] == "rx")
+        lines = (line.split(",") for line in (TOP / f"{name}.csv").read_text(encoding="ascii").splitlines())
+        rows = sorted((int(row[0]) * 10**6, row[1], row[3]) for row in lines if row[2] == "rx")
         return text_of(rows), []
     made = f"{folder}/{text.stem}"
     made_by("from-ftrace", text, made, "--arrivals")
     return pathlib.Path(f"{made}.csv").read_text(encoding="ascii"), made_by("costs", text, "--words", check=False).split()
 
 
-def recorded(program):
+def recorded(program: str) -> list[str]:
     """Compares runs and squeezes with those of Linux, and prints the differences: costs vary from poll to poll, a sender that
     shares the processor waits for the runs, which arrivals don't, and the recordings don't say to which processor a packet
     came. All packets are polled, and runs and squeezes differ by a factor of at most three."""
-    wrong, costs = [], []
+    wrong: list[str] = []
+    costs: list[str] = []
     for name, budget in RECORDED:
         with tempfile.TemporaryDirectory() as folder:
             text, fitted = recorded_arrivals(name, folder)
@@ -411,10 +504,10 @@ def recorded(program):
     return wrong
 
 
-def simulated(report, waited):
+def simulated(report: str, waited: str) -> list[str]:
     """Compares a report of the machine with that of a simulation of the same arrivals, which has each wait in place of their percentiles,
     and no total."""
-    def with_percentiles(line):
+    def with_percentiles(line: str) -> str:
         counts, sign, waits = line.rstrip("\n").partition(" waits")
         return f"{counts} {machine_model.wait_fields(list(map(int, waits.split())))}" if sign else counts
 
@@ -424,7 +517,7 @@ def simulated(report, waited):
     return wrong + [f"{other}: and no total" for line, other in lines[-1:] if other or not line.startswith("total ")]
 
 
-CHECKS = {"examples": examples, "random": random_arrivals, "one_queue": one_queue, "faults": faults, "texts": texts,
+CHECKS: dict[str, Callable[..., list[str]]] = {"examples": examples, "random": random_arrivals, "one_queue": one_queue, "faults": faults, "texts": texts,
           "options": options, "ends": ends, "queue": queue, "livelock": livelock, "recorded": recorded, "simulated": simulated}
 
 if __name__ == "__main__":

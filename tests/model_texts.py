@@ -7,10 +7,14 @@ usage: model_texts.py TOP KIT
 A call is found by its name, among what its crate stands on, and by its type where the call names that: of several methods of one name
 each counts.
 """
+
+from __future__ import annotations
+
 import hashlib
 import pathlib
 import re
 import sys
+from collections.abc import Iterator
 
 CRATES = "napi_model napi_word napi_calls poll_runs poll_shared poll_engine driver_core".split()
 OF_KIT = {"crossbeam_utils": "sync/parker", "crossbeam_queue": "array_queue", "atomic_table": ""}
@@ -19,17 +23,19 @@ CALL = re.compile(r"(\.|\b[A-Z]\w*(?:::<[^;()]*>)?::|)\b([a-z_]\w*)(?:::<[^;()]*
 CLAUSE = re.compile(r"^ *(requires|ensures|decreases|invariant|where|ghost|using)\b")
 
 
-def code_of(lines):
+def code_of(lines: list[str]) -> str:
     """The code of a function: its lines without comments, attributes and contract; clauses are between its head and the line
     `{`."""
-    indent = HEAD.match(lines[0])[1]
+    head = HEAD.match(lines[0])
+    assert head
+    indent = head[1]
     ending = next((at for at, line in enumerate(lines) if line == indent + "{"), 0)
     clause = next((at for at, line in enumerate(lines[:ending]) if CLAUSE.match(line)), ending)
     kept = lines[:clause] + lines[ending:] if ending else lines
     return "\n".join(line.strip() for line in kept if line.strip() and not re.match(r" *(//|#\[|ghost )", line))
 
 
-def last_line(lines, at, indent):
+def last_line(lines: list[str], at: int, indent: str) -> int:
     """The last line of the function that begins at one: of its body, or of a trait's declaration, which has none."""
     has_body = False
     for to in range(at, len(lines)):
@@ -39,15 +45,15 @@ def last_line(lines, at, indent):
     return len(lines) - 1
 
 
-def functions_in(path):
+def functions_in(path: pathlib.Path) -> list[tuple[str, str, str]]:
     """Triples of the functions of a file: the type or trait that it is of, its name, and its code."""
     owner, lines, found = "", path.read_text().splitlines(), []
     at = 0
     while at < len(lines):
         if re.match(r"(pub )?(impl|trait)\b", lines[at]):
-            head = re.sub(r"^(?:pub )?(?:impl|trait)(?:<[^{]*?>)? (?=\w)", "", lines[at])
-            owner = re.findall(r"[A-Z]\w*", head.partition(" for ")[2] or head)[:1]
-            owner = owner[0] if owner else ""
+            line = re.sub(r"^(?:pub )?(?:impl|trait)(?:<[^{]*?>)? (?=\w)", "", lines[at])
+            names = re.findall(r"[A-Z]\w*", line.partition(" for ")[2] or line)
+            owner = names[0] if names else ""
         elif re.match(r"\}", lines[at]):
             owner = ""
         head = HEAD.match(lines[at])
@@ -59,7 +65,7 @@ def functions_in(path):
     return found
 
 
-def places(top, kit):
+def places(top: pathlib.Path, kit: pathlib.Path) -> Iterator[tuple[str, pathlib.Path]]:
     """Each file, as the models name it."""
     for crate in CRATES:
         for path in sorted((top / "crates" / crate / "src").rglob("*.rt")):
@@ -71,31 +77,33 @@ def places(top, kit):
                 yield f"kit {crate}/{path.relative_to(root).with_suffix('')}", path
 
 
-def named(top):
+def named(top: pathlib.Path) -> set[tuple[str, str]]:
     """What the models name, as pairs of a file and a name."""
     texts = "".join(path.read_text() for path in sorted((top / "models").glob("*.pml")))
     return set(re.findall(r"/\* ((?:kit )?[a-z_]+(?:/[a-z_]+)+) ([a-z_]+) \*/", texts))
 
 
-def fits(by, owner):
+def fits(by: str, owner: str) -> bool:
     """Whether a call by a dot, by a type's name, or by neither can be of a function of this owner."""
     kind = by.split("::")[0]
     return bool(owner) if kind in (".", "Self") else kind == owner
 
 
-def is_below(place, caller):
+def is_below(place: str, caller: str) -> bool:
     """Whether the crate of a file is below that of the caller; the crates are in that order, and the toolchain's are below all."""
     low, high = (CRATES.index(it.split("/")[0]) if not it.startswith("kit ") else -1 for it in (place, caller))
     return low <= high
 
 
-def main(top, kit):
-    code, by_name = {}, {}
+def main(top: pathlib.Path, kit: pathlib.Path) -> None:
+    code: dict[tuple[str, str], str] = {}
+    by_name: dict[str, list[tuple[str, tuple[str, str]]]] = {}
     for place, path in places(top, kit):
         for owner, name, text in functions_in(path):
             code[place, name] = code.get((place, name), "") + f"{owner}\n{text}\n"
             by_name.setdefault(name, []).append((owner, (place, name)))
-    waiting, known = sorted(named(top)), set()
+    waiting = sorted(named(top))
+    known: set[tuple[str, str]] = set()
     while waiting:
         it = waiting.pop()
         if it in known:
@@ -104,8 +112,8 @@ def main(top, kit):
         for by, name in CALL.findall(code.get(it, "")):
             waiting += [to for of, to in by_name.get(name, []) if fits(by, of) and is_below(to[0], it[0])]
     for place, name in sorted(known):
-        text = code.get((place, name))
-        print(hashlib.sha256(text.encode()).hexdigest()[:12] if text else "nothing", place, name)
+        whole = code.get((place, name))
+        print(hashlib.sha256(whole.encode()).hexdigest()[:12] if whole else "nothing", place, name)
 
 
 main(*map(pathlib.Path, sys.argv[1:]))

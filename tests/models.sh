@@ -139,6 +139,9 @@ a-refused-start-not-passed-on wake.pml -DACTS=2,-DFAULT=5 refused ends
 a-refused-poller-that-is-waited-for wake.pml -DACTS=2,-DFAULT=6 refused safe=end.state
 a-completion-that-drops-missed wake.pml -DACTS=3,-DFAULT=7 refused safe=asked
 an-enable-without-threaded wake.pml -DACTS=4,-DFAULT=8 refused safe=setting
+a-thread-that-ends-before-the-disable wake.pml -DACTS=3,-DFAULT=9 refused polled
+a-push-before-its-hand-over wake.pml -DACTS=2,-DFAULT=10 refused safe=mark
+pollers-waited-for-before-their-close wake.pml -DACTS=2,-DFAULT=11 refused safe=end.state
 a-schedule-that-ignores-disable waiting.pml -DENDLESS=1,-DFAULT=1 refused taken
 a-repoll-that-ignores-disable waiting.pml -DENDLESS=1,-DFAULT=2 refused taken
 a-completion-by-load-and-store waiting.pml -DENDLESS=0,-DFAULT=3 refused safe=word

@@ -1,20 +1,28 @@
 #!/usr/bin/env python3
 """modes.py PROGRAM SERIAL WORKERS: compares the three modes of the replay with one another, and measures the processor time of
-runs that wait, WORKERS (bench_workers) among them, and of one that is made to spin. The last line is `N passed, M failed`.
+runs that wait, WORKERS (bench_polls) among them, and of one that is made to spin. The last line is `N passed, M failed`.
 
 Serial mode is the reference for shared mode, and for SERIAL, which has only serial mode: on the runs of runs.txt, and on random
 traces of both versions with several settings. For a trace that is cut off anywhere, the rules of docs/FORMATS.md, implemented
 here again, say whether it has an error, and which. And a trace is read in each way in which its records may be written."""
+
+from __future__ import annotations
+
 import os
 import re
 import subprocess
 import sys
 import tempfile
 import time
+from collections.abc import Callable, Iterator
+from typing import IO
 
+from judging import Judged, judge
 from runs import runs
 
-TESTS = os.path.dirname(os.path.abspath(__file__))
+sys.path.append(os.path.join(os.path.dirname(os.path.abspath(__file__)), "../bench"))
+from random_trace import Trace  # noqa: E402
+
 PROGRAM, SERIAL, WORKERS = sys.argv[1:]
 RANGES = {
     "open": (1, 16, 1, 65536), "rx": (1, 16, 1, 65535), "tx": (1, 16, 1, 65535), "done": (1, 16, 0, 65536),
@@ -62,24 +70,16 @@ NO_HEADERS = [
     b"moment,device,event,value \n", b"0,1,open,4\n", b"\xef\xbb\xbf\xef\xbb\xbfmoment,device,event,value\n",
 ]
 
-passed = failed = 0
+def check(name: str, holds: bool, why: str = "other than wanted") -> Judged:
+    return name, [] if holds else [why]
 
 
-def judge(name, holds, why=""):
-    global passed, failed
-    if holds:
-        passed += 1
-    else:
-        failed += 1
-        print("%s: other than wanted%s" % (name, why and ": " + why))
-
-
-def play(text, words, program=PROGRAM):
+def play(text: bytes, words: list[str], program: str = PROGRAM) -> tuple[int, bytes, bytes]:
     run = subprocess.run([program] + words, input=text, capture_output=True, timeout=300)
     return run.returncode, run.stdout, run.stderr
 
 
-def row_fault(fields, states):
+def row_fault(fields: list[str], states: dict[int, bool]) -> tuple[int, str] | None:
     """The number and the name of a row's first error, or None. `states` says for each device whether it is enabled."""
     if len(fields) != 4:
         return 2, "BadFields"
@@ -104,12 +104,12 @@ def row_fault(fields, states):
     return None
 
 
-def first_fault(text):
+def first_fault(text: str) -> str | None:
     """The message of the first error of a version 1 trace without quotes, or None."""
     records = [line.split(",") for line in text.split("\n") if line]
     if not records or records[0] != ["moment", "device", "event", "value"]:
         return "trace fault 1 BadHeader row 0"
-    states = {}
+    states: dict[int, bool] = {}
     for number, fields in enumerate(records[1:], 1):
         fault = row_fault(fields, states)
         if fault:
@@ -117,9 +117,8 @@ def first_fault(text):
     return None
 
 
-def cut_traces():
+def cut_traces() -> Iterator[Judged]:
     """Each prefix of the trace of six devices, in each mode: its error, or a whole report, never parts of both."""
-    last = {"serial": b"total devices ", "shared": b"total devices ", "threads": b"total devices "}
     for mode in ("serial", "shared", "threads"):
         wrong = []
         for end in range(len(SIX_DEVICES) + 1):
@@ -129,27 +128,27 @@ def cut_traces():
             if fault:
                 fits = (status, out, err) == (2, b"", (fault + "\n").encode())
             else:
-                fits = status == 0 and not err and out.endswith(b"\n") and out.split(b"\n")[-2].startswith(last[mode])
+                fits = status == 0 and not err and out.endswith(b"\n") and out.split(b"\n")[-2].startswith(b"total devices ")
             if not fits:
                 wrong.append(end)
-        judge("cut traces, %s mode" % mode, not wrong, "cut behind byte %s" % wrong[:8])
+        yield check("cut traces, %s mode" % mode, not wrong, "cut behind byte %s" % wrong[:8])
         for text, line in NAMED_CUTS:
-            judge("%r, %s mode" % (text[-12:], mode), play(text.encode(), ["--mode", mode]) == (2, b"", (line + "\n").encode()))
+            yield check("%r, %s mode" % (text[-12:], mode), play(text.encode(), ["--mode", mode]) == (2, b"", (line + "\n").encode()))
 
 
-def ways_of_writing():
+def ways_of_writing() -> Iterator[Judged]:
     """Each way of writing a trace has the report of the first; each odd row, and each text without a header, has its error."""
     report = play(WRITTEN[0], [])
     for text in WRITTEN[1:]:
-        judge("%r" % text, play(text, []) == report and report[0] == 0)
+        yield check("%r" % text, play(text, []) == report and report[0] == 0)
     for row, fault in ODD_ROWS:
         line = b"trace fault %s row 1\n" % fault.encode()
-        judge("%r" % row, play(b"moment,device,event,value\n" + row, []) == (2, b"", line))
+        yield check("%r" % row, play(b"moment,device,event,value\n" + row, []) == (2, b"", line))
     for text in NO_HEADERS:
-        judge("%r" % text, play(text, []) == (2, b"", b"trace fault 1 BadHeader row 0\n"))
+        yield check("%r" % text, play(text, []) == (2, b"", b"trace fault 1 BadHeader row 0\n"))
 
 
-def without_pollers(words):
+def without_pollers(words: list[str]) -> list[str]:
     """The options without `--pollers N`, which a run has as two arguments."""
     if "--pollers" not in words:
         return words
@@ -157,36 +156,36 @@ def without_pollers(words):
     return words[:at] + words[at + 2 :]
 
 
-def worked_runs():
+def worked_runs() -> Iterator[Judged]:
     """Each run without a mode of its own also in shared mode; each with threads also with 1, 2 and 8 pollers; each that names
     no other mode also by the program of serial mode."""
     for name, words, text in runs():
         if not {"shared", "threads", "--mode=shared", "--mode=threads"} & set(words):
-            judge("%s by serial mode's program" % name, play(text, words) == play(text, words, SERIAL))
+            yield check("%s by serial mode's program" % name, play(text, words) == play(text, words, SERIAL))
         if not any(word.startswith("--mode") or word in ("--help", "--version") for word in words):
-            judge("%s in shared mode" % name, play(text, words) == play(text, words + ["--mode", "shared"]))
+            yield check("%s in shared mode" % name, play(text, words) == play(text, words + ["--mode", "shared"]))
         if "threads" in words or "--mode=threads" in words:
             others = without_pollers(words)
             answers = [play(text, others + ["--pollers", pollers]) for pollers in ("1", "2", "8")]
-            judge("%s with 1, 2 and 8 pollers" % name, answers[0] == answers[1] == answers[2] == play(text, words))
+            yield check("%s with 1, 2 and 8 pollers" % name, answers[0] == answers[1] == answers[2] == play(text, words))
 
 
-def random_traces(count):
+def random_traces(count: int) -> Iterator[Judged]:
     """Random traces of both versions, with settings in turn: shared mode's bytes, message and status are serial mode's."""
-    settings = [[], ["--budget", "1"], ["--budget", "64", "--weight", "1"], ["--weight", "63", "--window", "2"], ["--window", "1"]]
-    for version in ("1", "2"):
+    settings: list[list[str]] = [[], ["--budget", "1"], ["--budget", "64", "--weight", "1"], ["--weight", "63", "--window", "2"], ["--window", "1"]]
+    for version in (1, 2):
         reports = 0
         for seed in range(1, count + 1):
-            written = subprocess.run([sys.executable, "-B", os.path.join(TESTS, "../bench/random_trace.py"), str(seed), version], capture_output=True)
-            words = settings[seed % len(settings)]
-            serial = play(written.stdout, words)
+            text, words = Trace(seed, version).text().encode(), settings[seed % len(settings)]
+            serial = play(text, words)
             reports += serial[0] == 0
-            judge("random trace %d of version %s %s" % (seed, version, words), serial == play(written.stdout, words + ["--mode", "shared"]))
-            judge("random trace %d of version %s %s by serial mode's program" % (seed, version, words), serial == play(written.stdout, words, SERIAL))
-        judge("random traces of version %s have reports" % version, reports > count // 2)
+            name = f"random trace {seed} of version {version} {words}"
+            yield check(name, serial == play(text, words + ["--mode", "shared"]))
+            yield check(f"{name} by serial mode's program", serial == play(text, words, SERIAL))
+        yield check(f"random traces of version {version} have reports", reports > count // 2)
 
 
-def version_2():
+def version_2() -> Iterator[Judged]:
     """A device that is disabled, receives, is enabled and busy polled; a disable of device 16 that waits; packets of the greatest
     size; a threaded setting that outlives a disable. By hand, from the rules."""
     header = "moment,device,event,value,2\n"
@@ -206,20 +205,21 @@ def version_2():
     ]:
         for mode in ("serial", "shared"):
             status, out, err = play((header + rows).encode(), ["--mode", mode])
-            judge("%s, %s mode" % (name, mode), status == 0 and out.decode().startswith(wanted), (out + err).decode())
+            yield check("%s, %s mode" % (name, mode), status == 0 and out.decode().startswith(wanted), (out + err).decode())
 
 
-def keep_one_processor():
+def keep_one_processor() -> None:
     """Lets the process use one processor, by a policy under which a thread that is woken doesn't preempt the running one: so a thread
     that spins until another one has run takes a whole slice each time."""
     os.sched_setaffinity(0, {min(os.sched_getaffinity(0))})
     os.sched_setscheduler(0, os.SCHED_BATCH, os.sched_param(0))
 
 
-def on_one_processor(program, words, feed, **variables):
+def on_one_processor(program: str, words: list[str], feed: Callable[[IO[bytes]], None], **variables: str) -> tuple[int, float]:
     """The status of a run that has one processor, and what it takes of it, in seconds."""
     run = subprocess.Popen([program] + words, stdin=subprocess.PIPE, stdout=subprocess.DEVNULL, stderr=subprocess.DEVNULL,
                            preexec_fn=keep_one_processor, env={**os.environ, **variables})
+    assert run.stdin
     with run.stdin as trace:
         feed(trace)
     _, status, usage = os.wait4(run.pid, 0)
@@ -227,47 +227,53 @@ def on_one_processor(program, words, feed, **variables):
     return run.returncode, usage.ru_utime + usage.ru_stime
 
 
-def waits_for_the_trace(trace):
+def waits_for_the_trace(trace: IO[bytes]) -> None:
     trace.write(SIX_DEVICES.encode())
     trace.flush()
     time.sleep(3)
 
 
-def disables_often(trace):
+def disables_often(trace: IO[bytes]) -> None:
     rows = "1,1,rx,100\n2,1,disable,0\n3,1,enable,0\n" * 3000
     trace.write(("moment,device,event,value\n0,1,open,65536\n" + rows).encode())
 
 
-def has_no_trace(_trace):
+def has_no_trace(_trace: IO[bytes]) -> None:
     pass
 
 
-def spins():
-    """A disable that doesn't yield the processor is seen: with a yield that does nothing the same run takes far over a second."""
+def spins() -> Iterator[Judged]:
+    """A disable that doesn't yield the processor is seen: with a yield that does nothing the same run takes hundreds of times as long, and
+    under other load, which ends the slices of a spinning thread early, still more than five times."""
+    words = ["--mode", "threads"]
     with tempfile.TemporaryDirectory() as room:
         subprocess.run(["cc", "-shared", "-fPIC", "-x", "c", "-", "-o", room + "/yield.so"], input=b"int sched_yield(void) { return 0; }", check=True)
-        status, seconds = on_one_processor(PROGRAM, ["--mode", "threads"], disables_often, LD_PRELOAD=room + "/yield.so")
-    judge("disables without a yield", status == 0 and seconds > 1, "status %d, %.2f s" % (status, seconds))
+        status, seconds = on_one_processor(PROGRAM, words, disables_often, LD_PRELOAD=room + "/yield.so")
+    _, usual = on_one_processor(PROGRAM, words, disables_often)
+    yield check("disables without a yield", status == 0 and seconds > 5 * usual, "status %d, %.2f s, usually %.2f s" % (status, seconds, usual))
 
 
-def idle():
+def idle() -> Iterator[Judged]:
     """No run spins while it waits: it takes less than a second, which is a hundred times what it needs. The replays wait for a pipe that
     stays open for 3 seconds; the pollers of WORKERS for packets, while a gate holds a device for as long; and a disable for a poll by
     another thread, 3000 times."""
-    runs = [(PROGRAM, ["--mode", mode, "--pollers", "8"], waits_for_the_trace) for mode in ("serial", "shared", "threads")]
-    runs += [(SERIAL, [], waits_for_the_trace), (WORKERS, ["16", "8", "2000", "3000"], has_no_trace)]
-    for program, words, feed in runs + [(PROGRAM, ["--mode", "threads"], disables_often)]:
+    modes = [["--mode", mode, "--pollers", "8"] for mode in ("serial", "shared", "threads")]
+    waiting: list[tuple[str, list[str], Callable[[IO[bytes]], None]]] = [
+        *((PROGRAM, mode, waits_for_the_trace) for mode in modes),
+        (SERIAL, [], waits_for_the_trace),
+        (WORKERS, ["0", "16", "8", "2000", "3000"], has_no_trace),
+        (PROGRAM, ["--mode", "threads"], disables_often),
+    ]
+    for program, words, feed in waiting:
         status, seconds = on_one_processor(program, words, feed)
         name = "%s, %s %s" % (feed.__name__.replace("_", " "), os.path.basename(program), " ".join(words))
-        judge(name, status == 0 and seconds < 1, "status %d, %.2f s" % (status, seconds))
+        yield check(name, status == 0 and seconds < 1, "status %d, %.2f s" % (status, seconds))
 
 
-cut_traces()
-idle()
-spins()
-worked_runs()
-version_2()
-ways_of_writing()
-random_traces(150)
-print("%d passed, %d failed" % (passed, failed))
-sys.exit(1 if failed else 0)
+def checks() -> Iterator[Judged]:
+    for each in (cut_traces(), idle(), spins(), worked_runs(), version_2(), ways_of_writing(), random_traces(150)):
+        yield from each
+
+
+if __name__ == "__main__":
+    sys.exit(judge(checks()))

@@ -2,12 +2,16 @@
 As a program it prints each need that a test or a driver names and needs.txt lacks, each row that nothing names, and a difference from
 what scripts/test-packages.sh installs; the exit status is 1 if there is one.
 """
+
+from __future__ import annotations
+
 import functools
 import pathlib
 import re
 import shutil
 import subprocess
 import sys
+from collections.abc import Iterator
 
 TOP = pathlib.Path(__file__).resolve().parent.parent
 # How scripts name what they need: the unquoted words after these.
@@ -21,18 +25,18 @@ NAMED = {
 MADE_UP = ("needs.py", "scripts.sh")  # their needs are none of a test
 
 
-def rows():
+def rows() -> list[list[str]]:
     lines = [line.partition("#")[0].split() for line in (TOP / "tests/needs.txt").read_text().splitlines()]
     return [row for row in lines if row]
 
 
-def packages():
+def packages() -> dict[str, list[str]]:
     """The Debian packages for each need; none if no package has it."""
     return {row[0]: [name for name in row[1:] if name != "-"] for row in rows()}
 
 
 @functools.lru_cache(None)
-def is_here(need):
+def is_here(need: str) -> bool:
     """Whether a program is on PATH, or a library is where the tools look for it."""
     ends = {"matplotlib": "x.png", "dygraphs": "x.html"}
     if need not in ends:
@@ -41,15 +45,15 @@ def is_here(need):
     return subprocess.run([sys.executable, "-BES", "-c", look], capture_output=True, check=False).returncode == 0
 
 
-def skipped(test, what, need):
+def skipped(test: str, what: str, need: str) -> str:
     """The line for a part that is skipped because `need` is missing. A need that isn't in needs.txt raises KeyError."""
     names = packages()[need]
     return f"skipped: {test}: {what} needs {need}" + (f" (Debian: {' '.join(names)})" if names else "")
 
 
-def named():
+def named() -> dict[str, pathlib.Path]:
     """Each need that a script names, with the first file that does."""
-    found = {}
+    found: dict[str, pathlib.Path] = {}
     listed = subprocess.run(["git", "ls-files", "examples", "scripts", "tests"], cwd=TOP, capture_output=True, text=True, check=True)
     for path in map(pathlib.Path, listed.stdout.split()):
         for pattern in (it for end, patterns in NAMED.items() if path.match(end) and path.name not in MADE_UP for it in patterns):
@@ -58,7 +62,7 @@ def named():
     return found
 
 
-def wrong():
+def wrong() -> Iterator[str]:
     have, names = packages(), named()
     yield from (f"{path} names {need}, which tests/needs.txt lacks" for need, path in names.items() if need not in have)
     yield from (f"tests/needs.txt has {need}, which nothing names" for need in have if need not in names and need != "*")

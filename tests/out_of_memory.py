@@ -4,10 +4,16 @@ A body can write `Err(AllocError)`, or the `TableBack` of a table that couldn't 
 So the places are counted in each file: a new place fails this test until it is listed, and a removed one until it is taken off the list.
 Types, patterns, comparisons, texts and the test crates don't count. Each file is a test; the last line is `N passed, M failed`.
 """
+
+from __future__ import annotations
+
 import pathlib
 import re
 import subprocess
 import sys
+from collections.abc import Iterator
+
+from judging import Judged, judge
 
 TOP = pathlib.Path(__file__).resolve().parent.parent
 # How many places a file has, and which allocation failed.
@@ -29,10 +35,10 @@ PLACES = {
     "napi_c/src/transmit.rt": (2, "the transmit ring, a box"),
     "napi_calls/src/instance.rt": (2, "the table, the callers"),
     "napi_word/src/making.rt": (3, "`TableBack`: the list of passes, that of slots, the table"),
-    "poll_engine/src/opening.rt": (2, "the ring, the instance"),
+    "poll_engine/src/setup/opening.rt": (2, "the ring, the instance"),
     "poll_engine/src/list_ends.rt": (1, "the queue or its ends"),
     "poll_engine/src/fault.rt": (1, "`From<AllocError>`"),
-    "poll_engine/src/pollers.rt": (1, "the shared list"),
+    "poll_engine/src/setup/pollers.rt": (1, "the shared list"),
     "poll_engine/src/run.rt": (1, "an out of memory of the run"),
     "files_c/src/replay_fault.rt": (1, "the trace's fault, and the report's bytes, which a `Vec` takes"),
     "text_io/src/fault.rt": (1, "`From<AllocError>`"),
@@ -49,7 +55,7 @@ TEXT = re.compile(r"""//[^\n]*|b?"(?:[^"\\]|\\.)*\"""")
 GHOST = re.compile(r"^ *(?:(?:pub )?ghost\b|requires\b|ensures\b|(?:pub )?use\b)", re.M)
 
 
-def code(text):
+def code(text: str) -> str:
     """The text without comments, literals, ghost items, clauses and imports."""
     text = TEXT.sub("", text)
     found = GHOST.search(text)
@@ -63,7 +69,7 @@ def code(text):
     return text
 
 
-def is_value(text, found):
+def is_value(text: str, found: re.Match[str]) -> bool:
     """Whether the name is a value that is returned: not a declaration, a type, a pattern or part of a comparison."""
     before, behind = text[: found.start()].rstrip(), text[found.end() :].lstrip()
     if "::" not in found[0] and found[0] == "OutOfMemory":
@@ -76,20 +82,17 @@ def is_value(text, found):
     return not re.match(r"\)*\s*(=>|\||if\b)", behind) and not before.endswith(("==", "!="))
 
 
-def main():
-    passed, failed, counts = 0, 0, {}
+def checks() -> Iterator[Judged]:
+    counts = {}
     for name in subprocess.run(["git", "ls-files", "crates/*/src/*.rt"], cwd=TOP, capture_output=True, text=True, check=True).stdout.split():
         if not name.split("/")[1].endswith("_tests") and (TOP / name).exists():
             text = code((TOP / name).read_text())
             counts[name.removeprefix("crates/")] = sum(is_value(text, found) for found in NAME.finditer(text) if "ErrorKind" not in found[0])
     for name in sorted({*PLACES, *(it for it in counts if counts[it])}):
         wanted, found = PLACES.get(name, (0, ""))[0], counts.get(name, 0)
-        passed, failed = passed + (wanted == found), failed + (wanted != found)
-        if wanted != found:
-            print(f"crates/{name}: {found} places return out of memory, and tests/out_of_memory.py lists {wanted}")
-    print(f"{passed} passed, {failed} failed")
-    return failed != 0
+        why = f"{found} places return out of memory, and tests/out_of_memory.py lists {wanted}"
+        yield f"crates/{name}", [why] * (wanted != found)
 
 
 if __name__ == "__main__":
-    sys.exit(main())
+    sys.exit(judge(checks()))

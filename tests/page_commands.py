@@ -5,6 +5,9 @@ of at least two words, of which the first one is a program's name. Text after th
 such as `./fintaqush raise TRACE WORD ..`, is compared with the program's usage text. Commands that prove, measure or install are
 run by hand: the command has to exist.
 """
+
+from __future__ import annotations
+
 import functools
 import os
 import pathlib
@@ -13,6 +16,7 @@ import shutil
 import subprocess
 import sys
 import tempfile
+from collections.abc import Iterator
 
 import needs
 
@@ -35,15 +39,16 @@ OF_THE_MACHINE = {"PATH", "LANG", "LC_ALL", "TERM", "TMPDIR", "USER", "LOGNAME",
 FIRST = "git init ."
 
 
-def listed(*names):
+def listed(*names: str) -> list[str]:
     return subprocess.run(["git", "ls-files", *names], cwd=TOP, capture_output=True, text=True, check=True).stdout.split()
 
 
-SKIPPED = []  # what was, a line each
+Entry = dict[str, str]  # what the list says about a command
+SKIPPED: list[str] = []  # what was, a line each
 
 
 @functools.cache
-def is_missing(program, what):
+def is_missing(program: str, what: str) -> bool:
     """Whether a program or a library isn't installed; what needs it is skipped, and named once."""
     is_here = needs.is_here(program)
     if not is_here:
@@ -52,7 +57,7 @@ def is_missing(program, what):
     return not is_here
 
 
-def begins_a_command(text):
+def begins_a_command(text: str) -> bool:
     """Whether the first word is a program's; variable settings may precede it."""
     words = SETTINGS.sub("", text).split()
     if not words:
@@ -64,19 +69,20 @@ def begins_a_command(text):
     return bool(re.fullmatch(FOLDERS, words[0])) and (len(words) > 1 or words[0].endswith(".sh")) and not words[0].endswith((".py", ".rt", ".md"))
 
 
-def plain(line):
+def plain(line: str) -> str:
     """A command without the remark after it, with single spaces."""
     return " ".join(re.split(r" {3,}|\s+# ", line.strip())[0].split())
 
 
-def listed_as(command):
+def listed_as(command: str) -> str:
     """A command as commands.txt has it: a subcommand is listed as it is called in a checkout, however a page calls it."""
     return f"./{command}" if command.startswith("fintaqush ") else command
 
 
-def blocks(text):
+def blocks(text: str) -> Iterator[list[str]]:
     """The blocks of a page, each the list of its lines: fenced ones, and those indented by four spaces."""
-    block, fence, before = [], False, ""
+    block: list[str] = []
+    fence, before = False, ""
     for line in text.splitlines() + [""]:
         if line.startswith("```"):
             if fence:
@@ -96,7 +102,7 @@ def blocks(text):
         yield block
 
 
-def joined(lines):
+def joined(lines: list[str]) -> Iterator[str]:
     """The lines of a block as commands: one continues after a backslash, in quotes, and to the end of a text after `<<`."""
     held = ""
     for line in lines + [""]:
@@ -109,7 +115,7 @@ def joined(lines):
             held = ""
 
 
-def commands_of_block(block):
+def commands_of_block(block: list[str]) -> Iterator[tuple[str, list[str] | None]]:
     """Pairs of a command as it is listed, and its output by the page; nothing if the page doesn't show it."""
     lines = "\n".join(line.rstrip() for line in block).rstrip("\n").splitlines()
     if any(line.startswith("$ ") for line in lines):
@@ -123,7 +129,7 @@ def commands_of_block(block):
         yield from ((command, None) for command in joined(lines))
 
 
-def commands_of_page(path):
+def commands_of_page(path: pathlib.Path) -> Iterator[tuple[str, list[str] | None]]:
     """The commands of a page, or of a manual page, in order."""
     text = path.read_text()
     if path.suffix != ".md":
@@ -144,9 +150,10 @@ def commands_of_page(path):
                     yield code, None
 
 
-def read_list():
+def read_list() -> tuple[dict[str, Entry], list[str]]:
     """What to do with each command of the list, by its keys; and what is wrong with the list itself."""
-    entries, wrong = {}, []
+    entries: dict[str, Entry] = {}
+    wrong: list[str] = []
     for line in LIST.read_text().splitlines():
         if not line.strip() or line.startswith("#") and not line.startswith("#!"):
             continue
@@ -168,7 +175,7 @@ def read_list():
     return entries, wrong
 
 
-def synopsis(command):
+def synopsis(command: str) -> Iterator[str]:
     """What is wrong with a synopsis: each of its options has to be in the program's usage text; for a built one in the
     launcher's."""
     name, *words = re.sub(r"^(\./|\.\./)+", "", SETTINGS.sub("", command)).split()
@@ -183,7 +190,7 @@ def synopsis(command):
         yield from (f"{command}: {name} tells nothing of {option}" for option in re.findall(r"--[\w-]+", command) if option not in path.read_text())
 
 
-def by_hand(command):
+def by_hand(command: str) -> Iterator[str]:
     """What is wrong with a command that is run by hand: the kit has to have it, or the script has to exist."""
     program, word = (SETTINGS.sub("", command).split() + [""])[:2]
     if program == "rt" and shutil.which("rt"):
@@ -198,7 +205,7 @@ class Copy:
     """A fresh clone (scripts/fresh_clone.sh) with an empty home folder, in which commands run and leave what they write. They
     have the environment of the machine, except variables that scripts of this repository read."""
 
-    def __init__(self):
+    def __init__(self) -> None:
         self.room = pathlib.Path(tempfile.mkdtemp())
         self.top = self.room / "fintaqush"
         subprocess.run([TOP / "scripts/fresh_clone.sh", self.room], check=True)
@@ -207,7 +214,7 @@ class Copy:
             (self.room / "bin" / name).symlink_to(self.top / f"crates/{name}/out/{name}")
         (self.room / "bin/fintaqush").symlink_to(self.top / "fintaqush")
 
-    def run(self, command, folder=""):
+    def run(self, command: str, folder: str | pathlib.Path = "") -> subprocess.CompletedProcess[str]:
         """Runs a command at the top of the copy, or in a folder of it."""
         known = {key: value for key, value in os.environ.items() if key in OF_THE_MACHINE}
         known |= {"HOME": f"{self.room}/home", "PATH": f"{self.room}/bin:{known['PATH']}"}
@@ -217,16 +224,16 @@ class Copy:
         return subprocess.run(["bash", "-c", command], cwd=self.top / folder, env=known, capture_output=True, text=True,
                               stdin=subprocess.DEVNULL, timeout=LONGEST, errors="replace")
 
-    def remove(self):
+    def remove(self) -> None:
         shutil.rmtree(self.room)
 
 
-def is_shown(wanted, printed):
+def is_shown(wanted: list[str], printed: list[str]) -> bool:
     """Whether the output is what a page shows, which may have a remark after three spaces."""
     return len(wanted) == len(printed) and all(line == one or re.split(r" {3,}", line)[0] == one for line, one in zip(wanted, printed))
 
 
-def play(copy, command, wanted, entry):
+def play(copy: Copy, command: str, wanted: list[str] | None, entry: Entry) -> Iterator[str]:
     """What is wrong with a run: its status, its output if a page shows it, and what the list says about its output."""
     text = command
     for name, _, value in (one.partition("=") for one in entry.get("run", "").split()):
@@ -245,11 +252,11 @@ def play(copy, command, wanted, entry):
         yield f"{command} prints nothing like {entry['prints']}: {printed[-5:]}"
 
 
-def judge_page(copy, entries, path):
+def judge_page(copy: Copy, entries: dict[str, Entry], path: pathlib.Path) -> Iterator[str]:
     """What is wrong with the commands of a page."""
     for command, wanted in commands_of_page(path):
         entry = entries.get(listed_as(command), {})
-        entry["is_used"] = True
+        entry["is_used"] = "yes"
         if "by" in entry or "not" in entry or any([is_missing(name, command) for name in entry.get("needs", "").split()]):
             continue
         if "command" in entry or wanted is not None:
@@ -262,13 +269,13 @@ def judge_page(copy, entries, path):
             yield f"{command} is neither run nor listed in tests/commands.txt"
 
 
-def judge_list(entries, wrong):
+def judge_list(entries: dict[str, Entry], wrong: list[str]) -> Iterator[str]:
     """What is wrong with the list, once all pages were judged."""
     yield from wrong
     yield from (f"no page has {command}" for command, entry in entries.items() if "is_used" not in entry)
 
 
-def first_program(copy, path):
+def first_program(copy: Copy, path: pathlib.Path) -> Iterator[str]:
     """What is wrong with the first program: its shell lines, its text, and its output."""
     page = list(blocks(path.read_text()))
     place = next(at for at, block in enumerate(page) if block[0] == FIRST)
@@ -285,7 +292,7 @@ def first_program(copy, path):
         yield f"its first program prints {ended.stdout}, status {ended.returncode}: {ended.stderr.strip()[-2000:]}"
 
 
-def first_trace(copy, path):
+def first_trace(copy: Copy, path: pathlib.Path) -> Iterator[str]:
     """What is wrong with the first trace of docs/NAPI.md and its report: they are an example's."""
     shown = ["\n".join(block).strip() + "\n" for block in blocks(path.read_text())]
     place = next(at for at, block in enumerate(shown) if block.startswith("moment,"))
@@ -294,7 +301,7 @@ def first_trace(copy, path):
         yield "its first trace and report aren't those of examples/two-packets.csv"
 
 
-def first_edit(_copy, path):
+def first_edit(_copy: Copy, path: pathlib.Path) -> Iterator[str]:
     """What is wrong with the edit that docs/WORKING.md shows: it is one of a crate."""
     shown = next("\n".join(block).strip() for block in blocks(path.read_text()) if block[0].startswith("file: "))
     if not any(edit.read_text().strip().startswith(shown) for edit in TOP.glob("crates/*/must-fail/*.edit")):

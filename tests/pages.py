@@ -2,20 +2,27 @@
 they show are compiled (snippets.py), commands do what they say (page_commands.py), README.md keeps to its number of words,
 the site and the manual pages are complete (site_pages.py).
 """
+
+from __future__ import annotations
+
 import functools
 import json
 import pathlib
 import re
 import subprocess
 import sys
+from collections.abc import Iterable, Iterator
 
 import claims
 import page_commands
 import site_pages
 import snippets
+from finding import group_in
+from judging import judge
 from page_commands import SKIPPED, is_missing, listed
 
 TOP = pathlib.Path(__file__).resolve().parent.parent
+PageJudged = tuple[pathlib.Path, Iterable[str]]  # a file, and what is wrong with it
 DOORS = "napi_model dql_core rx_ring tx_ring napi_word napi_calls poll_engine driver_core device_model replay machine".split()
 README_WORDS = 700
 # What is generated, or is in another folder than the repository's.
@@ -26,19 +33,19 @@ USERS = ("bench_", "example_", "test_", "uses_")
 OUTSIDE = {"__do_softirq", "time_after", "softnet_stat", "virtio_net", "sysexits", "btr", "mb", "MACHINES", "enqueue_to_backlog",
            "rps_trigger_softirq", "nstat", "UdpRcvbufErrors", "no_std", "num_queued", "num_completed",
            "virtqueue_napi_complete", "mlx5e_trigger_napi_sched", "mlx5e_trigger_napi_icosq", "ethernet", "skb_flow_limit", "__qdisc_run",
-           "napi_weight", "rx_weight", "MAX_SOFTIRQ_TIME", "handle_softirqs", "dql_check_stall", "stall_thrs", "irq_suspend_timeout", "EPIOCSPARAMS", "napi_busy_loop_rcu", "NAPI_STATE_THREADED_BUSY_POLL", "_locked", "libfintaqush1"}
+           "napi_weight", "rx_weight", "MAX_SOFTIRQ_TIME", "handle_softirqs", "libfintaqush1"}
 # The crates that may have unsafe code: those that export C functions.
 EXPORTING = {"c_handles", "napi_c", "files_c"}
 SENT = "unsafe impl<A> Send for Trail<A> {}"  # the one other line of unsafe code
 
 
-def pages():
+def pages() -> list[pathlib.Path]:
     return [TOP / name for name in listed("*.md")]
 
 
-def headings(page):
+def headings(page: pathlib.Path) -> list[str]:
     """The anchors of a page's headings, by their text."""
-    found = []
+    found: list[str] = []
     for words in re.findall(r"^#+ (.*)$", page.read_text(), re.M):
         anchor = re.sub(r"[^\w\- ]", "", words.lower()).replace(" ", "-")
         count = sum(1 for name in found if re.fullmatch(re.escape(anchor) + r"(-\d+)?", name))
@@ -46,7 +53,7 @@ def headings(page):
     return found
 
 
-def links(page):
+def links(page: pathlib.Path) -> Iterator[str]:
     """Links of a page whose file or heading doesn't exist."""
     for name, anchor in re.findall(r"\]\(([^)#\s]*)(?:#([^)\s]*))?\)", page.read_text()):
         there = page.parent / name if name else page
@@ -56,7 +63,7 @@ def links(page):
             yield f"{name} has no heading #{anchor}"
 
 
-def named_files(page):
+def named_files(page: pathlib.Path) -> Iterator[str]:
     """Names in code that begin with a folder of the top: each has to be a file or a folder."""
     folders = "bench|bindings|crates|docs|examples|include|models|scripts|tests|tools"
     for code in re.findall(r"`([^`\n]+)`", page.read_text()):
@@ -67,7 +74,7 @@ def named_files(page):
 
 
 @functools.cache
-def source_words():
+def source_words() -> set[str]:
     """All words of the sources, without pages, and of the files' names."""
     found = set(re.findall(r"\w+", "\n".join(listed())))
     for name in listed():
@@ -76,7 +83,7 @@ def source_words():
     return found
 
 
-def names(page):
+def names(page: pathlib.Path) -> Iterator[str]:
     """Words in code that are neither in a source nor from the kernel or another program: a name that was changed there, or
     never existed."""
     # Those pages name the kernel's functions, rule by rule.
@@ -87,7 +94,7 @@ def names(page):
                 yield f"no source has {word}"
 
 
-def kits(page):
+def kits(page: pathlib.Path) -> Iterator[str]:
     """A page that names kits has to name the one that proves here."""
     named = re.findall(r"rattle-kit-\w+", page.read_text())
     if named and not is_missing("rt", "whether the pages name the kit that proves here"):
@@ -95,45 +102,45 @@ def kits(page):
             yield f"it names {', '.join(named)}, and {kit} proves here"
 
 
-def leftovers(page):
+def leftovers(page: pathlib.Path) -> Iterator[str]:
     yield from (f"a merge left {line}" for line in re.findall(r"^(?:<{7}|={7}|>{7})(?: .*)?$", page.read_text(), re.M))
 
 
-def ratios(page):
+def ratios(page: pathlib.Path) -> Iterator[str]:
     """A ratio between two programs has to say which one is slower or faster."""
     for line in page.read_text().splitlines():
         if "times as fast" in line:
             yield f"{line[:60]} ..: it doesn't say which one is slower"
 
 
-def lengths(_page):
+def lengths(_page: pathlib.Path) -> Iterator[str]:
     """Words of README.md, without commands and tables: no other page has a limit."""
     first = len(re.sub(r"^(    |\|).*$", "", (TOP / "README.md").read_text(), flags=re.M).split())
     if first > README_WORDS:
         yield f"{first} words beside commands and tables, of at most {README_WORDS}"
 
 
-def versions(page):
+def versions(page: pathlib.Path) -> Iterator[str]:
     """A page that states the version has to state the header's."""
-    version = re.search(r'^#define FQ_VERSION "(.*)"$', (TOP / "include/fintaqush.h").read_text(), re.M)[1]
+    version = group_in(r'^#define FQ_VERSION "(.*)"$', (TOP / "include/fintaqush.h").read_text(), re.M)
     stated = re.findall(r"^(?:\| Version \||version:) (\S+)", page.read_text(), re.M)
     if stated != [version]:
         yield f"it states the version {', '.join(stated) or 'nowhere'}, and the header has {version}"
 
 
-def times_in(page):
+def times_in(page: pathlib.Path) -> Iterator[str]:
     """The times of calls in ns that a page states, as texts."""
     for numbers in re.findall(r"((?:\d+(?:\.\d+)?(?:, | and | to )?)+) ns\b", page.read_text()):
         yield from re.findall(r"\d+(?:\.\d+)?", numbers)
 
 
-def speeds(page):
+def speeds(page: pathlib.Path) -> Iterator[str]:
     """A time of a call on another page has to be one of SPEED.md, which says how it was measured."""
     known = set(times_in(TOP / "docs/SPEED.md"))
     yield from (f"{number} ns is in no row of SPEED.md" for number in times_in(page) if number not in known)
 
 
-def durations(page):
+def durations(page: pathlib.Path) -> Iterator[str]:
     """How long the first proof and all tests take is the same on each page, and lies around what DECISIONS.md has measured."""
     measured = (TOP / "docs/DECISIONS.md").read_text()
     first = [int(seconds) / 60 for seconds in re.findall(r"(\d+)(?: to \d+)? s on 4 idle cores", measured)]
@@ -144,7 +151,7 @@ def durations(page):
         yield f"it states {stated} minutes for the first proof and for all tests, and DECISIONS.md has {wanted}"
 
 
-def pictures_by(page):
+def pictures_by(page: pathlib.Path) -> Iterator[str]:
     """What a page says that pictures need has to be in the table of what tests need."""
     names = (TOP / "tests/needs.txt").read_text()
     for name in re.findall(r"^(?:.*\. )?Pictures need (\w+)", page.read_text(), re.M):
@@ -152,13 +159,13 @@ def pictures_by(page):
             yield f"pictures need {name}, which tests/needs.txt hasn't"
 
 
-def needs_of_crates():
+def needs_of_crates() -> dict[str, list[str]]:
     """The dependencies of each crate, by crates.txt."""
     return {row[1]: row[2].split() for row in re.finditer(r"^(\w+)(?: staticlib)?:(.*)", (TOP / "crates.txt").read_text(), re.M)}
 
 
 @functools.cache
-def door_of():
+def door_of() -> dict[str, str]:
     """The facade of each internal crate, by its first line."""
     found = {}
     for name in needs_of_crates():
@@ -168,7 +175,7 @@ def door_of():
     return found
 
 
-def unprinted(crates, names, surface):
+def unprinted(crates: Iterable[str], names: Iterable[str], surface: str) -> Iterator[str]:
     """Traits with these names, and public calls of them or of types with these names, including aliases, that a surface lacks."""
     texts = [path.read_text() for crate in crates for path in sorted((TOP / "crates" / crate / "src").glob("*.rt"))]
     of = {*names, *(alias[2] for text in texts for alias in re.finditer(r"^pub type (\w+).*= (\w+)", text, re.M) if alias[1] in names)}
@@ -181,7 +188,7 @@ def unprinted(crates, names, surface):
                 yield f"{head[0]}::{call[2]}" if call[1] else call[2]
 
 
-def door_page(page):
+def door_page(page: pathlib.Path) -> Iterator[str]:
     """A facade's page names each of its internal crates and claims what they have; `scripts/surface.sh` prints all that it
     re-exports."""
     door = page.parent.name
@@ -201,7 +208,7 @@ def door_page(page):
     yield from (f"scripts/surface.sh doesn't print {name}" for name in [*missing, *unprinted([door, *behind], names, surface)])
 
 
-def door_rules(_page):
+def door_rules(_page: pathlib.Path) -> Iterator[str]:
     """An internal crate has the prefix of its facade's name; tests, examples, benches and users name none, except the one with
     which programs end; and each file of `uses_facades` is of one facade, except `names.rt`."""
     needs, door = needs_of_crates(), door_of()
@@ -216,7 +223,7 @@ def door_rules(_page):
             yield f"{user.name} isn't of one facade: it names {', '.join(sorted(named))}"
 
 
-def crate_picture(picture):
+def crate_picture(picture: pathlib.Path) -> Iterator[str]:
     """Each crate of the library and each program is in the picture, and each arrow is from a dependency of a crate or, for a
     facade, of one of its internal crates."""
     needs, door, text = needs_of_crates(), door_of(), picture.read_text()
@@ -230,7 +237,7 @@ def crate_picture(picture):
         yield "it has no arrow"
 
 
-def of_theorem(page):
+def of_theorem(page: pathlib.Path) -> Iterator[str]:
     """The first rows of the definitions to read are the files that the theorem cites, and the page has their number and their lines."""
     told = subprocess.run([sys.executable, "-B", "scripts/theorem.py"], cwd=TOP, capture_output=True, text=True, check=True).stdout
     wanted = {name: int(lines) for lines, name in re.findall(r"^ *(\d+) (crates/\S+)$", told, re.M)}
@@ -244,7 +251,7 @@ def of_theorem(page):
     yield from (f"its first {said[1]} rows have {name}, which the theorem doesn't cite" for name in sorted(set(first) - set(wanted)))
 
 
-def assurance(page):
+def assurance(page: pathlib.Path) -> Iterator[str]:
     """What docs/ASSURANCE.md says about the sources: the numbers of lines of definitions to read and of edits, within a tenth; that there is
     no axiom, unsafe code only in what exports C functions, and no atomic operation but sequentially consistent ones."""
     rows = re.findall(r"^\| (`crates/[^|]*\.antt`) \| (\d+) \|", page.read_text(), re.M)
@@ -271,14 +278,14 @@ def assurance(page):
             yield f"{name} has an atomic operation that isn't sequentially consistent"
 
 
-def scripts_told(_page):
+def scripts_told(_page: pathlib.Path) -> Iterator[str]:
     """Each script has to say at its head what it does."""
     for name in listed("bench/*.sh", "examples/*.sh", "scripts/*.sh", "tests/*.sh"):
         if not re.match(r"#( [A-Z./a-z]|!.*\n# )", (TOP / name).read_text()):
             yield f"{name} has no head"
 
 
-def places(page):
+def places(page: pathlib.Path) -> Iterator[str]:
     """A row of the table of places has to name files that exist; they have the word that finds the rest, and others have it
     too."""
     table = page.read_text().split("## Where things go")[1].split("\n## ")[0]
@@ -293,7 +300,7 @@ def places(page):
                 yield f"{found[1]} finds nothing else"
 
 
-def commands(all_pages):
+def commands(all_pages: list[pathlib.Path]) -> Iterator[PageJudged]:
     """Checks of the commands of all pages, in order, in one copy of the repository; then of the list of them."""
     copy = page_commands.Copy()
     entries, wrong = page_commands.read_list()
@@ -308,22 +315,22 @@ def commands(all_pages):
         copy.remove()
 
 
-def made_of_options():
+def made_of_options() -> list[str]:
     """The parts that scripts/options.py makes are those of the table of the machine's options."""
     return subprocess.run([TOP / "scripts/options.py", "--check"], capture_output=True, text=True).stdout.splitlines()
 
 
-def options_of_linux():
+def options_of_linux() -> list[str]:
     """Each option in OPERATORS' table of Linux's settings exists; and each that sets what Linux sets is there: all but the sizes of the
-    machine, the costs, and the window, which Linux doesn't have."""
+    machine, what its driver does, the costs, and the window, which Linux doesn't have."""
     known = {f"--{option['name']}" for option in json.loads((TOP / "tools/fintaqush_tools/options.json").read_text())}
-    own = {"--processors", "--socket", "--window", "--app-wake", "--interrupt", "--poll", "--packet", "--use", "--wake"}
+    own = {"--processors", "--socket", "--window", "--heedless", "--app-wake", "--interrupt", "--poll", "--packet", "--use", "--wake"}
     table = (TOP / "docs/OPERATORS.md").read_text().partition("## Which setting does what")[2].partition("\n## ")[0]
     named = {option for row in table.splitlines() for option in re.findall(r"`(--[\w-]+)[ `]", row.rpartition(" | ")[2])}
     return [f"no option {option}" for option in sorted(named - known)] + [f"no row with {option}" for option in sorted(known - own - named)]
 
 
-def checks():
+def checks() -> Iterator[PageJudged]:
     """Pairs of a page and what is wrong with it."""
     for page in pages():
         for check in (links, named_files, names, kits, leftovers, ratios, pictures_by, snippets.snippets):
@@ -337,24 +344,17 @@ def checks():
     for door in DOORS:
         yield TOP / "crates" / door / "README.md", door_page(TOP / "crates" / door / "README.md")
     yield TOP / "docs/C.md", claims.judge(TOP / "docs/C.md", ["napi_c", "c_handles", "files_c"])
-    for check, name in ((lengths, "README.md"), (places, "docs/WORKING.md"), (scripts_told, "docs/WORKING.md"), (assurance, "docs/ASSURANCE.md"), (door_rules, "crates.txt"),
+    for rule, name in ((lengths, "README.md"), (places, "docs/WORKING.md"), (scripts_told, "docs/WORKING.md"), (assurance, "docs/ASSURANCE.md"), (door_rules, "crates.txt"),
                         (crate_picture, "docs/pictures/crates.dot")):
-        yield TOP / name, check(TOP / name)
+        yield TOP / name, rule(TOP / name)
     yield TOP / "tools/fintaqush_tools/options.json", made_of_options()
     yield TOP / "docs/OPERATORS.md", options_of_linux()
     yield from site_pages.checks(pages())
     yield from () if "--static" in sys.argv else commands(pages() + site_pages.MANUALS)
 
 
-def main():
-    passed, failed = 0, 0
-    for page, wrong in checks():
-        lines = list(wrong)
-        passed, failed = passed + (not lines), failed + bool(lines)
-        for line in lines:
-            print(f"{page.relative_to(TOP)}: {line}", flush=True)
-    print(f"{passed} passed, {failed} failed, {len(SKIPPED)} skipped")
-    return failed != 0
+def main() -> bool:
+    return judge(((page.relative_to(TOP), wrong) for page, wrong in checks()), SKIPPED)
 
 
 if __name__ == "__main__":

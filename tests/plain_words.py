@@ -4,9 +4,16 @@ Each row of WORDS is a test: its pattern finds no line of a tracked source or pa
 example, and not the second one, which is an ordinary use. Code is searched in comments and doc strings, pages everywhere. The last
 line is `N passed, M failed`.
 """
+
+from __future__ import annotations
+
 import pathlib
 import re
 import subprocess
+import sys
+from collections.abc import Iterator
+
+from judging import Judged, judge
 
 TOP = pathlib.Path(__file__).resolve().parent.parent
 # Files that are searched, apart from this one.
@@ -32,7 +39,7 @@ WORDS = (
 )
 
 
-def prose(path, text):
+def prose(path: pathlib.Path, text: str) -> list[tuple[int, str]]:
     """The lines of a file, by number, without its code: comments and doc strings; of a page all."""
     lines = text.split("\n")
     if path.suffix == ".md":
@@ -51,7 +58,7 @@ def prose(path, text):
     return found
 
 
-def sources():
+def sources() -> Iterator[tuple[str, list[tuple[int, str]]]]:
     """Pairs of a tracked file's name and its prose."""
     for name in subprocess.run(["git", "ls-files"], cwd=TOP, capture_output=True, text=True, check=True).stdout.split("\n"):
         path = TOP / name
@@ -59,17 +66,14 @@ def sources():
             yield name, prose(path, path.read_text(errors="replace"))
 
 
-def main():
+def checks() -> Iterator[Judged]:
     texts = list(sources())
-    passed = failed = 0
     for pattern, better, wrong, ordinary in WORDS:
         found = [f"{name}:{n}: {line.strip()[:100]}" for name, lines in texts for n, line in lines if re.search(pattern, re.sub(r"`[^`]*`", "", line))]
         if not re.search(pattern, wrong) or re.search(pattern, ordinary):
-            found.append(f"the pattern {pattern} finds the wrong example")
-        for line in found:
-            print(f"{line}\n    write: {better}")
-        passed, failed = passed + (not found), failed + bool(found)
-    print(f"{passed} passed, {failed} failed")
+            found.append("it finds the wrong example")
+        yield pattern, [f"{line}\n    write: {better}" for line in found]
 
 
-main()
+if __name__ == "__main__":
+    sys.exit(judge(checks()))

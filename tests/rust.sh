@@ -1,7 +1,6 @@
 #!/usr/bin/env bash
-# bindings/rust: its declarations of the C library, compared with the header; that it builds without a network, its tests and
-# examples, what the compiler has to reject, for the reason that its doc test names, and all of it under valgrind if that is
-# installed. What needs cargo or valgrind is skipped without it. The last line is `N passed, M failed, K skipped`.
+# bindings/rust: that it builds without a network, its tests and examples, what the compiler has to reject, for the reason that its doc
+# test names, and all of it under valgrind if that is installed. What needs cargo or valgrind is skipped without it. The last line is `N passed, M failed, K skipped`.
 set -uo pipefail
 unset CDPATH
 top=$(dirname "$(dirname "$(readlink -f "$0")")")
@@ -17,23 +16,19 @@ ends() {
 
 # ---- the declarations
 
-types_agree() {
-    python3 "$top/tests/rust.py" types > "$scratch/types.c" &&
-        gcc -std=c11 -Wall -Wextra -Werror -I "$top/include" -fsyntax-only "$scratch/types.c"
-}
+has_the_version() { grep -qx "version = \"$(sed -n 's/^#define FQ_VERSION "\(.*\)"$/\1/p' "$top/include/fintaqush.h")\"" "$crate/Cargo.toml"; }
 
-# Each `unsafe` has a line above it that says why it is sound; only src/sys.rs declares what isn't safe to call.
+# Each `unsafe` has a line above it that says why it is sound; only src/sys declares what isn't safe to call.
 each_unsafe_has_its_reason() {
     awk '/^ *\/\// { if (/SAFETY: /) told = 1; next } /unsafe \{|unsafe impl/ && !told { print FILENAME ":" FNR ": " $0; bad = 1 }
         { told = 0 } END { exit bad }' "$crate"/src/*.rs
 }
 
-unsafe_calls_are_declared_in_sys_alone() { ! grep -l 'unsafe fn\|extern "C"' "$crate"/src/*.rs | grep -v '/sys\.rs$'; }
+unsafe_calls_are_declared_in_sys_alone() { ! grep -rl 'unsafe fn\|extern "C"' "$crate"/src | grep -v '/sys/functions\.rs$'; }
 
-check 'it declares what the header does' python3 "$top/tests/rust.py" names
-check 'in the types of the header' types_agree
+check 'its version is the header'"'"'s' has_the_version
 check 'each unsafe says why it is sound' each_unsafe_has_its_reason
-check 'what is not safe is declared in sys.rs alone' unsafe_calls_are_declared_in_sys_alone
+check 'what is not safe is declared in sys alone' unsafe_calls_are_declared_in_sys_alone
 
 if ! cargo --version > "$scratch/log" 2>&1; then
     skip 'the build and the tests of the crate' cargo

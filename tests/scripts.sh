@@ -98,12 +98,12 @@ deb() {
 }
 # fetches IMAGE MODULES: into a fresh home; the second time nothing is downloaded.
 fetches() {
-    local home=$scratch/fetched/home wanted=.cache/fintaqush/linux-image
+    local home=$scratch/fetched/home wanted=.cache/fintaqush/linux-image name
     rm -rf "$scratch/fetched"
     mkdir -p "$home" "$scratch/fetched"/{scripts,tests} "$scratch/debs"
     cp "$top"/scripts/{test-packages,arguments}.sh "$scratch/fetched/scripts"
-    printf '#!/bin/sh\n' > "$scratch/fetched/tests/kernel.sh"
-    chmod +x "$scratch/fetched/tests/kernel.sh"
+    for name in kernel cards; do printf '#!/bin/sh\n' > "$scratch/fetched/tests/$name.sh"; done
+    chmod +x "$scratch/fetched/tests"/*.sh
     PATH=$scratch/apt:$PATH HOME=$home "$scratch/fetched/scripts/test-packages.sh" --fetch &&
         PATH=/none:/bin:/usr/bin HOME=$home "$scratch/fetched/scripts/test-packages.sh" --fetch &&
         [ "$(HOME=$home bash -c '. "$1/examples/virtio/vm.sh"; find_kernel; echo "$image $modules $version"' '' "$top")" = \

@@ -1,11 +1,16 @@
 """The pictures and their texts, the site of all pages with the references, and the manual pages."""
+
+from __future__ import annotations
+
+import json
 import os
 import pathlib
 import re
-import runpy
 import subprocess
 import tempfile
 import urllib.parse
+from collections.abc import Iterable, Iterator
+from typing import Any
 
 from page_commands import is_missing
 
@@ -14,18 +19,18 @@ MANUALS = sorted((TOP / "docs/man").iterdir())
 OTHERS = re.compile(r"/reference/(c|rust)/")
 
 
-def run(*words, **others):
+def run(*words: str | pathlib.Path, **others: Any) -> subprocess.CompletedProcess[str]:
     return subprocess.run(words, cwd=TOP, capture_output=True, text=True, stdin=subprocess.DEVNULL, timeout=900, check=False, **others)
 
 
-def marks():
+def marks() -> Iterator[str]:
     """Pictures that aren't drawn from their present texts, by the checksums that they contain."""
     ended = run("scripts/pictures.sh", "--check")
     if ended.returncode != 0:
         yield ended.stdout + ended.stderr
 
 
-def site(script, pages):
+def site(script: pathlib.Path, pages: list[pathlib.Path]) -> Iterator[str]:
     """What is wrong with the site: pages that are missing or lost their text, and links in it that lead nowhere."""
     if is_missing("pandoc", "whether the site of all pages is whole"):
         return
@@ -55,7 +60,7 @@ def site(script, pages):
             yield f"a folder that is filled is overwritten: status {again.returncode}"
 
 
-def references(made, texts):
+def references(made: pathlib.Path, texts: dict[pathlib.Path, str]) -> Iterator[str]:
     """What the references of all calls lack: a call of the header, a class of fintaqush.hpp, a public type of the Rust crate, a facade, and a
     name that a clause cites, with its definition."""
     header = (TOP / "include/fintaqush.h").read_text()
@@ -73,8 +78,8 @@ def references(made, texts):
     if (made / "reference/rust").is_dir():
         exported = re.findall(r"\b[A-Z]\w+", " ".join(re.findall(r"^pub use ([^;]*);", (TOP / "bindings/rust/src/lib.rs").read_text(), re.M)))
         yield from (f"reference/rust lacks {name}" for name in exported if name not in (made / "reference/rust/fintaqush/index.html").read_text())
-    groups = runpy.run_path(str(TOP / "scripts/header.py"))["groups"]()
-    manuals = "".join(texts.get(made / "docs/man" / f"fintaqush_{name}.3.html", "") for name, *_ in groups)
+    groups = json.loads((TOP / "scripts/abi.json").read_text())["groups"]
+    manuals = "".join(texts.get(made / "docs/man" / f"fintaqush_{group['name']}.3.html", "") for group in groups)
     yield from (f"no manual page of a group has {name}" for name in sorted(calls) if name not in manuals)
     facade = texts.get(made / "reference/rattle/dql_core.html", "")
     wanted = '<a href="../definitions/dql_core.html#Limit.after_queued">after_queued</a>'
@@ -82,7 +87,7 @@ def references(made, texts):
         yield "after_queued in a clause of dql_core doesn't link to its definition"
 
 
-def anchors(made, texts):
+def anchors(made: pathlib.Path, texts: dict[pathlib.Path, str]) -> Iterator[str]:
     """Links of the Rattle reference to an anchor that isn't there."""
     for path, text in texts.items():
         if "/reference/" in str(path):
@@ -92,7 +97,7 @@ def anchors(made, texts):
                     yield f"{path.relative_to(made)} leads to {name}#{at}, which isn't there"
 
 
-def manual_warnings(manual):
+def manual_warnings(manual: pathlib.Path) -> Iterator[str]:
     """Warnings of man for a manual page."""
     if is_missing("man", f"whether {manual.name} has warnings") or is_missing("groff", f"whether {manual.name} has warnings"):
         return
@@ -103,14 +108,14 @@ def manual_warnings(manual):
         yield "it shows no NAME or no SEE ALSO"
 
 
-def plain_manual(manual):
+def plain_manual(manual: pathlib.Path) -> str:
     """A manual page's text, without its requests."""
     text = re.sub(r"^\.\\\".*$", "", manual.read_text(), flags=re.M)
     text = re.sub(r"^\.[A-Z]+ ?", "", text, flags=re.M).replace("\\-", "-").replace("\\&", "").replace('"', "")
     return re.sub(r" ([,;.])", r"\1", " ".join(text.split()))
 
 
-def whole_manual(manual):
+def whole_manual(manual: pathlib.Path) -> Iterator[str]:
     """What napi_replay(1) lacks of the usage text of ./replay: options, ranges, defaults, modes, statuses; and options that are
     in neither. Errors are those of docs/FORMATS.md."""
     usage = run("./replay", "--help").stdout
@@ -141,7 +146,7 @@ def whole_manual(manual):
             yield f"it lacks the event {event}"
 
 
-def checks(pages):
+def checks(pages: list[pathlib.Path]) -> Iterator[tuple[pathlib.Path, Iterable[str]]]:
     """Pairs of a file and what is wrong with it."""
     yield TOP / "docs/pictures", marks()
     yield TOP / "scripts/site.sh", site(TOP / "scripts/site.sh", pages)

@@ -4,12 +4,17 @@ report has the counts of the input. The sizes are the powers of two and the numb
 rings of capacity 65,536, 16 devices, 8 pollers. Address space is limited to twice what the greatest of these inputs needed. The last
 line is `N passed, M failed`."""
 
+from __future__ import annotations
+
 import os
 import resource
 import subprocess
 import sys
 import time
-from collections import Counter
+from collections import Counter, defaultdict
+from collections.abc import Callable, Iterator, Sequence
+
+from judging import Judged, judge
 
 MOST_ROWS, MOST_PLACES, MOST_DEVICES, MOST_POLLERS = 100000, 65536, 16, 8
 # MiB of address space: twice what the greatest input needed (14, 37 and 95; 14 and 26 in serial and shared mode; 328 with 40 threads, each
@@ -18,39 +23,48 @@ MEMORY = {"napi_serial": 28, "napi_series": 74, "napi_machine": 190, "napi_repla
 ENVIRONMENT = {**os.environ, "MALLOC_ARENA_MAX": "1"}
 HEADER = b"moment,device,event,value\n"
 QUOTED = b'"moment",device,event,value\n'  # the same record; the rows after it are read record by record
-REPLAYS = [("napi_serial", []), ("napi_replay", ["--mode", "shared"]), ("napi_replay", ["--mode", "threads"]), ("napi_series", []),
-           ("napi_replay", ["--mode", "serial"])]
+Replay = tuple[str, list[str]]  # a program and its options
+REPLAYS: list[Replay] = [
+    ("napi_serial", []),
+    ("napi_replay", ["--mode", "shared"]),
+    ("napi_replay", ["--mode", "threads"]),
+    ("napi_series", []),
+    ("napi_replay", ["--mode", "serial"]),
+]
 
-crates = sys.argv[1]
-passed = failed = 0
-took = Counter()
+took: defaultdict[str, float] = defaultdict(float)  # seconds, of each program in each mode
 
 
-def sizes(most):
+def sizes(most: int) -> list[int]:
     """The powers of two, the numbers next to them, and the two greatest."""
     near = {(1 << power) + beside for power in range(18) for beside in (-1, 0, 1)} | {most - 1, most}
     return sorted(size for size in near if 1 <= size <= most)
 
 
-def run(program, words, text):
+def run(program: str, words: Sequence[str], text: bytes) -> list[str]:
     """The lines that a program prints; a message on standard error raises an exception."""
     begun = time.monotonic()
     most = MEMORY[" ".join([program, *words[1:2]]) if program == "napi_replay" else program] << 20
-    done = subprocess.run([f"{crates}/{program}/out/{program}", *words], input=text, capture_output=True, check=False, timeout=300,
+    done = subprocess.run([f"{sys.argv[1]}/{program}/out/{program}", *words], input=text, capture_output=True, check=False, timeout=300,
                           env=ENVIRONMENT, preexec_fn=lambda: resource.setrlimit(resource.RLIMIT_AS, (most, most)))
     took[" ".join([program, *words[:2]])] += time.monotonic() - begun
     if (done.returncode, done.stderr) != (0, b""):
-        raise ValueError(f"status {done.returncode}, {done.stderr[:200]}")
+        raise ValueError(f"status {done.returncode}, {done.stderr[:200]!r}")
     return done.stdout.decode().splitlines()
 
 
 class Trace:
     """Rows as they are given, and what they count."""
 
-    def __init__(self):
-        self.rows, self.arrived, self.bytes, self.sent, self.runs, self.last = [], Counter(), Counter(), Counter(), 0, {}
+    def __init__(self) -> None:
+        self.rows: list[str] = []
+        self.arrived: Counter[int] = Counter()
+        self.bytes: Counter[int] = Counter()
+        self.sent: Counter[int] = Counter()
+        self.last: dict[int, int] = {}  # the row of each device's last packet
+        self.runs = 0
 
-    def add(self, device, event, value, times=1):
+    def add(self, device: int, event: str, value: int, times: int = 1) -> None:
         """Adds a row, this many times."""
         self.rows += [f"{len(self.rows)},{device},{event},{value}\n"] * times
         if event == "rx":
@@ -60,19 +74,19 @@ class Trace:
         self.sent[device] += times * (event == "tx")
         self.runs += times * (event == "softirq")
 
-    def text(self, header=HEADER):
+    def text(self, header: bytes = HEADER) -> bytes:
         return header + "".join(self.rows).encode()
 
-    def devices(self):
+    def devices(self) -> int:
         return sum(",open," in row for row in self.rows)
 
 
-def expect(seen, wanted, what):
+def expect(seen: object, wanted: object, what: str) -> None:
     if seen != wanted:
         raise ValueError(f"{what}: {seen}, and the input has {wanted}")
 
 
-def check_report(trace, lines, is_threads, dropped):
+def check_report(trace: Trace, lines: list[str], is_threads: bool, dropped: dict[int, int]) -> None:
     """Compares the counts of a report with those of the rows."""
     of = {int(line.split()[1]): line for line in lines if line.startswith("device ")}
     expect(len(of), trace.devices(), "lines of devices")
@@ -84,8 +98,8 @@ def check_report(trace, lines, is_threads, dropped):
             told = dict(zip(words[3::2], map(int, words[4::2])))
             expect((told["arrived"], told["dropped"]), (trace.arrived[device], dropped.get(device, 0)), f"arrived and dropped of device {device}")
             expect(told["polled"] + told["left"], told["arrived"] - told["dropped"], f"polled and left of device {device}")
-    told = {int(line.split()[1]): line.split() for line in lines if line.startswith("tx ")}
-    expect({device: int(words[3]) + int(words[5]) for device, words in told.items() if trace.sent[device]},
+    of_tx = {int(line.split()[1]): line.split() for line in lines if line.startswith("tx ")}
+    expect({device: int(words[3]) + int(words[5]) for device, words in of_tx.items() if trace.sent[device]},
            {device: count for device, count in trace.sent.items() if count}, "tx rows by sent and denied")
     words = lines[-1].split()
     expect(words[:3], ["total", "devices", str(trace.devices())], "total")
@@ -94,7 +108,7 @@ def check_report(trace, lines, is_threads, dropped):
         expect(sum(line.startswith("softirq ") for line in lines), trace.runs, "lines of runs")
 
 
-def check_series(trace, lines, dropped):
+def check_series(trace: Trace, lines: list[str], dropped: dict[int, int]) -> None:
     """Checks that there is a line for each row, with the counts of each device in the line of its last packet."""
     expect(len(lines), 1 + len(trace.rows), "lines")
     expect(lines[-1].split(",")[0], str(len(trace.rows)), "the last row")
@@ -102,25 +116,39 @@ def check_series(trace, lines, dropped):
         expect(lines[row].split(",")[5:7], [str(trace.arrived[device]), str(dropped.get(device, 0))], f"arrived and dropped of device {device}")
 
 
-def try_trace(name, trace, dropped=None, pollers=1, programs=None, header=HEADER):
+def tried(call: Callable[[], None]) -> Iterator[str]:
+    """Yields the error of a check that has one."""
+    try:
+        call()
+    except (ValueError, IndexError, KeyError, OSError, subprocess.TimeoutExpired) as error:
+        yield str(error)[:300]
+
+
+def try_trace(
+    name: str,
+    trace: Trace,
+    dropped: dict[int, int] | None = None,
+    programs: Sequence[Replay] = tuple(REPLAYS),
+    pollers: int = 1,
+    header: bytes = HEADER,
+) -> Iterator[Judged]:
     """Tries the trace with each program and in each mode."""
-    global passed, failed
     text = trace.text(header)
-    for program, words in programs or REPLAYS:
+    for program, words in programs:
         is_threads = "threads" in words
-        try:
-            lines = run(program, [*words, *(["--pollers", str(pollers)] if is_threads else [])], text)
+        options = [*words, *(["--pollers", str(pollers)] if is_threads else [])]
+
+        def check() -> None:
+            lines = run(program, options, text)
             if program == "napi_series":
                 check_series(trace, lines, dropped or {})
             else:
                 check_report(trace, lines, is_threads, dropped or {})
-            passed += 1
-        except (ValueError, IndexError, KeyError, OSError, subprocess.TimeoutExpired) as error:
-            failed += 1
-            print(f"{name}, {' '.join([program, *words])}: {str(error)[:300]}")
+
+        yield f"{name}, {' '.join([program, *words])}", tried(check)
 
 
-def try_rings():
+def try_rings() -> Iterator[Judged]:
     """Rings of each size that just hold what arrives, polled by the device's own thread or from the list; and one more packet,
     which is dropped."""
     for number, places in enumerate(sizes(MOST_PLACES)):
@@ -132,16 +160,16 @@ def try_rings():
         trace.add(1, "tx", 1500)
         trace.add(0, "softirq", 0)
         trace.add(1, "kthread", 0)
-        try_trace(f"a ring of {places} places", trace)
+        yield from try_trace(f"a ring of {places} places", trace)
         if number % 4 == 0:
             trace.rows.pop()
             trace.rows.pop()
             trace.runs = 0
             trace.add(1, "rx", 60)
-            try_trace(f"a ring of {places} places and a packet more", trace, {1: 1}, programs=[REPLAYS[number // 4 % 2], REPLAYS[3]])
+            yield from try_trace(f"a ring of {places} places and a packet more", trace, {1: 1}, programs=[REPLAYS[number // 4 % 2], REPLAYS[3]])
 
 
-def rows_of(count, devices):
+def rows_of(count: int, devices: int) -> Trace:
     """A trace of this many rows at this many devices: each is opened, gets packets and sends, and every hundredth row is a run."""
     trace = Trace()
     devices = min(devices, count)
@@ -158,22 +186,22 @@ def rows_of(count, devices):
     return trace
 
 
-def try_rows():
+def try_rows() -> Iterator[Judged]:
     """Traces of each length, at one device and more, up to the maximum."""
     for number, count in enumerate(sizes(MOST_ROWS)):
         devices = MOST_DEVICES if count >= MOST_ROWS else 1 + number % MOST_DEVICES
         trace = rows_of(count, devices)
         expect(len(trace.rows), count, "rows")
-        try_trace(f"{count} rows at {devices} devices", trace, pollers=1 + number % MOST_POLLERS)
+        yield from try_trace(f"{count} rows at {devices} devices", trace, pollers=1 + number % MOST_POLLERS)
     trace = rows_of(MOST_ROWS, 1)
     if trace.arrived[1] <= MOST_PLACES:
         raise ValueError("this trace is to have more packets than a ring has places")
-    try_trace(f"{MOST_ROWS} rows at one device", trace, programs=REPLAYS[:2] + REPLAYS[3:])
+    yield from try_trace(f"{MOST_ROWS} rows at one device", trace, programs=REPLAYS[:2] + REPLAYS[3:])
     for count in (1, 1000, MOST_ROWS):
-        try_trace(f"{count} rows after a header in quotes", rows_of(count, MOST_DEVICES), header=QUOTED)
+        yield from try_trace(f"{count} rows after a header in quotes", rows_of(count, MOST_DEVICES), header=QUOTED)
 
 
-def try_threads():
+def try_threads() -> Iterator[Judged]:
     """Each number of devices with each number of pollers, half of the devices with their own threads, and finally all."""
     for devices in range(1, MOST_DEVICES + 1):
         for pollers in range(1, MOST_POLLERS + 1):
@@ -183,36 +211,39 @@ def try_threads():
                 if (device + pollers) % 2 or devices == MOST_DEVICES and pollers == MOST_POLLERS:
                     trace.add(device, "threaded", 1)
                 trace.add(device, "rx", 60, 4)
-            try_trace(f"{devices} devices and {pollers} pollers", trace, pollers=pollers, programs=REPLAYS[2:3])
+            yield from try_trace(f"{devices} devices and {pollers} pollers", trace, pollers=pollers, programs=REPLAYS[2:3])
 
 
-def try_machine():
+def check_machine(count: int, devices: int, words: list[str]) -> None:
+    """Checks the report of so many arrivals at so many devices."""
+    of = Counter(1 + place % devices for place in range(count))
+    rows = "".join(f"{1000 * place},{1 + place % devices},60\n" for place in range(count))
+    lines = run("napi_machine", words, b"moment,device,bytes\n" + rows.encode())
+    fields = [line.split() for line in lines if line.startswith("device ")]
+    told = {int(words[1]): dict(zip(words[2::2], map(int, words[3::2]))) for words in fields}
+    expect({device: each["arrived"] for device, each in told.items()}, dict(of), "arrived")
+    total = dict(zip(lines[-1].split()[1::2], map(int, lines[-1].split()[2::2])))
+    expect((total["devices"], total["arrived"]), (len(of), count), "devices and packets")
+    expect(total["dropped"] + total["polled"], count, "dropped and polled")
+    expect(total["refused"] + total["used"], total["polled"], "refused and used")
+
+
+def try_machine() -> Iterator[Judged]:
     """Each number of arrivals, on one processor and more; and once each greatest number of devices, processors and queues."""
-    global passed, failed
-    cases = [(count, 1 + number % 64, 1, []) for number, count in enumerate(sizes(MOST_ROWS))]
+    cases: list[tuple[int, int, int, list[str]]] = [(count, 1 + number % 64, 1, []) for number, count in enumerate(sizes(MOST_ROWS))]
     cases += [(4096, 64 * processors, processors, []) for processors in (1, 2, 16, 63, 64)]
     cases += [(2000, 64, 1, ["--ring", str(places)]) for places in (1, 4096, 65535, 65536)]
     for count, devices, processors, words in cases:
-        of = Counter(1 + place % devices for place in range(count))
-        text = b"moment,device,bytes\n" + "".join(f"{1000 * place},{1 + place % devices},60\n" for place in range(count)).encode()
-        try:
-            lines = run("napi_machine", ["--processors", str(processors), *words], text)
-            told = {int(line.split()[1]): dict(zip(line.split()[2::2], map(int, line.split()[3::2]))) for line in lines if line.startswith("device ")}
-            expect({device: each["arrived"] for device, each in told.items()}, dict(of), "arrived")
-            total = dict(zip(lines[-1].split()[1::2], map(int, lines[-1].split()[2::2])))
-            expect((total["devices"], total["arrived"]), (len(of), count), "devices and packets")
-            expect(total["dropped"] + total["polled"], count, "dropped and polled")
-            expect(total["refused"] + total["used"], total["polled"], "refused and used")
-            passed += 1
-        except (ValueError, IndexError, KeyError, OSError, subprocess.TimeoutExpired) as error:
-            failed += 1
-            print(f"{count} arrivals at {devices} devices on {processors} processors {' '.join(words)}: {str(error)[:300]}")
+        options = ["--processors", str(processors), *words]
+        what = f"{count} arrivals at {devices} devices on {processors} processors {' '.join(words)}"
+        yield what, tried(lambda: check_machine(count, devices, options))
 
 
-try_rings()
-try_rows()
-try_threads()
-try_machine()
-print(", ".join(f"{name}: {seconds:.1f} s" for name, seconds in took.items()))
-print(f"{passed} passed, {failed} failed")
-sys.exit(failed > 0)
+def checks() -> Iterator[Judged]:
+    for each in (try_rings(), try_rows(), try_threads(), try_machine()):
+        yield from each
+    print(", ".join(f"{name}: {seconds:.1f} s" for name, seconds in took.items()))
+
+
+if __name__ == "__main__":
+    sys.exit(judge(checks()))

@@ -8,6 +8,9 @@ PROGRAM is napi_serial, SERIES napi_series, KERNEL what kernel.sh has built. It 
 profile and kernel made a difference; of reports that differ, the smallest trace that shows it. Status 1 where one differs. With
 --stop it ends at the first one.
 """
+
+from __future__ import annotations
+
 import argparse
 import csv
 import io
@@ -19,12 +22,14 @@ import re
 import signal
 import subprocess
 import sys
+from collections.abc import Iterator, Sequence
 
 TOP = pathlib.Path(__file__).resolve().parent.parent.parent
 sys.path[:0] = [str(TOP / "bench"), str(TOP / "tests")]
 import random_trace
 import runs
 
+Row = tuple[int, int, str, int]  # moment, device, event, value
 LOOPS = "the kernel's side loops: no report after 5 s of processor time\n"
 HEADER = "moment,device,event,value"
 MAPPINGS = ["set threaded: the profile writes THREADED in any state", "repoll behind busy polling: the profile's goes to the list",
@@ -40,30 +45,30 @@ class Trace:
     """Rows as (moment, device, event, value), with the version and the settings (budget, weight, window). With `restarts`, each run that is
     followed by no other at the same time is made again at most so often while the softirq is raised."""
 
-    def __init__(self, name, version, rows, settings, restarts=0):
+    def __init__(self, name: str, version: int, rows: list[Row], settings: Sequence[int], restarts: int = 0) -> None:
         self.name, self.version, self.rows, self.settings, self.restarts = name, version, rows, settings, restarts
 
-    def text(self):
+    def text(self) -> str:
         lines = [HEADER + (",2" if self.version == 2 else "")] + ["%d,%d,%s,%d" % row for row in self.rows]
         return "\n".join(lines) + "\n"
 
-    def words(self):
+    def words(self) -> list[str]:
         return ["--budget=%d" % self.settings[0], "--weight=%d" % self.settings[1], "--window=%d" % self.settings[2]]
 
-    def for_kernel(self):
+    def for_kernel(self) -> str:
         head = "%d %d %d %d %d\n" % (self.version, *self.settings, len(self.rows))
         return head + "".join("%d %d %s %d\n" % (*row[:3], self.restarts if self.is_raised(at) else row[3]) for at, row in enumerate(self.rows))
 
-    def is_raised(self, at):
+    def is_raised(self, at: int) -> bool:
         """Whether the row at this index is a run that may be made again."""
         moment, _, event, _ = self.rows[at]
         return event == "softirq" and [(row[0], row[2]) for row in self.rows[at + 1:at + 2]] != [(moment, event)]
 
-    def cut(self, rows):
+    def cut(self, rows: list[Row]) -> Trace:
         return Trace(self.name, self.version, rows, self.settings, self.restarts)
 
 
-def trace_of(name, text, settings):
+def trace_of(name: str, text: str, settings: Sequence[int]) -> Trace | None:
     """The trace of a text, up to its first record that isn't a row; None if its first record isn't a header."""
     records = [record for record in csv.reader(io.StringIO(text.lstrip("\ufeff"))) if record]
     if not records or ",".join(records[0]) not in (HEADER, HEADER + ",2"):
@@ -78,7 +83,7 @@ def trace_of(name, text, settings):
 
 # ---- the traces
 
-def random_traces(count, seed):
+def random_traces(count: int, seed: int) -> Iterator[Trace]:
     for number in range(seed, seed + count):
         trace = trace_of("random trace %d" % number, random_trace.Trace(number, 1 + number % 2).text(), SETTINGS[number // 2 % 6])
         if trace:
@@ -87,23 +92,24 @@ def random_traces(count, seed):
             yield trace
 
 
-def raised_traces(count, seed):
+def raised_traces(count: int, seed: int) -> Iterator[Trace]:
     """Random traces, and the examples, with added runs: until the list is empty, or a few."""
     for number, trace in enumerate(itertools.chain(worked_traces(), random_traces(count, seed + 10 ** 6))):
         yield Trace("raised " + trace.name, trace.version, trace.rows, trace.settings, (99999, 1, 99999, 3)[number % 4])
 
 
-def far_moments(rows, dice):
+def far_moments(rows: list[Row], dice: random.Random) -> list[Row]:
     """The rows with times that are far apart: a tenth of them are moved, and those after them follow."""
-    far, moved = 0, []
-    for moment, *rest in rows:
+    moved: list[Row] = []
+    far = 0
+    for moment, device, event, value in rows:
         if dice.random() < 0.1:
             far = dice.choice(FAR)
-        moved.append((min(far + moment, 2 ** 64 - 1), *rest))
+        moved.append((min(far + moment, 2 ** 64 - 1), device, event, value))
     return moved
 
 
-def queue_traces(count, seed):
+def queue_traces(count: int, seed: int) -> Iterator[Trace]:
     """Sends and completions of one queue, whose ring holds some packets, at times near and far."""
     for number in range(seed, seed + count):
         dice = random.Random(number)
@@ -114,7 +120,7 @@ def queue_traces(count, seed):
         yield Trace("queue trace %d" % number, 1, far_moments(rows, dice) if number % 2 else rows, SETTINGS[0])
 
 
-def small_traces(most):
+def small_traces(most: int) -> Iterator[Trace]:
     """All lists of up to this many of SMALL, after two opened devices of capacity two, with two settings."""
     opened = [(0, 1, "open", 2), (0, 2, "open", 2)]
     for length in range(1, most + 1):
@@ -125,9 +131,9 @@ def small_traces(most):
                     yield Trace("small trace", 2, opened + rows, settings)
 
 
-def comes_in_turn(rows):
+def comes_in_turn(rows: list[Row]) -> bool:
     """Whether each disable is of an enabled device, and each enable of a disabled one."""
-    off = set()
+    off: set[int] = set()
     for _, device, event, _ in rows:
         if event in ("disable", "enable") and (device in off) != (event == "enable"):
             return False
@@ -138,7 +144,7 @@ def comes_in_turn(rows):
     return True
 
 
-def worked_traces():
+def worked_traces() -> Iterator[Trace]:
     """The runs of runs.txt whose options are only a run's numbers, and the examples, with two settings."""
     for name, words, text in runs.runs():
         keys = re.findall(r"--(\w+)=", "=".join(words))
@@ -149,7 +155,9 @@ def worked_traces():
                 yield trace
     for path in sorted((TOP / "examples").glob("*.csv")):
         for settings in ((300, 64, 1024), (16, 8, 2)):
-            yield trace_of(path.name, path.read_text(), settings)
+            example = trace_of(path.name, path.read_text(), settings)
+            assert example is not None
+            yield example
 
 
 # ---- both sides
@@ -157,11 +165,11 @@ def worked_traces():
 class Sides:
     """The program, one process per trace, or two if it is raised, and the kernel's functions, one process for all."""
 
-    def __init__(self, program, series, kernel):
+    def __init__(self, program: str, series: str, kernel: str) -> None:
         self.program, self.series, self.kernel = program, series, kernel
-        self.server = None
+        self.server: subprocess.Popen[str] | None = None
 
-    def ours(self, trace):
+    def ours(self, trace: Trace) -> tuple[int, str]:
         text = trace.text().encode()
         if trace.restarts:
             run = subprocess.run([self.series, "--raise=%d" % trace.restarts, "--rows"] + trace.words(), input=text, capture_output=True)
@@ -171,11 +179,12 @@ class Sides:
         run = subprocess.run([self.program] + trace.words(), input=text, capture_output=True)
         return run.returncode, (run.stdout if run.returncode == 0 else run.stderr).decode()
 
-    def kernels(self, trace):
+    def kernels(self, trace: Trace) -> tuple[str, list[int]]:
         """The report, and how often each mapping made a difference; or the message with which it ended."""
         if self.server is None:
-            self.server = subprocess.Popen([self.kernel], stdin=subprocess.PIPE, stdout=subprocess.PIPE, stderr=subprocess.STDOUT, text=True)
-        lines = []
+            self.server = subprocess.Popen([self.kernel], text=True, stdin=subprocess.PIPE, stdout=subprocess.PIPE, stderr=subprocess.STDOUT)
+        assert self.server.stdin and self.server.stdout
+        lines: list[str] = []
         try:
             self.server.stdin.write(trace.for_kernel())
             self.server.stdin.flush()
@@ -190,7 +199,7 @@ class Sides:
             return LOOPS, [0] * len(MAPPINGS)
         return "".join(lines) + "the kernel's side ended with status %d\n" % status, [0] * len(MAPPINGS)
 
-    def compare(self, trace):
+    def compare(self, trace: Trace) -> tuple[Trace, str, str, list[int]]:
         """The trace up to its first invalid row, with both reports and the mappings."""
         status, ours = self.ours(trace)
         fault = re.fullmatch(r"trace fault (?!12 )\d+ \w+ row (\d+)\n", ours)
@@ -200,11 +209,11 @@ class Sides:
         kernels, mapped = self.kernels(trace)
         return trace, ours, kernels, mapped
 
-    def differs(self, trace):
+    def differs(self, trace: Trace) -> bool:
         _, ours, kernels, _ = self.compare(trace)
         return ours != kernels
 
-    def smallest(self, trace):
+    def smallest(self, trace: Trace) -> Trace:
         """The first rows that show the difference, without each row, or series of rows, that it doesn't need; with at most this
         many tries."""
         tries, low, high = 1500, 0, len(trace.rows)
@@ -225,7 +234,10 @@ class Sides:
         return trace
 
 
-def shown(trace, sides):
+SIDES: Sides  # of this process, and of those that it forks
+
+
+def shown(trace: Trace, sides: Sides) -> str:
     if sides.compare(trace)[2] == LOOPS:
         return "%s: %s" % (trace.name, LOOPS)
     trace, ours, kernels, _ = sides.compare(sides.smallest(trace))
@@ -233,7 +245,7 @@ def shown(trace, sides):
         trace.name, " ".join(trace.words() + ["--raise=%d" % trace.restarts] * bool(trace.restarts)), trace.text(), ours, kernels)
 
 
-def compare_some(traces):
+def compare_some(traces: list[Trace]) -> tuple[int, int, list[int], str | None]:
     """How many traces, how many of their rows, the mappings, and the first difference."""
     rows, mapped, difference = 0, [0] * len(MAPPINGS), None
     for trace in traces:
@@ -246,12 +258,12 @@ def compare_some(traces):
     return len(traces), rows, mapped, difference
 
 
-def batches(traces, size):
+def batches(traces: Iterator[Trace], size: int) -> Iterator[list[Trace]]:
     while batch := list(itertools.islice(traces, size)):
         yield batch
 
 
-def main():
+def main() -> int:
     global SIDES
     words = argparse.ArgumentParser(usage=__doc__)
     words.add_argument("program")

@@ -6,6 +6,9 @@ usage: extract.py FOLDER FILE: NAME .. [FILE: NAME ..] ..
 A name is a function's, a macro's, or that of the first constant of an enum. One that doesn't occur exactly once is an
 error: its name is printed, with status 1, and nothing else.
 """
+
+from __future__ import annotations
+
 import pathlib
 import re
 import sys
@@ -17,13 +20,13 @@ FORMS = [
 ]
 
 
-def definition(text, name):
+def definition(text: str, name: str) -> str | None:
     """The one definition with that name, or None."""
     found = [match[0] for form in FORMS for match in re.finditer(form.format(re.escape(name)), text, re.M | re.S)]
     return found[0] if len(found) == 1 else None
 
 
-def main(words):
+def main(words: list[str]) -> None:
     folder, text, file, parts = pathlib.Path(words[0]), "", "", []
     for word in words[1:]:
         if word.endswith(":"):

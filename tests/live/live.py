@@ -9,6 +9,8 @@ Costs and arrivals come from one setting's recording, and other settings are pre
 recordings. The last line is `N passed, M failed, K skipped`.
 """
 
+from __future__ import annotations
+
 import gzip
 import json
 import signal
@@ -17,21 +19,23 @@ import subprocess
 import sys
 import tempfile
 import time
+from collections.abc import Iterable
 from concurrent.futures import ProcessPoolExecutor
 from dataclasses import dataclass
 from pathlib import Path
+from typing import Any
 
 HERE = Path(__file__).resolve().parent
 TOP = HERE.parent.parent
 sys.path[:0] = [str(TOP / "tools"), str(HERE)]
 
 from fintaqush_tools import predicting  # noqa: E402
+from fintaqush_tools.choosing import settings_of  # noqa: E402
 from fintaqush_tools.commands import costs  # noqa: E402
 from fintaqush_tools.errors import Refusal  # noqa: E402
 import rig  # noqa: E402
 from fintaqush_tools.receiving import Receiving  # noqa: E402
-from fintaqush_tools.recording import check_lost, events_in  # noqa: E402
-from fintaqush_tools.timeline import BACKLOG  # noqa: E402
+from fintaqush_tools.recording import BACKLOG, check_lost, events_in  # noqa: E402
 from rig import Setting, Traffic  # noqa: E402
 
 TIMES = 3  # that each setting is recorded
@@ -51,7 +55,7 @@ class Case:
     """A setting that is predicted, and by how much each value may differ, in %."""
 
     setting: Setting
-    limits: dict
+    limits: dict[str, int]
 
 
 @dataclass(frozen=True)
@@ -59,10 +63,10 @@ class Group:
     """The setting that is recorded for costs and arrivals, and those that are predicted from it."""
 
     base: Setting
-    cases: tuple
+    cases: tuple[Case, ...]
 
 
-def backlog_of(packets):
+def backlog_of(packets: int) -> dict[str, int]:
     return {"net.core.netdev_max_backlog": packets}
 
 
@@ -77,7 +81,7 @@ GROUPS = (
 )
 
 
-def options_of(setting):
+def options_of(setting: Setting) -> dict[str, int]:
     """The machine's options for a setting."""
     options = {"ring": 256, "budget": setting.sysctls.get("net.core.netdev_budget", 300), "socket": NO_LIMIT}
     if setting.poller == "backlog":
@@ -89,9 +93,11 @@ def options_of(setting):
 
 # ---- recordings made here
 
-def seen_in(setting, recorded):
+def seen_in(setting: Setting, recorded: rig.Recorded) -> tuple[Receiving, dict[str, str]]:
     """What a recording shows, with its head."""
-    names, head, lost = range(1, setting.devices + 1), {}, []
+    head: dict[str, str] = {}
+    lost: list[str] = []
+    names = range(1, setting.devices + 1)
     seen = Receiving({BACKLOG} if setting.poller == "backlog" else {f"vb{number}" for number in names}, {f"va{number}" for number in names})
     for event in events_in(str(recorded.path), lost, head):
         seen.add(event)
@@ -99,14 +105,14 @@ def seen_in(setting, recorded):
     return seen, head
 
 
-def values_of(setting, recorded):
+def values_of(setting: Setting, recorded: rig.Recorded) -> dict[str, Any]:
     """The measured values of a recording."""
     seen, head = seen_in(setting, recorded)
     ends = [(seen.sent[number], read + rig.USE_NS) for number, read in recorded.reads]
     return predicting.measured_of(seen, head, ends)
 
 
-def costs_of(path):
+def costs_of(path: Path) -> dict[str, int]:
     """The costs of a recording."""
     found = costs.object_in(str(path), [])["costs"]
     return {name.replace("_", "-"): cost["value"] for name, cost in found.items()}
@@ -115,10 +121,10 @@ def costs_of(path):
 class Recordings:
     """The recordings of a group, made in turn, so that what slows the machine for some seconds doesn't meet one setting only."""
 
-    def __init__(self, folder, until):
+    def __init__(self, folder: Path, until: float) -> None:
         self.folder, self.until, self.count = folder, until, 0
 
-    def once(self, setting):
+    def once(self, setting: Setting) -> rig.Recorded:
         """One undisturbed recording: the sender kept to its times, and no hypervisor took the processors."""
         for _ in range(TRIES):
             if time.monotonic() > self.until:
@@ -131,17 +137,17 @@ class Recordings:
         raise rig.Failed(f"{TRIES} recordings by {setting.name} were disturbed: the last one's sender was {recorded.late / 1000:.0f} us late, and a "
                          f"hypervisor took {recorded.stolen} hundredths of a second from its processors")
 
-    def of(self, group):
+    def of(self, group: Group) -> dict[str, list[rig.Recorded]]:
         """The recordings of each setting of the group."""
         settings = [group.base, *(case.setting for case in group.cases)]
-        made = {setting.name: [] for setting in settings}
+        made: dict[str, list[rig.Recorded]] = {setting.name: [] for setting in settings}
         for _ in range(TIMES):
             for setting in settings:
                 made[setting.name].append(self.once(setting))
         return made
 
 
-def kept_of(group, made):
+def kept_of(group: Group, made: dict[str, list[rig.Recorded]]) -> dict[str, Any]:
     """What is kept of a group's recordings: all measured values, and costs and arrivals of the base's middle recording."""
     settings = {setting.name: setting for setting in (group.base, *(case.setting for case in group.cases))}
     every = [(settings[name], recorded) for name, each in made.items() for recorded in each]
@@ -165,52 +171,52 @@ class Line:
 
     setting: str
     name: str
-    measured: list
+    measured: list[float]
     predicted: int
     limit: int  # 0 for a value of the base, which is the rig's own check
     sent: int
 
     @property
-    def median(self):
+    def median(self) -> float:
         return statistics.median(self.measured)
 
     @property
-    def error(self):
+    def error(self) -> float:
         return predicting.error_of(self.name, self.median, self.predicted, self.sent)
 
     @property
-    def is_steady(self):
+    def is_steady(self) -> bool:
         """Whether at least two of the recordings agree about it."""
         values = sorted(self.measured)
         return any(abs(predicting.error_of(self.name, high, low, self.sent)) <= max(self.limit, 5) for low, high in zip(values, values[1:]))
 
     @property
-    def is_of_one_speed(self):
+    def is_of_one_speed(self) -> bool:
         """Whether all recordings agree about a time, within 15 % or 5 us. If not, the machine was slower in some of them, and
         costs from one don't predict another."""
         return self.name != "used_p50" or max(self.measured) - min(self.measured) <= max(0.15 * self.median, 5000)
 
-    def __str__(self):
+    def __str__(self) -> str:
         unit, by = predicting.MEASURED[self.name]
         low, middle, high, value = (f"{each / by:.4g}" if by > 1 else f"{each:.0f}" for each in
                                     (min(self.measured), self.median, max(self.measured), self.predicted))
         return f"{self.setting}: {self.name} {middle} [{low}, {high}] {unit}, predicted {value} ({self.error:+.1f} %)"
 
 
-def lines_of(program, setting, limits, kept):
+def lines_of(program: str, setting: Setting, limits: dict[str, int], kept: dict[str, Any]) -> list[Line]:
     """The lines of a setting, predicted from what was kept."""
-    values = predicting.predicted(program, kept["arrivals"], {**kept["costs"], **options_of(setting)})
+    values = predicting.predicted(program, kept["arrivals"], settings_of(kept["costs"], options_of(setting)))
     measured = kept["measured"][setting.name]
     return [Line(setting.name, name, [each[name] for each in measured], values[name], limit, measured[0]["sent"]) for name, limit in limits.items()
             if all(name in each for each in measured)]
 
 
-def own_check(group):
+def own_check(group: Group) -> dict[str, int]:
     """The values by which the rig is judged at the recorded setting."""
     return dict.fromkeys(("runs", "squeezed") if group.base.devices > 1 else ("polls", "dropped", "used_p50"), 0)
 
 
-def grade_of(lines):
+def grade_of(lines: list[Line]) -> str:
     """How well the recorded setting itself is predicted: good, fair or poor."""
     return predicting.grade_of([(line.name, line.median, line.predicted, line.error) for line in lines])
 
@@ -218,14 +224,14 @@ def grade_of(lines):
 class Sum:
     """What passed, failed and was skipped."""
 
-    def __init__(self):
+    def __init__(self) -> None:
         self.passed = self.failed = self.skipped = 0
 
-    def skip(self, why):
+    def skip(self, why: str) -> None:
         self.skipped += 1
         print(f"skipped: live: {why}", flush=True)
 
-    def take(self, line, is_good=True):
+    def take(self, line: Line, is_good: bool = True) -> None:
         """Judges a line; one that differs too much fails if the recorded setting is predicted well, and two of the three
         recordings agree about the value."""
         print(line, flush=True)
@@ -238,23 +244,23 @@ class Sum:
             self.failed += 1
             print(f"FAILED: it may be {line.limit} % off")
 
-    def end(self):
+    def end(self) -> bool:
         print(f"{self.passed} passed, {self.failed} failed, {self.skipped} skipped")
         return self.failed > 0
 
 
-def is_off(lines):
+def is_off(lines: list[Line]) -> bool:
     """Whether a prediction differs by more than it may."""
     return any(abs(line.error) > line.limit for line in lines)
 
 
-def judged(program, group, kept):
+def judged(program: str, group: Group, kept: dict[str, Any]) -> tuple[list[Line], list[Line]]:
     """The lines of the base, and those of the settings that are predicted from it."""
     return (lines_of(program, group.base, own_check(group), kept),
             [line for case in group.cases for line in lines_of(program, case.setting, case.limits, kept)])
 
 
-def check_kept(program, total):
+def check_kept(program: str, total: Sum) -> None:
     """Checks the recording in the repository."""
     for place, group in enumerate(GROUPS):
         own, lines = judged(program, group, read_kept(place))
@@ -264,7 +270,7 @@ def check_kept(program, total):
             total.take(line)
 
 
-def check_page(program, total):
+def check_page(program: str, total: Sum) -> None:
     """The table of docs/TIMING.md is that of this recording."""
     done = subprocess.run([sys.executable, "-B", HERE / "table.py", program, "--check", TOP / "docs/TIMING.md"], check=False)
     total.passed += done.returncode == 0
@@ -273,19 +279,20 @@ def check_page(program, total):
         print("FAILED: docs/TIMING.md has another table; tests/live/table.py PROGRAM --into docs/TIMING.md puts it there")
 
 
-def recorded_group(program, group, until):
+def recorded_group(program: str, group: Group, until: float) -> tuple[dict[str, Any], list[Line], list[Line]]:
     """What may be kept of a group, with its lines. What differs too much is recorded a second time, because anything may have
     slowed the machine."""
     with tempfile.TemporaryDirectory() as scratch:
         rig.build(Path(scratch))
-        for left in (1, 0):
+        for _ in range(2):
             kept = kept_of(group, Recordings(Path(scratch), until).of(group))
             own, lines = judged(program, group, kept)
-            if not left or not is_off(lines):
-                return kept, own, lines
+            if not is_off(lines):
+                break
+    return kept, own, lines
 
 
-def check_here(program, folder, numbers, total):
+def check_here(program: str, folder: Path | None, numbers: Iterable[int], total: Sum) -> None:
     """Records these groups on this machine, and keeps in a folder, if one is named, what is predicted well."""
     lacks = rig.missing()
     if lacks:
@@ -316,19 +323,19 @@ def check_here(program, folder, numbers, total):
 
 # ---- recordings in the repository
 
-def read_kept(place, folder=HERE / "kept"):
+def read_kept(place: int, folder: Path = HERE / "kept") -> dict[str, Any]:
     kept = json.loads((folder / f"{place + 1}.json").read_text(encoding="utf-8"))
     return {**kept, "arrivals": gzip.decompress((folder / f"{place + 1}.csv.gz").read_bytes()).decode("ascii")}
 
 
-def write_kept(folder, place, kept):
+def write_kept(folder: Path, place: int, kept: dict[str, Any]) -> None:
     folder.mkdir(exist_ok=True)
     (folder / f"{place + 1}.csv.gz").write_bytes(gzip.compress(kept["arrivals"].encode("ascii"), 9, mtime=0))
     others = {name: value for name, value in kept.items() if name != "arrivals"}
     (folder / f"{place + 1}.json").write_text(json.dumps(others, indent=1) + "\n", encoding="utf-8")
 
 
-def main(words):
+def main(words: list[str]) -> bool:
     what, program, *others = words
     total = Sum()
     if what == "test":

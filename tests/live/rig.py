@@ -2,16 +2,23 @@
 separate processors, and a recording by fintaqush record. It restores every setting that it changes.
 """
 
+from __future__ import annotations
+
 import contextlib
 import os
 import re
 import shutil
 import subprocess
+import sys
 import time
 from dataclasses import dataclass, field
 from pathlib import Path
+from typing import Any
 
 HERE = Path(__file__).resolve().parent
+sys.path.append(str(HERE.parent))
+from finding import group_in  # noqa: E402
+
 COMMAND = HERE.parent.parent / "fintaqush"
 PORT = 9000
 SENDS, RECEIVES = 2, 3  # the processors: of the sender, and of the receiver with what polls for it
@@ -48,12 +55,12 @@ class Setting:
     poller: str
     traffic: Traffic
     devices: int = 1
-    sysctls: dict = field(default_factory=dict)
+    sysctls: dict[str, int] = field(default_factory=dict)
     defer_hard_irqs: int = 0
     gro_flush_timeout: int = 0
 
     @property
-    def polls_on(self):
+    def polls_on(self) -> int:
         return SENDS if self.poller == "softirq" else RECEIVES
 
 
@@ -62,12 +69,12 @@ class Recorded:
     """The result of a recording: the file of fintaqush record, when each packet was read, and how late the sender was."""
 
     path: Path
-    reads: list  # (the packet's number, when it was read, in ns), in this order
+    reads: list[tuple[int, int]]  # (the packet's number, when it was read, in ns), in this order
     late: int  # ns, of the latest burst
     stolen: int  # hundredths of a second that the hypervisor took from the two processors meanwhile
 
 
-def missing():
+def missing() -> list[str]:
     """What this machine lacks, each in a few words; empty if nothing."""
     lacks = [f"{name} (Debian: {package})" for name, package in NEEDS.items() if not shutil.which(name)]
     if os.geteuid() != 0:
@@ -81,27 +88,27 @@ def missing():
     return lacks
 
 
-def run(*command, **others):
+def run(*command: object, **others: Any) -> str:
     """The output of a command, which must succeed."""
-    done = subprocess.run(list(map(str, command)), capture_output=True, text=True, check=False, **others)
+    done: subprocess.CompletedProcess[str] = subprocess.run(list(map(str, command)), capture_output=True, text=True, check=False, **others)
     if done.returncode:
         raise Failed(f"{' '.join(map(str, command))[:80]} ended with status {done.returncode}: {done.stderr.strip()}")
     return done.stdout
 
 
-def build(folder):
+def build(folder: Path) -> None:
     """Compiles the sender and the receiver."""
     for name in ("sender", "receiver"):
         run("cc", "-O2", "-o", folder / name, HERE / f"{name}.c", "-lm")
 
 
-def stolen():
+def stolen() -> int:
     """What a hypervisor took from the two processors so far, in hundredths of a second."""
     lines = (line.split() for line in Path("/proc/stat").read_text(encoding="ascii").splitlines())
     return sum(int(fields[8]) for fields in lines if fields[0] in (f"cpu{SENDS}", f"cpu{RECEIVES}"))
 
 
-def wait_for_quiet():
+def wait_for_quiet() -> None:
     """Waits until the hypervisor takes nothing from the two processors, for some seconds at most."""
     for _ in range(QUIET_TRIES):
         before = stolen()
@@ -110,12 +117,12 @@ def wait_for_quiet():
             return
 
 
-def to_front(process):
+def to_front(process: int) -> None:
     """Puts a task to SCHED_FIFO, so that other work on the machine doesn't disturb it."""
     run("chrt", "-f", "-p", 1, process)
 
 
-def tasks(pattern):
+def tasks(pattern: str) -> list[int]:
     """The processes with such a name, as `ps` shows it."""
     found = (line.split(None, 1) for line in run("ps", "-eo", "pid,comm").splitlines()[1:])
     return [int(process) for process, name in found if re.fullmatch(pattern, name.strip())]
@@ -124,11 +131,11 @@ def tasks(pattern):
 class Rig:
     """The devices and settings of one recording."""
 
-    def __init__(self, folder, setting):
+    def __init__(self, folder: Path, setting: Setting) -> None:
         self.folder, self.setting, self.undo = folder, setting, contextlib.ExitStack()
         self.out, self.into = f"fqs{os.getpid()}", f"fqr{os.getpid()}"
 
-    def __enter__(self):
+    def __enter__(self) -> Rig:
         try:
             self.make_devices()
             self.set_all()
@@ -137,16 +144,16 @@ class Rig:
             raise
         return self
 
-    def __exit__(self, *_):
+    def __exit__(self, *_: object) -> None:
         self.undo.close()
 
-    def ip(self, space, *words):
+    def ip(self, space: str, *words: object) -> str:
         return run("ip", "-n", space, *words)
 
-    def within(self, space, *command):
+    def within(self, space: str, *command: object) -> str:
         return run("ip", "netns", "exec", space, *command)
 
-    def make_devices(self):
+    def make_devices(self) -> None:
         for space in (self.out, self.into):
             run("ip", "netns", "add", space)
             self.undo.callback(run, "ip", "netns", "del", space)
@@ -163,12 +170,12 @@ class Rig:
         if several:
             time.sleep(1.5)  # until the bridge forwards
         else:
-            addresses = [re.search(r"link/ether (\S+)", self.ip(space, "-o", "link", "show", name))[1] for space, name in
+            addresses = [group_in(r"link/ether (\S+)", self.ip(space, "-o", "link", "show", name)) for space, name in
                          ((self.out, "va1"), (self.into, "vb1"))]
             self.ip(self.into, "neigh", "replace", "10.99.0.1", "lladdr", addresses[0], "dev", "vb1")
             self.ip(self.out, "neigh", "replace", "10.99.0.2", "lladdr", addresses[1], "dev", "va1")
 
-    def make_pair(self, number, several):
+    def make_pair(self, number: int, several: bool) -> None:
         run("ip", "link", "add", f"va{number}", "netns", self.out, "type", "veth", "peer", "name", f"vb{number}", "netns", self.into)
         self.within(self.out, "ethtool", "-K", f"va{number}", "tso", "off", "tx-udp-segmentation", "off", "gro", "off")
         # Without GRO a veth device has no NAPI instance, and its packets go to a processor's backlog.
@@ -179,13 +186,13 @@ class Rig:
         self.ip(self.out, "link", "set", f"va{number}", "up")
         self.ip(self.into, "link", "set", f"vb{number}", "up")
 
-    def set_all(self):
+    def set_all(self) -> None:
         setting = self.setting
         for name in SYSCTLS:
             self.undo.callback(run, "sysctl", "-qw", f"{name}={run('sysctl', '-n', name).strip()}")
         for name, value in setting.sysctls.items():
             run("sysctl", "-qw", f"{name}={value}")
-        files = {"napi_defer_hard_irqs": setting.defer_hard_irqs, "gro_flush_timeout": setting.gro_flush_timeout}
+        files: dict[str, int | str] = {"napi_defer_hard_irqs": setting.defer_hard_irqs, "gro_flush_timeout": setting.gro_flush_timeout}
         if setting.poller == "thread":
             files["threaded"] = 1
         if setting.poller == "backlog":
@@ -201,17 +208,17 @@ class Rig:
             to_front(process)
             self.undo.callback(run, "chrt", "-o", "-p", 0, process)
 
-    def receiver(self, read):
+    def receiver(self, read: Path) -> subprocess.Popen[bytes]:
         """The running receiver, which writes to that file when it ends."""
         process = subprocess.Popen(["ip", "netns", "exec", self.into, "chrt", "-f", "1", "taskset", "-c", str(RECEIVES), self.folder / "receiver",
                                     str(PORT), str(USE_NS), str(self.setting.traffic.filter), read], stdout=subprocess.PIPE)
         self.undo.callback(process.wait)
         self.undo.callback(process.kill)
-        if process.stdout.readline() != b"ready\n":
+        if not process.stdout or process.stdout.readline() != b"ready\n":
             raise Failed("the receiver didn't start")
         return process
 
-    def recorder(self, path):
+    def recorder(self, path: Path) -> subprocess.Popen[str]:
         """The running fintaqush record, called as a user would."""
         names = range(1, self.setting.devices + 1)
         process = subprocess.Popen([COMMAND, "record", "1", "--netns", self.into, "--processors", f"{SENDS},{RECEIVES}", "--program", "receiver", "--out", path,
@@ -219,6 +226,7 @@ class Rig:
                                    stdout=subprocess.DEVNULL, stderr=subprocess.PIPE, text=True)
         self.undo.callback(process.wait)
         self.undo.callback(process.kill)
+        assert process.stderr
         said = [""]
         while not said[-1].startswith("fintaqush record: recording"):
             said.append(process.stderr.readline())
@@ -226,7 +234,7 @@ class Rig:
                 raise Failed(f"fintaqush record doesn't record: {said[-2].strip()[:200]}")
         return process
 
-    def record(self, path):
+    def record(self, path: Path) -> Recorded:
         """Sends the traffic, and returns what was recorded in that file."""
         traffic, read = self.setting.traffic, self.folder / "read"
         receiver = self.receiver(read) if self.setting.devices == 1 else None
@@ -238,15 +246,15 @@ class Rig:
         taken = stolen() - before
         if receiver and receiver.wait():
             raise Failed("the receiver failed")
-        said_by_record = recorder.stderr.read()
+        said_by_record = recorder.stderr.read() if recorder.stderr else ""
         if recorder.wait():
             raise Failed(f"fintaqush record failed: {said_by_record.strip()[:200]}")
-        late = int(re.match(r"sent \d+ failed \d+ latest (\d+)", said)[1])
-        reads = [tuple(map(int, line.split(","))) for line in read.read_text(encoding="ascii").splitlines()] if receiver else []
-        return Recorded(path, reads, late, taken)
+        late = int(group_in(r"^sent \d+ failed \d+ latest (\d+)", said))
+        rows = (line.split(",") for line in read.read_text(encoding="ascii").splitlines()) if receiver else ()
+        return Recorded(path, [(int(number), int(when)) for number, when in rows], late, taken)
 
 
-def record(folder, setting, path):
+def record(folder: Path, setting: Setting, path: Path) -> Recorded:
     """Makes one recording with this setting."""
     wait_for_quiet()
     with Rig(folder, setting) as rig:

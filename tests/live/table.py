@@ -6,10 +6,14 @@
     table.py PROGRAM --draw FILE    draws it, as .png or .svg
 """
 
-import sys
-from pathlib import Path
+from __future__ import annotations
 
-from live import GROUPS, judged, read_kept
+import sys
+from collections.abc import Iterator
+from pathlib import Path
+from typing import Any
+
+from live import GROUPS, Line, judged, read_kept
 from fintaqush_tools.pictures import LIGHT, canvas, saved
 
 BEGIN, END = "<!-- predicted and measured: begin -->", "<!-- predicted and measured: end -->"
@@ -21,18 +25,18 @@ BREAKS = {"threaded, ": "threaded,~", "instances, ": "instances,~", "deferral ":
 WIDTHS = (0.36, 0.26, 0.38)
 
 
-def text_of(name, value):
+def text_of(name: str, value: float) -> str:
     """A value for a reader: a count, or a wait in ms."""
     return f"{value / 10**6:.3g}" if name.startswith("used") else f"{value:.0f}"
 
 
-def rows_of(program):
+def rows_of(program: str) -> Iterator[tuple[str, list[Line], list[Line]]]:
     """For each group: its base's name, the lines of the base, and the predicted lines."""
     for place, group in enumerate(GROUPS):
         yield group.base.name, *judged(program, group, read_kept(place))
 
 
-def table_of(program):
+def table_of(program: str) -> str:
     """The table as a page has it."""
     lines = ["| Setting | Predicted from a recording with | Value | Predicted | Measured: median of three, range | Difference |",
              "|---|---|---|---|---|---|"]
@@ -42,7 +46,7 @@ def table_of(program):
     return "\n".join(lines) + "\n"
 
 
-def page_with(text, table):
+def page_with(text: str, table: str) -> str:
     """A page with the table between its marks."""
     before, begin, rest = text.partition(BEGIN)
     _, end, after = rest.partition(END)
@@ -51,7 +55,7 @@ def page_with(text, table):
     return f"{before}{BEGIN}\n{table}{END}{after}"
 
 
-def label_of(line, is_named):
+def label_of(line: Line, is_named: bool) -> str:
     """What is below a pair of bars, in short lines."""
     text = line.setting
     for words, broken in BREAKS.items():
@@ -59,7 +63,7 @@ def label_of(line, is_named):
     return "\n".join([*text.split("~"), *([NAMES[line.name]] if is_named else [])])
 
 
-def draw(program, path):
+def draw(program: str, path: str) -> None:
     """A picture: a panel for each kind of value, and for each setting what was measured, with its range, and predicted."""
     lines = [line for _, _, predicted in rows_of(program) for line in predicted]
     title = "Predicted and measured values on veth pairs; the range of three measurements"
@@ -74,7 +78,7 @@ def draw(program, path):
         Path(path).write_bytes(saved(figure, Path(path).suffix, title, f"{title}. {told}."))
 
 
-def draw_panel(axes, title, lines, is_named):
+def draw_panel(axes: Any, title: str, lines: list[Line], is_named: bool) -> None:
     """Pairs of bars, side by side; those of predictions are hatched too."""
     scale = 10**6 if "ms" in title else 1
     places, middles = range(len(lines)), [line.median / scale for line in lines]
@@ -89,7 +93,7 @@ def draw_panel(axes, title, lines, is_named):
         axes.yaxis.set_major_formatter("{x:g}")
 
 
-def main(program, what="", path=""):
+def main(program: str, what: str = "", path: str = "") -> int:
     table = table_of(program) if what != "--draw" else ""
     if what == "--draw":
         draw(program, path)

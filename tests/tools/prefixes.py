@@ -1,28 +1,35 @@
 """Computes the series of a trace from the reports of all its prefixes: the expected output of napi_series."""
 
+from __future__ import annotations
+
 import csv
+import functools
 import io
-import subprocess
+from collections.abc import Sequence
+from typing import Any
+
+from tooltest import REPLAY, process
 
 COLUMNS = "row,moment,device,state,waiting,arrived,dropped,polled,in_flight,limit,avail,stopped,polls,work,squeezed,word,list,gave".split(",")
 
 
-def report_of(program, rows, words, header):
+def report_of(rows: Sequence[str], words: Sequence[str], header: str) -> list[list[str]]:
     """Returns the report of a trace with these lines, each as its fields."""
-    text = header + "".join(f"{row}\n" for row in rows)
-    done = subprocess.run([program, *words], input=text, capture_output=True, text=True, check=True)
+    done = process(REPLAY, *words, text=header + "".join(f"{row}\n" for row in rows))
+    if done.returncode != 0:
+        raise ValueError(done.stderr)
     return [line.split() for line in done.stdout.splitlines()]
 
 
-def polled_in(report):
+def polled_in(report: list[list[str]]) -> dict[str, tuple[int, int]]:
     """Returns for each device of a report its polls and the packets that they took."""
     return {line[1]: (int(line[14]), int(line[8])) for line in report if line[0] == "device"}
 
 
-def values_of(number, row, report, report_before):
+def values_of(number: int, row: str, report: list[list[str]], report_before: list[list[str]]) -> dict[str, Any]:
     """Returns the line of a series after that row."""
     moment, device, _, _ = row.split(",")
-    told = dict.fromkeys(COLUMNS, "")
+    told: dict[str, Any] = dict.fromkeys(COLUMNS, "")
     told.update(row=number, moment=int(moment), device=int(device))
     before = polled_in(report_before)
     told["gave"] = "".join(f" {each}:{gave - before[each][1]}" for each, (polls, gave) in polled_in(report).items() if each in before and polls > before[each][0])
@@ -44,12 +51,17 @@ def values_of(number, row, report, report_before):
     return told
 
 
-def series_by_reports(program, rows, words, every=1, header="moment,device,event,value\n"):
+def series_by_reports(rows: Sequence[str], words: Sequence[str], every: int, header: str) -> str:
     """Returns the text of the series, with a replay for each of its rows."""
+
+    @functools.lru_cache(2)
+    def report(count: int) -> list[list[str]]:
+        return report_of(rows[:count], words, header)
+
     text = io.StringIO()
     writer = csv.DictWriter(text, COLUMNS, lineterminator="\n")
     writer.writeheader()
     for number in range(every, len(rows) + 1, every):
-        before, behind = (report_of(program, rows[:count], words, header) for count in (number - 1, number))
-        writer.writerow(values_of(number, rows[number - 1], behind, before))
+        before = report(number - 1)
+        writer.writerow(values_of(number, rows[number - 1], report(number), before))
     return text.getvalue()

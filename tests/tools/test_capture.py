@@ -1,12 +1,12 @@
 """Tests of how fintaqush from-pcap reads captures: reading records gives the same result as tcpdump's text."""
 
-import os
+from __future__ import annotations
+
 import random
 import struct
-import subprocess
-import unittest
+import time
 
-from tooltest import InFolder, run, skip_without
+from tooltest import InFolder, process, run, skip_without
 
 MACS = [bytes([2, 0, 0, 0, 0, place]) for place in range(1, 5)] + [b"\xff" * 6, b"\x01\x00\x5e\0\0\1", b"\x33\x33\0\0\0\1"]
 ADDRESSES = [bytes([10, 0, 0, place]) for place in range(1, 4)]
@@ -14,7 +14,7 @@ ADDRESSES6 = [bytes([0xFE, 0x80, *[0] * 13, place]) for place in range(1, 4)] + 
 UDP, TCP, ICMP, ICMP6 = 17, 6, 1, 58
 
 
-def transport(chance, protocol):
+def transport(chance: random.Random, protocol: int) -> bytes:
     """Returns a header with its ports, and some bytes."""
     ports = struct.pack(">HH", chance.randrange(1000, 60000), chance.choice((9, 443, 5000)))
     if protocol == UDP:
@@ -24,7 +24,7 @@ def transport(chance, protocol):
     return bytes([8 if protocol == ICMP else 128, 0, 0, 0, 0, 1, 0, 1]) + bytes(20)
 
 
-def inner(chance, is_strange):
+def inner(chance: random.Random, is_strange: bool) -> tuple[bytes, bytes]:
     """Returns the type and the bytes of a packet: ARP, IPv4 or IPv6; a strange one may have a VLAN, be a fragment, have options or another type."""
     kind = chance.randrange(10 if is_strange else 6)
     if kind == 0:
@@ -44,7 +44,7 @@ def inner(chance, is_strange):
     return (b"\x88\xb5", bytes(46)) if kind == 9 else (b"\x08\0", packet)
 
 
-def capture_of(seed, is_strange=False, order="<", ticks=10**6, count=300):
+def capture_of(seed: int, is_strange: bool = False, order: str = "<", ticks: int = 10**6, count: int = 300) -> bytes:
     """Returns a random capture, whose times don't always rise."""
     chance = random.Random(seed)
     magic = 0xA1B2C3D4 if ticks == 10**6 else 0xA1B23C4D
@@ -59,49 +59,36 @@ def capture_of(seed, is_strange=False, order="<", ticks=10**6, count=300):
 
 
 class Captures(InFolder):
-    def made(self, name, *words, text=None, **others):
-        done = run("from-pcap", name, "made", *words, text=text, folder=self.folder, **others)
-        self.assertEqual((done.stderr, done.returncode), ("", 0))
-        files = [(self.folder / f"made.{end}").read_text() for end in ("csv", "notes")]
-        for end in ("csv", "notes"):
-            (self.folder / f"made.{end}").unlink()
-        return files
-
     @skip_without("tcpdump")
-    def test_records_are_what_tcpdump_says(self):
+    def test_records_are_what_tcpdump_says(self) -> None:
         """In both byte orders, with times in \u00b5s and ns, with and without packets that only tcpdump can read."""
         for seed, (order, ticks, is_strange) in enumerate((order, ticks, is_strange) for order in "<>" for ticks in (10**6, 10**9) for is_strange in (False, True)):
             (self.folder / "captured").write_bytes(capture_of(seed, is_strange, order, ticks))
-            told = subprocess.run(["tcpdump", "-r", "captured", "-tt", "--nano", "-n", "-e"], cwd=self.folder, capture_output=True, text=True, check=True).stdout
+            told = process("tcpdump", "-r", "captured", "-tt", "--nano", "-n", "-e", folder=self.folder).stdout
             for words in (["--arrivals"], ["--arrivals", "--flows"], ["--arrivals", "--to", "02:00:00:00:00:01"], ["--unit", "us"], ["-c", "100", "--arrivals"]):
-                self.assertEqual(self.made("captured", *words), self.made("-", *words, text=told), (seed, words))
+                self.assertEqual(self.converted("from-pcap", "captured", *words), self.converted("from-pcap", "-", *words, text=told), (seed, words))
 
-    def test_a_plain_capture_needs_no_tcpdump(self):
+    def test_a_plain_capture_needs_no_tcpdump(self) -> None:
         (self.folder / "captured").write_bytes(capture_of(1))
-        rows = self.made("captured", "--arrivals", "--flows", path="/none")[0].splitlines()
+        rows = self.converted("from-pcap", "captured", "--arrivals", "--flows", PATH="/none")[0].splitlines()
         self.assertGreater(len(rows), 200)
         (self.folder / "captured").write_bytes(capture_of(1)[:-3])
-        done = run("from-pcap", "captured", "made", "--arrivals", folder=self.folder, path="/none")
+        done = run("from-pcap", "captured", "other", "--arrivals", folder=self.folder, PATH="/none")
         self.assertEqual((done.stderr, done.returncode), ("fintaqush from-pcap: captured: it needs tcpdump, which isn't on PATH (Debian: apt install tcpdump)\n", 1))
 
-    def test_the_longest_packets_are_rows(self):
+    def test_the_longest_packets_are_rows(self) -> None:
         """Without tcpdump: a packet of 65,535 bytes is a row, and longer ones are counted in the notes."""
         text, packet = struct.pack("<IHHiIII", 0xA1B2C3D4, 2, 4, 0, 0, 262144, 1), (MACS[1] + MACS[0] + b"\x08\x06").ljust(60, b"\0")
         for place, length in enumerate((60, 65534, 65535, 65536, 262144)):
             text += struct.pack("<IIII", 1_700_000_000, place, len(packet), length) + packet
         (self.folder / "captured").write_bytes(text)
-        rows, notes = self.made("captured", "--arrivals", path="/none")
+        rows, notes = self.converted("from-pcap", "captured", "--arrivals", PATH="/none")
         self.assertEqual([row.split(",")[2] for row in rows.splitlines()[1:]], ["60", "65534", "65535"])
         self.assertIn("no row: packets without a length of 1 to 65535 bytes, 2\n", notes)
 
-    def test_what_a_million_packets_take(self):
+    def test_what_a_million_packets_take(self) -> None:
         """Reads 100,000 packets; the limit on processor time leaves room for a machine ten times slower than one second per million."""
         (self.folder / "captured").write_bytes(capture_of(1, count=1000)[:24] + 100 * capture_of(1, count=1000)[24:])
-        before = os.times()
-        self.made("captured", "--arrivals")
-        after = os.times()
-        self.assertLess(after.children_user - before.children_user, 3)
-
-
-if __name__ == "__main__":
-    unittest.main()
+        before = time.process_time()
+        self.converted("from-pcap", "captured", "--arrivals")
+        self.assertLess(time.process_time() - before, 3)

@@ -1,24 +1,38 @@
 """Tests of how the tools write files: completely or not at all, synced before they are renamed, and never readable by more users than the file
 that they replace."""
 
+from __future__ import annotations
+
+import contextlib
 import os
 import stat
 import subprocess
 import unittest.mock
+from collections.abc import Callable, Iterator
 from pathlib import Path
+from typing import Any
 
-from tooltest import HEADER, HERE, REPLAY, START, TOP, InFolder, run
+from tooltest import HEADER, HERE, TOP, InFolder, limited, run
 
 from fintaqush_tools import errors, files
 
 TEXT = "a line\n" * 5000
 
 
+@contextlib.contextmanager
+def umask(mask: int) -> Iterator[None]:
+    before = os.umask(mask)
+    try:
+        yield
+    finally:
+        os.umask(before)
+
+
 class Replaced(InFolder):
-    def mode(self, path):
+    def mode(self, path: Path) -> int:
         return stat.S_IMODE(path.stat().st_mode)
 
-    def test_the_mode_stays(self):
+    def test_the_mode_stays(self) -> None:
         """For each way to replace a file; a new file gets the mode that the umask leaves."""
         for mode in (0o600, 0o640, 0o644, 0o664, 0o444, 0o400, 0o755):
             old = self.write("old", "old\n")
@@ -31,18 +45,18 @@ class Replaced(InFolder):
         done = run("traffic", "--out", old)
         self.assertEqual((done.stderr, oct(self.mode(old)), old.read_text()[: len(HEADER)]), ("", oct(0o600), HEADER))
         for mask, mode in ((0o022, 0o644), (0o077, 0o600), (0o002, 0o664)):
-            done = subprocess.run(["sh", "-c", f'umask {mask:o}; exec "$0" "$@"', *START, "traffic", "--out",
-                                   self.folder / f"new{mask}"], capture_output=True, check=False)
-            self.assertEqual((done.stderr, oct(self.mode(self.folder / f"new{mask}"))), (b"", oct(mode)))
+            with umask(mask):
+                self.succeeds("traffic", "--out", self.folder / f"new{mask}")
+            self.assertEqual(oct(self.mode(self.folder / f"new{mask}")), oct(mode))
 
-    def test_what_is_private_never_shows(self):
+    def test_what_is_private_never_shows(self) -> None:
         """The new file for one that only its user can read is private from its creation on, even if the write fails."""
         old = self.write("old.csv", "old\n")
         old.chmod(0o600)
-        seen = []
+        seen: list[int] = []
         really_open = os.open
 
-        def watched(path, *words, **others):
+        def watched(path: str, *words: Any, **others: Any) -> int:
             handle = really_open(path, *words, **others)
             seen.append(stat.S_IMODE(os.fstat(handle).st_mode))
             return handle
@@ -52,18 +66,18 @@ class Replaced(InFolder):
         self.assertGreaterEqual(len(seen), 2)
         self.assertEqual({mode & 0o077 for mode in [*seen, self.mode(old)]}, {0})
 
-    def test_it_is_on_the_disk_before_it_has_its_name(self):
+    def test_it_is_on_the_disk_before_it_has_its_name(self) -> None:
         """The file is synced before it gets its name: when it replaces a file, and as a new one."""
-        events = []
+        events: list[tuple[str, int, Any]] = []
         really_sync = os.fsync
 
-        def synced(handle):
+        def synced(handle: int) -> None:
             really_sync(handle)
             status = os.fstat(handle)
             events.append(("fsync", status.st_ino, status.st_size))
 
-        def put(what, really):
-            def call(source, target):
+        def put(what: str, really: Callable[[str, str], None]) -> Callable[[str, str], None]:
+            def call(source: str, target: str) -> None:
                 events.append((what, os.stat(source).st_ino, Path(target).name))
                 really(source, target)
             return call
@@ -84,13 +98,14 @@ class Replaced(InFolder):
 class AllOrNone(InFolder):
     CAPTURED = "".join(f"100.{place:06} eth0  In  ifindex 2 02:00:00:00:00:01 ethertype IPv4 (0x0800), length 60: UDP\n" for place in range(200))
 
-    def test_a_failure_behind_the_first_file(self):
+    def test_a_failure_behind_the_first_file(self) -> None:
         """With a file size limit of 1 kB the notes fit and the trace doesn't: neither file stays."""
         self.write("captured", self.CAPTURED)
-        for tool, words in (("from-pcap", ["captured", "made"]), ("from-pcap", ["captured", "made", "--arrivals"]),
-                            ("from-ftrace", [HERE / "recorded-apart.rec", "made"]), ("from-ftrace", [TOP / "examples/veth-backlog.rec", "made", "--arrivals"])):
-            done = subprocess.run(["bash", "-c", 'ulimit -f 1; trap "" XFSZ; exec "$0" "$@"', *START, tool, *words],
-                                  capture_output=True, text=True, check=False, cwd=self.folder, env={**os.environ, "PROGRAM": REPLAY})
+        calls: list[tuple[str, list[object]]] = [
+            ("from-pcap", ["captured", "made"]), ("from-pcap", ["captured", "made", "--arrivals"]),
+            ("from-ftrace", [HERE / "recorded-apart.rec", "made"]), ("from-ftrace", [TOP / "examples/veth-backlog.rec", "made", "--arrivals"])]
+        for tool, words in calls:
+            done = limited("-f 1", tool, *words, folder=self.folder)
             self.assertEqual((done.returncode, done.stdout, self.names()), (1, "", ["captured"]), done.stderr)
             self.assertEqual(done.stderr, f"fintaqush {tool}: File too large\n")
             done = run(tool, *words, folder=self.folder)  # with room for all, both are written
@@ -100,9 +115,9 @@ class AllOrNone(InFolder):
             for path in self.folder.glob("made.*"):
                 path.unlink()
 
-    def test_whatever_the_failure_is(self):
+    def test_whatever_the_failure_is(self) -> None:
         """The last of three files fails: its text raises an error or a signal, its name is taken, or its folder is gone."""
-        def lines(error):
+        def lines(error: BaseException) -> Iterator[str]:
             yield "a line\n"
             raise error
         self.write("taken", "mine\n")

@@ -1,29 +1,31 @@
 """Tests of fintaqush raise and of `napi_series --raise`: expected numbers come from the kernel, from traces that are small enough to replay by hand, or
 from replays of each prefix. tests/kernel.sh compares raised replays with the kernel's own functions. RAISED=10000 tries that many random traces."""
 
+from __future__ import annotations
+
 import hashlib
 import os
 import random
 import re
 import subprocess
-import sys
+from collections.abc import Sequence
 from concurrent.futures import ThreadPoolExecutor
 
-from tooltest import HEADER, HERE, REPLAY, SERIES, TOP, InFolder, run
+from prefixes import report_of
+from random_trace import Trace
+from tooltest import HEADER, HERE, NO_WORDS, SERIES, TOP, InFolder, run
 
-sys.path.append(str(TOP / "bench"))
-from random_trace import Trace  # noqa: E402
 from fintaqush_tools.trace import records_of
 
-SETTINGS = [[], ["--budget=2"], ["--budget=1", "--weight=1"], ["--budget=16", "--weight=8"], ["--window=1"], ["--budget=64", "--weight=3", "--window=2"]]
+SETTINGS: list[list[str]] = [[], ["--budget=2"], ["--budget=1", "--weight=1"], ["--budget=16", "--weight=8"], ["--window=1"], ["--budget=64", "--weight=3", "--window=2"]]
 LIMITS = ["--raise", "--raise=0", "--raise=1", "--raise=3"]
 TRACES = int(os.environ.get("RAISED", "300"))
 
 
-def form_of(text, dice):
+def form_of(text: str, dice: random.Random) -> str:
     """Returns a trace in another form: quotes, zeros in front of numbers, other ends of lines, empty lines, a byte-order mark, and no end of the last
     line. A reader has to reject some: a number may have 21 digits, and a field a quote or a space too many."""
-    def field(part):
+    def field(part: str) -> str:
         if part.isdigit() and dice.random() < 0.2:
             part = part.zfill(dice.choice([2, 19, 20]) + (dice.random() < 0.01))
         return f'"{part}"' if dice.random() < 0.2 else part
@@ -36,36 +38,34 @@ def form_of(text, dice):
     return text.rstrip("\r\n") if dice.random() < 0.2 else text
 
 
-def is_run(rows, place):
+def is_run(rows: Sequence[str], place: int) -> bool:
     """Returns whether a row is a softirq row without another one at the same time after it."""
     moment, _, event, _ = rows[place].split(",")
     return event == "softirq" and [row.split(",")[0::2] for row in rows[place + 1 : place + 2]] != [[moment, event]]
 
 
-def series(words, text):
+def series(words: Sequence[str], text: bytes) -> bytes:
     """Returns the output of napi_series, or its error."""
     done = subprocess.run([SERIES, *words], input=text, capture_output=True, check=False)
     return done.stdout or done.stderr
 
 
-
 class Raise(InFolder):
-    def raised(self, text, *words):
+    def raised(self, text: str, *words: object) -> list[str]:
         """Returns the rows of the resulting trace."""
         done = run("raise", "-", *words, text=text)
         self.assertEqual(done.returncode, 0, done.stderr)
         return done.stdout.splitlines()[1:]
 
-    def replay(self, text, *words):
-        done = subprocess.run([REPLAY, *words], input=text, capture_output=True, text=True, check=True)
-        return [line.split() for line in done.stdout.splitlines()]
+    def replay(self, text: str, *words: str) -> list[list[str]]:
+        return report_of(text.splitlines()[1:], words, text[: text.index("\n") + 1])
 
-    def test_recorded_bursts_lose_no_packet(self):
+    def test_recorded_bursts_lose_no_packet(self) -> None:
         """15245 packets reached the kernel's polls. With a small budget the recorded runs poll 8441 of them, and 5582 are dropped; with the runs
         that the kernel would add, all are polled."""
         words = ["--budget", "16", "--weight", "8"]
         path = TOP / "examples/linux-veth-bursts.csv"
-        def sums(report):
+        def sums(report: list[list[str]]) -> tuple[int, int, list[str]]:
             return (int(report[-1][8]), sum(int(line[6]) for line in report if line[0] == "device"), report[-2])
         self.assertEqual(sums(self.replay(path.read_text(), *words))[:2], (8441, 5582))
         done = run("raise", path, *words, "--out", self.folder / "raised.csv")
@@ -77,7 +77,7 @@ class Raise(InFolder):
         self.assertTrue(all(row in kept for row in path.read_text().splitlines()))
         self.assertEqual(run("raise", self.folder / "raised.csv", *words).stdout, text)
 
-    def test_what_the_pages_show_of_a_budget_is_true_to_the_kernel(self):
+    def test_what_the_pages_show_of_a_budget_is_true_to_the_kernel(self) -> None:
         """A command in a page with another budget or weight adds runs, or replays a recording with the recorded one, or uses arrivals, for which
         the machine makes all runs, or the page says what it drops."""
         pages = [TOP / "README.md", TOP / "examples/README.md", *sorted((TOP / "docs").glob("*.md")), TOP / "replay"]
@@ -90,7 +90,7 @@ class Raise(InFolder):
 
     BURST = HEADER + "0,1,open,8\n" + "1,1,rx,60\n" * 3 + "2,0,softirq,0\n3,0,softirq,0\n"
 
-    def test_by_hand(self):
+    def test_by_hand(self) -> None:
         """With one packet per run, three runs take a packet each. Each poll was full and a request was missed, so a fourth run polls without a
         packet. The row at 3 ms finds the list empty, and stays."""
         words = ["--budget", "1", "--weight", "1"]
@@ -100,7 +100,7 @@ class Raise(InFolder):
         self.assertEqual(self.raised(self.BURST, *words, "--restarts", "1"), [*rows[:5], "2,0,softirq,0", rows[5], "3,0,softirq,0"])
         self.assertEqual(self.raised(self.BURST), rows)
 
-    def test_a_run_that_is_not_squeezed(self):
+    def test_a_run_that_is_not_squeezed(self) -> None:
         """With a weight of 1 each full poll asks for a repoll, and the run stops with the device on the list, but without a squeeze. The kernel
         starts another run after it too."""
         rows = self.BURST.splitlines()[1:]
@@ -109,7 +109,7 @@ class Raise(InFolder):
         report = self.replay("\n".join([HEADER.strip(), *raised, ""]), "--weight", "1")
         self.assertEqual([line[-2:] for line in report if line[0] == "softirq"], [["squeezed", "0"]] * 5)
 
-    def test_a_trace_of_version_2(self):
+    def test_a_trace_of_version_2(self) -> None:
         """With a budget of 1 runs are added until all nine packets are polled; with the default budget none is added. Busy rows stay."""
         text = (TOP / "examples/busy-poll.csv").read_text()
         words = ["--budget", "1", "--weight", "1"]
@@ -120,13 +120,13 @@ class Raise(InFolder):
         self.assertGreater(raised.count("softirq"), text.count("softirq"))
         self.assertEqual(self.raised(text), text.splitlines()[1:])
 
-    def test_every_form_of_a_record(self):
+    def test_every_form_of_a_record(self) -> None:
         """The trace that is printed has numbers without zeros in front, no quotes, and a line for each row."""
         text = '\ufeff"moment","device",event,value\r\n\r\n"0",01,open,8\r1,1,rx,60\n\n"18446744073709551615",1,rx,60\n"2",0,"softirq","0'
         self.assertEqual(self.raised(text, "--weight", "1", "--budget", "1"),
                          ["0,1,open,8", "1,1,rx,60", "18446744073709551615,1,rx,60", "2,0,softirq,0", *["2,0,softirq,0"] * 2])
 
-    def test_a_run_that_is_followed_by_one_at_the_same_time(self):
+    def test_a_run_that_is_followed_by_one_at_the_same_time(self) -> None:
         """It has its added run already, in whatever form the time is written. The last run of three is repeated until the list is empty, which takes
         four runs; of five, none."""
         words = ["--budget", "1", "--weight", "1"]
@@ -134,13 +134,13 @@ class Raise(InFolder):
             text = HEADER + "0,1,open,8\n" + "1,1,rx,60\n" * 3 + "2,0,softirq,0\n02,0,softirq,00\n" + "2,0,softirq,0\n" * (own - 2)
             self.assertEqual(self.raised(text, *words)[4:], ["2,0,softirq,0"] * wanted)
 
-    def test_random_traces(self):
+    def test_random_traces(self) -> None:
         """The raised replay equals the replay of the raised trace, or both have the same fault; the program and the tools read the same rows."""
-        def check(number):
+        def check(number: int) -> tuple[bool, bool]:
             dice = random.Random(number)
-            text = Trace(number, 1 + number % 2).text()
-            text = (form_of(text, dice) if number % 3 else text).encode()
-            words, limit, more = dice.choice(SETTINGS), dice.choice(LIMITS), dice.choice([[], ["--polls"], ["--every", "3"]])
+            plain = Trace(number, 1 + number % 2).text()
+            text = (form_of(plain, dice) if number % 3 else plain).encode()
+            words, limit, more = dice.choice(SETTINGS), dice.choice(LIMITS), dice.choice([NO_WORDS, ["--polls"], ["--every", "3"]])
             own, rows = series(["--rows", *words], text), series([limit, "--rows", *words], text)
             is_raised = rows.startswith(b"moment")
             self.assertEqual(series([*more, limit, *words], text), series([*more, *words], rows) if is_raised else rows, number)
@@ -154,9 +154,9 @@ class Raise(InFolder):
         self.assertGreater(raised, TRACES // 2)
         self.assertGreater(longer, TRACES // 10)
 
-    def with_runs(self, header, own, most, words):
+    def with_runs(self, header: str, own: Sequence[str], most: int, words: Sequence[str]) -> str:
         """Returns what the definition says: after each run, a replay of all rows so far shows whether it is made again."""
-        rows = []
+        rows: list[str] = []
         for place, row in enumerate(own):
             rows, added = [*rows, row], 0
             while is_run(own, place) and added < most and self.replay("\n".join([header, *rows, ""]), *words)[-2] != ["list"]:
@@ -164,7 +164,7 @@ class Raise(InFolder):
         self.replay("\n".join([header, *rows, ""]), *words)  # which may have a fault
         return "\n".join([header, *rows, ""])
 
-    def test_the_definition(self):
+    def test_the_definition(self) -> None:
         """A softirq row is played again while the report of all rows so far has a device on the list, unless a run at the same time follows."""
         longer = 0
         for number in range(60):
@@ -172,13 +172,13 @@ class Raise(InFolder):
             own, words, most = own[:80], (["--budget=1", "--weight=1"], ["--window=1"], ["--weight=1"])[number % 3], (1, 3, 99999)[number // 3 % 3]
             try:
                 wanted = self.with_runs(header, own, most, words)
-            except subprocess.CalledProcessError as error:
-                wanted = error.stderr
+            except ValueError as error:
+                wanted = str(error)
             self.assertEqual(series([f"--raise={most}", "--rows", *words], "\n".join([header, *own, ""]).encode()).decode(), wanted, number)
             longer += wanted.count("\n") > len(own) + 1
         self.assertGreater(longer, 15)
 
-    def test_shipped_traces_stay_as_they_were(self):
+    def test_shipped_traces_stay_as_they_were(self) -> None:
         """With several settings: the checksums of the traces that earlier releases made by repeated replays (raised.sums)."""
         for line in (HERE / "raised.sums").read_text().splitlines():
             name, most, *words, wanted = line.split()
@@ -186,7 +186,7 @@ class Raise(InFolder):
             done = series(["--raise" if most == "all" else f"--raise={most}", "--rows", *words], text)
             self.assertEqual(hashlib.sha256(done).hexdigest()[:16], wanted, line)
 
-    def test_a_field_that_is_quoted_in_part(self):
+    def test_a_field_that_is_quoted_in_part(self) -> None:
         """The replay accepts `"so"ftirq` and `"3"0`: the text after a closing quote belongs to the field. So do all that add runs."""
         for old, new, row in (("2,0,softirq", '2,0,"so"ftirq', 5), ("3,0,", '"3"0,0,', 6), ("moment,", '"mo"ment,', 0)):
             text = self.BURST.replace(old, new, 1)
@@ -197,14 +197,14 @@ class Raise(InFolder):
                 done, other = (run(words[0], each, *words[1:]) for each in (path, plain))
                 self.assertEqual((done.returncode, done.stdout), (0, other.stdout.replace("y.csv", "x.csv")), done.stderr)
 
-    def test_a_disable_that_waits_for_the_runs(self):
+    def test_a_disable_that_waits_for_the_runs(self) -> None:
         """In the given rows the enable row meets a pending disable; with the added runs it doesn't."""
         two = HEADER + "0,1,open,8\n0,2,open,8\n0,1,rx,60\n0,2,rx,60\n1,2,disable,0\n2,0,softirq,0\n3,2,enable,0\n"
         self.assertEqual(self.raised(two, "--budget", "1", "--weight", "1")[5:-1].count("2,0,softirq,0") > 1, True)
         self.assertIn("trace fault 12 Pending row 7", run("raise", "-", "--budget", "1", "--weight", "1", "--restarts", "0", text=two).stderr)
         self.assertIn("trace fault 12 Pending row 6", run("raise", "-", text=two.replace("2,0,softirq,0\n", "")).stderr)
 
-    def test_as_many_rows_as_a_trace_has(self):
+    def test_as_many_rows_as_a_trace_has(self) -> None:
         """With one packet per run 49990 packets take 49991 runs, the last without a packet."""
         words = ["--budget", "1", "--weight", "1"]
         text = HEADER + "0,1,open,65536\n" + "0,1,rx,60\n" * 49990 + "1,0,softirq,0\n"
@@ -212,11 +212,9 @@ class Raise(InFolder):
         full = HEADER + "0,1,open,65536\n" + "0,1,tx,60\n" * 99997 + "0,1,rx,60\n1,0,softirq,0\n"
         self.assertEqual(len(self.raised(full)), 100000)
         for more in (full.replace("tx", "rx"), text + "1,1,rx,60\n" * 20 + "2,0,softirq,0\n"):
-            done = run("raise", "-", *words, text=more)
-            self.assertEqual((done.stdout, done.returncode), ("", 1))
-            self.assertIn("trace fault 9 TooManyRows row 100001", done.stderr)
+            self.fails("trace fault 9 TooManyRows row 100001", "raise", "-", *words, text=more)
 
-    def test_refusals(self):
+    def test_refusals(self) -> None:
         self.assertIn("trace fault 6 UnknownDevice row 1", run("raise", "-", text=HEADER + "0,1,rx,60\n").stderr)
         for words in (["--weight", "65"], ["--budget", "0"], ["--restarts", "-1"], ["--restarts", "x"]):
             self.assertEqual(run("raise", "-", *words, text=HEADER).returncode, 2)

@@ -1,5 +1,7 @@
 """Tests of fintaqush record: its errors, and, as root on a kernel with tracing, recordings of a separate veth pair."""
 
+from __future__ import annotations
+
 import os
 import re
 import select
@@ -11,13 +13,17 @@ import sys
 import time
 import unittest
 import unittest.mock
+from argparse import Namespace
+from collections import Counter
+from collections.abc import Iterable, Iterator, Sequence
 from pathlib import Path
-from types import SimpleNamespace
+from typing import Any
 
-from tooltest import START, TOP, InFolder, run
+from tooltest import NO_WORDS, START, TOP, InFolder, run, skip_without
 
-from fintaqush_tools import observed
+from fintaqush_tools import instances, observed, tracing
 from fintaqush_tools.commands import record
+from fintaqush_tools.errors import Refusal
 
 IN_MOUNTS = ["unshare", "-m", "sh", "-c", 'cd /sys/kernel/tracing && { [ -d instances ] || mount -t tracefs nodev .; } 2> /dev/null && cd /sys/kernel/tracing && eval "$1"', "sh"]
 # A program with a given name that reads a number of packets; and one that sends bursts repeatedly: the first has so many packets, and each
@@ -42,10 +48,17 @@ for _ in range(times):
 """
 
 
-def in_tracing(command):
+def in_tracing(command: str) -> str | None:
     """Returns what a shell command prints in the folder of tracefs; None if it fails, as on a machine without tracing."""
     done = subprocess.run([*IN_MOUNTS, command], capture_output=True, text=True, check=False)
     return done.stdout if done.returncode == 0 else None
+
+
+def instances_there() -> list[str]:
+    """Returns the names of ftrace's instances."""
+    listed = in_tracing("ls instances")
+    assert listed is not None
+    return listed.split()
 
 
 IS_ROOT = os.geteuid() == 0
@@ -57,24 +70,24 @@ HAS_TRACING = HAS_NAMESPACES and in_tracing("ls events/napi/napi_poll") is not N
 class Refused(InFolder):
     """Errors that need no tracing."""
 
-    def refused(self, *words, status=1, **options):
-        done = subprocess.run([*START, "record", *words], capture_output=True, text=True, check=False, cwd=self.folder, **options)
+    def refused(self, *words: str, status: int = 1, **options: Any) -> str:
+        done: subprocess.CompletedProcess[str] = subprocess.run([*START, "record", *words], capture_output=True, text=True, check=False, cwd=self.folder, **options)
         self.assertEqual((done.returncode, done.stdout, self.names()), (status, "", []), done.stderr)
         return done.stderr
 
-    def test_words(self):
-        for words in ([], ["--device", "lo"], ["--out", "x"], ["0", "--device", "lo", "--out", "x"], ["5", "6", "--device", "lo", "--out", "x"],
+    def test_words(self) -> None:
+        for words in (NO_WORDS, ["--device", "lo"], ["--out", "x"], ["0", "--device", "lo", "--out", "x"], ["5", "6", "--device", "lo", "--out", "x"],
                       ["--device", "lo", "--out", "x", "--buffer", "0"], ["--device", "lo", "--out", "x", "--processors", "3-1"]):
             self.assertIn("usage: fintaqush record", self.refused(*words, status=2))
 
-    def test_without_root_it_says_so_at_once(self):
+    def test_without_root_it_says_so_at_once(self) -> None:
         front = [] if os.geteuid() else ["unshare", "-U"]  # run without root
         done = subprocess.run([*front, *START, "record", "--device", "none", "--out", "none/x"], capture_output=True, text=True, check=False)
         self.assertEqual((done.stderr, done.stdout, done.returncode), ("fintaqush record: recording needs root: sudo fintaqush record ..\n", "", 1))
 
     @unittest.skipUnless(IS_ROOT, "root")
     @unittest.skipUnless(HAS_IP, "ip")
-    def test_what_is_not_there(self):
+    def test_what_is_not_there(self) -> None:
         for words, why in ((["--device", "none9"], "--device none9: there is no such device; one in a network namespace needs --netns"),
                            (["--device", "../lo"], "--device ../lo: not a device name"), (["--device=-lo"], "--device -lo: not a device name"),
                            (["--device", "lo;id"], "--device lo;id: there is no such device; one in a network namespace needs --netns"),
@@ -95,17 +108,16 @@ class Refused(InFolder):
 class NothingThere(InFolder):
     """What the commands and files say where there is nothing: as printed by iproute2 6.1, ethtool 6.1 and Linux 6.18."""
 
-    def setUp(self):
+    def setUp(self) -> None:
         super().setUp()
         self.observed, path = observed, os.environ["PATH"]
         os.environ["PATH"] = f"{self.folder}:{path}"
         self.addCleanup(os.environ.__setitem__, "PATH", path)
 
-    def stand_in(self, name, script):
-        path = self.write(name, f"#!/bin/sh\n{script}\n")
-        path.chmod(0o755)
+    def stand_in(self, name: str, script: str) -> None:
+        self.program(name, script)
 
-    def test_ip(self):
+    def test_ip(self) -> None:
         """`ip -j link show type` of a kind that the kernel doesn't know prints an empty object for each device."""
         for said in ("echo '[{},{},{},{}]'", "echo '[]'", ":", "exit 1", "echo 'Error: argument \"-j\" is wrong' >&2; exit 255"):
             self.stand_in("ip", said)
@@ -114,7 +126,7 @@ class NothingThere(InFolder):
         self.stand_in("ip", """case "$*" in *list-id*) : ;; *) echo '[{},{"ifindex":3,"ifname":"vb1","link_index":2,"link_netnsid":0}]' ;; esac""")
         self.assertEqual(self.observed.peer_of("vb1", ""), "")
 
-    def test_ethtool(self):
+    def test_ethtool(self) -> None:
         for said in ("echo 'netlink error: Operation not supported' >&2; exit 1", ":", "echo 'Cannot get driver information: Operation not supported' >&2; exit 71"):
             self.stand_in("ethtool", said)
             self.assertEqual((list(self.observed.driver_of("eth0", "")), list(self.observed.by_ethtool("eth0", ""))), ([], []))
@@ -122,7 +134,7 @@ class NothingThere(InFolder):
         self.assertEqual([pair for pair in self.observed.by_ethtool("eth0", "") if "ring" in pair[0]], [])
 
     @unittest.skipUnless(IS_ROOT, "root")
-    def test_tracefs(self):
+    def test_tracefs(self) -> None:
         """A kernel without tracing has no folder for it; in a container the folder is empty, and nothing can be mounted."""
         for front, why in (("mount -t tmpfs nodev /sys/kernel", "this kernel has no tracing: boot one with CONFIG_FTRACE"),
                            ("mount -t tmpfs nodev /sys/kernel && mkdir /sys/kernel/tracing && exec setpriv --bounding-set=-sys_admin", "tracefs can't be mounted")):
@@ -132,20 +144,20 @@ class NothingThere(InFolder):
             self.assertEqual((done.returncode, done.stdout, self.names()), (1, "", []), done.stderr)
             self.assertIn(why, done.stderr.splitlines()[-1])
 
-    def test_a_whole_recording(self):
+    def test_a_whole_recording(self) -> None:
         """Without a sender, on a machine whose kernel has no veth devices."""
         if not HAS_TRACING:
             self.skipTest("tracing")
         self.stand_in("ip", "echo '[{},{},{},{}]'")
-        done = run("record", "1", "--device", "lo", "--out", self.folder / "x.rec", path=f"{self.folder}:{os.environ['PATH']}")
+        done = run("record", "1", "--device", "lo", "--out", self.folder / "x.rec", PATH=f"{self.folder}:{os.environ['PATH']}")
         self.assertEqual(done.returncode, 0, done.stderr)
 
 
 class Advice(unittest.TestCase):
-    def test_a_buffer_that_was_too_small(self):
+    def test_a_buffer_that_was_too_small(self) -> None:
         """32 MB for half a second of five take ten times as much, or a tenth of the time."""
         advice = record.advice_on_buffer
-        words = SimpleNamespace(seconds=5, buffer=32)
+        words = Namespace(seconds=5, buffer=32)
         self.assertEqual(advice(words, 0.5, 1000), "record again with --buffer 320")
         self.assertEqual(advice(words, 0.5, 100), "5 s would need --buffer 320, and this machine has memory for 100: record for 1 s with --buffer 100, or "
                                                   "fewer processors (--processors), or less traffic")
@@ -154,38 +166,123 @@ class Advice(unittest.TestCase):
 class Waits(unittest.TestCase):
     """How long it records, with made-up sizes of the fullest buffer at each check."""
 
-    def looks(self, sizes, seconds):
+    def looks(self, sizes: Iterable[int], seconds: float) -> tuple[bool, int]:
         """Returns whether it ends early, and after how many checks."""
         left = iter(sizes)
-        taken = []
-        instance = SimpleNamespace(statistics=lambda: [(0, 7, 0), (0, taken.append(next(left)) or taken[-1], 0)])
-        with unittest.mock.patch.object(record, "LOOKS", 0.001):
-            return record.wait(instance, SimpleNamespace(seconds=seconds, buffer=1)), len(taken)
+        taken: list[int] = []
 
-    def test_it_ends_before_a_buffer_is_full(self):
-        """It ends if four more checks would exceed nine tenths of 2^20 bytes, 943718. With 50000 bytes per check, four more lead from 700000 at the
-        14th check to 900000, and from 750000 at the 15th to 950000."""
-        self.assertEqual(self.looks(range(50_000, 10**7, 50_000), 60), (True, 15))
-        self.assertEqual(self.looks([100_000, 500_000], 60), (True, 2))
+        class Looked(tracing.Instance):
+            def statistics(self) -> Iterator[tuple[int, int]]:
+                taken.append(next(left))
+                yield from ((7, 0), (taken[-1], 0))
 
-    def test_it_ends_in_time(self):
-        is_full, count = self.looks([0] * 10**6, 0.05)
+        with unittest.mock.patch.multiple(record, LOOKS=0.001, PAUSE=0.0001):
+            return record.wait(Looked(""), Namespace(seconds=seconds, buffer=1), lambda: True), len(taken)
+
+    def test_it_ends_before_a_buffer_is_full(self) -> None:
+        """Eight tenths of 2^20 bytes are 838860, which the 17th check of these exceeds."""
+        self.assertEqual(self.looks(range(50_000, 10**7, 50_000), 60), (True, 17))
+
+    def test_it_ends_in_time(self) -> None:
+        is_full, count = self.looks([838_860] * 10**6, 0.05)
         self.assertTrue(not is_full and 1 <= count <= 60)
+
+
+class Lines(InFolder):
+    """What is read from the buffers of two processors, and what is written."""
+
+    def body(self, *lines: str, clock: str = "mono", pairs: Sequence[tuple[str, str]] = ()) -> record.Body:
+        path = str(self.write("lines", "".join(f"{line}\n" for line in lines)))
+        body = record.Body(path, tracing.Stamps(clock, {}), pairs)
+        body.scan()
+        return body
+
+    def event(self, time: int, cpu: int, said: str) -> str:
+        return f"          <idle>-0       [{cpu:03}] d.s1.  {time // 10**6}.{time % 10**6:06}: {said}"
+
+    def test_they_are_written_in_order(self) -> None:
+        """A buffer is read to its end before the next one, so an earlier event may come later; events of one time stay in order."""
+        times = [5, 7, 7, 3, 9, 1, 12, 4]
+        body = self.body(*(self.event(10**9 + time, place, "x: y") for place, time in enumerate(times)))
+        with unittest.mock.patch.object(record, "LATE", 4), open(self.folder / "out", "wb") as file:
+            body.put(file)
+        found = re.findall(r"\[(\d+)\] d.s1.  (\S+):", (self.folder / "out").read_text())
+        self.assertEqual([time[-6:] for _, time in found], ["000001", "000003", "000004", "000005", "000007", "000007", "000009", "000012"])
+        self.assertEqual([cpu for cpu, time in found if time.endswith("7")], ["001", "002"])
+
+    def test_a_line_of_an_unknown_format(self) -> None:
+        with self.assertRaisesRegex(Refusal, "the kernel's trace has a line of an unknown format: 'CPU:2 "), open(self.folder / "out", "wb") as file:
+            self.body("CPU:2 nothing").put(file)
+
+    def poll(self, time: int, cpu: int, napi: str, work: int, device: str = "vb1", budget: int = 64) -> str:
+        return self.event(time, cpu, f"napi_poll: napi poll on napi struct {napi} for device {device} work {work} budget {budget}")
+
+    def test_instances(self) -> None:
+        """Three instances of a card: one receives on two processors, the second took nothing but a packet's poll is known by napi_id, the third
+        polls for transmit queues. The processors of a receive queue have shares of its packets."""
+        taken = "napi_gro_receive_entry: dev=eth0 napi_id=0x2001 queue_mapping=3 skbaddr=0 vlan_tagged=0"
+        body = self.body(self.event(1, 2, taken), self.event(2, 2, taken), self.poll(3, 2, "aa", 2, "eth0"), self.poll(4, 3, "aa", 6, "eth0"),
+                         self.poll(5, 1, "bb", 0, "eth0"), self.poll(6, 1, "bb", 0, "eth0"), self.poll(7, 1, "cc", 1, "(no_device)"))
+        self.assertEqual([each.text() for each in body.napi], [
+            "device (no_device) napi cc kind receive polls 1 packets 1 on 1:1:1",
+            "device eth0 napi aa napi_id 8193 queue 2 kind receive polls 2 packets 8 on 2:1:2,3:1:6",
+            "device eth0 napi bb kind transmit polls 2 packets 0 on 1:2:0"])
+        again = instances.instances_in({f"instance.{place}": each.text() for place, each in enumerate(body.napi)})
+        self.assertEqual(again, body.napi)
+        self.assertEqual(instances.described("eth0", again), "eth0: 1 receive instance on 2 processors: queue 2 on 3 and 2 (100 %)")
+        for text in ("", "device eth0", "device eth0 napi", "device eth0 napi a on 1:2", "device eth0 napi a on 1:2:3 more 4"):
+            with self.assertRaisesRegex(Refusal, "an unknown format"):
+                instances.instances_in({"instance.1": text})
+
+    def test_the_queues_of_a_pair(self) -> None:
+        """Two queues get 1 to 4 and 5 to 8 packets in turn, and a poll of its instance takes them. One packet in ten finds its ring full, and in one
+        round of seven the poll sees only those of the next round."""
+        lines: list[str] = []
+        time, packet, left = 0, 0, [0, 0]
+        for round_ in range(70):
+            for queue, napi in ((1, "aa"), (0, "bb")):
+                for _ in range(1 + round_ % 4 + 4 * queue):
+                    packet, time = packet + 1, time + 1
+                    is_full = packet % 10 == 0
+                    lines += [self.event(time, 0, f"net_dev_start_xmit: dev=va1 queue_mapping={queue} skbaddr={packet:x} vlan_tagged=0"),
+                              self.event(time, 0, f"net_dev_xmit: dev=va1 skbaddr={packet:x} len=100 rc={int(is_full)}")]
+                    left[queue] += not is_full
+                if round_ % 7 != 3:
+                    time += 1
+                    lines.append(self.poll(time, 2 + queue, napi, left[queue]))
+                    left[queue] = 0
+        body = self.body(*lines, pairs=[("va1", "vb1")])
+        self.assertEqual({each.napi: each.queue for each in body.napi}, {"aa": 1, "bb": 0})
+        self.assertEqual(body.sent["va1"], packet)
+
+    def test_which_events(self) -> None:
+        """Two of them only for devices that need them: packets that RPS or a missing NAPI moves to a backlog, and senders to several queues."""
+        settings = {"device.vb1.rx-0.rps_cpus": "0", "device.vb1.ethtool.feature.generic-receive-offload": "on"}
+        words = Namespace(sender=["va1"], device=["vb1"])
+        several = {**settings, "device.vb1.rx-1.rps_cpus": "0"}
+        without = {**settings, "device.vb1.ethtool.feature.generic-receive-offload": "off"}
+        cases: list[tuple[dict[str, str], list[str], list[str]]] = [
+            (settings, [], []), (several, [], ["va1"]), (without, ["vb1"], []),
+            ({**settings, "device.vb1.rx-0.rps_cpus": "00000000,00000008"}, ["vb1"], [])]
+        for given, moved, senders in cases:
+            self.assertEqual(record.sources_of(words, given, ""), tracing.Sources("", (), moved, senders))
+        self.assertEqual(record.sources_of(Namespace(sender=[], device=["eth0"]), several, "x"), tracing.Sources("x", ["eth0"]))
 
 
 @unittest.skipUnless(IS_ROOT, "root")
 @unittest.skipUnless(HAS_IP, "ip")
 @unittest.skipUnless(HAS_NAMESPACES, "namespaces")
 @unittest.skipUnless(HAS_TRACING, "tracing")
+@skip_without("ethtool")
 class Recorded(InFolder):
     """On a veth pair whose ends are in separate namespaces."""
 
-    def setUp(self):
+    def setUp(self) -> None:
         super().setUp()
         number = os.getpid() % 100000
         self.sending, self.receiving = f"fqs{number}", f"fqr{number}"
         self.ends = f"fqa{number}", f"fqb{number}"
-        self.program = f"fqserver{number}"
+        self.reader = f"fqserver{number}"
         for name in (self.sending, self.receiving):
             self.ip("netns", "add", name)
             self.addCleanup(self.ip, "netns", "del", name)
@@ -198,16 +295,17 @@ class Recorded(InFolder):
             self.ip("-n", name, "link", "set", self.ends[place], "up")
             self.ip("-n", name, "neigh", "replace", f"10.98.0.{2 - place}", "lladdr", addresses[1 - place], "dev", self.ends[place])
 
-    def ip(self, *words):
+    def ip(self, *words: str) -> None:
         subprocess.run(["ip", *words], check=True)
 
-    def start(self, *words, seconds="1"):
+    def start(self, *words: str, seconds: str = "1") -> subprocess.Popen[bytes]:
         """Starts the tool, and returns when it records."""
-        command = [*START, "record", seconds, "--device", self.ends[1], "--netns", self.receiving, "--out", self.folder / "made", *words]
+        command = [*START, "record", seconds, "--device", self.ends[1], "--netns", self.receiving, "--out", str(self.folder / "made"), *words]
         process = subprocess.Popen(command, stdout=subprocess.PIPE, stderr=subprocess.PIPE, cwd=self.folder,
                                    preexec_fn=lambda: signal.signal(signal.SIGINT, signal.SIG_DFL))
         self.addCleanup(process.communicate)
         self.addCleanup(process.kill)
+        assert process.stderr
         said = b""
         while b"recording for" not in said:
             self.assertTrue(select.select([process.stderr], [], [], 60)[0])
@@ -216,34 +314,35 @@ class Recorded(InFolder):
         self.assertEqual(said, f"fintaqush record: recording for {seconds} s\n".encode())
         return process
 
-    def send(self, *numbers):
+    def send(self, *numbers: object) -> None:
         subprocess.run(["ip", "netns", "exec", self.sending, sys.executable, "-c", CLIENT, *map(str, numbers)], check=True)
 
-    def serve(self, count):
+    def serve(self, count: int) -> subprocess.Popen[bytes]:
         """Starts a program that reads so many packets."""
-        process = subprocess.Popen(["ip", "netns", "exec", self.receiving, sys.executable, "-c", SERVER, self.program, str(count)], stdout=subprocess.PIPE)
+        process = subprocess.Popen(["ip", "netns", "exec", self.receiving, sys.executable, "-c", SERVER, self.reader, str(count)], stdout=subprocess.PIPE)
         self.addCleanup(process.communicate)
         self.addCleanup(process.kill)
+        assert process.stdout
         self.assertEqual(process.stdout.readline(), b"ready\n")
         return process
 
-    def head(self):
+    def head(self) -> tuple[dict[str, str], str]:
         head, _, body = (self.folder / "made").read_text(errors="replace").partition("\ntrace\n")
         first, *lines = head.split("\n")
         self.assertEqual(first, "fintaqush-recording 1")
         return dict(line.split(" ", 1) for line in lines), body
 
-    def check_gone(self, process):
+    def check_gone(self, process: subprocess.Popen[bytes]) -> None:
         """Checks that no instance and no file but the recording is left, and that tracing is as before."""
-        self.assertNotIn(f"fintaqush-{process.pid}", in_tracing("ls instances").split())
+        self.assertNotIn(f"fintaqush-{process.pid}", instances_there())
         self.assertIn(self.names(), ([], ["made"]))
 
-    def test_a_recording(self):
+    def test_a_recording(self) -> None:
         """Forty bursts of one to forty packets, which a program reads. Expected numbers come from the sent packets, and from the kernel's files."""
         server = self.serve(820)
         set_before = in_tracing("cat current_tracer tracing_on trace_clock events/enable buffer_size_kb saved_cmdlines_size")
         settings = {path.name: path.read_text().strip() for path in Path("/proc/sys/net/core").glob("*[a-z]") if os.access(path, os.R_OK)}
-        process = self.start("--program", self.program, seconds="3")
+        process = self.start("--program", self.reader, seconds="3")
         self.send(1, 1, 40, 0.005)
         out, said = process.communicate(timeout=120)
         self.assertEqual((said, process.returncode), (b"", 0))
@@ -251,11 +350,13 @@ class Recorded(InFolder):
         self.assertEqual(in_tracing("cat current_tracer tracing_on trace_clock events/enable buffer_size_kb saved_cmdlines_size"), set_before)
         head, body = self.head()
         self.assertEqual([head[key] for key in ("device", "netns", "sender", "pair", "lost", "program", "program.pids", f"sent.{self.ends[0]}")],
-                         [self.ends[1], self.receiving, self.ends[0], f"{self.ends[0]}:{self.ends[1]}", "0", self.program, str(server.pid), "820"])
+                         [self.ends[1], self.receiving, self.ends[0], f"{self.ends[0]}:{self.ends[1]}", "0", self.reader, str(server.pid), "820"])
         for key in ("netdev_budget", "netdev_max_backlog", "dev_weight", "netdev_budget_usecs", "busy_poll", "rps_sock_flow_entries"):
             self.assertIn(head[f"sysctl.net.core.{key}"], (settings[key], Path(f"/proc/sys/net/core/{key}").read_text().strip()))
         self.assertEqual([head[f"device.{self.ends[1]}.{key}"] for key in ("threaded", "napi_defer_hard_irqs", "gro_flush_timeout", "rx-0.rps_cpus")], ["0"] * 4)
-        self.assertEqual(head["kernel"], os.uname().release)
+        self.assertEqual((head["kernel"], head[f"device.{self.ends[1]}.address"]), (os.uname().release, "02:00:00:00:00:02"))
+        self.check_instances(head, body)
+        self.assertAlmostEqual(int(head["began.realtime"]) - time.time_ns(), int(head["began.monotonic"]) - time.monotonic_ns(), delta=10**7)
         before, after = map(int, head[f"device.{self.ends[1]}.statistics.rx_packets"].split())
         self.assertEqual(after - before, 820)
         before, after = map(int, head["udp.InDatagrams"].split())
@@ -267,17 +368,27 @@ class Recorded(InFolder):
         self.assertNotIn("netdev_rss_key", "".join(head))
         self.assertTrue(out.decode().startswith(f"{self.folder}/made: 3."), out)
         self.assertIn(f"; 820 packets of {self.ends[0]}\n", out.decode())
-        done = run("from-ftrace", "made", "arrivals", "--arrivals", folder=self.folder)
-        self.assertEqual((done.stderr, done.returncode), ("", 0))
+        self.succeeds("from-ftrace", "made", "arrivals", "--arrivals", folder=self.folder)
         self.assertEqual((self.folder / "arrivals.csv").read_text().count(",1,142\n"), 820)
         self.check_clock(lines, head)
 
-    def check_clock(self, lines, head):
+    def check_instances(self, head: dict[str, str], body: str) -> None:
+        """Checks the lines of the instances against a plain count of the polls."""
+        polls = re.findall(r"\[(\d+)\] \S+ +\S+ napi_poll: napi poll on napi struct (\S+) for device (\S+) work (\d+)", body)
+        told = instances.instances_in(head)
+        for each in told:
+            own = [(int(cpu), int(work)) for cpu, napi, device, work in polls if (napi, device) == (each.napi, each.device)]
+            self.assertEqual(each.polls, Counter(cpu for cpu, _ in own))
+            self.assertEqual(sum(each.packets.values()), sum(work for _, work in own))
+        self.assertEqual(sum(sum(each.polls.values()) for each in told), len(polls))
+
+    def check_clock(self, lines: list[str], head: dict[str, str]) -> None:
         """Checks that times are of CLOCK_MONOTONIC and rise on each processor; with the processor's counter they have nine digits."""
         stamps = [re.match(r".{16}-\d+\s+\[(\d+)\] \S+ +(\d+)\.(\d+): ", line) for line in lines]
         self.assertTrue(all(stamps))
-        self.assertEqual({len(found[3]) for found in stamps}, {9 if head["clock"] == "tsc" else 6})
-        times = [(int(found[1]), int(found[2]) * 10**9 + int(found[3].ljust(9, "0"))) for found in stamps]
+        seen = [found for found in stamps if found]
+        self.assertEqual({len(found[3]) for found in seen}, {9 if head["clock"] == "tsc" else 6})
+        times = [(int(found[1]), int(found[2]) * 10**9 + int(found[3].ljust(9, "0"))) for found in seen]
         for cpu in {cpu for cpu, _ in times}:
             own = [at for where, at in times if where == cpu]
             self.assertEqual(own, sorted(own))
@@ -285,12 +396,13 @@ class Recorded(InFolder):
         self.assertTrue(all(now - 120 * 10**9 < at < now for _, at in times))
         self.assertTrue(2.5e9 < max(times, key=lambda each: each[1])[1] - min(times, key=lambda each: each[1])[1] < 30e9)
 
-    def test_a_device_without_a_pair(self):
+    def test_a_device_without_a_pair(self) -> None:
         """On the loopback device, as on a card, it records the received packets: at least those sent here. They are arrivals."""
         process = subprocess.Popen([*START, "record", "2", "--device", "lo", "--out", "made"], stdout=subprocess.PIPE,
                                    stderr=subprocess.PIPE, text=True, cwd=self.folder)
         self.addCleanup(process.communicate)
         self.addCleanup(process.kill)
+        assert process.stderr
         self.assertEqual(process.stderr.readline(), "fintaqush record: recording for 2 s\n")
         with socket.socket(socket.AF_INET, socket.SOCK_DGRAM) as end, socket.socket(socket.AF_INET, socket.SOCK_DGRAM) as out:
             end.bind(("127.0.0.1", 0))
@@ -302,38 +414,37 @@ class Recorded(InFolder):
         head, body = self.head()
         self.assertEqual(int(head["received.lo"]), len(re.findall(r" netif_receive_skb: dev=lo ", body)))
         self.assertIn(f"; {head['received.lo']} packets that lo received\n", told)
-        done = run("from-ftrace", "made", "arrivals", "--arrivals", folder=self.folder)
-        self.assertEqual((done.stderr, done.returncode), ("", 0))
+        self.succeeds("from-ftrace", "made", "arrivals", "--arrivals", folder=self.folder)
         # 777 bytes of data, 8 of UDP, 20 of IPv4 and 14 of Ethernet.
         self.assertEqual((self.folder / "arrivals.csv").read_text().count(",1,819\n"), 60)
 
-    def test_an_end_by_a_signal(self):
+    def test_an_end_by_a_signal(self) -> None:
         for number in (signal.SIGINT, signal.SIGTERM, signal.SIGHUP):
             process = self.start(seconds="60")
-            self.assertIn(f"fintaqush-{process.pid}", in_tracing("ls instances").split())
+            self.assertIn(f"fintaqush-{process.pid}", instances_there())
             process.send_signal(number)
             out, said = process.communicate(timeout=60)
             self.assertEqual((out, said, process.returncode), (b"", b"fintaqush record: interrupted\n", 128 + number))
             self.assertEqual(self.names(), [])
             self.check_gone(process)
 
-    def test_what_a_killed_one_left_is_removed(self):
+    def test_what_a_killed_one_left_is_removed(self) -> None:
         """The instance of a running process is kept."""
         process = self.start(seconds="60")
         process.kill()
         process.communicate()
-        self.assertIn(f"fintaqush-{process.pid}", in_tracing("ls instances").split())
+        self.assertIn(f"fintaqush-{process.pid}", instances_there())
         for name in self.names():
             (self.folder / name).unlink()
         in_tracing(f"mkdir instances/fintaqush-{os.getpid()}")
         self.addCleanup(in_tracing, f"rmdir instances/fintaqush-{os.getpid()}")
         other = self.start()
         self.assertEqual(other.wait(60), 0)
-        left = in_tracing("ls instances").split()
+        left = instances_there()
         self.assertNotIn(f"fintaqush-{process.pid}", left)
         self.assertIn(f"fintaqush-{os.getpid()}", left)
 
-    def test_events_that_are_lost(self):
+    def test_events_that_are_lost(self) -> None:
         """While the tool can't check its buffers, more events come than they hold. It prints how many were lost, and the old file stays."""
         self.write("made", "old\n")
         process = self.start("--buffer", "1", seconds="3")
@@ -344,23 +455,47 @@ class Recorded(InFolder):
         self.assertRegex(said, r"^fintaqush record: the kernel lost \d+ events, so the recording isn't written: record for a shorter time, or with a larger --buffer\n$")
         self.assertEqual((process.returncode, self.names(), (self.folder / "made").read_text()), (1, ["made"], "old\n"))
 
-    def test_a_buffer_that_is_too_small(self):
-        """It ends early: the file is written, the exit status is 1, and the last line says which buffer holds the whole time."""
-        process = self.start("--buffer", "1", seconds="60")
+    def test_a_recording_that_is_larger_than_its_buffers(self) -> None:
+        """They are emptied meanwhile: 16000 packets are some 3 MB of events, of which a processor's buffer holds one."""
+        process = self.start("--buffer", "1", seconds="6")
+        self.send(400, 40, 40, 0.01)
+        _, said = process.communicate(timeout=100)
+        self.assertEqual((said, process.returncode), (b"", 0))
+        head, body = self.head()
+        self.assertEqual((head["buffer"], head[f"sent.{self.ends[0]}"], len(re.findall(r" net_dev_xmit: dev=fqa", body))), ("1", "16000", 16000))
+        self.assertTrue(0 < float(head["recorder.seconds"]) < 6)
+
+    def test_a_buffer_that_is_too_small(self) -> None:
+        """If it isn't emptied until the end, the recording ends early: the file is written, the exit status is 1, and the last line says which buffer
+        holds the whole time."""
+        tool = self.tool("""record.LOOKS, drained, end, ended = 0.02, record.is_drained, tracing.Instance.end, []
+tracing.Instance.end = lambda self: (end(self), ended.append(self))
+record.is_drained = lambda pipe, file: not ended or drained(pipe, file)""")
+        process = subprocess.Popen([sys.executable, "-BEs", "-c", tool, "record", "60", "--device", self.ends[1], "--netns", self.receiving, "--buffer", "1", "--out",
+                                    "made"], stderr=subprocess.PIPE, stdout=subprocess.DEVNULL, cwd=self.folder)
+        self.addCleanup(process.kill)
+        assert process.stderr
+        self.assertIn(b"recording for", process.stderr.readline())
         self.send(400, 40, 40, 0.01)
         said = process.communicate(timeout=100)[1].decode()
         self.assertRegex(said.splitlines()[-1], r"^fintaqush record: a buffer of 1 MB was nearly full after [\d.]+ of 60 s, so the recording ended early: (record again with|60 s)")
         self.assertEqual((process.returncode, self.names()), (1, ["made"]))
         self.assertEqual(self.head()[0]["buffer"], "1")
 
-    def test_a_machine_without_an_even_counter(self):
-        """CLOCK_MONOTONIC is used instead, and times have six digits."""
-        tool = f"""import sys
+    @staticmethod
+    def tool(change: str) -> str:
+        """Returns a program that changes a module, and is the tool then."""
+        return f"""import sys
 sys.path.insert(0, "{TOP}/tools")
 from fintaqush_tools import cli, tracing
-tracing.Instance.set_clock = lambda self: self.write("trace_clock", "mono") or "mono"
+from fintaqush_tools.commands import record
+{change}
 cli.entry()
 """
+
+    def test_a_machine_without_an_even_counter(self) -> None:
+        """CLOCK_MONOTONIC is used instead, and times have six digits."""
+        tool = self.tool('tracing.Instance.set_clock = lambda self: self.write("trace_clock", "mono") or "mono"')
         done = subprocess.run([sys.executable, "-BEs", "-c", tool, "record", "3", "--device", "lo", "--out", "made"], capture_output=True, text=True,
                               check=False, cwd=self.folder)
         self.assertEqual(done.returncode, 0, done.stderr)
@@ -368,17 +503,13 @@ cli.entry()
         self.assertEqual(head["clock"], "mono")
         self.check_clock([line for line in body.splitlines() if not line.startswith("#")], head)
 
-    def test_some_processors(self):
+    def test_some_processors(self) -> None:
         process = self.start("--processors", "0")
         self.assertEqual(process.wait(60), 0)
         self.assertEqual(set(re.findall(r"^.{16}-\d+\s+\[(\d+)\]", self.head()[1], re.M)), {"000"})
 
-    def test_a_disk_that_is_full(self):
+    def test_a_disk_that_is_full(self) -> None:
         process = subprocess.run(["bash", "-c", 'ulimit -f 1; trap "" XFSZ; exec "$0" "$@"', *START, "record", "1",
                                   "--device", "lo", "--out", "made"], capture_output=True, text=True, check=False, cwd=self.folder)
         self.assertEqual((process.returncode, process.stdout, self.names()), (1, "", []))
         self.assertEqual(process.stderr.splitlines()[-1], "fintaqush record: File too large")
-
-
-if __name__ == "__main__":
-    unittest.main()

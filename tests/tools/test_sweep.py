@@ -1,19 +1,23 @@
 """Tests of fintaqush sweep."""
 
+from __future__ import annotations
+
 import csv
 import itertools
 import os
-import re
 import shutil
 import subprocess
 import unittest
+from collections.abc import Callable, Sequence
 from concurrent.futures import ThreadPoolExecutor
 from pathlib import Path
+from typing import Any
 
-from tooltest import HEADER, REPLAY, START, TOP, skip_without, InFolder, run, run_apart
+from finding import group_in
+from tooltest import HEADER, NO_WORDS, REPLAY, START, TOP, Done, InFolder, process, run, skip_without, started
 
 
-def slurm_block():
+def slurm_block() -> str:
     """Returns the job array of docs/TOOLS.md."""
     lines = (TOP / "docs/TOOLS.md").read_text().splitlines()
     first = lines.index("    #!/bin/bash")
@@ -21,30 +25,30 @@ def slurm_block():
     return "".join(f"{line[4:]}\n" for line in lines[first:last])
 
 
-def has_slurm():
+def has_slurm() -> bool:
     """Returns whether a slurmd accepts jobs."""
-    return bool(shutil.which("sbatch")) and subprocess.run(["sinfo", "-h"], capture_output=True, check=False).returncode == 0
+    return bool(shutil.which("sbatch")) and process("sinfo", "-h").returncode == 0
 
 
 class Sweep(InFolder):
     FAULTY = HEADER + "0,1,rx,60\n"
     BURST = HEADER + "0,1,open,8\n" + "0,1,rx,60\n" * 9 + "1,0,softirq,0\n0,1,tx,100\n0,1,done,1\n"
 
-    def setUp(self):
+    def setUp(self) -> None:
         super().setUp()
         self.write("burst.csv", self.BURST)
         self.write("faulty.csv", self.FAULTY)
         self.out = self.folder / "rows"
 
-    def sweep(self, *words, path=None):
-        return run("sweep", self.folder, "--budget", "2,300", "--weight", "2,64", "--out", self.out, "--program", REPLAY,
-                   *words, path=path)
+    def sweep(self, *words: object, **variables: Any) -> Done:
+        settings = ["--budget", "2,300", "--weight", "2,64", "--program", REPLAY]
+        return run("sweep", self.folder, *settings, "--out", self.out, *words, **variables)
 
-    def rows(self):
+    def rows(self) -> list[dict[str, str]]:
         with open(self.out, newline="", encoding="utf-8") as file:
             return list(csv.DictReader(file))
 
-    def check_rows(self):
+    def check_rows(self) -> None:
         """Nine packets meet eight places, so one is dropped. A budget of 2 squeezes the run after its first poll. A device whose poll was full is
         polled again in the next run; one whose poll wasn't is polled again because of missed requests. The queue's limit of 0 grows by the 100
         bytes that were completed while nothing else was queued."""
@@ -57,7 +61,7 @@ class Sweep(InFolder):
         for row in rows[4:]:
             self.assertEqual([row[name] for name in names], ["2", "trace fault 6 UnknownDevice row 1", "", "", "", "", "", ""])
 
-    def test_every_trace_with_every_combination(self):
+    def test_every_trace_with_every_combination(self) -> None:
         done = self.sweep()
         self.assertEqual(done.returncode, 0)
         self.assertIn("8 rows in", done.stderr)
@@ -81,24 +85,23 @@ list
 total devices 3 runs 2 polls 7 work 80 squeezed 2
 """
 
-    def test_each_value_is_of_all_rows_and_devices(self):
+    def test_each_value_is_of_all_rows_and_devices(self) -> None:
         """With a program that prints this report: rows of all three kinds poll, each number has a digit of its own, and the greatest limit is
         neither the first queue's nor the last one's."""
-        program = self.write("program", f"#!/bin/sh\ncat > '{self.folder}/read'\ncat '{self.write('report', self.REPORT)}'\n")
-        program.chmod(0o755)
+        program = self.program("program", f"cat > '{self.folder}/read'\ncat '{self.write('report', self.REPORT)}'")
         done = run("sweep", self.folder / "burst.csv", "--out", self.out, "--program", program)
         self.assertEqual((done.returncode, len(self.rows())), (0, 1), done.stderr)
         self.assertEqual([self.rows()[0][name] for name in ("polls", "work", "squeezed", "dropped", "left", "greatest_limit")],
                          [str(1 + 200 + 40000 + 6 + 800), str(10 + 3000 + 500000 + 70 + 9000), "2", "321", "9870", "1500"])
 
-    def test_only_other_machines_need_parallel(self):
-        done = self.sweep(path=str(self.folder))
+    def test_only_other_machines_need_parallel(self) -> None:
+        done = self.sweep(PATH=self.folder)
         self.assertEqual(done.returncode, 0)
         self.assertNotIn("parallel", done.stderr)
         self.check_rows()
-        self.assertIn("needs GNU parallel", self.sweep("--resume", "--sshloginfile", self.write("machines", ":"), "--window", "7", path=str(self.folder)).stderr)
+        self.assertIn("needs GNU parallel", self.sweep("--resume", "--sshloginfile", self.write("machines", ":"), "--window", "7", PATH=self.folder).stderr)
 
-    def test_it_goes_on_where_it_was(self):
+    def test_it_goes_on_where_it_was(self) -> None:
         self.sweep()
         lines = self.out.read_text().splitlines(keepends=True)
         # Three rows and a part of one are there. What is there isn't made again: its polls distinguish it from a row that is made.
@@ -109,20 +112,22 @@ total devices 3 runs 2 polls 7 work 80 squeezed 2
         self.assertIn("8 rows, of which 3 are there", done.stderr)
         self.assertEqual(self.out.read_text().splitlines(keepends=True), [kept[0], kept[1], *lines[2:]])
 
-    def test_a_damaged_file_and_the_line_that_repairs_it(self):
+    def test_a_damaged_file_and_the_line_that_repairs_it(self) -> None:
         """A shell runs the command in the error message; then --resume has all rows again."""
         self.sweep()
         whole = self.out.read_text()
-        for damage in (lambda lines: [lines[0], lines[1], lines[2].replace(",", "", 3), *lines[3:]], lambda lines: ["trace;sum\n", *lines[1:]]):
+        damages: list[Callable[[list[str]], list[str]]] = [
+            lambda lines: [lines[0], lines[1], lines[2].replace(",", "", 3), *lines[3:]], lambda lines: ["trace;sum\n", *lines[1:]]]
+        for damage in damages:
             self.out.write_text("".join(damage(whole.splitlines(True))))
             done = self.sweep("--resume")
             self.assertEqual(done.returncode, 1)
-            repair = re.search("`(sed .*)`", done.stderr)[1]
-            subprocess.run(["sh", "-c", repair], check=True)
+            repair = group_in("`(sed .*)`", done.stderr)
+            self.assertEqual(process("sh", "-c", repair).returncode, 0)
             self.assertEqual(self.sweep("--resume").returncode, 0)
             self.assertEqual(self.out.read_text(), whole)
 
-    def test_limits(self):
+    def test_limits(self) -> None:
         """With --fail-if, a result beyond a limit sets exit status 3; by hand, a budget of 2 squeezes, and 300 doesn't."""
         for condition, status in (("squeezed>0", 3), ("squeezed>1", 0), ("dropped >= 1", 3), ("left==6", 3), ("work<2", 0)):
             done = self.sweep("--resume", "--fail-if", condition)
@@ -131,23 +136,21 @@ total devices 3 runs 2 polls 7 work 80 squeezed 2
         for condition in ("squeezed", "squeezed>0us", "nothing>0", "squeezed>", "squeezed>1e3"):
             self.assertEqual(self.sweep("--fail-if", condition).returncode, 2, condition)
 
-    def test_two_calls_on_one_file_lose_no_row(self):
+    def test_two_calls_on_one_file_lose_no_row(self) -> None:
         """Each replays other windows, at the same time; the file has the rows of both, each once."""
-        slow = self.write("slow", f"#!/bin/sh\nsleep 0.05\nexec '{REPLAY}' \"$@\"\n")
-        slow.chmod(0o755)
+        slow = self.program("slow", f"sleep 0.05\nexec '{REPLAY}' \"$@\"")
         words = [self.folder, "--budget", "2,300", "--resume", "--jobs", "2", "--out", self.out, "--program", slow]
         windows = [[str(10 * call + each) for each in range(1, 10)] for call in range(3)]
         with ThreadPoolExecutor(3) as pool:
-            ended = list(pool.map(lambda window: run_apart("sweep", *words, "--window", ",".join(window)), windows))
+            ended = list(pool.map(lambda window: process(*START, "sweep", *words, "--window", ",".join(window)), windows))
         self.assertEqual([done.returncode for done in ended], [0, 0, 0], [done.stderr for done in ended])
         self.assertEqual(sorted((Path(row["trace"]).name, row["budget"], row["window"]) for row in self.rows()),
                          sorted(itertools.product(["burst.csv", "faulty.csv"], ["2", "300"], sum(windows, []))))
 
-    def test_it_goes_by_what_a_trace_holds(self):
+    def test_it_goes_by_what_a_trace_holds(self) -> None:
         """A changed trace is replayed again, and its old rows are removed; a renamed one isn't replayed, and keeps its rows."""
         played = self.folder / "played"
-        program = self.write("program", f"#!/bin/sh\necho >> '{played}'\nexec '{REPLAY}' \"$@\"\n")
-        program.chmod(0o755)
+        program = self.program("program", f"echo >> '{played}'\nexec '{REPLAY}' \"$@\"")
         words = ["--resume", "--program", program]
         self.assertEqual(self.sweep(*words).returncode, 0)
         before = self.rows()
@@ -165,7 +168,7 @@ total devices 3 runs 2 polls 7 work 80 squeezed 2
         rows = [row for row in self.rows() if row["trace"].endswith("other.csv")]
         self.assertEqual([row["polls"] for row in rows], ["0"] * 4)
 
-    def test_what_a_killed_call_left_of_a_row_goes(self):
+    def test_what_a_killed_call_left_of_a_row_goes(self) -> None:
         self.sweep()
         whole = self.out.read_text()
         self.out.write_text(whole[: whole.rindex("faulty") - 20])
@@ -173,28 +176,28 @@ total devices 3 runs 2 polls 7 work 80 squeezed 2
         self.assertEqual(self.sweep("--resume").returncode, 0)
         self.assertEqual(sorted(self.out.read_text().splitlines()), sorted(whole.splitlines()))
 
-    def test_tasks_that_are_cancelled_and_resumed_have_the_rows_of_one_machine(self):
+    def test_tasks_that_are_cancelled_and_resumed_have_the_rows_of_one_machine(self) -> None:
         """Sixteen tasks, each with its part, are terminated at any time, as a cancelled job is, and started again until all have finished."""
-        slow = self.write("slow", f"#!/bin/sh\nsleep 0.05\nexec '{REPLAY}' \"$@\"\n")
-        slow.chmod(0o755)
+        slow = self.program("slow", f"sleep 0.05\nexec '{REPLAY}' \"$@\"")
         windows = ",".join(str(number) for number in range(1, 33))
         words = [self.folder, "--budget", "2,300", "--window", windows, "--program", slow]
-        def task(number):
-            call = [*START, "sweep", *map(str, words), "--resume", "--jobs", "1", "--part", f"{number}/16",
-                    "--out", str(self.folder / f"rows-{number}")]
-            said = []
+
+        def task(number: int) -> tuple[bool, list[str]]:
+            more = ["--resume", "--jobs", "1", "--part", f"{number}/16", "--out", self.folder / f"rows-{number}"]
+            said: list[str] = []
             for seconds in (0.3, 0.5, 0.7, 300):
-                with subprocess.Popen(call, stderr=subprocess.PIPE, text=True) as process:
+                with started(*START, "sweep", *words, *more) as child:
                     try:
-                        said.append(process.communicate(timeout=seconds)[1])
+                        said.append(child.communicate(timeout=seconds)[1])
                     except subprocess.TimeoutExpired:
-                        process.terminate()
-                        said.append(process.communicate(timeout=300)[1])
-                    if process.returncode == 0:
-                        return True, said
-                    if process.returncode != 143 and (process.returncode != -15 or said[-1]):  # before it took signals
-                        return False, said
+                        child.terminate()
+                        said.append(child.communicate(timeout=300)[1])
+                if child.returncode == 0:
+                    return True, said
+                if child.returncode != 143 and (child.returncode != -15 or said[-1]):  # before it took signals
+                    return False, said
             return False, said
+
         with ThreadPoolExecutor(4) as pool:
             for ended, said in pool.map(task, range(1, 17)):
                 self.assertTrue(ended, said)
@@ -205,14 +208,14 @@ total devices 3 runs 2 polls 7 work 80 squeezed 2
         self.assertEqual(len(parts), 2 * 2 * 32)
         self.assertEqual([name for name in self.names() if name.startswith(".")], [])
 
-    def test_hidden_files_and_rows_are_no_traces(self):
+    def test_hidden_files_and_rows_are_no_traces(self) -> None:
         self.out = self.folder / "rows.csv"
         self.write(".hidden.csv", self.BURST)
-        for words in ([], ["--resume"]):
+        for words in (NO_WORDS, ["--resume"]):
             self.assertEqual(self.sweep(*words).returncode, 0)
             self.check_rows()
 
-    def test_rows_of_other_settings_stay(self):
+    def test_rows_of_other_settings_stay(self) -> None:
         self.sweep()
         before = self.out.read_text()
         done = self.sweep("--resume", "--window", "7", "--budget", "5")
@@ -221,12 +224,11 @@ total devices 3 runs 2 polls 7 work 80 squeezed 2
         self.assertTrue(self.out.read_text().startswith(before))
         self.assertEqual(len(self.rows()), 12)
 
-    def test_what_fails_is_no_row_and_is_tried_again(self):
+    def test_what_fails_is_no_row_and_is_tried_again(self) -> None:
         """A program that a signal ends, one that isn't the replay, one that reads nothing, and one that fails twice."""
         for body in ("kill -9 $$", "exit 0", "echo hello", "echo 'memory fault 11 OutOfMemory' >&2; exit 4",
                      "echo 'trace fault 10 ReadFailed' >&2; exit 2", "exit 64"):
-            program = self.write("program", f"#!/bin/sh\n{body}\n")
-            program.chmod(0o755)
+            program = self.program("program", f"{body}")
             done = self.sweep("--resume", "--program", program)
             self.assertEqual(done.returncode, 1)
             self.assertIn("8 rows are missing: --resume tries them again", done.stderr)
@@ -241,17 +243,17 @@ total devices 3 runs 2 polls 7 work 80 squeezed 2
         self.assertEqual(self.sweep("--program", program).returncode, 0)
         self.check_rows()
 
-    def test_runs_raised_anew(self):
+    def test_runs_raised_anew(self) -> None:
         """With the recorded runs only, 5582 packets are dropped; Linux would have made more runs."""
         trace = TOP / "examples/linux-veth-bursts.csv"
-        for words in ([], ["--raise"]):
+        for words in (NO_WORDS, ["--raise"]):
             done = run("sweep", trace, "--budget", "16", "--weight", "8", "--out", self.out, "--resume", *words)
             self.assertEqual(done.returncode, 0, done.stderr)
         names = ["raise", "work", "dropped"]
         self.assertEqual([[row[name] for name in names] for row in self.rows()],
                          [["no", "8441", "5582"], ["all", "15245", "0"]])
 
-    def test_a_trace_of_version_2(self):
+    def test_a_trace_of_version_2(self) -> None:
         """All nine packets of examples/busy-poll.csv are polled by a run, a thread or a busy poll, so none is left."""
         shutil.copy(TOP / "examples/busy-poll.csv", self.write("burst.csv", ""))
         done = self.sweep()
@@ -260,10 +262,10 @@ total devices 3 runs 2 polls 7 work 80 squeezed 2
         self.assertEqual([row[name] for name in ("budget", "weight", "status", "fault", "dropped", "left")],
                          ["300", "64", "0", "", "0", "0"])
 
-    def test_progress_is_told(self):
+    def test_progress_is_told(self) -> None:
         self.assertRegex(self.sweep().stderr, r"fintaqush sweep: 4 of 8 rows, \d+ s\n")
 
-    def test_what_it_finds_in_a_folder(self):
+    def test_what_it_finds_in_a_folder(self) -> None:
         (self.folder / "folder.csv").mkdir()
         os.mkfifo(self.folder / "fifo.csv")
         done = self.sweep()
@@ -272,7 +274,7 @@ total devices 3 runs 2 polls 7 work 80 squeezed 2
         self.check_rows()
         self.assertIn("or not a regular file", run("sweep", self.folder / "fifo.csv", "--out", self.out).stderr)
 
-    def test_a_name_that_is_no_text(self):
+    def test_a_name_that_is_no_text(self) -> None:
         name = os.fsencode(self.folder) + b"/\xff;touch x,\x1b.csv"
         os.rename(self.folder / "burst.csv", name)
         os.unlink(self.folder / "faulty.csv")
@@ -293,26 +295,25 @@ shift
 SHELL=/bin/bash exec bash -c "$*"  # as sshd does
 """
 
-    def by_ssh(self, *hosts, words=()):
+    def by_ssh(self, *hosts: str, words: Sequence[object] = ()) -> tuple[Done, list[str]]:
         """Runs a sweep over these machines, and returns the hosts that were used."""
         (self.folder / "bin").mkdir(exist_ok=True)
-        ssh = self.write("bin/ssh", self.SSH)
-        ssh.chmod(0o755)
+        self.write("bin/ssh", self.SSH).chmod(0o755)
         asked = self.write("hosts", "")
         machines = self.write("machines", "".join(f"2/{host}\n" for host in hosts))
-        done = run("sweep", self.folder, "--budget", "2,300", "--weight", "2,64", "--out", self.out, "--program", REPLAY,
-                   "--sshloginfile", machines, *words, path=f"{self.folder}/bin:{os.environ['PATH']}", HOSTS=str(asked))
+        path = f"{self.folder}/bin:{os.environ['PATH']}"
+        done = self.sweep("--sshloginfile", machines, *words, PATH=path, HOSTS=asked)
         return done, asked.read_text().split()
 
     @skip_without("parallel")
-    def test_two_machines(self):
+    def test_two_machines(self) -> None:
         done, asked = self.by_ssh("one", "two")
         self.assertEqual(done.returncode, 0, done.stderr)
         self.assertEqual(set(asked), {"one", "two"})
         self.check_rows()
 
     @skip_without("parallel")
-    def test_a_machine_that_is_dead(self):
+    def test_a_machine_that_is_dead(self) -> None:
         """The other machine replays its rows, and no row is lost."""
         done, asked = self.by_ssh("dead", "two")
         self.assertEqual(done.returncode, 0, done.stderr)
@@ -321,7 +322,7 @@ SHELL=/bin/bash exec bash -c "$*"  # as sshd does
         self.check_rows()
 
     @skip_without("parallel")
-    def test_machines_that_are_all_dead(self):
+    def test_machines_that_are_all_dead(self) -> None:
         """No row, an exit status that says so, and the next call replays them."""
         done, asked = self.by_ssh("dead")
         self.assertEqual((done.returncode, self.rows()), (1, []))
@@ -331,29 +332,27 @@ SHELL=/bin/bash exec bash -c "$*"  # as sshd does
         self.assertEqual(done.returncode, 0, done.stderr)
         self.check_rows()
 
-    def by_slurm(self, *words, path=None):
+    def by_slurm(self, *words: str, **variables: Any) -> None:
         """Runs the block of docs/TOOLS.md unchanged with sbatch; its parts together are the rows of one sweep."""
         (self.folder / "traces").mkdir()
         for name in ("burst.csv", "faulty.csv"):
             os.rename(self.folder / name, self.folder / "traces" / name)
         os.symlink(TOP / "fintaqush", self.folder / "fintaqush")
-        environment = {**os.environ, "PROGRAM": REPLAY, "PATH": path or os.environ["PATH"]}
-        done = subprocess.run(["sbatch", *words, self.write("job.sh", slurm_block())], cwd=self.folder, capture_output=True, text=True,
-                              check=False, env=environment)
+        done = process("sbatch", *words, self.write("job.sh", slurm_block()), folder=self.folder, **variables)
         self.assertEqual(done.returncode, 0, (done.stderr, [log.read_text() for log in self.folder.glob("slurm-*.out")]))
         self.assertEqual(len(list(self.folder.glob("rows-*.csv"))), 16)
         together = "awk 'FNR > 1 || NR == 1' rows-*.csv"
         self.assertIn(f"`{together}` puts the parts together", (TOP / "docs/TOOLS.md").read_text())
-        parts = subprocess.run(["bash", "-c", together], cwd=self.folder, capture_output=True, text=True, check=True).stdout.splitlines()
-        done = run("sweep", "traces", "--budget", "64,300,1000", "--weight", "16,64", "--raise", "--out", self.out,
-                   folder=self.folder)
+        parts = process("bash", "-c", together, folder=self.folder).stdout.splitlines()
+        settings = ["--budget", "64,300,1000", "--weight", "16,64", "--raise"]
+        done = run("sweep", "traces", *settings, "--out", self.out, folder=self.folder)
         self.assertEqual(done.returncode, 0, done.stderr)
         whole = self.out.read_text().splitlines()
         self.assertEqual((parts[0], sorted(parts[1:])), (whole[0], sorted(whole[1:])))
         self.assertEqual(len(whole), 13)
 
     @unittest.skipUnless(has_slurm(), "slurmd")
-    def test_the_block_for_slurm(self):
+    def test_the_block_for_slurm(self) -> None:
         self.by_slurm("--wait")
 
     # In place of sbatch: it parses the options at the head of the file, and runs each job of the array after the other, with the variables
@@ -370,17 +369,17 @@ for job in range(first, last + 1):
     subprocess.run([os.path.abspath(sys.argv[1])], check=True, env={**os.environ, **told, "SLURM_ARRAY_TASK_ID": str(job)})
 """
 
-    def test_the_block_for_slurm_by_a_stand_in(self):
+    def test_the_block_for_slurm_by_a_stand_in(self) -> None:
         self.write("sbatch", self.SBATCH).chmod(0o755)
-        self.by_slurm(path=f"{self.folder}:{os.environ['PATH']}")
+        self.by_slurm(PATH=f"{self.folder}:{os.environ['PATH']}")
 
-    def test_a_file_is_not_overwritten(self):
+    def test_a_file_is_not_overwritten(self) -> None:
         self.out.write_text("mine\n")
         self.assertIn("exists: --resume continues it", self.sweep().stderr)
         self.assertIn("not a file of sweep", self.sweep("--resume").stderr)
         self.assertEqual(self.out.read_text(), "mine\n")
 
-    def test_parts_are_all_of_it(self):
+    def test_parts_are_all_of_it(self) -> None:
         self.sweep()
         whole = self.rows()
         parts = []
@@ -391,10 +390,10 @@ for job in range(first, last + 1):
         self.assertEqual([len(rows) for rows in parts], [3, 3, 2])
         self.assertCountEqual([tuple(row.values()) for rows in parts for row in rows], [tuple(row.values()) for row in whole])
 
-    def test_words_that_it_refuses(self):
-        for words in (["--budget", "64,x"], ["--part", "4/3"], [], ["--budget", "0"], ["--weight", "65"], ["--jobs", "0"],
+    def test_words_that_it_refuses(self) -> None:
+        for words in (["--budget", "64,x"], ["--part", "4/3"], NO_WORDS, ["--budget", "0"], ["--weight", "65"], ["--jobs", "0"],
                       ["--restarts", "3"], ["--window", "65536"]):
-            done = run("sweep", *(words and [self.folder]), *words, "--out", self.out)
+            done = run("sweep", *([self.folder] if words else []), *words, "--out", self.out)
             self.assertEqual((done.returncode, self.out.exists()), (2, False), words)
         self.assertIn("no such trace", run("sweep", self.folder / "none", "--program", REPLAY).stderr)
         self.assertIn("not a program", run("sweep", self.folder, "--program", "/dev/null", "--out", self.out).stderr)

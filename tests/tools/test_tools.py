@@ -1,13 +1,17 @@
 """Tests of tools/. Expected traces and work come from another converter; expected values are written by hand."""
 
+from __future__ import annotations
+
 import json
 import os
 import re
 import struct
-import subprocess
 import unittest
+from collections.abc import Iterable
+from pathlib import Path
+from typing import Any
 
-from tooltest import HEADER, HERE, REPLAY, TOP, InFolder, run, skip_without, START
+from tooltest import HEADER, HERE, NO_WORDS, REPLAY, START, TOP, InFolder, process, run, skip_without
 
 from fintaqush_tools import reports
 from fintaqush_tools.errors import Refusal
@@ -16,36 +20,32 @@ PAIRS = [word for number in range(1, 7) for word in ("--pair", f"va{number}:vb{n
 
 
 class FromFtrace(InFolder):
-    def convert(self, text, *words):
+    def convert(self, text: str, *words: object) -> tuple[list[str], list[str], list[str]]:
         """Returns the rows, the work and the notes of a recording."""
-        for end in ("csv", "work", "notes"):
-            (self.folder / f"made.{end}").unlink(missing_ok=True)
-        done = run("from-ftrace", "-", self.folder / "made", *words, text=text)
-        self.assertEqual((done.stderr, done.returncode), ("", 0))
-        rows, work, notes = [(self.folder / f"made.{end}").read_text().splitlines() for end in ("csv", "work", "notes")]
-        self.assertEqual(rows[0], "moment,device,event,value")
-        return rows[1:], work, notes
+        rows, work, notes = self.converted("from-ftrace", "-", *words, ends=("csv", "work", "notes"), text=text)
+        self.assertTrue(rows.startswith(HEADER))
+        return rows.splitlines()[1:], work.splitlines(), notes.splitlines()
 
-    def refused(self, text, *words):
+    def refused(self, text: str, *words: object) -> str:
         """Returns the error message for a recording without a trace, and checks that no file is left."""
         done = run("from-ftrace", "-", self.folder / "made", *words, text=text)
         self.assertEqual(done.returncode, 1)
         self.assertEqual(list(self.folder.iterdir()), [])
         return done.stderr
 
-    def test_recorded_pieces_are_as_the_other_converter_has_them(self):
+    def test_recorded_pieces_are_as_the_other_converter_has_them(self) -> None:
         for name in ("soft-tcp", "soft-gso-23"):
             self.convert((HERE / f"{name}.txt").read_text(), *PAIRS)
             for end in ("csv", "work"):
                 self.assertEqual((self.folder / f"made.{end}").read_text(), (HERE / f"{name}.{end}").read_text())
 
-    def test_arrivals_within_a_run_are_noted(self):
+    def test_arrivals_within_a_run_are_noted(self) -> None:
         rows, _, notes = self.convert((HERE / "soft-gso-23.txt").read_text(), *PAIRS)
         self.assertEqual(rows[66], "128,0,softirq,0")
         self.assertTrue(any(note.startswith("row 67:") and "stand before it: 6;" in note for note in notes))
         self.assertIn("runs on 2 processors, each with a poll list of its own: the trace has one list", notes)
 
-    def test_the_text_of_trace_cmd_is_read(self):
+    def test_the_text_of_trace_cmd_is_read(self) -> None:
         rows, work, _ = self.convert("""cpus=2
           <idle>-0     [001]   100.000100: net_dev_xmit:         dev=veth0 skbaddr=0xffff888 len=90 rc=0
           <idle>-0     [001]   100.002100: softirq_entry:        vec=3 [action=NET_RX]
@@ -54,7 +54,7 @@ class FromFtrace(InFolder):
         self.assertEqual(rows, ["0,1,open,16", "0,2,open,16", "0,1,rx,90", "2,0,softirq,0"])
         self.assertEqual(work, ["polls 1 work 1"])
 
-    def test_the_text_of_perf_is_read(self):
+    def test_the_text_of_perf_is_read(self) -> None:
         """As `perf script` of Linux 6.1 writes it (builtin-script.c: task, thread, processor, time, system:event), with a call chain."""
         rows, work, notes = self.convert("""         swapper     0 [001]   100.000100:                      net:net_dev_xmit: dev=veth0 skbaddr=0xffff888 len=90 rc=0
         ffffffff81a0b1c2 dev_hard_start_xmit+0x12 ([kernel.kallsyms])
@@ -68,7 +68,7 @@ class FromFtrace(InFolder):
         self.assertEqual(work, ["polls 1 work 2"])
         self.assertIn("line 7 of the recording: the kernel lost 5 events", notes)
 
-    def test_what_trace_cmd_says_of_lost_events(self):
+    def test_what_trace_cmd_says_of_lost_events(self) -> None:
         """As `trace-cmd report` writes it (trace-read.c)."""
         _, _, notes = self.convert("""cpus=2
 CPU:1 [7 EVENTS DROPPED]
@@ -78,7 +78,7 @@ CPU:1 [7 EVENTS DROPPED]
 """)
         self.assertIn("line 2 of the recording: the kernel lost 7 events", notes)
 
-    def test_threads_are_rows_of_their_own(self):
+    def test_threads_are_rows_of_their_own(self) -> None:
         rows, work, notes = self.convert("""# tracer: nop
    python3-7     [000] b....  5.000000: net_dev_xmit: dev=va1 skbaddr=00000000a len=60 rc=0
    napi/vb1-8-9  [001] b....  5.001000: napi_poll: napi poll on napi struct 0 for device vb1 work 64 budget 64
@@ -89,7 +89,7 @@ CPU:1 [7 EVENTS DROPPED]
         self.assertEqual(work, ["polls 2 work 67", "polls 1 work 1"])
         self.assertIn("row 5: the thread may have yielded between its 2 polls; it isn't recorded", notes)
 
-    def test_what_is_in_no_row_is_noted(self):
+    def test_what_is_in_no_row_is_noted(self) -> None:
         rows, work, notes = self.convert("""CPU:0 [LOST 12 EVENTS]
    a-1  [000] ..s1.  5.000000: napi_poll: napi poll on napi struct 0 for device vb1 work 2 budget 64
    a-1  [000] b....  5.000001: net_dev_xmit: dev=va1 skbaddr=0 len=60 rc=16
@@ -111,7 +111,7 @@ CPU:1 [7 EVENTS DROPPED]
             "no row: packets and polls of a device that is in no pair: eth0, 1",
             "no row: polls whose softirq began before the recording, or in none: vb1, 2"])
 
-    def test_refusals(self):
+    def test_refusals(self) -> None:
         packet = "   a-1  [000] b....  5.000000: net_dev_xmit: dev=va1 skbaddr=0 len={} rc=0\n"
         self.assertIn("there is no event in it", self.refused("# nothing\n"))
         self.assertIn("line 2: no line of ftrace", self.refused(packet.format(60) + "what\n"))
@@ -123,7 +123,7 @@ CPU:1 [7 EVENTS DROPPED]
         self.assertIn("18 devices", self.refused(packet.format(60), *(f"--pair=va{n}:vb{n}" for n in range(1, 10))))
         self.assertIn("100001 rows", self.refused(packet.format(60) * 99999))
 
-    def test_a_change_between_thread_and_softirq_is_refused(self):
+    def test_a_change_between_thread_and_softirq_is_refused(self) -> None:
         self.assertIn("vb1: polled by a thread and in softirqs", self.refused("""
    python3-7     [000] b....  5.000900: net_dev_xmit: dev=va1 skbaddr=0 len=60 rc=0
    napi/vb1-8-9  [001] b....  5.001000: napi_poll: napi poll on napi struct 0 for device vb1 work 1 budget 64
@@ -131,14 +131,14 @@ CPU:1 [7 EVENTS DROPPED]
    napi/vb1-8-9  [001] ..s1.  5.002000: napi_poll: napi poll on napi struct 0 for device vb1 work 3 budget 64
 """))
 
-    def test_where_nothing_polls_it_says_why(self):
+    def test_where_nothing_polls_it_says_why(self) -> None:
         text = "\n".join(line for line in (HERE / "soft-tcp.txt").read_text().splitlines() if "napi_poll" not in line)
         self.assertIn("nothing polls in it. A veth polls only where packets are handed to NAPI: `ethtool -K END tso off gro on`",
                       self.refused(text, *PAIRS))
         self.assertIn("nothing polls in it but devices that are in no pair: xa1",
                       self.refused((HERE / "soft-tcp.txt").read_text().replace("for device v", "for device x"), *PAIRS))
 
-    def test_nothing_is_overwritten(self):
+    def test_nothing_is_overwritten(self) -> None:
         for end in ("csv", "work", "notes"):
             path = self.write(f"made.{end}", "mine\n")
             done = run("from-ftrace", HERE / "soft-tcp.txt", self.folder / "made", *PAIRS)
@@ -146,28 +146,27 @@ CPU:1 [7 EVENTS DROPPED]
             self.assertEqual((done.returncode, self.names(), path.read_text()), (1, [f"made.{end}"], "mine\n"))
             path.unlink()
 
-    def recipe(self):
+    def recipe(self) -> Path:
         """Returns the shell commands in docs/TOOLS.md that record."""
         lines = (TOP / "docs/TOOLS.md").read_text().splitlines()
         first = lines.index("    set -u")
         last = next(place for place in range(first, len(lines)) if not lines[place].startswith("    "))
         return self.write("recipe", "".join(f"{line[4:]}\n" for line in lines[first:last]))
 
-    def test_the_recipe_is_bash(self):
-        done = subprocess.run(["bash", "-n", self.recipe()], capture_output=True, text=True, check=False)
+    def test_the_recipe_is_bash(self) -> None:
+        done = process("bash", "-n", self.recipe())
         self.assertEqual((done.stderr, done.returncode), ("", 0))
 
     @unittest.skipUnless(os.environ.get("RECORD"), "RECORD=yes")
-    def test_the_recipe_records(self):
-        done = subprocess.run(["unshare", "-m", "bash", self.recipe()], cwd=self.folder, capture_output=True, text=True, check=False)
+    def test_the_recipe_records(self) -> None:
+        done = process("unshare", "-m", "bash", self.recipe(), folder=self.folder)
         self.assertEqual((done.stderr, done.returncode), ("", 0))
-        done = run("from-ftrace", "recording.txt", "made", "--pair", "va1:vb1", folder=self.folder)
-        self.assertEqual((done.stderr, done.returncode), ("", 0))
+        self.succeeds("from-ftrace", "recording.txt", "made", "--pair", "va1:vb1", folder=self.folder)
         self.assertTrue(max(int(line.split()[3]) for line in (self.folder / "made.work").read_text().splitlines()) > 30)
         done = run("compare-recording", "made", folder=self.folder)
         self.assertEqual(done.returncode, 0, done.stdout)
 
-    def test_some_rows(self):
+    def test_some_rows(self) -> None:
         whole = (HERE / "soft-gso-23.csv").read_text().splitlines()
         rows, work, notes = self.convert((HERE / "soft-gso-23.txt").read_text(), *PAIRS, "--rows", "70:150")
         # The packet of row 69 waits at row 70, so it is at the beginning.
@@ -179,19 +178,18 @@ CPU:1 [7 EVENTS DROPPED]
         self.assertIn("nothing polls in these rows", run("from-ftrace", HERE / "soft-gso-23.txt", self.folder / "none", *PAIRS,
                                                          "--rows", "70:80").stderr)
 
-    def test_some_rows_begin_with_the_packets_that_wait(self):
+    def test_some_rows_begin_with_the_packets_that_wait(self) -> None:
         """Six packets came before row 68 and weren't polled in row 67; with them the replay has the kernel's work from there on too."""
         rows, _, notes = self.convert((HERE / "soft-gso-23.txt").read_text(), *PAIRS, "--rows", "68:150")
         self.assertEqual(rows[12:19], ["128,10,rx,590"] * 6 + ["128,0,softirq,0"])
         self.assertTrue(any(note.endswith("; of their packets 6 waited when the first of these rows came, and stand in front")
                             for note in notes))
         for first in (20, 68, 69, 100, 139):
-            done = run("from-ftrace", HERE / "soft-gso-23.txt", self.folder / f"from{first}", *PAIRS, "--rows", f"{first}:100000")
-            self.assertEqual((done.stderr, done.returncode), ("", 0))
+            self.succeeds("from-ftrace", HERE / "soft-gso-23.txt", self.folder / f"from{first}", *PAIRS, "--rows", f"{first}:100000")
             done = run("compare-recording", self.folder / f"from{first}")
             self.assertEqual(done.returncode, 0, done.stdout)
 
-    def test_a_replay_is_compared_with_the_recording(self):
+    def test_a_replay_is_compared_with_the_recording(self) -> None:
         """Six packets arrive during three runs; the replay gives each to that run, the kernel to the next."""
         run("from-ftrace", HERE / "soft-gso-23.txt", self.folder / "made", *PAIRS)
         done = run("compare-recording", self.folder / "made")
@@ -214,7 +212,7 @@ CPU:1 [7 EVENTS DROPPED]
         self.assertEqual((done.returncode, done.stdout), (0, "544 rows, 15647 packets; the kernel 15647; 544 rows agree, 0 differ, "
                                                           "0 others are accounted for by notes: as the kernel\n"))
 
-    def test_a_file_that_is_falsified(self):
+    def test_a_file_that_is_falsified(self) -> None:
         """Each row of .work that isn't noted, by one packet more; and a noted row by more than its note explains, which is six packets."""
         run("from-ftrace", HERE / "soft-gso-23.txt", self.folder / "made", *PAIRS)
         work = (self.folder / "made.work").read_text().splitlines()
@@ -231,7 +229,7 @@ CPU:1 [7 EVENTS DROPPED]
         self.write("made.work", "".join(f"polls 1 work {int(line.split()[3]) + 1}\n" for line in work))
         self.assertIn("9 rows, 190 packets; the kernel 199; 0 rows agree", run("compare-recording", self.folder / "made").stdout)
 
-    def test_an_end_that_the_backlog_polls(self):
+    def test_an_end_that_the_backlog_polls(self) -> None:
         """The receiver answers each packet, and NAPI doesn't poll the sender's end: the answers are in no row. Without that they would wait in the
         trace, and the run that takes the last packet would take them too."""
         lines = []
@@ -251,7 +249,7 @@ CPU:1 [7 EVENTS DROPPED]
         self.assertEqual((done.returncode, done.stdout.splitlines()[-1]), (0, "20 rows, 61 packets; the kernel 61; 18 rows agree, 0 differ, 2 others are "
                                                                               "accounted for by notes: as the kernel"))
 
-    def test_a_packet_that_is_polled_before_its_event(self):
+    def test_a_packet_that_is_polled_before_its_event(self) -> None:
         """The event of a packet follows its sending: the kernel polled it, and the trace has it after the row."""
         rows, work, notes = self.convert("""   a-1  [000] b....  5.000000: net_dev_xmit: dev=va1 skbaddr=0 len=60 rc=0
    b-1  [001] ..s1.  5.000005: softirq_entry: vec=3 [action=NET_RX]
@@ -267,7 +265,7 @@ CPU:1 [7 EVENTS DROPPED]
         self.assertIn("row 4: work 1, the kernel 2: noted\nrow 7: work 2, the kernel 1: carries on the difference of row 4, which is noted\n", done.stdout)
         self.assertEqual(done.returncode, 0)
 
-    def test_a_replay_that_is_other_than_the_kernel(self):
+    def test_a_replay_that_is_other_than_the_kernel(self) -> None:
         """One packet comes before each of 30 runs, and the kernel polled two, 30 times; ten of those lines are printed, and a line counts the rest."""
         self.write("made.csv", HEADER + "0,1,open,256\n" + "".join(f"{place},1,rx,60\n{place},0,softirq,0\n" for place in range(30)))
         self.write("made.work", "polls 1 work 2\n" * 30)
@@ -277,16 +275,15 @@ CPU:1 [7 EVENTS DROPPED]
                                                                             "and 20 more rows without a reason: --lines 30 prints them"))
         self.assertEqual(lines[11], "30 rows, 30 packets; the kernel 60; 0 rows agree, 30 differ, 0 others are accounted for by notes: other than the kernel")
         self.write("made.csv", HEADER + "0,1,open,256\n" + "0,0,softirq,0\n" * 30)
-        done = run("compare-recording", self.folder / "made")
-        self.assertEqual((done.returncode, done.stdout, done.stderr.count("\n")), (1, "", 1))
-        self.assertIn("made.csv: it has no arrivals, so there is nothing to compare", done.stderr)
+        said = self.fails("made.csv: it has no arrivals, so there is nothing to compare", "compare-recording", self.folder / "made")
+        self.assertEqual(said.count("\n"), 1)
 
 
 class FromPcap(InFolder):
     PACKETS = ((0, 2, 1, 60), (500, 2, 1, 100), (3000, 3, 1, 1514))
 
     @staticmethod
-    def capture(packets=PACKETS):
+    def capture(packets: Iterable[tuple[int, int, int, int]] = PACKETS) -> bytes:
         """Returns a capture in the format's description: a header of 24 bytes, and 16 bytes before each packet. A packet is given by its time in µs, the
         last bytes of its receiver's and sender's addresses, and its size; 255 is the broadcast address."""
         text = struct.pack("<IHHiIII", 0xA1B2C3D4, 2, 4, 0, 0, 65535, 1)
@@ -295,14 +292,10 @@ class FromPcap(InFolder):
             text += struct.pack("<IIII", 100, fraction, size, size) + (ends + b"\x88\xb5").ljust(size, b"\0")
         return text
 
-    def made(self, packets, *words):
+    def made(self, packets: Any, *words: object) -> list[list[str]]:
         """Returns the rows and the notes of a capture."""
-        for end in ("csv", "notes"):
-            (self.folder / f"made.{end}").unlink(missing_ok=True)
         (self.folder / "captured.pcap").write_bytes(packets if isinstance(packets, bytes) else self.capture(packets))
-        done = run("from-pcap", "captured.pcap", "made", *words, folder=self.folder)
-        self.assertEqual((done.stderr, done.returncode), ("", 0))
-        return [(self.folder / f"made.{end}").read_text().splitlines() for end in ("csv", "notes")]
+        return [text.splitlines() for text in self.converted("from-pcap", "captured.pcap", *words)]
 
     HAS_TCPDUMP = skip_without("tcpdump")
     # What one interface sees, whose address ends in 1: five packets from others, a broadcast of theirs, and its own packets.
@@ -310,7 +303,7 @@ class FromPcap(InFolder):
         (1100, 255, 11, 90), (1200, 255, 1, 91)]
 
     @HAS_TCPDUMP
-    def test_an_interface_is_a_device(self):
+    def test_an_interface_is_a_device(self) -> None:
         rows, notes = self.made(self.SEEN, "--unit", "us", "--delay", "10000")
         self.assertEqual(rows[1:], ["0,1,open,256", *(f"{moment},1,rx,{size}" for moment, size in ((100, 61), (300, 63), (500, 65), (700, 67), (900, 69),
                                                                                                   (1100, 90))), "10100,0,softirq,0"])
@@ -319,7 +312,7 @@ class FromPcap(InFolder):
         self.assertIn("each packet with one receiver comes from 02:00:00:00:00:01 or goes to it, so what it sends goes out", notes)
 
     @HAS_TCPDUMP
-    def test_who_receives_may_be_named(self):
+    def test_who_receives_may_be_named(self) -> None:
         """Device 2 gets the broadcast of the other, and not its own."""
         rows, notes = self.made(self.SEEN, "--to", "02:00:00:00:00:0A", "--to", "02:00:00:00:00:01")
         self.assertEqual([row.split(",")[1:] for row in rows[1:] if ",rx," in row],
@@ -327,7 +320,7 @@ class FromPcap(InFolder):
         self.assertEqual(notes[:2], ["device 1 is 02:00:00:00:00:0a, 3 packets", "device 2 is 02:00:00:00:00:01, 6 packets"])
 
     @HAS_TCPDUMP
-    def test_a_capture_that_is_cut(self):
+    def test_a_capture_that_is_cut(self) -> None:
         """The part before the cut is read, with a note."""
         whole, _ = self.made(self.PACKETS)
         rows, notes = self.made(self.capture()[:-3])
@@ -335,29 +328,27 @@ class FromPcap(InFolder):
         self.assertTrue(any(note.startswith("the capture is cut, and read up to there: ") for note in notes), notes)
 
     @HAS_TCPDUMP
-    def test_some_packets_and_some_rows(self):
+    def test_some_packets_and_some_rows(self) -> None:
         self.assertEqual(self.made(self.PACKETS, "-c", "2")[0], [HEADER.strip(), "0,1,open,256", "0,1,rx,60", "0,1,rx,100", "1,0,softirq,0"])
         rows, notes = self.made(self.PACKETS, "--rows", "3:5")
         self.assertEqual(rows, [HEADER.strip(), "0,1,open,256", "0,1,rx,60", "0,1,rx,100", "1,0,softirq,0", "3,1,rx,1514"])
         self.assertIn("rows 3 to 5 alone, with the packets that wait before them in front", notes)
 
-    def test_more_interfaces_than_devices(self):
+    def test_more_interfaces_than_devices(self) -> None:
         """No interface is dropped: the user has to name them."""
         text = "".join(f"100.{number:06} eth{number}  In  ifindex 2 02:00:00:00:00:01 ethertype IPv4 (0x0800), length 60: UDP\n" for number in range(17))
-        done = run("from-pcap", "-", self.folder / "made", text=text)
-        self.assertEqual((done.returncode, self.names()), (1, []))
-        self.assertIn("17 interfaces, and a trace has at most 16 devices: name some by --to: eth0, eth1,", done.stderr)
-        done = run("from-pcap", "-", self.folder / "made", "--to", "eth16", "--to", "eth3", text=text)
+        self.fails("17 interfaces, and a trace has at most 16 devices: name some by --to: eth0, eth1,", "from-pcap", "-", self.folder / "made", text=text)
+        self.assertEqual(self.names(), [])
+        self.succeeds("from-pcap", "-", self.folder / "made", "--to", "eth16", "--to", "eth3", text=text)
         self.assertEqual((self.folder / "made.notes").read_text().splitlines()[:3],
                          ["device 1 is eth16, 1 packets", "device 2 is eth3, 1 packets", "no row: packets that don't come in, 15"])
 
     ROWS = HEADER + "0,1,open,256\n0,1,rx,60\n0,1,rx,100\n1,0,softirq,0\n3,1,rx,1514\n4,0,softirq,0\n"
 
     @HAS_TCPDUMP
-    def test_a_capture(self):
+    def test_a_capture(self) -> None:
         (self.folder / "'; touch x;.pcap").write_bytes(self.capture())
-        done = run("from-pcap", "'; touch x;.pcap", "made", folder=self.folder)
-        self.assertEqual((done.stderr, done.returncode), ("", 0))
+        self.succeeds("from-pcap", "'; touch x;.pcap", "made", folder=self.folder)
         self.assertEqual((self.folder / "made.csv").read_text(), self.ROWS)
         self.assertEqual(self.names(), ["'; touch x;.pcap", "made.csv", "made.notes"])
         self.assertIn("isn't overwritten", run("from-pcap", "'; touch x;.pcap", "made", folder=self.folder).stderr)
@@ -374,63 +365,52 @@ class FromPcap(InFolder):
     LINE = "100.{:06} eth0  In  ifindex 2 02:00:00:00:00:01 ethertype IPv4 (0x0800), length {}: UDP\n"
     NO_LENGTH = "no row: packets without a length of 1 to 65535 bytes, "
 
-    def test_every_length_that_a_row_has(self):
+    def test_every_length_that_a_row_has(self) -> None:
         """1 and 65,535 bytes are the minimum and the maximum; packets beyond are counted in the notes. The same for a capture."""
         text = "".join(self.LINE.format(place, size) for place, size in enumerate((1, 65535, 0, 65536, 65534, 100000, 2)))
         for words, rows in ((["--unit", "us"], [f"{place},1,rx,{size}" for place, size in ((0, 1), (1, 65535), (4, 65534), (6, 2))]),
                             (["--arrivals"], [f"{1000 * place},1,{size}" for place, size in ((0, 1), (1, 65535), (4, 65534), (6, 2))])):
-            done = run("from-pcap", "-", "made", *words, text=text, folder=self.folder)
-            self.assertEqual((done.stderr, done.returncode), ("", 0))
-            made = [row for row in (self.folder / "made.csv").read_text().splitlines()[1:] if "open" not in row and "softirq" not in row]
-            self.assertEqual(made, rows)
-            self.assertIn(f"{self.NO_LENGTH}3\n", (self.folder / "made.notes").read_text())
-            for end in ("csv", "notes"):
-                (self.folder / f"made.{end}").unlink()
+            made, notes = self.converted("from-pcap", "-", *words, text=text)
+            self.assertEqual([row for row in made.splitlines()[1:] if "open" not in row and "softirq" not in row], rows)
+            self.assertIn(f"{self.NO_LENGTH}3\n", notes)
 
     @HAS_TCPDUMP
-    def test_the_longest_packets_of_a_capture(self):
+    def test_the_longest_packets_of_a_capture(self) -> None:
         rows, notes = self.made([(100, 1, 11, 65535), (200, 1, 11, 65534), (300, 1, 12, 60)], "--unit", "us")
         self.assertEqual([row.split(",")[3] for row in rows if ",rx," in row], ["65535", "65534", "60"])
         self.assertFalse(any(note.startswith(self.NO_LENGTH) for note in notes), notes)
 
-    def test_packets_of_one_time_keep_their_places(self):
+    def test_packets_of_one_time_keep_their_places(self) -> None:
         """Packets with the same timestamp keep the capture's order, whether it is sorted by time or not."""
         in_order = [(1, 900), (2, 64), (2, 62), (2, 1500), (2, 60), (2, 63), (3, 500)]
         out_of_order = [*in_order[1:4], in_order[6], in_order[0], *in_order[4:6]]
         for seen in (in_order, out_of_order):
             text = "".join(self.LINE.format(*each) for each in seen)
-            for words, column in (([], 3), (["--arrivals"], 2)):
-                done = run("from-pcap", "-", "made", *words, text=text, folder=self.folder)
-                self.assertEqual((done.stderr, done.returncode), ("", 0))
-                rows = [row.split(",") for row in (self.folder / "made.csv").read_text().splitlines()[1:]]
+            for words, column in ((NO_WORDS, 3), (["--arrivals"], 2)):
+                rows = [row.split(",") for row in self.converted("from-pcap", "-", *words, text=text)[0].splitlines()[1:]]
                 sizes = [int(row[column]) for row in rows if "open" not in row and "softirq" not in row]
                 self.assertEqual(sizes, [size for _, size in in_order])
-                for end in ("csv", "notes"):
-                    (self.folder / f"made.{end}").unlink()
 
-    def test_text_by_interfaces_in_microseconds(self):
-        done = run("from-pcap", "-", self.folder / "made", "--unit", "us", "--delay", "250", text=self.TEXT)
-        self.assertEqual((done.stderr, done.returncode), ("", 0))
-        self.assertEqual((self.folder / "made.csv").read_text(), HEADER + "0,1,open,256\n0,2,open,256\n0,1,rx,60\n250,0,softirq,0\n"
-                         "300,2,rx,62\n550,0,softirq,0\n")
-        self.assertIn("no row: packets that don't come in, 1\n", (self.folder / "made.notes").read_text())
+    def test_text_by_interfaces_in_microseconds(self) -> None:
+        rows, notes = self.converted("from-pcap", "-", "--unit", "us", "--delay", "250", text=self.TEXT)
+        wanted = ["0,1,open,256", "0,2,open,256", "0,1,rx,60", "250,0,softirq,0", "300,2,rx,62", "550,0,softirq,0"]
+        self.assertEqual(rows.splitlines()[1:], wanted)
+        self.assertIn("no row: packets that don't come in, 1\n", notes)
 
-    def test_refusals(self):
+    def test_refusals(self) -> None:
         done = run("from-pcap", "none.pcap", "made", folder=self.folder)
         self.assertEqual((done.stderr, done.returncode), ("fintaqush from-pcap: none.pcap: there is no such file\n", 1))
         for text, why in (("", "no packet arrives"), ("what\n", "line 1: not in the format of `tcpdump -tt -n -e`"), (self.TEXT * 60000, "more than")):
-            done = run("from-pcap", "-", self.folder / "made", text=text)
-            self.assertEqual((done.returncode, self.names()), (1, []), done.stderr)
-            self.assertIn(why if why != "more than" else "and a trace has at most 100000", done.stderr)
+            self.fails(why if why != "more than" else "and a trace has at most 100000", "from-pcap", "-", self.folder / "made", text=text)
+            self.assertEqual(self.names(), [])
 
 
 class Traffic(InFolder):
-    def rows(self, *words):
-        done = run("traffic", *words)
-        self.assertEqual((done.stderr, done.returncode), ("", 0))
-        return [line.split(",") for line in done.stdout.splitlines()[1:]]
+    def rows(self, *words: object) -> list[list[str]]:
+        printed = self.succeeds("traffic", *words)
+        return [line.split(",") for line in printed.splitlines()[1:]]
 
-    def test_kinds(self):
+    def test_kinds(self) -> None:
         """A constant rate of 1000 gives a packet each ms; bursts of 5 ms in 50 give a tenth of it; a Poisson process has about
         as many, within five times its deviation of 71, and not evenly."""
         arrivals = [int(row[0]) for row in self.rows("--rate", "1000") if row[2] == "rx"]
@@ -443,16 +423,16 @@ class Traffic(InFolder):
         self.assertTrue(4645 <= len(arrivals) <= 5355)
         self.assertTrue(len({arrivals.count(moment) for moment in range(50)}) > 2)
 
-    def test_a_run_follows_the_first_packet_that_waits(self):
+    def test_a_run_follows_the_first_packet_that_waits(self) -> None:
         rows = self.rows("--rate", "100", "--delay", "3", "--seconds", "0.05", "--unit", "ms")
         self.assertEqual([int(after[0]) - int(before[0]) for before, after in zip(rows, rows[1:]) if after[2] == "softirq"], [3] * 5)
 
-    def test_the_seed_decides(self):
+    def test_the_seed_decides(self) -> None:
         words = ["--kind", "poisson", "--devices", "3", "--mix", "tx=20,done=20,disable=5"]
         self.assertEqual(self.rows(*words, "--seed", "1"), self.rows(*words, "--seed", "1"))
         self.assertNotEqual(self.rows(*words, "--seed", "1"), self.rows(*words, "--seed", "2"))
 
-    def test_the_seed_decides_when_packets_come(self):
+    def test_the_seed_decides_when_packets_come(self) -> None:
         """And not only their sizes: another seed has other times, for each kind of traffic; each device has times of its own."""
         for kind in ("constant", "poisson", "bursts"):
             words = ["--kind", kind, "--devices", "2", "--unit", "us", "--rate", "2000", "--seconds", "0.5", "--bytes", "60"]
@@ -462,7 +442,7 @@ class Traffic(InFolder):
             of = [{moment for device, moment in times[0] if device == str(number)} for number in (1, 2)]
             self.assertLess(len(of[0] & of[1]), len(of[0]) / 10, kind)
 
-    def test_packets_of_one_moment_stand_as_they_come(self):
+    def test_packets_of_one_moment_stand_as_they_come(self) -> None:
         """A millisecond has many packets of five devices: their order is that of the same trace in microseconds."""
         for kind in ("constant", "poisson"):
             words = ["--kind", kind, "--devices", "5", "--rate", "3000", "--seconds", "0.2", "--seed", "7"]
@@ -470,7 +450,7 @@ class Traffic(InFolder):
             self.assertEqual(coarse, [[str(int(row[0]) // 1000), *row[1:]] for row in fine])
             self.assertGreater(len({row[0] for row in fine}), 5 * len({row[0] for row in coarse}))
 
-    def test_any_mix_is_a_trace_that_is_taken(self):
+    def test_any_mix_is_a_trace_that_is_taken(self) -> None:
         for version, busy in (("1", ""), ("2", ",busy=20")):
             for seed in range(4):
                 text = run("traffic", "--rate", "2000", "--devices", "5", "--seed", seed, "--version", version, "--seconds", "0.3",
@@ -478,11 +458,11 @@ class Traffic(InFolder):
                 self.assertEqual({line.split(",")[2] for line in text.splitlines()[1:]} - {"busy"},
                                  {"open", "rx", "tx", "done", "softirq", "kthread", "disable", "enable", "threaded"})
                 self.assertEqual(",busy," in text, version == "2")
-                for words in ([], ["--budget", "1", "--weight", "1"]):
-                    done = subprocess.run([REPLAY, *words], input=text, capture_output=True, text=True, check=False)
+                for words in (NO_WORDS, ["--budget", "1", "--weight", "1"]):
+                    done = process(REPLAY, *words, text=text)
                     self.assertEqual((done.stderr, done.returncode), ("", 0))
 
-    def test_words_that_it_refuses(self):
+    def test_words_that_it_refuses(self) -> None:
         for words in (["--mix", "busy=1"], ["--mix", "rx=1"], ["--bytes", "9:1"], ["--devices", "17"], ["--rate", "0"]):
             self.assertEqual(run("traffic", *words).returncode, 2)
         self.assertIn("more than 100000 packets", run("traffic", "--rate", "9999999", "--seconds", "99999").stderr)
@@ -491,16 +471,15 @@ class Traffic(InFolder):
 class CompareRuns(InFolder):
     BURST = HEADER + "0,1,open,8\n0,2,open,8\n" + "0,1,rx,60\n" * 3 + "1,0,softirq,0\n2,2,rx,60\n3,0,softirq,0\n"
 
-    def test_what_two_settings_change(self):
+    def test_what_two_settings_change(self) -> None:
         """With a budget of 1 each run takes one packet; with the default all three come at once; device 2 has one packet either way."""
         trace = self.write("burst.csv", self.BURST)
-        done = run("compare", trace, "--budget", "1", "--weight", "1", "--", "--weight", "1")
-        self.assertEqual((done.stderr, done.returncode), ("", 0))
-        lines = [re.split(r" {2,}", line) for line in done.stdout.splitlines()]
+        printed = self.succeeds("compare", trace, "--budget", "1", "--weight", "1", "--", "--weight", "1")
+        lines = [re.split(r" {2,}", line) for line in printed.splitlines()]
         self.assertEqual(lines[0], ["", "budget 1 weight 1", "weight 1", "change"])
         self.assertIn(["total", "squeezed", "2", "0", "-2"], lines)
 
-    def test_with_runs_raised(self):
+    def test_with_runs_raised(self) -> None:
         trace = TOP / "examples/linux-veth-bursts.csv"
         words = ["--budget", "16", "--weight", "8", "--", "--budget", "300"]
         self.assertRegex(run("compare", trace, *words).stdout, r"total +work +8441 +15245 +\+6804\n")
@@ -508,22 +487,22 @@ class CompareRuns(InFolder):
         self.assertNotIn("dropped", raised)
         self.assertNotIn("total      work", raised)
 
-    def test_a_trace_of_version_2(self):
+    def test_a_trace_of_version_2(self) -> None:
         """examples/busy-poll.csv has nine packets, and with the added runs neither budget loses any."""
         done = run("compare", TOP / "examples/busy-poll.csv", "--raise", "--budget", "1", "--weight", "1", "--", "--weight", "64")
         self.assertEqual(done.returncode, 0)
         self.assertIn("the same: list", done.stdout)
         self.assertNotIn("polled", done.stdout)
 
-    def test_refusals(self):
+    def test_refusals(self) -> None:
         trace = self.write("burst.csv", self.BURST)
         self.assertEqual(run("compare", trace, "--budget", "1").returncode, 2)
         self.assertEqual(run("compare", trace, "--", "--budget", "0").returncode, 2)
         self.assertIn("trace fault 1 BadHeader row 0", run("compare", "-", "--", text="x\n").stderr)
 
 
-class Report2Json(unittest.TestCase):
-    def test_every_line_of_a_report(self):
+class Report2Json(InFolder):
+    def test_every_line_of_a_report(self) -> None:
         done = run("json", text="""softirq 4 polls 2 work 3 squeezed 1
 kthread 5 device 16 polls 6 work 7
 device 1 pending arrived 1 dropped 2 polled 3 bytes 4 left 5 polls 6
@@ -554,7 +533,7 @@ total devices 3 runs 1 polls 2 work 3 squeezed 1
             {"line": "total", "devices": 3, "runs": 1, "polls": 2, "work": 3, "squeezed": 1},
         ])
 
-    def test_version_2(self):
+    def test_version_2(self) -> None:
         done = run("json", text="""busy 7 device 1 polls 4 work 2
 device 1 on arrived 2 dropped 0 polled 2 bytes 120 left 0 polls 4
 napi 1 granted 0 missed 0 disabled 0 again 0 released 1 word 65 held 3
@@ -565,14 +544,15 @@ total devices 1 runs 0 polls 0 work 0 squeezed 0
         self.assertEqual(objects[0], {"line": "busy", "row": 7, "device": 1, "polls": 4, "work": 2})
         self.assertEqual((objects[2]["held"], objects[2]["flags"]), (3, ["SCHED", "IN_BUSY_POLL"]))
 
-    def test_slow_modules_are_not_imported(self):
+    def test_slow_modules_are_not_imported(self) -> None:
         """A report is converted without the modules that are slow to import."""
-        command = [*START[:2], "-X", "importtime", *START[2:], "json"]
-        done = subprocess.run(command, input=b"list\ntotal devices 0 runs 0 polls 0 work 0 squeezed 0\n", capture_output=True, check=True)
-        imported = {line.split(b"|")[-1].strip() for line in done.stderr.splitlines()}
-        self.assertFalse({b"argparse", b"json", b"re", b"subprocess", b"tempfile", b"pathlib"} & imported)
+        report = "list\ntotal devices 0 runs 0 polls 0 work 0 squeezed 0\n"
+        done = process(*START[:2], "-X", "importtime", *START[2:], "json", text=report)
+        imported = {line.split("|")[-1].strip() for line in done.stderr.splitlines()}
+        self.assertEqual((done.returncode, len(done.stdout.splitlines())), (0, 2))
+        self.assertFalse({"argparse", "json", "re", "subprocess", "tempfile", "pathlib"} & imported)
 
-    def test_threads_mode(self):
+    def test_threads_mode(self) -> None:
         done = run("json", text="""device 1 arrived 3 bytes 1620
 device 2 arrived 2 bytes 160
 tx 2 sent 1 held 0 done 1 denied 0 limit 100 avail 100 stopped 1
@@ -583,29 +563,25 @@ total devices 2
             {"line": "tx", "device": 2, "sent": 1, "held": 0, "done": 1, "denied": 0, "limit": 100, "avail": 100, "stopped": True},
             {"line": "total", "devices": 2}])
 
-    def test_reports_that_are_cut_are_refused(self):
+    def test_reports_that_are_cut_are_refused(self) -> None:
         trace = (TOP / "examples/bursts.csv").read_text()
-        whole = subprocess.run([REPLAY], input=trace, capture_output=True, text=True, check=True).stdout
+        whole = process(REPLAY, text=trace).stdout
         lines = whole.splitlines(keepends=True)
         cuts = [whole[:length] for length in range(len(whole))] + ["".join(lines[:place] + lines[place + 1 :]) for place in range(len(lines))]
         for cut in cuts:
             with self.assertRaises(Refusal, msg=cut[-60:]):
                 reports.objects_of(cut)
         for cut, why in (("", "the report is empty"), (whole[:-1], "the report is cut"), (whole + whole, "there are two reports in it")):
-            done = run("json", text=cut)
-            self.assertEqual((done.stdout, done.returncode), ("", 1))
-            self.assertIn(why, done.stderr)
+            self.fails(why, "json", text=cut)
 
-    def test_every_example_passes(self):
+    def test_every_example_passes(self) -> None:
         for trace in sorted((TOP / "examples").glob("*.csv")):
-            report = subprocess.run([REPLAY], input=trace.read_bytes(), capture_output=True, check=True).stdout.decode()
-            done = run("json", text=report)
-            self.assertEqual((done.stderr, len(done.stdout.splitlines())), ("", len(report.splitlines())))
+            report = process(REPLAY, text=trace.read_text()).stdout
+            self.assertEqual(len(self.succeeds("json", text=report).splitlines()), len(report.splitlines()))
+            self.assertTrue(report)
 
-    def test_what_is_no_report_is_refused(self):
+    def test_what_is_no_report_is_refused(self) -> None:
         for line in ("", "napi", "softirq 4 polls 2 work 3", "softirq 4 polls 2 work 3 squeezed 2", "list x",
                      "total devices 3 polls 2 runs 1 work 3 squeezed 1",
                      "napi 2 granted 0 missed 0 disabled 0 again 0 released 0 word 16"):
-            done = run("json", text=f"list\n{line}\n")
-            self.assertEqual(done.returncode, 1)
-            self.assertIn("fintaqush json: line 2: ", done.stderr)
+            self.fails("fintaqush json: line 2: ", "json", text=f"list\n{line}\n")

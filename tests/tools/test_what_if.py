@@ -1,41 +1,40 @@
 """Tests of fintaqush what-if. Expected values are computed by hand, or by the plain model of the machine."""
 
+from __future__ import annotations
+
 import csv
 import io
 import json
 import os
 import re
-import subprocess
-import sys
 from fractions import Fraction
+from typing import Any
 
-from tooltest import HAS_MACHINE, MACHINE, START, TOP, skip_without, InFolder, run
-
-sys.path.insert(0, str(TOP / "tests"))
-import machine_model  # noqa: E402
+import machine_model
+from tooltest import HAS_MACHINE, MACHINE, NO_WORDS, START, InFolder, process, run, skip_without
 
 HEADER = "moment,device,bytes\n"
 
 
 @HAS_MACHINE
 class WhatIf(InFolder):
-    def setUp(self):
+    def setUp(self) -> None:
         super().setUp()
         # Three devices, each with bursts of five packets that come within 10 µs, every 40 µs.
         rows = sorted((40000 * burst + 2500 * place, device) for burst in range(20) for place in range(5) for device in (1, 2, 3))
         self.arrivals = self.write("arrivals.csv", HEADER + "".join(f"{moment},{device},60\n" for moment, device in rows))
 
-    def rows(self, *words, **others):
+    def rows(self, *words: object, **others: Any) -> list[dict[str, str]]:
         done = run("what-if", self.arrivals, *words, **others)
         self.assertEqual(done.returncode, 0, done.stderr)
         return list(csv.DictReader(io.StringIO(done.stdout)))
 
-    def modelled(self, text, *words):
+    def modelled(self, text: str, *words: str) -> dict[str, str]:
         """Returns the values of a row, by the plain model."""
         lines = [line.split() for line in machine_model.machine(list(words), text).splitlines()]
         of = {kind: [dict(zip(line[skip::2], map(int, line[skip + 1 :: 2]))) for line in lines if line[0] == kind]
               for kind, skip in (("device", 0), ("processor", 0), ("time", 0), ("application", 0), ("total", 1))}
-        told = {name: of["total"][0][name] for name in ("arrived", "dropped", "refused", "used")}
+        told: dict[str, int | str] = {name: of["total"][0][name] for name in ("arrived", "dropped", "refused", "used")}
         for end, kind in (("delivered", "device"), ("used", "processor")):
             told.update({f"{end}_{name}": max(line[wait] for line in of[kind]) for name, wait in (("p50", "wait50"), ("p99", "wait99"), ("p999", "wait999"))})
         told.update({f"{name}_percent": f"{100 * sum(line[name] for line in of['time']) / sum(line['end'] for line in of['time']):.2f}"
@@ -44,11 +43,11 @@ class WhatIf(InFolder):
             told["use_percent"] = f"{100 * sum(line['use'] for line in of['application']) / sum(line['end'] for line in of['application']):.2f}"
         told.update({name: sum(line[name] for line in of["processor"]) for name in ("interrupts", "timers", "runs", "polls", "squeezed", "late")})
         queues = [(line["device"] - 1) % len(of["processor"]) for line in of["device"]]
-        told["used_per_second"] = told["used"] * 10**9 // max(line["end"] for line in of["time"] + of["application"])
+        told["used_per_second"] = of["total"][0]["used"] * 10**9 // max(line["end"] for line in of["time"] + of["application"])
         return {**{name: str(value) for name, value in told.items()}, "wakes": str(sum(line["wakes"] for line in of["application"])),
                 "queues_of_a_processor": str(max(map(queues.count, queues)))}
 
-    def test_each_combination(self):
+    def test_each_combination(self) -> None:
         rows = self.rows("--budget", "0,2,300", "--weight", "1,64", "--processors=2", "--ring=4")
         self.assertEqual([(row.pop("budget"), row.pop("weight")) for row in rows],
                          [("0", "1"), ("0", "64"), ("2", "1"), ("2", "64"), ("300", "1"), ("300", "64")])
@@ -56,14 +55,14 @@ class WhatIf(InFolder):
             self.assertEqual(row, self.modelled(self.arrivals.read_text(), f"--budget={budget}", f"--weight={weight}", "--processors=2", "--ring=4"))
         self.assertGreater(int(rows[0]["dropped"]), 0)
 
-    def test_by_hand(self):
+    def test_by_hand(self) -> None:
         """One packet: its interrupt takes 10 ns, its poll 5 and 3, its use 2; of these 20 ns half are the interrupt's."""
         self.arrivals.write_text(HEADER + "0,1,60\n")
         row, = self.rows("--interrupt", "10", "--poll", "5", "--packet", "3", "--use", "2")
         self.assertEqual([row[name] for name in ("arrived", "used", "delivered_p50", "used_p999", "interrupt_percent", "poll_percent", "use_percent", "idle_percent", "runs",
                                                     "used_per_second")], ["1", "1", "18", "20", "50.00", "40.00", "10.00", "0.00", "1", "50000000"])
 
-    def test_each_option(self):
+    def test_each_option(self) -> None:
         """Every option of the machine is a dimension; the rows are those of the plain model."""
         for words in (["--gro-flush-timeout", "30000", "--defer-hard-irqs", "3"], ["--threaded", "1", "--wake", "2000"], ["--backlog", "1", "--ring", "2"],
                       ["--rx-nsecs", "9000", "--rx-frames", "3"], ["--apart", "1", "--app-wake", "2500"], ["--time-limit", "5000"], ["--socket", "3"],
@@ -71,7 +70,7 @@ class WhatIf(InFolder):
             row, = self.rows(*words)
             self.assertEqual(row, self.modelled(self.arrivals.read_text(), *words), words)
 
-    def test_queues(self):
+    def test_queues(self) -> None:
         """With queues the fourth column is read, and without them ignored; arrivals without it have none."""
         self.assertIn("there is no column flow", run("what-if", self.arrivals, "--queues", "1,2").stderr)
         rows = self.arrivals.read_text().split()[1:]
@@ -82,7 +81,7 @@ class WhatIf(InFolder):
         self.assertEqual((one.pop("queues"), two.pop("queues"), one["queues_of_a_processor"], two["queues_of_a_processor"]), ("1", "2", "3", "6"))
         self.assertEqual((one, two), (self.modelled(plain), self.modelled(with_flows, "--queues", "2")))
 
-    def test_the_band_of_costs(self):
+    def test_the_band_of_costs(self) -> None:
         """A packet at 0 and two at 9900 ns, an interrupt of 4000, a poll of 1000 and packets of 1000 ns, which are used when the polls have ended: they
         wait 6000, 7000 and 7000 ns. With deferral and a timer of 5000 ns, which fires at 11000, the polls end at 18000: 6000, 8100 and 8100. With
         costs 20 % lower 4800, 5600 and 5600; with the timer, which fires at 9800, 4800, 5500 and 5500. A timer of 10000 ns stays worse."""
@@ -100,12 +99,12 @@ class WhatIf(InFolder):
         self.assertIn("costs 20 % lower", self.said(*words, "0,5000", "--out", out, "--resume", "--band", "20"))
         self.assertEqual(len(out.read_text().splitlines()), 7)
 
-    def said(self, *words):
+    def said(self, *words: object) -> str:
         done = run("what-if", self.arrivals, *words)
         self.assertEqual(done.returncode, 0, done.stderr)
         return done.stderr
 
-    def test_a_budget_with_one_queue(self):
+    def test_a_budget_with_one_queue(self) -> None:
         """It changes only squeezes, and the tool says so; with three queues it doesn't."""
         self.assertEqual(self.said("--budget", "2,300", "--band", "0"), "")
         self.arrivals.write_text(HEADER + "".join(f"{1000 * place},1,60\n" for place in range(400)))
@@ -117,7 +116,7 @@ class WhatIf(InFolder):
             self.assertNotEqual(small.pop(name), usual.pop(name))
         self.assertEqual(small, usual)
 
-    def test_a_load_moves_the_moments(self):
+    def test_a_load_moves_the_moments(self) -> None:
         """At half the load a time is doubled, at 1.5 it is two thirds, rounded down; no temporary file is left."""
         before = set(os.listdir("/tmp"))
         rows = {row.pop("load"): row for row in self.rows("--load", "0.5,1,1.5", "--use", "4000")}
@@ -127,48 +126,47 @@ class WhatIf(InFolder):
             self.assertEqual(rows[load], self.modelled(scaled, "--use", "4000"))
         self.assertEqual({name for name in set(os.listdir("/tmp")) - before if name.startswith("what-if")}, set())
         self.arrivals.write_text(HEADER + '0,1,60\n"7",1,60\n')
-        done = run("what-if", self.arrivals, "--load", "2")
-        self.assertEqual(done.returncode, 1)
-        self.assertIn("row 2: only times that are plain numbers can be scaled", done.stderr)
+        self.fails("row 2: only times that are plain numbers can be scaled", "what-if", self.arrivals, "--load", "2")
 
-    def test_json(self):
+    def test_json(self) -> None:
         done = run("what-if", self.arrivals, "--json", "--budget", "1,2", "--load", "0.5", "--band", "0")
         told = list(map(json.loads, done.stdout.splitlines()))
         self.assertEqual([(row["budget"], row["load"], row["weight"], row["fault"], row["arrivals"]) for row in told],
                          [(1, 0.5, 64, None, str(self.arrivals)), (2, 0.5, 64, None, str(self.arrivals))])
         self.assertEqual((told[0]["arrived"], isinstance(told[0]["use_percent"], float)), (300, True))
 
-    def test_json_in_a_file(self):
-        words = ["what-if", self.arrivals, "--budget", "2,300", "--json", "--band", "0"]
-        told, out = run(*words).stdout, self.folder / "q.json"
-        done = run(*words, "--out", out)
+    def test_json_in_a_file(self) -> None:
+        words: list[object] = [self.arrivals, "--budget", "2,300", "--json", "--band", "0"]
+        told, out = run("what-if", *words).stdout, self.folder / "q.json"
+        done = run("what-if", *words, "--out", out)
         self.assertEqual((done.returncode, done.stdout, out.read_text(), len(told.splitlines())), (0, "", told, 2), done.stderr)
-        done = run(*words, "--out", out)
+        done = run("what-if", *words, "--out", out)
         self.assertEqual((done.returncode, out.read_text()), (1, told))
         self.assertIn("exists and isn't overwritten", done.stderr)
         for more in (["--resume"], ["--part", "1/2"]):
-            self.assertEqual(run(*words, "--out", self.folder / "other", *more).returncode, 2)
+            self.assertEqual(run("what-if", *words, "--out", self.folder / "other", *more).returncode, 2)
 
-    def test_json_keys_are_identifiers(self):
+    def test_json_keys_are_identifiers(self) -> None:
         """Also with generated traffic and a searched load; each object has the format's version."""
-        for words in ([self.arrivals], [self.arrivals, "--until", "drops", "--ring", "8"], ["--traffic", "--rate 1000", "--seeds", "2"]):
+        calls: list[list[object]] = [[self.arrivals], [self.arrivals, "--until", "drops", "--ring", "8"], ["--traffic", "--rate 1000", "--seeds", "2"]]
+        for words in calls:
             done = run("what-if", "--json", *words)
             self.assertEqual(done.returncode, 0, done.stderr)
             told = json.loads(done.stdout)
             self.assertEqual((told["version"], [name for name in told if not name.isidentifier()]), (1, []))
             self.assertEqual((told["gro_flush_timeout"], told["app_wake"]), (0, 0))
 
-    def test_columns_are_explained(self):
+    def test_columns_are_explained(self) -> None:
         """--help explains each column of a row."""
         text = run("what-if", "--help").stdout
         row, = self.rows()
         for name in row:
             self.assertIn(f"\n    {name}: ", text)
 
-    def table(self, *words):
+    def table(self, *words: object) -> list[str]:
         return run("what-if", self.arrivals, "--table", *words).stdout.splitlines()
 
-    def test_the_table(self):
+    def test_the_table(self) -> None:
         """One packet, whose interrupt takes 10 or 20 us, its poll 5 and 3, its use 2: it is delivered after 18 or 28 us and used after 20 or 30, of which the
         interrupt has 50 or 66.7 %; 50,000 or 33,333 packets a second. What is the same isn't in the table."""
         self.arrivals.write_text(HEADER + "0,1,60\n")
@@ -182,19 +180,19 @@ class WhatIf(InFolder):
             "row 1: the lowest 99th percentile of waits to the end of use, 20.0 µs; the highest is 30.0 µs, of row 2", "no packet is lost in any row",
             "the budget never binds: no run is squeezed"])
 
-    def test_the_table_is_for_terminals(self):
+    def test_the_table_is_for_terminals(self) -> None:
         """Otherwise CSV is printed; --csv and --json work for both."""
-        for words, begins in (([], b"row  "), (["--csv"], b"budget,"), (["--json"], b'{"version": 1')):
+        for words, begins in ((NO_WORDS, b"row  "), (["--csv"], b"budget,"), (["--json"], b'{"version": 1')):
             master, slave = os.openpty()
             with open(master, "rb", buffering=0) as end:
-                subprocess.run([*START, "what-if", self.arrivals, "--budget", "1,300", *words], stdout=slave,
-                               stderr=subprocess.DEVNULL, check=True, env={**os.environ, "MACHINE": MACHINE})
+                done = process(*START, "what-if", self.arrivals, "--budget", "1,300", *words, out=slave)
                 os.close(slave)
+                self.assertEqual(done.returncode, 0, done.stderr)
                 self.assertTrue(end.read(100).startswith(begins))
         self.assertTrue(run("what-if", self.arrivals, "--budget", "1,300").stdout.startswith("budget,"))
         self.assertEqual(run("what-if", self.arrivals, "--csv", "--table").returncode, 2)
 
-    def test_what_follows(self):
+    def test_what_follows(self) -> None:
         """Rings of 1 and 256 of bursts of five packets; an order that depends on the costs (test_the_band_of_costs); budgets."""
         told = self.table("--ring", "1,256", "--band", "0")
         dropped = [int(row["dropped"]) for row in self.rows("--ring", "1,256", "--band", "0")]
@@ -208,14 +206,14 @@ class WhatIf(InFolder):
         self.assertIn("in the model, with one queue on each processor, net.core.netdev_budget changes no latency and no drops, only how many runs are squeezed", told)
         self.assertIn("no setting here changes the 99th percentile of waits to the end of use", told)
 
-    def lost_at(self, load, *words):
+    def lost_at(self, load: str, *words: str) -> tuple[int, int]:
         """Returns the drops in the plain model for these arrivals at a load, and its 99th percentile of waits."""
         rows = (line.split(",") for line in self.arrivals.read_text().split()[1:])
         scaled = HEADER + "".join(f"{int(int(moment) // Fraction(load))},{device},{size}\n" for moment, device, size in rows)
         told = self.modelled(scaled, *words)
         return int(told["dropped"]) + int(told["refused"]), int(told["used_p99"])
 
-    def test_the_load_at_which_it_breaks(self):
+    def test_the_load_at_which_it_breaks(self) -> None:
         """A packet every 10 us, and a ring of one: in the plain model one load holds and the other breaks, and they are at most 1 % apart."""
         self.arrivals.write_text(HEADER + "".join(f"{10_000 * place},1,60\n" for place in range(300)))
         words = ["--ring", "1", "--interrupt", "1000", "--poll", "1000", "--packet", "1000", "--use", "0"]
@@ -233,7 +231,7 @@ class WhatIf(InFolder):
         told, = self.table(*words, "--until", "drops", "--band", "0")
         self.assertRegex(told, rf"^it breaks at {float(row['breaks_at']):.3g} times this load \({float(row['packets_per_second']) / 1000:.3g} k packets/s\): packets are lost$")
 
-    def test_loads_that_never_and_always_break(self):
+    def test_loads_that_never_and_always_break(self) -> None:
         self.arrivals.write_text(HEADER + "".join(f"{10_000 * place},1,60\n" for place in range(20)))
         self.assertEqual(self.table("--until", "drops", "--band", "0"), ["it holds up to 1.02e+03 times this load, the highest one tried"])
         row, = self.rows("--until", "drops", "--band", "0")
@@ -242,7 +240,7 @@ class WhatIf(InFolder):
         self.assertEqual((row["holds_at"], row["breaks_at"]), ("", "0.000977"))
         self.assertEqual(sorted(name for name in self.names() if name != "arrivals.csv"), [])
 
-    def test_made_traffic_over_seeds(self):
+    def test_made_traffic_over_seeds(self) -> None:
         """The median, the minimum and the maximum of the plain model's values for each seed's arrivals; one row per setting."""
         words = ["--kind", "poisson", "--rate", "100000", "--seconds", "0.01"]
         of = [run("traffic", "--arrivals", *words, "--seed", seed).stdout for seed in (1, 2, 3)]
@@ -255,21 +253,20 @@ class WhatIf(InFolder):
             self.assertEqual([float(row[name]) for name in ("poll_percent_least", "poll_percent", "poll_percent_most")], shares)
         self.assertEqual({name for name in os.listdir("/tmp") if name.startswith("what-if")}, set())
 
-    def repeated(self, traffic, *words):
+    def repeated(self, traffic: str, *words: object) -> list[dict[str, str]]:
         done = run("what-if", "--traffic", traffic, *words)
         self.assertEqual(done.returncode, 0, done.stderr)
         return list(csv.DictReader(io.StringIO(done.stdout)))
 
-    def test_made_traffic_in_a_table(self):
+    def test_made_traffic_in_a_table(self) -> None:
         done = run("what-if", "--table", "--traffic", "--kind poisson --rate 100000 --seconds 0.01", "--seeds", "3", "--interrupt", "4000,4050")
         self.assertRegex(done.stdout, r"\d+ \(\d+ to \d+\)")
         self.assertIn("overlap in their 99th percentiles over the seeds: which one is lower may be chance", done.stdout)
         for words, why in ((["--traffic", "--rate none"], "isn't a number over 0"), (["--traffic", "--seed 5"], "--seed isn't for this"), (["--traffic", "'"], "--traffic: ")):
-            done = run("what-if", *words)
-            self.assertEqual((done.returncode, done.stdout, done.stderr.count("\n")), (1, "", 1), done.stderr)
-            self.assertIn(why, done.stderr)
+            said = self.fails(why, "what-if", *words)
+            self.assertEqual(said.count("\n"), 1)
 
-    def test_a_file_of_rows_is_gone_on_with(self):
+    def test_a_file_of_rows_is_gone_on_with(self) -> None:
         """By parts, and then with other budgets; existing rows aren't made again."""
         out = self.folder / "rows"
         whole = self.rows("--budget", "1,2,3", "--out", out)
@@ -277,27 +274,25 @@ class WhatIf(InFolder):
         self.assertEqual(len(lines), 4)
         out.write_text("\n".join(lines[:2]) + "\n")
         calls = self.folder / "calls"
-        program = self.write("program", f"#!/bin/sh\necho >> '{calls}'\nexec '{MACHINE}' \"$@\"\n")
-        program.chmod(0o755)
+        program = self.program("program", f"echo >> '{calls}'\nexec '{MACHINE}' \"$@\"")
         self.assertEqual(self.rows("--budget", "1,2,3", "--out", out, "--resume", "--program", program), whole)
         self.assertEqual((out.read_text().splitlines(), calls.read_text()), (lines, "\n\n"))
         parts = [row for part in ("1/2", "2/2") for row in self.rows("--budget", "1,2,3,4", "--part", part)]
         self.assertEqual([row["budget"] for row in parts], ["1", "3", "2", "4"])
         self.assertIn("exists: --resume continues it", run("what-if", self.arrivals, "--out", out).stderr)
 
-    def test_parts_of_a_job_array_are_one_table(self):
+    def test_parts_of_a_job_array_are_one_table(self) -> None:
         """docs/TOOLS.md combines those of sweep in the same way; existing rows need no program."""
         words = ["--budget", "1,2,300", "--load", "1,2"]
         for part in range(1, 5):
             self.rows(*words, "--part", f"{part}/4", "--out", self.folder / f"rows-{part}.csv")
         parts = [(self.folder / f"rows-{part}.csv").read_text().splitlines(True) for part in range(1, 5)]
         out = self.write("all.csv", "".join(parts[0][:1] + [line for lines in parts for line in lines[1:]]))
-        none = self.write("none", "#!/bin/sh\nexit 1\n")
-        none.chmod(0o755)
+        none = self.program("none", "exit 1")
         self.assertEqual(self.rows(*words, "--resume", "--out", out, "--program", none), self.rows(*words))
 
     @skip_without("matplotlib")
-    def test_the_picture(self):
+    def test_the_picture(self) -> None:
         for name, begins in (("x.png", b"\x89PNG"), ("x.svg", b"<?xml"), ("x.html", b"<!DOCTYPE html>")):
             self.rows("--budget", "1,300", "--load", "0.5,1,2", "--plot", self.folder / name)
             self.assertTrue((self.folder / name).read_bytes().startswith(begins))
@@ -307,24 +302,24 @@ class WhatIf(InFolder):
             self.assertIn(told, text.replace("&apos;", "'"))
 
     @skip_without("matplotlib")
-    def test_a_long_title_fits(self):
+    def test_a_long_title_fits(self) -> None:
         """The outermost columns of pixels are white. A scale of less than two decades also has labels between powers of ten."""
         words = ["--gro-flush-timeout", "0,20000,100000", "--defer-hard-irqs", "2", "--load", "0.5,1,2", "--plot"]
         self.rows(*words, self.folder / "x.png")
         self.rows(*words, self.folder / "x.svg")
-        darkest = ("import sys; sys.path.append(sys.argv[1]); from fintaqush_tools import pictures; pictures.matplotlib(); from matplotlib.image import imread; "
-                   "print(imread(sys.argv[2])[:, [0, 1, -2, -1], :3].min())")
-        done = subprocess.run([sys.executable, "-c", darkest, TOP / "tools", self.folder / "x.png"], capture_output=True, text=True, check=True)
-        self.assertEqual(done.stdout, "1.0\n")
+        from matplotlib.image import imread  # which skip_without has found
+
+        self.assertEqual(imread(self.folder / "x.png")[:, [0, 1, -2, -1], :3].min(), 1)
         self.assertTrue(re.search(r">0\.0*[25]<", (self.folder / "x.svg").read_text()))
 
-    def test_the_picture_of_words_that_it_cannot_tell_apart(self):
-        for words, why in (([], "no option has several values"), (["--budget", "1,2,3", "--weight", "1,2,3", "--load", "1,2"], "9 curves")):
+    @skip_without("matplotlib")
+    def test_the_picture_of_words_that_it_cannot_tell_apart(self) -> None:
+        for words, why in ((NO_WORDS, "no option has several values"), (["--budget", "1,2,3", "--weight", "1,2,3", "--load", "1,2"], "9 curves")):
             done = run("what-if", self.arrivals, *words, "--plot", self.folder / "x.png")
             self.assertEqual((done.returncode, (self.folder / "x.png").exists()), (1, False))
             self.assertIn(why, done.stderr)
 
-    def test_what_is_refused(self):
+    def test_what_is_refused(self) -> None:
         for words in (["--budget", "65536"], ["--load", "0"], ["--load", "1e3"], ["--weight", "0"], ["--slice", "1"], ["--longest", "1"], ["--threaded", "2"], ["--band", "91"], ["--band", "20", "--part", "1/2"], ["--budget", "1,,2"], ["--plot", "x.pdf"], ["--resume"],
                       ["--until", "drop"], ["--until", "p99=x"], ["--until", "drops", "--load", "1,2"], ["--until", "drops", "--out", "x"], ["--seeds", "2"], ["--traffic", "--rate 1"],
                       ["--until", "drops", "--plot", "x.png"]):
@@ -333,14 +328,9 @@ class WhatIf(InFolder):
         self.assertIn("there is no such file", run("what-if", self.folder / "none").stderr)
         self.assertIn("a regular file", run("what-if", "-", text="").stderr)
         self.arrivals.write_text(HEADER + "1,1,60\n0,1,60\n")
-        done = run("what-if", self.arrivals, "--budget", "1,2")
-        self.assertEqual((done.returncode, done.stdout), (1, ""))
-        self.assertIn("arrivals.csv: arrivals fault 8 Falls row 2", done.stderr)
+        self.fails("arrivals.csv: arrivals fault 8 Falls row 2", "what-if", self.arrivals, "--budget", "1,2")
 
-    def test_what_fails_is_no_row(self):
+    def test_what_fails_is_no_row(self) -> None:
         for body in ("kill -9 $$", "exit 0", "echo hello", "echo 'arrivals fault 10 ReadFailed row 0' >&2; exit 2", "exit 64"):
-            program = self.write("program", f"#!/bin/sh\n{body}\n")
-            program.chmod(0o755)
-            done = run("what-if", self.arrivals, "--program", program)
-            self.assertEqual((done.returncode, done.stdout), (1, ""), body)
-            self.assertIn("1 rows are missing", done.stderr)
+            program = self.program("program", f"{body}")
+            self.fails("1 rows are missing", "what-if", self.arrivals, "--program", program)

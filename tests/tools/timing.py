@@ -1,35 +1,42 @@
 """Recordings generated from given costs, and costs of a recording found by plain searches in its lines."""
 
+from __future__ import annotations
+
 import re
+from collections.abc import Iterable, Iterator, Sequence
 from statistics import median
 
+from finding import group_in
+
 SENDER, POLLER = 2, 3  # processors
+Event = tuple[int, int, str, int, str]  # time, processor, task, its number, and the text
 
 
 class Made:
     """A recording in ftrace's format, of packets on a veth pair, generated from given costs in ns."""
 
-    def __init__(self, **costs):
-        self.costs, self.lines, self.time, self.reader = costs, [], 10**12, POLLER
-        self.timer = self.slept = None
+    def __init__(self, **costs: int) -> None:
+        self.costs, self.time, self.reader = costs, 10**12, POLLER
+        self.lines: list[tuple[int, str]] = []
+        self.timer: int | None = None
 
-    def event(self, time, cpu, task, said):
+    def event(self, time: int, cpu: int, task: str, said: str) -> None:
         self.lines.append((time, f"{task.rjust(20)} [{cpu:03}] ..s1. {time // 10**9}.{time % 10**9:09}: {said}"))
 
-    def text(self):
+    def text(self) -> str:
         return "".join(f"{line}\n" for _, line in sorted(self.lines, key=lambda line: line[0]))
 
-    def switch(self, time, cpu, before, after, state="S"):
+    def switch(self, time: int, cpu: int, before: str, after: str, state: str = "S") -> None:
         comm, pid = before.rsplit("-", 1)
         name, number = after.rsplit("-", 1)
         self.event(time, cpu, before, f"sched_switch: prev_comm={comm} prev_pid={pid} prev_prio=120 prev_state={state} ==> "
                                       f"next_comm={name} next_pid={number} next_prio=120")
 
-    def sent(self, time, count, code=0):
+    def sent(self, time: int, count: int, code: int = 0) -> None:
         for _ in range(count):
             self.event(time, SENDER, "sender-7", f"net_dev_xmit: dev=va1 skbaddr=0 len=100 rc={code}")
 
-    def handler(self, time, name, inner=None):
+    def handler(self, time: int, name: str, inner: str | None = None) -> int:
         """Adds an interrupt's handler on the polling processor; returns its end."""
         end = time + self.costs["interrupt"]
         self.event(time, POLLER, "<idle>-0", f"{name}_entry: vector=251")
@@ -38,13 +45,13 @@ class Made:
         self.event(end, POLLER, "<idle>-0", f"{name}_exit: vector=251")
         return end
 
-    def polled(self, time, task, work, name="vb1"):
+    def polled(self, time: int, task: str, work: int, name: str = "vb1") -> int:
         end = time + self.costs["poll"] + work * self.costs["packet"]
         self.lines.append((end, f"{task.rjust(20)} [{POLLER:03}] b.... {end // 10**9}.{end % 10**9:09}: napi_poll: "
                                 f"napi poll on napi struct 0 for device {name} work {work} budget 64"))
         return end
 
-    def softirq_round(self, works, is_early=False):
+    def softirq_round(self, works: Sequence[int], is_early: bool = False) -> int:
         """Adds packets, an interrupt between processors that requests a softirq, and its polls; returns its end. An early one ends before the events
         of its packets, which come after the sending."""
         if not is_early:
@@ -60,9 +67,10 @@ class Made:
             self.sent(time + 700, works[0])
         return time
 
-    def thread_round(self, work, by_timer):
+    def thread_round(self, work: int, by_timer: bool) -> int:
         """Adds packets that wait for the thread's timer, or that wake the thread; the poll sets the timer again."""
         due = self.timer if by_timer else self.time
+        assert due is not None
         self.sent(due - 500 if by_timer else due, work)
         begin = due + self.costs["wake"]
         inner = f"hrtimer_expire_entry: hrtimer=1 function=napi_watchdog now={begin}"
@@ -74,10 +82,10 @@ class Made:
         self.switch(end + 10, POLLER, "napi/vb1-9-50", "swapper/3-0")
         return end + 10
 
-    def call(self, time):
+    def call(self, time: int) -> None:
         self.event(time, self.reader, "server-60", "sys_recvmsg(fd: 3, msg: 0x1, flags: 0)")
 
-    def read(self, end, count):
+    def read(self, end: int, count: int) -> int:
         """The program, which sleeps in a call, wakes after the poll's end, reads all packets, and sleeps again."""
         read, use = self.costs["read"], self.costs["use"]
         time = end + self.costs["app-wake"]
@@ -92,8 +100,8 @@ class Made:
         return time
 
 
-def searched(text):
-    """Returns the events of a file of fintaqush record: time, processor, task, its number, and the text. The functions below search them backwards."""
+def searched(text: str) -> list[Event]:
+    """Returns the events of a file of fintaqush record. The functions below search them backwards."""
     events = []
     for line in text[text.index("\ntrace\n") + 7:].splitlines():
         found = re.match(r"\s*(\S.*)-(\d+)\s+\[(\d+)\] \S+ +(\d+)\.(\d{9}): (\S.*)", line)
@@ -102,12 +110,12 @@ def searched(text):
     return events
 
 
-def on(events, cpu, until):
+def on(events: list[Event], cpu: int, until: int) -> list[Event]:
     """Returns the events on a processor before one of them, the last one first."""
     return [event for event in events[:until] if event[1] == cpu][::-1]
 
 
-def poll_times(events, device):
+def poll_times(events: list[Event], device: str) -> Iterator[tuple[int, int, int, int | None]]:
     """Yields for each poll its packets and its time, if its beginning is known, and the index of its first event unless that is another poll."""
     for place, (time, cpu, _, _, said) in enumerate(events):
         found = re.match(rf"napi_poll: .* for device {re.escape(device)} work (\d+) ", said)
@@ -128,8 +136,9 @@ def poll_times(events, device):
                 handlers += depth.pop() - event[0]
 
 
-def before_run(events, place):
-    """Returns the duration of the interrupt (between processors, or of NAPI's timer) that came within 50 us before a run or a thread, or None."""
+def before_run(events: list[Event], place: int) -> tuple[int, bool] | None:
+    """Returns the duration of the interrupt (between processors, or of NAPI's timer) that came within 50 us before a run or a thread, and whether
+    it was the timer; or None."""
     end = has_timer = None
     for event in on(events, events[place][1], place):
         name = event[4].split(":")[0]
@@ -141,18 +150,18 @@ def before_run(events, place):
             end, has_timer, kind = event[0], False, name[:-5]
         elif end is not None and name == f"{kind}_entry":
             if kind != "local_timer" or has_timer:
-                return end - event[0]
+                return end - event[0], bool(has_timer)
             end = None
         elif end is None and name in ("napi_poll", "softirq_exit"):
             return None
     return None
 
 
-def middle(values):
+def middle(values: Iterable[float]) -> int:
     return round(median(values))
 
 
-def stolen(events, cpu, begin, end):
+def stolen(events: list[Event], cpu: int, begin: int, end: int) -> int:
     """Returns how long handlers and softirqs ran on a processor between two times at which none was running."""
     total, depth, since = 0, 0, 0
     for time, where, _, _, said in events:
@@ -167,17 +176,17 @@ def stolen(events, cpu, begin, end):
     return total
 
 
-def packet_ends(events, device):
+def packet_ends(events: list[Event], device: str) -> list[tuple[int, bool]]:
     """Returns for each polled packet when its poll ended, and whether it was the only one. The k-th packet is read by the k-th read."""
     return [(time, work == 1) for work, time in polls_of(events, device) for _ in range(work)]
 
 
-def polls_of(events, device):
+def polls_of(events: Sequence[Event], device: str) -> list[tuple[int, int]]:
     found = ((re.match(rf"napi_poll: .* for device {re.escape(device)} work (\d+) ", said), time) for time, _, _, _, said in events)
     return [(int(match[1]), time) for match, time in found if match]
 
 
-def reads_of(events, device):
+def reads_of(events: list[Event], device: str) -> tuple[list[int], list[int], list[int]]:
     """Returns the uses, the calls that found a packet, and how long single packets waited for a sleeping program."""
     reads = [(time, cpu) for time, cpu, task, _, said in events if task == "server" and re.match(r"sys_recvmsg -> 0x", said)]
     calls = [time for time, _, task, _, said in events if task == "server" and said.startswith("sys_recvmsg(")]
@@ -198,7 +207,7 @@ def reads_of(events, device):
     return uses, found, lone
 
 
-def wakes_of(events, device):
+def wakes_of(events: list[Event], device: str) -> Iterator[int]:
     """Yields the time from each run's cause (a packet, or a timer's due time) to its beginning, minus the interrupt."""
     came = [time for time, _, _, _, said in events if re.match(r"net_dev_xmit: dev=va7 .*rc=0$", said)]
     taken = last = 0
@@ -211,16 +220,16 @@ def wakes_of(events, device):
         if begin and (begin[4].startswith("softirq_entry") or "next_comm=napi/" in begin[4]):
             at = events.index(begin)
             expired = next((each for each in on(events, cpu, at) if each[4].startswith(("hrtimer_expire_entry", "napi_poll"))), None)
-            took = before_run(events, at) or 0
+            took, _ = before_run(events, at) or (0, False)
             if expired and expired[4].startswith("hrtimer"):
-                due = next(re.search(r"expires=(\d+)", each[4])[1] for each in events[:at][::-1] if each[4].startswith("hrtimer_start"))
+                due = next(group_in(r"expires=(\d+)", each[4]) for each in events[:at][::-1] if each[4].startswith("hrtimer_start"))
                 yield begin[0] - int(due) - took
             elif found[1] != "0" and last <= came[taken] <= begin[0] and had_other(events, cpu, came[taken], at):
                 yield begin[0] - came[taken] - took
         taken, last = taken + int(found[1]), time
 
 
-def had_other(events, cpu, time, until):
+def had_other(events: list[Event], cpu: int, time: int, until: int) -> bool:
     """Returns whether a task other than the program and the pollers ran on the processor at a time, up to the beginning of the run."""
     switches = [each for each in events[:until + 1] if each[1] == cpu and each[4].startswith("sched_switch")]
     if switches and switches[-1][0] == events[until][0] and "next_comm=napi/" in switches[-1][4]:

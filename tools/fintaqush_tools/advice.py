@@ -14,15 +14,14 @@ from fintaqush_tools import observed
 from fintaqush_tools.errors import Refusal
 from fintaqush_tools.machine import OPTIONS
 from fintaqush_tools.processes import ran
-from fintaqush_tools.recording import Head
+from fintaqush_tools.recording import BACKLOG, Head
 from fintaqush_tools.texts import shown
-from fintaqush_tools.timeline import BACKLOG
 
 VETH_RING = 256  # entries of veth's ring, which ethtool doesn't report
 SOCKET = 65536  # packets: a recording doesn't have the socket buffer's size in packets, so this holds all
 FLUSHES = (0, 20_000, 50_000, 100_000, 200_000, 500_000)  # ns
 DEFERRALS = 2
-COALESCED = (0, 8_000, 25_000, 50_000, 100_000)  # ns
+COALESCED = (0, 10_000, 25_000, 50_000, 100_000)  # ns; igb and e1000e take none from 4 to 9 us
 LARGER = (1, 2, 4, 8, 16)
 NOT_MODELLED = (
     "GRO's merging of packets",
@@ -31,6 +30,7 @@ NOT_MODELLED = (
     "RPS after a device's own polls",
     "adaptive coalescing",
 )
+IDLE = 0.8  # least share of the time in which a processor for the program was idle
 COMM = 15  # characters of a task's name that the kernel keeps
 WRITE = 'echo "$3" > "/sys/class/net/$1/$2"'  # device and value are arguments of the shell, never part of the command
 
@@ -46,8 +46,8 @@ def within_range(option: str, value: int) -> int:
     return max(low, min(high, value))
 
 
-def options_of(head: Head, device: str, is_apart: int) -> dict[str, int]:
-    """Returns napi_machine's options for the recorded settings."""
+def options_of(head: Head, device: str, is_apart: int, processors: int = 1) -> dict[str, int]:
+    """Returns napi_machine's options for the recorded settings, with this number of processors that poll."""
 
     def of_core(name: str, default: int) -> int:
         return number_in(head, f"sysctl.net.core.{name}", default)
@@ -60,6 +60,7 @@ def options_of(head: Head, device: str, is_apart: int) -> dict[str, int]:
         "time-limit": 1000 * of_core("netdev_budget_usecs", 8000),
         "socket": SOCKET,
         "apart": is_apart,
+        "processors": processors,
     }
     if head.get("polled") == BACKLOG:
         options.update(
@@ -130,8 +131,10 @@ def of_interrupts(head: Head, device: str, options: Mapping[str, int]) -> list[l
             deferrals += [
                 {"defer-hard-irqs": DEFERRALS if flush else 0, "gro-flush-timeout": flush} for flush in FLUSHES
             ]
-        if f"device.{device}.threaded" in head:
-            threads += [{"threaded": 0}, {"threaded": 1}]
+        if f"device.{device}.threaded" in head and options.get("processors", 1) == 1:
+            # Without a thread a veth pair's sender polls, on its own processor.
+            stays = head.get("sender") and options["threaded"]
+            threads += [{"threaded": 1}] if stays else [{"threaded": 0}, {"threaded": 1}]
         if (
             f"device.{device}.ethtool.coalesce.rx-usecs" in head
             and head.get(f"device.{device}.ethtool.coalesce.adaptive-rx") != "on"
@@ -161,18 +164,16 @@ class Change:
 class Machine:
     """The machine that was recorded, if it is this one."""
 
-    def __init__(self, head: Head, device: str, processor: int | None) -> None:
+    def __init__(self, head: Head, device: str, processor: int | None, idle: Mapping[int, float] | None = None) -> None:
+        """`idle` has the share of the recording in which each processor was idle."""
         self.head, self.device, self.netns, self.processor = head, device, head.get("netns", ""), processor
+        self.idle = dict(idle or {})
         self.pids = [int(each) for each in head.get("program.pids", "").split()]
 
     def other_processor(self) -> int | None:
-        """Returns a processor for the program, other than the one that polls."""
-        for part in self.head.get("online", "0").split(","):
-            first, _, last = part.partition("-")
-            for number in range(int(first), int(last or first) + 1):
-                if number != self.processor:
-                    return number
-        return None
+        """Returns a processor for the program, other than the one that polls: the one that was idle for longest, if that is nearly always."""
+        others = [(share, number) for number, share in self.idle.items() if number != self.processor and share >= IDLE]
+        return max(others)[1] if others else None
 
     def changes(self, chosen: Mapping[str, int], now: Mapping[str, int]) -> list[Change]:
         """Returns the changes that lead to the chosen setting, in an order in which the kernel accepts them."""
@@ -213,8 +214,8 @@ class Machine:
                 yield "without a thread the processor polls that takes the interrupt, or on which a veth pair's sender runs"
             elif change.kind == "program" and change.value != self.processor:
                 yield (
-                    f"processor {change.value} should do nothing else; what waking the program there takes isn't in the recording unless it was "
-                    "apart"
+                    f"processor {change.value} was idle for {100 * self.idle.get(change.value, 0):.0f} % of the recording; what waking the program there takes "
+                    "isn't in the recording unless it was apart"
                 )
 
     def line_of(self, change: Change) -> str:

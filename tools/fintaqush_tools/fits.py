@@ -79,6 +79,23 @@ def fitted(points: Sequence[Point], known: float) -> tuple[float, float, Sequenc
     return (*line_over(kept), kept) if len({x for x, _ in kept}) > 1 else (start, slope, points)
 
 
+def shift_of(points: Sequence[Point], start: float, slope: float) -> tuple[float, float]:
+    """Returns the median distance of points from a line, positive above it, and how far the median may be from it by chance."""
+    off = sorted(y - start - slope * x for x, y in points)
+    middle = median(off)
+    return middle, WIDE * 1.2533 * 1.4826 * median(abs(each - middle) for each in off) / sqrt(len(off))
+
+
+def halves_of(times: Sequence[float], packets: int, source: str) -> tuple[Cost, Cost, Cost]:
+    """Returns the costs of polls that all took the same number of packets: together, and of a poll and a packet. Which part is the poll's isn't
+    known, so each has the half, and an interval from nothing to the whole."""
+    whole = cost_of(times, source)
+    if not whole:
+        raise Refusal(f"{len(times)} polls, but {FEWEST} are needed")
+    poll = Cost(whole.value / 2, 0, whole.high, whole.count, source)
+    return whole, poll, Cost(poll.value / packets, 0, poll.high / packets, whole.count, source)
+
+
 @dataclass
 class Line:
     """The costs of a poll and a packet, and how well the fitted line explains the polls' times."""

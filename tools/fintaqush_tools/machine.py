@@ -3,7 +3,7 @@
 from __future__ import annotations
 
 import json
-from collections.abc import Mapping, Sequence
+from collections.abc import Collection, Mapping, Sequence
 from pathlib import Path
 from typing import Any
 
@@ -92,14 +92,33 @@ def lines_of(report: str) -> dict[str, list[dict[str, int]]]:
     return lines
 
 
-def values_of(report: str) -> dict[str, Any]:
-    """Returns the results of a report, for a row of a table. Waits are those of the device or processor with the greatest one; shares are of all
-    processors' time; `use_percent` is of the applications' time if these have processors of their own."""
+def greatest_waits(
+    lines: Sequence[Mapping[str, int]], what: str, numbers: Collection[int] | None = None
+) -> dict[str, int]:
+    """Returns the percentiles of the line where they are the greatest, of all lines or of those with these numbers."""
+    some = [line for line in lines if numbers is None or line["number"] in numbers]
+    return {f"{what}_{name}": max((line[wait] for line in some), default=0) for name, wait in PERCENTILES.items()}
+
+
+def values_on(report: str, devices: Collection[int]) -> list[dict[str, int]]:
+    """Returns the results of each processor of a report. `devices` are those whose waits count."""
+    lines = lines_of(report)
+    values = []
+    for line in lines["processor"]:
+        own = [each for each in lines["device"] if (each["number"] - 1) % len(lines["processor"]) == line["number"]]
+        counts = {name: line[name] for name in ("polls", "runs", "squeezed")}
+        counts["dropped"] = sum(each["dropped"] for each in own)
+        values.append({**counts, **greatest_waits(own, "delivered", devices)})
+    return values
+
+
+def values_of(report: str, devices: Collection[int] | None = None) -> dict[str, Any]:
+    """Returns the results of a report, for a row of a table. Waits are those of the device or processor with the greatest one, of these devices
+    if some are given; shares are of all processors' time; `use_percent` is of the applications' time if these have processors of their own.
+    """
     lines = lines_of(report)
     values: dict[str, Any] = {name: lines["total"][0][name] for name in TOTALS}
-    for what, kind in (("delivered", "device"), ("used", "processor")):
-        for name, wait in PERCENTILES.items():
-            values[f"{what}_{name}"] = max((line[wait] for line in lines[kind]), default=0)
+    values |= greatest_waits(lines["device"], "delivered", devices) | greatest_waits(lines["processor"], "used")
     values.update({f"{name}_percent": share(lines["time"], name) for name in SHARES})
     if lines["application"]:
         values["use_percent"] = share(lines["application"], "use")

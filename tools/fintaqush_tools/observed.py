@@ -22,7 +22,7 @@ PROCESSOR = 12  # the column of the processor's number, which kernels before 5.1
 SECRET = {"netdev_rss_key"}
 # The shell script that reads a device's settings; the device's name is an argument, never part of the script.
 DEVICE = """cd "/sys/class/net/$1" 2> /dev/null || exit 3
-grep -s "" mtu tx_queue_len threaded napi_defer_hard_irqs gro_flush_timeout ifindex iflink operstate queues/*/rps_cpus queues/*/rps_flow_cnt \
+grep -s "" address mtu tx_queue_len threaded napi_defer_hard_irqs gro_flush_timeout ifindex iflink operstate queues/*/rps_cpus queues/*/rps_flow_cnt \
     queues/*/xps_cpus statistics/rx_dropped statistics/rx_packets statistics/rx_missed_errors
 exit 0"""
 ETHTOOL = {"ring": "-g", "coalesce": "-c", "channels": "-l", "feature": "-k"}
@@ -38,6 +38,7 @@ FEATURES = {
     "tx-udp-segmentation",
     "ntuple-filters",
 }
+READINGS = 16  # of both clocks, of which the fastest counts
 PACKAGES = {"ip": "iproute2", "ethtool": "ethtool"}
 os.environ[
     "PATH"
@@ -104,10 +105,11 @@ def by_ethtool(name: str, netns: str | None) -> Iterator[tuple[str, str]]:
 
 
 def driver_of(name: str, netns: str | None) -> Iterator[tuple[str, str]]:
-    """Yields the driver of a device."""
-    found = re.search(r"^driver: (\S+)", output_of([*within(netns), "ethtool", "-i", name]), re.M)
-    if found:
-        yield "driver", found[1]
+    """Yields the driver of a device and its version, which for most drivers is the kernel's."""
+    said = output_of([*within(netns), "ethtool", "-i", name])
+    found = dict(re.findall(r"^(driver|version): (\S+)$", said, re.M))
+    if "driver" in found:
+        yield "driver", " ".join(found[each] for each in ("driver", "version") if each in found)
 
 
 def ticks() -> Iterator[tuple[str, str]]:
@@ -265,5 +267,9 @@ def lacking(netns: str | None) -> list[str]:
     ]
 
 
-def now() -> str:
-    return time.strftime("%Y-%m-%dT%H:%M:%SZ", time.gmtime())
+def now() -> dict[str, Any]:
+    """Returns the present time: the date in UTC, and ns of CLOCK_REALTIME and of CLOCK_MONOTONIC, which a capture and a trace have."""
+    tries = [(time.monotonic_ns(), time.time_ns(), time.monotonic_ns()) for _ in range(READINGS)]
+    before, real, after = min(tries, key=lambda each: each[2] - each[0])
+    date = time.strftime("%Y-%m-%dT%H:%M:%SZ", time.gmtime(real // 10**9))
+    return {"began": date, "began.realtime": real, "began.monotonic": (before + after) // 2}

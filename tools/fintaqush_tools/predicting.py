@@ -3,11 +3,13 @@
 from __future__ import annotations
 
 import bisect
-from collections.abc import Iterator, Mapping, Sequence
+from collections import Counter
+from collections.abc import Collection, Iterable, Iterator, Mapping, Sequence
 from typing import Any
 
 from fintaqush_tools.arrivals import arrivals_text
 from fintaqush_tools.errors import Refusal
+from fintaqush_tools.layout import Layout
 from fintaqush_tools.machine import option_words, values_of
 from fintaqush_tools.processes import ran
 from fintaqush_tools.receiving import Receiving
@@ -26,7 +28,9 @@ MEASURED = {
     "delivered_p99": ("us", 1000),
     "used_p50": ("us", 1000),
     "used_p99": ("us", 1000),
+    "poll_percent": ("%", 1),
 }
+COUNTS = {"dropped", "polls", "runs", "squeezed"}
 GRADES = ((15, "good"), (40, "fair"))  # the largest error in % for each grade
 SIZE = 60  # bytes of an arrival, which the machine doesn't use
 FEW = 100  # drops and timers below one in FEW packets aren't compared by ratio
@@ -42,8 +46,12 @@ def arrivals_at(seen: Receiving, numbers: Mapping[str, int] | None = None, visib
     packet that was sent on the processor that polls arrives when the next softirq begins there, because that softirq waits for the sender.
     """
     numbers = numbers or {sender: 1 for sender in set(seen.sent_by)}
-    times = visible_times(seen) if visible else seen.sent
-    rows = sorted((time, place, numbers[sender]) for place, (time, sender) in enumerate(zip(times, seen.sent_by)))
+    return arrivals_of(visible_times(seen) if visible else seen.sent, [numbers[sender] for sender in seen.sent_by])
+
+
+def arrivals_of(times: Iterable[int], devices: Iterable[int]) -> str:
+    """Returns the arrivals at these times; those of one time stay in order."""
+    rows = sorted((time, place, device) for place, (time, device) in enumerate(zip(times, devices)))
     return "".join(arrivals_text((time, device, SIZE) for time, _, device in rows))
 
 
@@ -56,34 +64,84 @@ def visible_times(seen: Receiving) -> Iterator[int]:
 
 
 def measured_of(
-    seen: Receiving, head: Head, used: Sequence[tuple[int, int]] | None = None, packet: float = 0
+    seen: Receiving,
+    head: Head,
+    used: Sequence[tuple[int, int]] | None = None,
+    packet: float = 0,
+    layout: Layout | None = None,
 ) -> dict[str, float]:
     """Returns the measured values of a recording with that head. `used` has for each used packet its sending time and the end of its use, if
-    these are known from a source other than the program's recorded reads. `packet` is the cost of a packet in ns."""
-    before, after = map(int, head.get(f"softnet.{seen.processor}.squeezed", "0 0").split())
+    these are known from a source other than the program's recorded reads. `packet` is the cost of a packet in ns. With a layout waits to delivery
+    are those of the device where they are the greatest, as in the machine's results."""
     values: dict[str, float] = {
         "sent": len(seen.sent),
         "dropped": seen.dropped,
         "polls": len(seen.ended),
         "runs": seen.runs,
-        "squeezed": after - before,
-        "timers": seen.timers[seen.processor],
+        "squeezed": sum(squeezed_on(head, processor) for processor in seen.processors),
+        "timers": sum(seen.timers[processor] for processor in seen.processors),
+        "poll_percent": seen.poll_percent(),
     }
-    for name, pairs in (("delivered", seen.delivered(packet)), ("used", used or seen.used())):
-        waits = sorted(end - time for time, end in pairs)
-        if waits:
-            values.update({f"{name}_p50": percentile(waits, 500), f"{name}_p99": percentile(waits, 990)})
-    return values
+    if layout:
+        values |= waits_at(layout, layout.major(), packet)
+    else:
+        values |= percentiles_of("delivered", seen.delivered(packet))
+    return values | percentiles_of("used", used or seen.used())
 
 
-def predicted(made: str, arrivals: str | bytes, settings: Mapping[str, Any]) -> dict[str, Any]:
-    """Returns the values that the machine predicts for these arrivals."""
+def squeezed_on(head: Head, processor: int) -> int:
+    """Returns how many runs on a processor were squeezed."""
+    before, after = map(int, head.get(f"softnet.{processor}.squeezed", "0 0").split())
+    return after - before
+
+
+def percentiles_of(name: str, pairs: Iterable[tuple[int, float]]) -> dict[str, float]:
+    waits = sorted(end - time for time, end in pairs)
+    return {f"{name}_p50": percentile(waits, 500), f"{name}_p99": percentile(waits, 990)} if waits else {}
+
+
+def waits_at(layout: Layout, devices: Collection[int], packet: float) -> dict[str, float]:
+    """Returns the greatest percentiles of the waits to delivery at these devices, if they are known."""
+    known = [waits for device, waits in layout.waits(packet).items() if device in devices]
+    return {
+        name: max(percentile(waits, part) for waits in known)
+        for name, part in (("delivered_p50", 500), ("delivered_p99", 990))
+        if known
+    }
+
+
+def measured_on(seen: Receiving, head: Head, packet: float, layout: Layout) -> dict[int, dict[str, float]]:
+    """Returns the measured values of each processor that polled."""
+    sent, dropped = Counter(map(layout.processor_of, layout.devices)), Counter[int]()
+    for device, has_come in zip(layout.devices, seen.has_come):
+        dropped[layout.processor_of(device)] += not has_come
+    polls, runs = Counter(seen.on), Counter(processor for processor, _ in seen.runs_on())
+    return {
+        processor: {
+            "sent": sent[processor],
+            "dropped": dropped[processor],
+            "polls": polls[processor],
+            "runs": runs[processor],
+            "squeezed": squeezed_on(head, processor),
+            **waits_at(layout, {each for each in layout.major() if layout.processor_of(each) == processor}, packet),
+        }
+        for processor in layout.processors
+    }
+
+
+def reported(made: str, arrivals: str | bytes, settings: Mapping[str, Any]) -> str:
+    """Returns the machine's report on these arrivals."""
     status, out, said = ran(
         [made, *option_words(settings)], arrivals if isinstance(arrivals, bytes) else arrivals.encode()
     )
     if status != 0:
         raise Refusal(f"{shown(made)} failed: {last_line(said, f'status {status}')[:200]}")
-    return values_of(out.decode("ascii", "replace"))
+    return out.decode("ascii", "replace")
+
+
+def predicted(made: str, arrivals: str | bytes, settings: Mapping[str, Any]) -> dict[str, Any]:
+    """Returns the values that the machine predicts for these arrivals."""
+    return values_of(reported(made, arrivals, settings))
 
 
 def base_of(name: str, measured: float, packets: float) -> float:
@@ -107,8 +165,25 @@ def compared(measured: Mapping[str, float], values: Mapping[str, Any]) -> list[C
     ]
 
 
-def grade_of(rows: Sequence[Compared]) -> str:
-    """Returns good, fair or poor, by the largest error. Of waits only the medians count, because a 99th percentile of tens of us comes from
-    interrupts and the hypervisor, which the machine doesn't model."""
-    worst = max((abs(error) for name, _, _, error in rows if not name.endswith("p99")), default=100)
-    return next((grade for most, grade in GRADES if worst <= most), "poor")
+def judged_for(goal: str, end: str, has_limit: bool) -> set[str]:
+    """Returns the names of the values by which a fit is judged: the counts, and what the goal is about. `has_limit` is whether the 99th
+    percentile has one."""
+    waits = {f"{end}_p50"} if goal == "p99" else set()
+    return COUNTS | waits | {name_of(goal, end)} | ({f"{end}_p99"} if has_limit else set())
+
+
+def name_of(goal: str, end: str) -> str:
+    """Returns the name of the measured value that a goal is about."""
+    return {"cpu": "poll_percent", "drops": "dropped"}.get(goal, f"{end}_{goal}")
+
+
+def worst_of(rows: Sequence[Compared], names: Collection[str]) -> Compared | None:
+    """Returns the row with the largest error among these names."""
+    found = [row for row in rows if row[0] in names]
+    return max(found, key=lambda row: abs(row[3])) if found else None
+
+
+def grade_of(rows: Sequence[Compared], names: Collection[str] | None = None) -> str:
+    """Returns good, fair or poor, by the largest error of the values with these names, or of all."""
+    worst = worst_of(rows, [row[0] for row in rows] if names is None else names)
+    return next((grade for most, grade in GRADES if worst and abs(worst[3]) <= most), "poor")

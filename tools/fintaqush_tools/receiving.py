@@ -1,5 +1,5 @@
 """What a recording shows of the NAPI instances of some devices: the packets sent to them, their polls and runs, the reads of a program,
-and the other tasks on their processor.
+and the other tasks on their processors.
 """
 
 from __future__ import annotations
@@ -12,20 +12,16 @@ from collections.abc import Collection, Iterable, Sequence
 from typing import Optional, Union
 
 from fintaqush_tools.arriving import BY_PAIR, BY_POLL, BY_STACK, KINDS, PollBegins, packet_of
-from fintaqush_tools.errors import Refusal
+from fintaqush_tools.instances import ANY, Place, Routes
 from fintaqush_tools.recording import NET_RX, POLLED, SENT, SOFTIRQ, Event, is_by_thread
-from fintaqush_tools.texts import shown
+from fintaqush_tools.tasks import Tasks
 
 Marked = Union[int, tuple[str, int]]  # a processor, or a thread
 
 TIMER = re.compile(r"hrtimer=\S+ function=(\w+)")
-SWITCH = re.compile(r"prev_comm=(.*) prev_pid=(\d{1,9}) prev_prio=(\d{1,3}) .*==> next_comm=(.*) next_pid=(\d{1,9}) ")
-# Tasks that poll, or that take negligible time.
-KERNEL_TASKS = re.compile(r"swapper|ksoftirqd/|napi/|migration/|rcu|cpuhp/|idle_inject/")
 FULL = 64  # packets, the weight of a poll
 MOST_UNREAD = 64  # packets that may wait for the program when a recording begins
 EARLY = 100_000  # ns: an arrival's event comes after the arrival, by at most this
-REAL_TIME = 100  # a lower priority is that of a real-time task, which no other task disturbs
 
 
 def agree(pairs: Sequence[tuple[float, float]]) -> bool:
@@ -35,36 +31,55 @@ def agree(pairs: Sequence[tuple[float, float]]) -> bool:
     )
 
 
+class Received:
+    """A packet that a poll took: when it arrived by that poll, its device, its processor, and the instance once it is known."""
+
+    __slots__ = ("time", "device", "cpu", "place")
+
+    def __init__(self, time: int, device: str, cpu: int) -> None:
+        self.time, self.device, self.cpu, self.place = time, device, cpu, ANY
+
+
 class Receiving:
     """The instances that poll `polled`, with packets of the devices `senders`; if no sender is known, packets that `receivers` receive.
-    Times are in ns."""
+    `routes` finds the instance of a sent packet; without it all polls count as those of one instance. Times are in ns.
+    """
 
     span: tuple[int, int] | None
     sent: array[int]
     sent_on: array[int]
     sent_by: list[str]
+    sent_to: list[Optional[Place]]
     sending: set[str]
+    unplaced: dict[str, int]
+    moved: Counter[int]
     ended: array[int]
     begun: array[int]
     work: array[int]
     on: array[int]
-    run_of: set[tuple[int, int]]
+    places: list[Place]
+    run: array[int]
     entries: defaultdict[int, array[int]]
     timers: Counter[int]
     reads: list[tuple[int, int]]
     reading: dict[int, int]
     mark: dict[Marked, int]
-    running: dict[int, int]
-    tasks: defaultdict[int, Counter[tuple[str, int, int]]]
-    received: dict[str, list[tuple[int, int, str]]]
+    received: dict[str, list[Received]]
+    taken: defaultdict[int, list[Received]]
+    packets_of: Counter[Place]
 
-    def __init__(self, polled: set[str], senders: set[str], receivers: Iterable[str] = ()) -> None:
+    def __init__(
+        self, polled: set[str], senders: set[str], receivers: Iterable[str] = (), routes: Optional[Routes] = None
+    ) -> None:
         self.polled, self.senders, self.span = polled, senders, None
+        self.routes = routes or Routes({}, {sender: "" for sender in senders})
         self.receivers, self.begins, self.received = set(receivers), PollBegins(), {BY_POLL: [], BY_STACK: []}
         # When each packet was sent, and 1 unless a full ring dropped it.
         self.sent, self.has_come = (array("Q"), bytearray())
-        # The processor, the device and the tasks that sent it.
-        self.sent_on, self.sent_by, self.sending = (array("H"), [], set())
+        # The processor, the device and the tasks that sent it; the instance that gets it, if that is known.
+        self.sent_on, self.sent_by, self.sending, self.sent_to = (array("H"), [], set(), [])
+        # The packets whose instance isn't known yet; how many packets a backlog received since its last poll.
+        self.unplaced, self.moved, self.taken = {}, Counter(), defaultdict(list)
         # For each poll.
         self.ended, self.begun, self.work, self.on, self.is_thread = (
             array("Q"),
@@ -73,11 +88,12 @@ class Receiving:
             array("H"),
             bytearray(),
         )
-        self.run_of = set()  # the softirqs that polled, each by its processor and its index among the entries there
+        # Its instance, and the number of its softirq among the entries on its processor, or 0.
+        self.places, self.run, self.packets_of = [], array("L"), Counter()
         # By processor: when its softirqs began; its NAPI timers.
         self.entries, self.timers = (defaultdict(lambda: array("Q")), Counter())
         self.reads, self.reading = [], {}  # for each read its end, and the beginning of the next read by that task
-        self.mark, self.running, self.tasks = {}, {}, defaultdict(Counter)
+        self.mark, self.tasks = {}, Tasks()
 
     def add(self, event: Event) -> None:
         """Processes the next event of the recording."""
@@ -88,6 +104,8 @@ class Receiving:
             self.add_packet(event)
         elif event.name in KINDS:
             self.add_received(event)
+        elif event.name == "net_dev_start_xmit":
+            self.routes.start(event)
         elif event.name == "napi_poll":
             self.add_poll(event)
         elif event.name in ("softirq_entry", "softirq_exit") and int(event.parts(SOFTIRQ)[0]) == NET_RX:
@@ -98,7 +116,9 @@ class Receiving:
             found = TIMER.match(event.said)
             self.timers[event.cpu] += found is not None and found[1] == "napi_watchdog"
         elif event.name == "sched_switch":
-            self.add_switch(event)
+            name, number, _ = self.tasks.switch(event, self.span[0])
+            if name.startswith("napi/"):
+                self.mark["thread", number] = event.time
         elif event.name.startswith("sys_exit_"):
             self.reading[event.pid] = event.time
         elif event.name.startswith("sys_enter_") and event.pid in self.reading:
@@ -107,54 +127,91 @@ class Receiving:
     def add_packet(self, event: Event) -> None:
         sender, _, code = event.parts(SENT)
         if sender in self.senders:
-            self.sent.append(event.time)
-            self.has_come.append(code in ("0", "0x0"))
-            self.sent_on.append(event.cpu)
-            self.sent_by.append(sender)
+            place, packet = self.routes.of_sent(sender, event)
+            self.append_packet(event.time, code in ("0", "0x0"), event.cpu, sender, place)
             self.sending.add(event.task)
+            if place is None and self.has_come[-1]:
+                self.unplaced[packet] = len(self.sent) - 1
+
+    def append_packet(self, time: int, has_come: bool, cpu: int, by: str, place: Optional[Place]) -> None:
+        self.sent.append(time)
+        self.has_come.append(has_come)
+        self.sent_on.append(cpu)
+        self.sent_by.append(by)
+        self.sent_to.append(place)
 
     def add_received(self, event: Event) -> None:
+        if self.unplaced and event.name == BY_STACK:
+            place, address = self.routes.of_received(event)
+            if place and address in self.unplaced:
+                self.sent_to[self.unplaced.pop(address)] = place
+                self.moved[event.cpu] += 1
         name, _, _ = packet_of(event)
         if name in self.receivers:
-            self.received[KINDS[event.name]].append((self.begins.of(event), event.cpu, name))
-
-    def settle(self) -> str:
-        """If no sender's packets are known, uses the received ones as arrivals. Returns the kind of event, or nothing."""
-        kind = next((kind for kind, packets in self.received.items() if packets), "")
-        if self.senders or not kind:
-            return ""
-        for time, cpu, name in sorted(self.received[kind]):
-            self.sent.append(time)
-            self.has_come.append(1)
-            self.sent_on.append(cpu)
-            self.sent_by.append(name)
-        return kind
+            packet = Received(self.begins.of(event), name, event.cpu)
+            self.received[KINDS[event.name]].append(packet)
+            self.taken[event.cpu].append(packet)
 
     def add_poll(self, event: Event) -> None:
-        device, work, _ = event.parts(POLLED)
-        by_thread = is_by_thread(event)
+        napi, device, count, _ = event.parts(POLLED)
+        work, by_thread, is_own = int(count), is_by_thread(event), device in self.polled
         key: Marked = ("thread", event.pid) if by_thread else event.cpu
-        if device in self.polled:
+        if is_own and self.routes.moved:  # a backlog has packets of other devices too
+            work = self.moved.pop(event.cpu, 0)
+            is_own = work > 0
+        if is_own:
+            place = (device, napi) if self.receivers else self.routes.of_poll(device, napi)
+            for packet in self.taken.pop(event.cpu, ()):
+                packet.place = place
+            self.packets_of[device, napi] += work
             self.ended.append(event.time)
             self.begun.append(self.mark.get(key, 0))
-            self.work.append(int(work))
+            self.work.append(work)
             self.on.append(event.cpu)
             self.is_thread.append(by_thread)
-            if not by_thread and self.mark.get(event.cpu):
-                self.run_of.add((event.cpu, len(self.entries[event.cpu])))
+            self.places.append(place)
+            self.run.append(len(self.entries[event.cpu]) if not by_thread and self.mark.get(event.cpu) else 0)
         if by_thread or self.mark.get(event.cpu):
             self.mark[key] = event.time
 
-    def add_switch(self, event: Event) -> None:
-        found = SWITCH.match(event.said)
-        if not found:
-            raise Refusal(f"line {event.line}: sched_switch says {shown(event.said[:60])!r}, an unknown format")
-        last, process, priority, following, thread = found.groups()
-        since = self.running.get(event.cpu, self.span[0] if self.span else event.time)
-        self.tasks[event.cpu][last, int(process), int(priority)] += event.time - since
-        self.running[event.cpu] = event.time
-        if following.startswith("napi/"):
-            self.mark["thread", int(thread)] = event.time
+    # ---- at the end
+
+    def settle(self) -> str:
+        """Ends the reading, and leaves out the polls of instances that took no packet. If no sender's packets are known, uses the received ones
+        as arrivals. Returns the kind of event, or nothing."""
+        self.tasks.end(*(self.span or (0, 0)))
+        self.leave_out({place for place in set(self.places) if place != ANY and not self.packets_of[place]})
+        kind = next((kind for kind, packets in self.received.items() if packets), "")
+        if self.senders or not kind:
+            self.place_dropped()
+            return ""
+        for packet in sorted(self.received[kind], key=lambda packet: packet.time):
+            self.append_packet(packet.time, True, packet.cpu, packet.device, packet.place)
+        return kind
+
+    def replace_arrivals(self, times: Sequence[int], device: str) -> None:
+        """Takes other arrivals at the one instance that polls."""
+        count = len(times)
+        self.sent, self.has_come = array("Q", times), bytearray(b"\1" * count)
+        self.sent_on, self.sent_by = array("H", [self.processor] * count), [device] * count
+        self.sent_to = [self.places[0]] * count
+
+    def leave_out(self, places: Collection[Place]) -> None:
+        """Removes the polls of some instances, if there are others."""
+        kept = [number for number, place in enumerate(self.places) if place not in places]
+        if not kept or len(kept) == len(self.places):
+            return
+        for name in ("ended", "begun", "work", "on", "run"):
+            column = getattr(self, name)
+            setattr(self, name, array(column.typecode, (column[number] for number in kept)))
+        self.is_thread = bytearray(self.is_thread[number] for number in kept)
+        self.places = [self.places[number] for number in kept]
+
+    def place_dropped(self) -> None:
+        """Gives packets whose instance isn't known, which a backlog dropped, to that of the packet before."""
+        last = next((place for place in self.sent_to if place), ANY)
+        for number, place in enumerate(self.sent_to):
+            last = self.sent_to[number] = place or last
 
     # ---- derived values
 
@@ -181,41 +238,84 @@ class Receiving:
     @property
     def runs(self) -> int:
         """Returns how many softirqs polled."""
-        return len(self.run_of)
+        return len(self.runs_on())
 
-    def came(self) -> list[int]:
-        """Returns the sending times of the packets that weren't dropped."""
-        return [time for time, has in zip(self.sent, self.has_come) if has]
+    def runs_on(self) -> set[tuple[int, int]]:
+        """Returns the softirqs that polled, each by its processor and its number there."""
+        return {(processor, number) for processor, number in zip(self.on, self.run) if number}
 
-    def waiting_before(self, came: Sequence[int]) -> int:
+    def poll_percent(self) -> float:
+        """Returns the share of the time from the first packet to the last poll that polls took, of all processors that polled."""
+        if not self.sent or not self.ended:
+            return 0
+        took = sum(ended - begun for ended, begun in zip(self.ended, self.begun) if begun)
+        whole = max(1, self.ended[-1] - min(self.sent[0], self.ended[0]))
+        return 100 * took / whole / len(set(self.on))
+
+    @staticmethod
+    def place_of(place: Optional[Place]) -> Place:
+        return place or ANY
+
+    def came_by_place(self) -> dict[Place, list[int]]:
+        """Returns for each instance the indices of the packets that it got and that weren't dropped."""
+        came: dict[Place, list[int]] = {}
+        for number, (place, has) in enumerate(zip(self.sent_to, self.has_come)):
+            if has:
+                came.setdefault(self.place_of(place), []).append(number)
+        return came
+
+    def polls_by_place(self) -> dict[Place, list[int]]:
+        """Returns for each instance the indices of its polls."""
+        polls: dict[Place, list[int]] = {}
+        for number, place in enumerate(self.places):
+            polls.setdefault(place, []).append(number)
+        return polls
+
+    def waiting_before(self, came: Sequence[int], polls: Sequence[int]) -> int:
         """Returns how many packets of the first polls were sent before the recording began. A poll that isn't full takes all earlier packets."""
-        given = 0
+        given, times = 0, [self.sent[number] for number in came]
         least: Optional[int] = None
-        for ended, begun, work in zip(self.ended, self.begun, self.work):
-            given += work
-            if begun and work < FULL:
-                more = given - bisect.bisect_right(came, begun)
+        for number in polls:
+            given += self.work[number]
+            if self.begun[number] and self.work[number] < FULL:
+                more = given - bisect.bisect_right(times, self.begun[number])
                 least = more if least is None else min(least, more)
         return max(0, least or 0)
 
-    def delivered(self, cost: float = 0) -> list[tuple[int, float]]:
-        """Returns for each delivered packet its sending and delivery times, in the order in which one instance delivers packets. A packet's delivery
-        precedes the end of its poll by the cost of the packets after it. Returns nothing if polls of several instances were recorded, or if packets
-        and polls don't match."""
-        came = self.came()
-        if len(set(self.sent_by)) != 1 or not self.ended:
-            return []
-        place = -self.waiting_before(came)
-        pairs = []
-        for ended, work in zip(self.ended, self.work):
-            pairs += [
-                (came[place + number], ended, work - 1 - number)
-                for number in range(max(0, -place), min(work, len(came) - place))
+    def matched(self, came: Sequence[int], polls: Sequence[int]) -> list[tuple[int, int, int]]:
+        """Returns for each packet that an instance delivered its index, that of its poll, and how many packets of the poll came after it, in the
+        order in which an instance delivers packets; nothing if packets and polls don't match."""
+        at = -self.waiting_before(came, polls)
+        found = []
+        for number in polls:
+            work = self.work[number]
+            found += [
+                (came[at + each], number, work - 1 - each) for each in range(max(0, -at), min(work, len(came) - at))
             ]
-            place += work
-        # whether they match doesn't depend on the cost, which may be too high for some polls
-        matches = place <= len(came) and agree([(time, ended) for time, ended, _ in pairs])
-        return [(time, max(time, ended - cost * after)) for time, ended, after in pairs] if matches else []
+            at += work
+        times = [(self.sent[packet], self.ended[poll]) for packet, poll, _ in found]
+        return found if at <= len(came) and agree(times) else []
+
+    def deliveries(self) -> dict[Place, list[tuple[int, int, int]]]:
+        """Returns the matched packets of each instance. Returns nothing if polls of several instances count as those of one."""
+        if not self.ended or ANY in self.places and len(set(self.sent_by)) != 1:
+            return {}
+        came = self.came_by_place()
+        return {place: self.matched(came.get(place, []), polls) for place, polls in self.polls_by_place().items()}
+
+    def delivered(self, cost: float = 0) -> list[tuple[int, float]]:
+        """Returns for each delivered packet its sending and delivery times, in the order of the polls. A packet's delivery precedes the end of its
+        poll by the cost of the packets after it. Returns nothing if packets and polls of an instance don't match."""
+        deliveries = self.deliveries()
+        if not all(deliveries.values()):
+            return []
+        # Whether they match doesn't depend on the cost, which may be too high for some polls.
+        pairs = sorted((each for every in deliveries.values() for each in every), key=lambda each: each[1])
+        return [(self.sent[packet], self.delivery(packet, poll, after, cost)) for packet, poll, after in pairs]
+
+    def delivery(self, packet: int, poll: int, after: int, cost: float) -> float:
+        """Returns when a poll delivered a packet."""
+        return max(self.sent[packet], self.ended[poll] - cost * after)
 
     def used(self) -> list[tuple[int, int]]:
         """Returns for each used packet its sending time and the beginning of the next read; nothing if reads and packets don't match."""
@@ -232,20 +332,5 @@ class Receiving:
 
     def other_tasks(self, known: Collection[int], processor: int | None = None) -> dict[str, float]:
         """Returns the shares of a processor's time that other tasks had, by default on the processor with most polls: tasks that neither poll nor
-        send nor are in `known` (process numbers), so that they can disturb. Only other real-time tasks can disturb a real-time task.
-        """
-        if not self.span or self.span[1] == self.span[0]:
-            return {}
-        own = []
-        others: Counter[tuple[str, int]] = Counter()
-        tasks = self.tasks.get(self.processor if processor is None else processor, Counter())
-        for (name, process, priority), time in tasks.items():
-            if process in known or re.match("ksoftirqd/|napi/", name):
-                own.append(priority)
-            elif process and name not in self.sending and not KERNEL_TASKS.match(name):
-                others[name, priority] += time
-        most = REAL_TIME if own and max(own) < REAL_TIME else REAL_TIME * 2
-        times: Counter[str] = Counter()
-        for (name, priority), time in others.items():
-            times[name] += time if priority < most else 0
-        return {name: time / (self.span[1] - self.span[0]) for name, time in times.most_common() if time}
+        send nor are in `known` (process numbers), so that they can disturb."""
+        return self.tasks.others(self.processor if processor is None else processor, known, self.sending)

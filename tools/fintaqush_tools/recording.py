@@ -33,6 +33,7 @@ OTHERS = {
     b"\n\r\r\n": CAPTURE,
     b"\x7fELF": "this is a program",
 }
+BACKLOG = "(no_device)"  # the name of a processor's backlog in napi_poll
 NET_RX = 3  # the number of the softirq that polls (NET_RX_SOFTIRQ)
 
 # ftrace and trace-cmd write `TASK-PID [CPU] FLAGS TIME: NAME:`, perf writes `TASK PID[/TID] [CPU] TIME: [COUNT] SYSTEM:NAME:`.
@@ -42,7 +43,7 @@ LINE = re.compile(
     r"(?:(?:\w+:)?(?P<name>\w+):(?!\w)|sys_(?P<call>\w+)(?P<is_exit> ->|(?=\()))\s*(?P<said>.*)"
 )
 SENT = re.compile(r"dev=(\S+) .*\blen=(\d{1,10}) rc=(\w+)")
-POLLED = re.compile(r"napi poll on napi struct \S+ for (?:network )?device (\S+) work (\d{1,9}) budget (\d{1,9})")
+POLLED = re.compile(r"napi poll on napi struct (\S+) for (?:network )?device (\S+) work (\d{1,9}) budget (\d{1,9})")
 SOFTIRQ = re.compile(r"vec=(\d{1,9})")
 LOST = re.compile(r"\[LOST (\d+) EVENTS\]|\[(\d+) EVENTS DROPPED\]|PERF_RECORD_LOST lost (\d+)")
 # The lines of a call chain, which perf writes after an event.

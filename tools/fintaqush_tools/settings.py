@@ -1,4 +1,4 @@
-"""The settings of a replay, the options of its program, and messages about invalid ones: docs/FORMATS.md, "The words"."""
+"""The settings of a replay, the options of its program, and messages about invalid ones: docs/FORMATS.md, "The options"."""
 
 from __future__ import annotations
 

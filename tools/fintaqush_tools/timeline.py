@@ -4,11 +4,12 @@ from __future__ import annotations
 
 import re
 from collections import Counter, defaultdict, deque
-from collections.abc import Iterable, Sequence
-from typing import Any
+from collections.abc import Iterable
+from typing import Any, Optional
 
 from fintaqush_tools.errors import Refusal
-from fintaqush_tools.recording import NET_RX, POLLED, SENT, SOFTIRQ, Event, is_by_thread
+from fintaqush_tools.instances import Place, Routes
+from fintaqush_tools.recording import BACKLOG, NET_RX, POLLED, SENT, SOFTIRQ, Event, is_by_thread
 
 Handler = list[Any]  # its name, its beginning, and whether napi_watchdog ran in it
 
@@ -21,7 +22,6 @@ EXPIRES = re.compile(r"hrtimer=(\S+) .*\bexpires=(\d{1,20})")
 EXPIRED = re.compile(r"hrtimer=(\S+) .*\bnow=(\d{1,20})")
 RETURNED = re.compile(r"0x([0-9a-f]{1,16})$")
 WATCHDOG = "napi_watchdog"
-BACKLOG = "(no_device)"  # the name of a processor's backlog in napi_poll
 TIMER = f"the timer of {WATCHDOG}"
 # Interrupts between processors, which may start a softirq or a thread; and all interrupts with an entry and an exit event.
 BETWEEN = {"call_function_single", "call_function", "reschedule", "ipi"}
@@ -172,63 +172,99 @@ class Reads:
 
 
 class Polls:
-    """The polls of a device."""
+    """The polls of an instance."""
 
     polls: list[tuple[int, int]]
+    on: list[int]
     where: Counter[int]
     handlers: defaultdict[str, list[int]]
 
     def __init__(self) -> None:
-        self.polls, self.by_threads, self.where = [], 0, Counter()  # packets and ns of each poll
+        self.polls, self.on, self.by_threads = [], [], 0  # packets and ns of each poll, and its processor
         # The handlers that runs followed; how many runs followed none.
         self.handlers, self.without = (defaultdict(list), 0)
 
     def add(self, work: int, took: int, by_thread: bool, cpu: int) -> None:
         self.polls.append((work, took))
+        self.on.append(cpu)
         self.by_threads += by_thread
-        self.where[cpu] += 1
+
+    @property
+    def receives(self) -> bool:
+        """Returns whether a poll took a packet."""
+        return any(work for work, _ in self.polls)
+
+
+class Waiting:
+    """The packets that wait for the polls of an instance, each with its sending time and its sender's processor."""
+
+    packets: deque[tuple[int, int]]
+
+    def __init__(self) -> None:
+        self.packets, self.owed = deque(), 0  # packets that were polled before their event
+        self.poll_end, self.was_full = 0, False  # of the last poll
+
+    def came(self, time: int, cpu: int) -> None:
+        if self.owed and time - self.poll_end < EARLY:
+            self.owed -= 1
+        else:
+            self.packets.append((time, cpu))
+
+    def deliver(self, work: int, is_empty: bool, began: int) -> int:
+        """Removes the packets that wait longest; a poll that wasn't full delivers all earlier ones. Returns how many don't match."""
+        unmatched, self.owed = self.owed, 0
+        for _ in range(work):
+            if self.packets:
+                self.packets.popleft()
+            else:
+                self.owed += 1
+        while is_empty and self.packets and self.packets[0][0] < began:
+            self.packets.popleft()
+            unmatched += 1
+        return unmatched
 
 
 class Timeline:
     """Sums up the times of a recording."""
 
-    of: defaultdict[str, Polls]
+    of: defaultdict[Place, Polls]
     on: defaultdict[int, Processor]
     wakes: defaultdict[str, list[int]]
     busy_wakes: defaultdict[str, list[int]]
     due: dict[str, int]
-    waiting: deque[tuple[int, int]]
+    waiting: defaultdict[Place, Waiting]
+    unplaced: dict[str, tuple[int, int]]
     sent_on: Counter[int]
     tasks: defaultdict[int, Counter[str]]
-    left_out: dict[str, int]
+    left_out: Counter[str]
+    transmit: Counter[str]
     devices: list[str]
     polls: list[tuple[int, int]]
+    places: list[int]
     handlers: defaultdict[str, list[int]]
     where: Counter[int]
 
     def __init__(
         self,
-        pairs: Iterable[Sequence[str]] = (),
+        routes: Optional[Routes] = None,
         polled: Iterable[str] = (),
         irq: str | None = None,
         interrupts: Iterable[str] = (),
     ) -> None:
         """`polled` are the devices whose polls count; `interrupts` are their interrupts, if known: other cards' interrupts don't request their polls."""
-        self.irq, self.polled, self.senders, self.interrupts = (
-            irq,
-            set(polled),
-            {sender for sender, _ in pairs},
-            set(interrupts),
-        )
+        self.irq, self.polled, self.interrupts = irq, set(polled), set(interrupts)
+        self.routes = routes or Routes({}, {})
         self.on = defaultdict(Processor)
         self.is_coarse, self.has_tasks, self.has_handlers = True, False, False
-        self.of, self.strays = defaultdict(Polls), 0  # per device
+        self.of, self.strays = defaultdict(Polls), 0  # per instance
         # Wake-ups by packets and by timers, on a processor that slept; and on one that ran another task.
         self.wakes, self.busy_wakes = defaultdict(list), defaultdict(list)
         self.due = {}  # for each timer
-        self.waiting, self.came, self.dropped, self.given, self.unmatched, self.sent_on = deque(), 0, 0, 0, 0, Counter()
-        self.owed = 0  # packets that were polled before their arrival
-        self.poll_end, self.was_full = 0, False  # of the last poll
+        self.waiting, self.unplaced = (
+            defaultdict(Waiting),
+            {},
+        )  # by instance; and packets whose instance isn't known yet
+        self.came, self.dropped, self.given, self.unmatched, self.sent_on = 0, 0, 0, 0, Counter()
         self.reads = Reads()
         self.tasks, self.first, self.last = defaultdict(Counter), 0, 0
 
@@ -253,6 +289,10 @@ class Timeline:
             self.switch(processor, event)
         elif name == "net_dev_xmit":
             self.packet(event)
+        elif name == "net_dev_start_xmit":
+            self.routes.start(event)
+        elif name == "netif_receive_skb" and self.unplaced:
+            self.receive(event)
 
     def handler(self, processor: Processor, event: Event) -> None:
         """Handles the beginning or end of a handler: of a card's interrupt, of one between processors, or of the local timer."""
@@ -268,7 +308,7 @@ class Timeline:
             processor.by_handlers.end(event.time)
             processor.above_tasks.end(event.time)
             if kind == "irq_handler" and name == self.irq:
-                self.of[""].handlers[name].append(event.time - began)
+                self.of["", ""].handlers[name].append(event.time - began)
             is_own = kind == "irq_handler" and (not self.interrupts or name in self.interrupts)
             if is_own or has_expired or name in BETWEEN:
                 processor.ended = (TIMER if has_expired else name, event.time - began, event.time)
@@ -323,19 +363,27 @@ class Timeline:
     def packet(self, event: Event) -> None:
         """Handles a sent packet, which arrives at a device."""
         sender, _, code = event.parts(SENT)
-        if sender in self.senders:
-            self.sent_on[event.cpu] += 1
-            if code in ("0", "0x0"):
-                self.came += 1
-                if self.owed and event.time - self.poll_end < EARLY:
-                    self.owed -= 1
-                else:
-                    self.waiting.append((event.time, event.cpu))
-            else:
-                self.dropped += code in ("1", "0x1")
+        if sender not in self.routes.receivers:
+            return
+        self.sent_on[event.cpu] += 1
+        place, packet = self.routes.of_sent(sender, event)
+        if code not in ("0", "0x0"):
+            self.dropped += code in ("1", "0x1")
+            return
+        self.came += 1
+        if place:
+            self.waiting[place].came(event.time, event.cpu)
+        else:
+            self.unplaced[packet] = event.time, event.cpu
+
+    def receive(self, event: Event) -> None:
+        """Handles a packet that the current poll of a backlog took."""
+        place, packet = self.routes.of_received(event)
+        if place and packet in self.unplaced:
+            self.waiting[place].packets.append(self.unplaced.pop(packet))
 
     def poll(self, processor: Processor, event: Event) -> None:
-        device, packets, budget = event.parts(POLLED)
+        napi, device, packets, budget = event.parts(POLLED)
         work, by_thread = int(packets), is_by_thread(event)
         is_full = work >= int(budget)
         began = processor.thread if by_thread else processor.softirq
@@ -348,32 +396,33 @@ class Timeline:
             began
             and processor.is_first
             and processor.full
-            and processor.full[0] == device
+            and processor.full[0] == napi
             and began[0] - processor.full[1] <= SOON
         ):
             began = processor.full[1:]  # it continues with what the full poll left
-        processor.full = (device, *mark) if is_full else None
+        processor.full = (napi, *mark) if is_full else None
         if not self.polled or device in self.polled:
+            place, waiting = (device, napi), self.waiting[self.routes.of_poll(device, napi)]
             self.strays += not began
             if began:
-                self.of[device].add(work, mark[0] - began[0] - (mark[1] - began[1]), by_thread, event.cpu)
+                self.of[place].add(work, mark[0] - began[0] - (mark[1] - began[1]), by_thread, event.cpu)
                 if processor.is_first:
-                    self.run_begins(processor, began[0], work, event.cpu, self.of[device])
-            self.deliver(event.time, work, not is_full, began[0] if began else self.poll_end)
-            self.poll_end, self.was_full = event.time, is_full
+                    self.run_begins(processor, began[0], work, self.of[place], waiting)
+            self.deliver(event.time, work, not is_full, began[0] if began else waiting.poll_end, waiting)
+            waiting.poll_end, waiting.was_full = event.time, is_full
         processor.is_first, processor.by, processor.due, processor.ended = False, None, None, None
 
-    def run_begins(self, processor: Processor, began: int, work: int, cpu: int, polls: Polls) -> None:
+    def run_begins(self, processor: Processor, began: int, work: int, polls: Polls, waiting: Waiting) -> None:
         """Handles the first poll of a softirq or a thread: which handler requested it, and the time from its cause to its beginning."""
         name, took, _ = processor.by or (None, 0, 0)
         if name is not None and not self.irq:
             polls.handlers[name].append(took)
-        polls.without += name is None and not self.was_full
+        polls.without += name is None and not waiting.was_full
         if processor.due is not None:
             self.add_wake("timers", processor, processor.due, began - processor.due - took)
-        elif work and self.waiting and self.poll_end <= self.waiting[0][0] <= began:
-            came, sent_on = self.waiting[0]
-            if sent_on == cpu:
+        elif work and waiting.packets and waiting.poll_end <= waiting.packets[0][0] <= began:
+            came, sent_on = waiting.packets[0]
+            if sent_on == polls.on[-1]:
                 self.wakes["packets"].append(began - came - took)
             else:
                 self.add_wake("packets", processor, came, began - came - took)
@@ -386,37 +435,41 @@ class Timeline:
         elif name and since <= time and pid not in self.reads.tasks and not name.startswith(("napi/", "ksoftirqd/")):
             self.busy_wakes[kind].append(took)
 
-    def deliver(self, time: int, work: int, is_empty: bool, began: int) -> None:
-        """Delivers the packets that wait longest; a poll that wasn't full delivers all earlier ones."""
+    def deliver(self, time: int, work: int, is_empty: bool, began: int, waiting: Waiting) -> None:
+        """Delivers the packets of a poll. A backlog may have packets of other devices, which don't count."""
+        if self.routes.moved:
+            work = len(waiting.packets)
         self.given += work
-        self.unmatched += self.owed
-        self.owed = 0
-        for _ in range(work):
-            if self.waiting:
-                self.waiting.popleft()
-            else:
-                self.owed += 1
-        while is_empty and self.waiting and self.waiting[0][0] < began:
-            self.waiting.popleft()
-            self.unmatched += 1
+        self.unmatched += waiting.deliver(work, is_empty, began)
         self.reads.deliver(began, time, work)
 
     def settle(self) -> Timeline:
-        """Chooses the devices that count: the named ones, else all of them; a processor's backlog only if nothing else polls."""
-        names = sorted(name for name, polls in self.of.items() if polls.polls)
-        self.left_out = (
-            {BACKLOG: len(self.of[BACKLOG].polls)} if not self.polled and BACKLOG in names and len(names) > 1 else {}
-        )
-        self.devices = [name for name in names if name not in self.left_out]
-        chosen = [self.of[name] for name in ("", *self.devices) if name in self.of]
+        """Chooses the instances that count: those of the named devices, else all of them; a processor's backlog only if nothing else polls.
+        Instances that took no packet are those of transmit queues."""
+        receives = {device for (device, _), polls in self.of.items() if polls.receives}
+        self.transmit, self.left_out = Counter(), Counter()
+        chosen, names = [], {device for (device, _), polls in self.of.items() if polls.polls}
+        for (device, _), polls in self.of.items():
+            if device in receives and not polls.receives:
+                self.transmit[device] += len(polls.polls)
+            elif not self.polled and device == BACKLOG and len(names) > 1:
+                self.left_out[device] += len(polls.polls)
+            else:
+                chosen.append(polls)
+        self.devices = sorted(names - set(self.left_out))
         self.polls = [poll for each in chosen for poll in each.polls]
+        self.places = [cpu for each in chosen for cpu in each.on]
         self.handlers = defaultdict(list)
         for each in chosen:
             for name, took in each.handlers.items():
                 self.handlers[name] += took
         self.without, self.by_threads = sum(each.without for each in chosen), sum(each.by_threads for each in chosen)
-        self.where = sum((each.where for each in chosen), Counter())
+        self.where = Counter(self.places)
         return self
+
+    def is_even(self) -> bool:
+        """Returns whether all polls took the same number of packets."""
+        return len({work for work, _ in self.polls}) == 1
 
     def processor(self) -> int | None:
         """Returns the processor that polls most, if any does."""

@@ -8,9 +8,11 @@ import os
 import re
 import time
 from collections.abc import Collection, Iterator
+from dataclasses import dataclass
 from typing import Any
 
 from fintaqush_tools.errors import Refusal
+from fintaqush_tools.texts import shown
 
 PLACES = ("/sys/kernel/tracing", "/sys/kernel/debug/tracing")
 NAME = "fintaqush-{}"
@@ -24,7 +26,8 @@ FILTERS = {
     "timer/hrtimer_start": "function.function == napi_watchdog",
     "timer/hrtimer_expire_entry": "function.function == napi_watchdog",
 }
-RECEIVED = ("net/napi_gro_receive_entry", "net/napi_gro_frags_entry", "net/netif_receive_skb")
+STACK, START = "net/netif_receive_skb", "net/net_dev_start_xmit"
+RECEIVED = ("net/napi_gro_receive_entry", "net/napi_gro_frags_entry", STACK)
 READS = ("recvfrom", "recvmsg", "recvmmsg", "read", "readv")
 MARK = "fintaqush mark"
 MARKS = 16  # at the beginning, and again at the end
@@ -53,6 +56,21 @@ def mount_tracefs() -> str:
                 "kernel that is locked down has no tracing"
             )
     return PLACES[0]
+
+
+@dataclass(frozen=True)
+class Sources:
+    """What to record besides the events of all recordings."""
+
+    program: str = ""  # the filter for the program whose reads are recorded
+    receivers: Collection[str] = ()  # devices without a known sender, of which the received packets are recorded
+    moved: Collection[str] = ()  # devices whose packets a processor's backlog gets, by RPS or without NAPI
+    senders: Collection[str] = ()  # devices that send to several queues
+
+
+def of_devices(names: Collection[str]) -> str:
+    """Returns the filter for events of these devices."""
+    return " || ".join(f'name == "{each}"' for each in names)
 
 
 def is_alive(pid: str) -> bool:
@@ -145,9 +163,8 @@ class Instance:
             except OSError:
                 raise Refusal("--processors has one that this machine doesn't have") from None
 
-    def wanted(self, program: str, receivers: Collection[str] = ()) -> dict[str, str | None]:
-        """Returns the events to record, each with its filter if it has one: those of all recordings, those that devices without a known sender
-        receive, and a program's reads."""
+    def wanted(self, sources: Sources) -> dict[str, str | None]:
+        """Returns the events to record, each with its filter if it has one."""
         vectors = f"{self.path}/events/irq_vectors"
         names = os.listdir(vectors) if os.path.isdir(vectors) else []
         interrupts = [f"irq_vectors/{name}" for name in sorted(names) if name.endswith(("_entry", "_exit"))]
@@ -163,19 +180,23 @@ class Instance:
             "timer/hrtimer_expire_entry",
         ]
         chosen = {name: FILTERS.get(name) for name in events}
-        chosen |= {name: " || ".join(f'name == "{each}"' for each in receivers) for name in RECEIVED if receivers}
-        if program:
+        chosen |= {name: of_devices(sources.receivers) for name in RECEIVED if sources.receivers}
+        if sources.moved:
+            chosen[STACK] = of_devices([*sources.receivers, *sources.moved])
+        if sources.senders:
+            chosen[START] = of_devices(sources.senders)
+        if sources.program:
             for call in READS:
                 chosen[f"syscalls/sys_enter_{call}"], chosen[f"syscalls/sys_exit_{call}"] = (
-                    program,
-                    f"({program}) && ret > 0",
+                    sources.program,
+                    f"({sources.program}) && ret > 0",
                 )
         return chosen
 
-    def enable(self, program: str, receivers: Collection[str] = ()) -> tuple[list[str], list[str]]:
+    def enable(self, sources: Sources) -> tuple[list[str], list[str]]:
         """Enables the events. Returns those that are recorded, and those that the kernel lacks."""
         recorded, missing = [], []
-        for name, only in self.wanted(program, receivers).items():
+        for name, only in self.wanted(sources).items():
             if not self.has(f"events/{name}"):
                 missing.append(name)
                 continue
@@ -210,13 +231,22 @@ class Instance:
         self.mark()
         self.write("tracing_on", "0")
 
-    def statistics(self) -> Iterator[tuple[int, int, int]]:
-        """Yields for each processor its entries, its bytes, and its lost events."""
+    @contextlib.contextmanager
+    def pipe(self) -> Iterator[int]:
+        """Opens the buffers; what is read is removed from them."""
+        pipe = os.open(f"{self.path}/trace_pipe", os.O_RDONLY | os.O_NONBLOCK)
+        try:
+            yield pipe
+        finally:
+            os.close(pipe)
+
+    def statistics(self) -> Iterator[tuple[int, int]]:
+        """Yields for each processor the bytes in its buffer, and its lost events."""
         for name in sorted(os.listdir(f"{self.path}/per_cpu")):
             lines = (line.partition(": ") for line in self.read(f"per_cpu/{name}/stats").splitlines())
             values = {key: int(value) for key, _, value in lines if value.isdigit()}
             lost = sum(values.get(each, 0) for each in ("overrun", "commit overrun", "dropped events"))
-            yield values.get("entries", 0), values.get("bytes", 0), lost
+            yield values.get("bytes", 0), lost
 
 
 class Stamps:
@@ -224,20 +254,23 @@ class Stamps:
 
     seen: dict[int, int]
 
-    LINE = re.compile(rb"(.{16}-\d+\s+\[\d+\] \S+ +)(\d+)(: .*)", re.S)
+    LINE = re.compile(rb"(.{16}-\d+\s+\[\d+\] \S+ +)(\d+)(?:\.(\d{1,9}))?(: .*)", re.S)
 
     def __init__(self, clock: str, marks: dict[int, tuple[int, int]]) -> None:
         self.clock, self.marks = clock, marks
         self.seen = {}  # the stamp of each mark
 
+    @staticmethod
+    def is_mark(line: bytes) -> bool:
+        return MARK.encode() in line
+
     def look(self, line: bytes) -> bool:
         """Stores a mark's stamp. Returns whether the line is a mark."""
-        if MARK.encode() in line and (
+        if self.is_mark(line) and (
             found := re.search(rb" (\d+): tracing_mark_write: " + MARK.encode() + rb" (\d+)\s*$", line)
         ):
             self.seen[int(found[2])] = int(found[1])
-            return True
-        return MARK.encode() in line
+        return self.is_mark(line)
 
     def settle(self) -> None:
         """Chooses, among the marks at each end, the one that was written fastest."""
@@ -253,13 +286,14 @@ class Stamps:
         (self.stamp, self.time), (stamp, moment) = ends
         self.ticks, self.took = stamp - self.stamp, moment - self.time
 
-    def changed(self, line: bytes) -> bytes:
-        """Returns the line with its time in seconds, and without brackets in a task's name, so that its fields can be parsed."""
+    def changed(self, line: bytes) -> tuple[int, bytes]:
+        """Returns the line's time in ns, and the line with it in seconds, without brackets in a task's name, so that its fields can be parsed."""
         found = self.LINE.match(line)
         if not found:
-            return line
+            begin = shown(line[:60].decode("utf-8", "replace"))
+            raise Refusal(f"the kernel's trace has a line of an unknown format: {begin!r}")
         front = found[1][:16].replace(b"[", b"_") + found[1][16:]
         if self.clock != "tsc":
-            return front + found[2] + found[3]
+            return int(found[2]) * 10**9 + int(found[3].ljust(9, b"0")), front + found[2] + b"." + found[3] + found[4]
         at = self.time + (int(found[2]) - self.stamp) * self.took // self.ticks
-        return b"%b%d.%09d%b" % (front, at // 10**9, at % 10**9, found[3])
+        return at, b"%b%d.%09d%b" % (front, at // 10**9, at % 10**9, found[4])

@@ -3,14 +3,15 @@
 Names, results and errors are those of include/fintaqush.h, without FQ_. Each call holds the interpreter's lock, so threads may
 share an object; during a run only the run may use its list. `replay` and `machine` release the lock.
 """
-from ._answers import ArrivalsFault, DeviceState, Fault, Kind, Next, SettingFault, Status, TraceFault, What, Word
+from ._abi import VERSION, DeviceState, Kind, Next, Status, What, Word
 from ._driver import Cards, DeviceShown, Driver, Todo
+from ._faults import ArrivalsFault, Fault, SettingFault, TraceFault
 from ._machine import Application, MachineReport, Processor, Queue, Times, Waits, machine
 from ._objects import Counts, Limit, List, Napi, Packet, Ring, RunReport, TxRing, TxState
 from ._report import Device, Report, Transmit, Turn, raise_runs, replay
 from ._shared import Answers, Control, Input, Seat, shared
 
-__version__ = "1.1.0"  # FQ_VERSION
+__version__ = VERSION
 __all__ = ["Answers", "Application", "ArrivalsFault", "Cards", "Control", "Counts", "Device", "DeviceShown", "DeviceState", "Driver",
            "Fault", "Input", "Kind", "Limit", "List", "MachineReport", "Napi", "Next", "Packet", "Processor", "Queue", "Report", "Ring",
            "RunReport", "Seat", "SettingFault", "Status", "Times", "Todo", "TraceFault", "Transmit", "Turn", "TxRing", "TxState",

@@ -4,8 +4,9 @@ from __future__ import annotations
 import ctypes
 from typing import NamedTuple, Protocol
 
+from . import _abi as abi
 from . import _library as c
-from ._answers import DeviceState, Status, What
+from ._abi import DeviceState, Status, What
 from ._objects import RunReport, _Owned
 
 
@@ -14,7 +15,7 @@ class Todo:
     a run that ended. `packets` are those that a look found or a fetch took, set for the report by `Driver.step`. A new one is no action."""
 
     def __init__(self) -> None:
-        self._raw = c.Todo(ctypes.sizeof(c.Todo))
+        self._raw = abi.Todo(ctypes.sizeof(abi.Todo))
 
     @property
     def what(self) -> What:
@@ -119,6 +120,6 @@ class Driver(_Owned):
 
     def shown(self, device: int) -> DeviceShown:
         """Returns the state of a device, and the counts of its polls. BAD_DEVICE."""
-        shown = c.DeviceShown(ctypes.sizeof(c.DeviceShown))
+        shown = abi.DeviceShown(ctypes.sizeof(abi.DeviceShown))
         c.driver_show(self._at, device, shown)
         return DeviceShown(DeviceState(shown.state), shown.scheduled, shown.missed, shown.polls, shown.packets)

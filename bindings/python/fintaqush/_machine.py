@@ -5,8 +5,10 @@ from __future__ import annotations
 import ctypes
 from typing import NamedTuple
 
+from . import _abi as abi
 from . import _library as c
-from ._answers import ArrivalsFault, SettingFault, Status
+from ._abi import Status
+from ._faults import ArrivalsFault, SettingFault
 
 
 class Waits(NamedTuple):
@@ -82,7 +84,7 @@ def machine(arrivals: bytes, **settings: int) -> MachineReport:
     the others have the defaults of napi_machine. ArrivalsFault; SettingFault; TypeError for an unknown name."""
     if not isinstance(arrivals, bytes):
         raise TypeError("arrivals are bytes")
-    asked = c.MachineSettings()
+    asked = abi.MachineSettings()
     c.machine_default(asked, ctypes.sizeof(asked))
     for name, value in settings.items():
         if name not in SETTINGS:
@@ -91,11 +93,11 @@ def machine(arrivals: bytes, **settings: int) -> MachineReport:
     return _report_of(_text_of(arrivals, asked))
 
 
-SETTINGS = [name for name, _ in c.MachineSettings._fields_ if name != "size"]
+SETTINGS = [name for name, _ in abi.MachineSettings._fields_ if name != "size"]
 
 
-def _text_of(arrivals: bytes, settings: c.MachineSettings) -> str:
-    ran, room = c.MachineRan(ctypes.sizeof(c.MachineRan)), 65536
+def _text_of(arrivals: bytes, settings: abi.MachineSettings) -> str:
+    ran, room = abi.MachineRan(ctypes.sizeof(abi.MachineRan)), 65536
     while True:
         report = ctypes.create_string_buffer(room)
         said = Status(c.machine(settings, arrivals, len(arrivals), report, room, ran))

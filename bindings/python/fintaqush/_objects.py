@@ -5,8 +5,10 @@ import contextlib
 import ctypes
 from typing import Any, Callable, NamedTuple, NoReturn
 
+from . import _abi as abi
 from . import _library as c
-from ._answers import Fault, Kind, Next, Status, Word
+from ._abi import Kind, Next, Status, Word
+from ._faults import Fault
 
 
 class Packet(NamedTuple):
@@ -112,7 +114,7 @@ class Napi(_One):
         whole weight, the instance is on the list again, or stays with its thread (None: poll again), unless a disable is pending. Any other
         poll is completed, and queued again if a request was missed; after AGAIN_THREAD its thread has to poll. Returns None for a busy
         poller too. NOT_ALLOWED."""
-        next = c.u32()
+        next = abi.u32()
         return None if c.napi_end(self._state, who, full, next) == Status.HELD else Next(next.value)
 
     def busy_take(self, who: int = 0) -> bool:
@@ -155,7 +157,7 @@ class _Owned(_One):
     """An object on the library's heap, which is freed together with this object."""
 
     def __init__(self, make: Callable[..., Any], *values: int) -> None:
-        self._at = c.Handle()
+        self._at = abi.Handle()
         make(self._at, *values)
 
     def __del__(self, abandon: Callable[..., Any] = c.abandon) -> None:
@@ -175,14 +177,14 @@ class Ring(_Owned):
 
     def poll(self, weight: int = 64) -> list[Packet]:
         """Takes the first packets out, at most weight, which is 1 to 64. BAD_WEIGHT."""
-        out, count = (c.Packet * 64)(), c.size()
+        out, count = (abi.Packet * 64)(), abi.size()
         c.ring_poll(self._at, weight, out, 64, count)
         return [Packet(one.number, one.bytes) for one in out[: count.value]]
 
     @property
     def counts(self) -> Counts:
         """The counts of the ring's polls so far."""
-        counts = c.Counts()
+        counts = abi.Counts()
         c.count(self._at, counts)
         return Counts(counts.polls, counts.packets, counts.bytes)
 
@@ -193,7 +195,7 @@ class TxRing(_Owned):
 
     def __init__(self, capacity: int, min: int = 0, max: int = 1879048192, hold_ms: int = 1000, now_ms: int = 0) -> None:
         super().__init__(c.tx_new, capacity, min, max, hold_ms, now_ms)
-        self._watchdog = c.TxWatchdog()
+        self._watchdog = abi.TxWatchdog()
 
     def send(self, bytes: int) -> Status:
         """Sends a packet to the device (`netdev_tx_sent_queue`): returns OK; or, if nothing is sent, STOPPED by the limit, or FULL.
@@ -207,14 +209,14 @@ class TxRing(_Owned):
     def watch(self, limit_ms: int, now_ms: int) -> bool:
         """Returns whether it has been stopped, with no byte completed, for limit_ms since the first call that found it so
         (`dev_watchdog`): call it at each tick of a timer."""
-        stuck = c.boolean()
+        stuck = abi.boolean()
         c.tx_watch(self._at, self._watchdog, limit_ms, now_ms, stuck)
         return stuck.value
 
     @property
     def state(self) -> TxState:
         """The state of the ring."""
-        shown = c.TxShown()
+        shown = abi.TxShown()
         c.tx_state(self._at, shown)
         return TxState(shown.queued, shown.completed, shown.limit, shown.avail, shown.stopped)
 
@@ -236,7 +238,7 @@ class List(_Owned):
 
     def __len__(self) -> int:
         """How many numbers the list and its run hold."""
-        count = c.u32()
+        count = abi.u32()
         c.list_len(self._at, count)
         return count.value
 
@@ -249,7 +251,7 @@ class List(_Owned):
 
         If poll raises, or its result is invalid, the run ends; that device isn't listed any more, all others are."""
         c.run_begin(self._at, budget, weight, window)
-        id, report = c.u32(), c.RunReport()
+        id, report = abi.u32(), abi.RunReport()
         try:
             while c.run_next(self._at, ctypes.byref(id)) == Status.OK:
                 work, next = poll(id.value, weight)

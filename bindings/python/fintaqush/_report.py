@@ -4,8 +4,10 @@ from __future__ import annotations
 import ctypes
 from typing import Any, Callable, NamedTuple
 
+from . import _abi as abi
 from . import _library as c
-from ._answers import Status, TraceFault, Word
+from ._abi import Status, Word
+from ._faults import TraceFault
 
 
 class Turn(NamedTuple):
@@ -73,19 +75,19 @@ def raise_runs(trace: bytes, budget: int = 300, weight: int = 64, window: int = 
     """Adds to a trace the runs that the kernel would make with these settings (fintaqush raise), at most `restarts` after a row, and
     returns its bytes. Errors are those of `replay`; a fault names a row of the longer trace, and is TooManyRows if that would have more
     than 100000."""
-    most = c.MOST[c.u32] if restarts is None else restarts  # FQ_UNTIL_EMPTY
-    return _written(c.raise_runs, trace, _settings(trace, budget, weight, window), most)
+    most = abi.UNTIL_EMPTY if restarts is None else restarts
+    return _written(c.raise_, trace, _settings(trace, budget, weight, window), most)
 
 
-def _settings(trace: bytes, budget: int, weight: int, window: int) -> c.Settings:
+def _settings(trace: bytes, budget: int, weight: int, window: int) -> abi.Settings:
     if not isinstance(trace, bytes):
         raise TypeError("a trace is bytes")
-    return c.Settings(c.number(budget, "budget"), c.number(weight, "weight"), c.number(window, "window"))
+    return abi.Settings(c.number(budget, "budget"), c.number(weight, "weight"), c.number(window, "window"))
 
 
 def _written(call: Callable[..., Any], trace: bytes, *settings: Any) -> bytes:
     """Returns what a call writes for a trace, to an array that grows until there is room."""
-    replayed, room = c.Replayed(), 2 * len(trace) + 4096
+    replayed, room = abi.Replayed(), 2 * len(trace) + 4096
     while True:
         out = ctypes.create_string_buffer(room)
         said = Status(call(*settings, trace, len(trace), out, room, replayed))

@@ -3,8 +3,10 @@ from __future__ import annotations
 
 from typing import Any, Callable, NamedTuple
 
+from . import _abi as abi
 from . import _library as c
-from ._answers import Fault, Kind, Next, Status, Word
+from ._abi import Kind, Next, Status, Word
+from ._faults import Fault
 from ._objects import Counts, Packet, _Owned
 
 
@@ -29,7 +31,7 @@ def _decided(call: Callable[..., Any], *values: Any) -> Status:
 class _Part(_Owned):
     """A part of an instance, which the library has made."""
 
-    def __init__(self, at: c.Handle) -> None:
+    def __init__(self, at: abi.Handle) -> None:
         self._at = at
 
 
@@ -43,7 +45,7 @@ class Input(_Part):
     @property
     def count(self) -> int:
         """The number of packets that were put so far."""
-        shown = c.RingShown()
+        shown = abi.RingShown()
         c.ring_show(self._at, shown)
         return int(shown.put)
 
@@ -67,7 +69,7 @@ class Seat(_Part):
         if said is not Status.GRANTED:
             return said, Next.GONE
         mask()
-        next = c.u32()
+        next = abi.u32()
         c.seat_hand_again(self._at, next)
         return said, Next(next.value)
 
@@ -77,7 +79,7 @@ class Seat(_Part):
 
     def poll(self, weight: int = 64) -> list[Packet]:
         """Takes the ring's next packets out, at most weight, which is 1 to 64. BAD_WEIGHT."""
-        out, count = (c.Packet * 64)(), c.size()
+        out, count = (abi.Packet * 64)(), abi.size()
         c.seat_poll(self._at, weight, out, 64, count)
         return [Packet(one.number, one.bytes) for one in out[: count.value]]
 
@@ -93,7 +95,7 @@ class Seat(_Part):
     def end(self, full: bool) -> Next | None:
         """Ends a poll as the kernel does (`__napi_poll`), like `fq_seat_end`: returns what to pass to the run, or None if the caller keeps
         polling."""
-        next = c.u32()
+        next = abi.u32()
         return None if c.seat_end(self._at, full, next) == Status.HELD else Next(next.value)
 
     def busy_take(self) -> bool:
@@ -111,21 +113,21 @@ class Seat(_Part):
     @property
     def word(self) -> Word:
         """The state word."""
-        word = c.u64()
+        word = abi.u64()
         c.seat_look(self._at, word)
         return Word(word.value)
 
     @property
     def counts(self) -> Counts:
         """The counts of the ring's polls so far, for a seat that polls."""
-        counts = c.Counts()
+        counts = abi.Counts()
         c.count(self._at, counts)
         return Counts(counts.polls, counts.packets, counts.bytes)
 
     @property
     def answers(self) -> Answers:
         """How often its calls returned each result."""
-        answers = c.Answers()
+        answers = abi.Answers()
         c.seat_count(self._at, answers)
         return Answers(*(getattr(answers, name) for name in Answers._fields))
 
@@ -158,7 +160,7 @@ def shared(capacity: int, seats: int = 2) -> tuple[Input, Control, list[Seat]]:
     BAD_CAPACITY, BAD_COUNT."""
     if not 2 <= seats <= 8:
         raise Fault(Status.BAD_COUNT)
-    ring, control, made = c.Handle(), c.Handle(), (c.Handle * seats)()
+    ring, control, made = abi.Handle(), abi.Handle(), (abi.Handle * seats)()
     c.ring_new(ring, capacity)
     owned = Input(ring)
     c.shared_new(ring, control, made, seats)

@@ -1,5 +1,6 @@
 //! A caller that busy polls.
 use crate::answers::TryStop;
+use crate::calls;
 use crate::fault::unexpected;
 use crate::handle::Handle;
 use crate::packets::{Answers, Batch, Counts, Packet, Weight};
@@ -38,8 +39,7 @@ impl Busy {
     /// Completes a poll below its weight (`napi_complete_done`, which does nothing under `IN_BUSY_POLL`): the caller keeps busy
     /// polling.
     pub fn complete_held(&mut self) {
-        // SAFETY: only this poller has the handle.
-        match unsafe { sys::fq_seat_complete(self.at.raw()) } {
+        match calls::seat_complete(self.at.raw()) {
             sys::FQ_HELD => {}
             said => unexpected("seat_complete", said),
         }
@@ -47,8 +47,7 @@ impl Busy {
 
     /// Tries once to stop busy polling (`busy_poll_stop`). It doesn't wait.
     pub fn try_stop(mut self) -> TryStop {
-        // SAFETY: only this poller has the handle.
-        match unsafe { sys::fq_seat_busy_stop(self.at.raw()) } {
+        match calls::seat_busy_stop(self.at.raw()) {
             sys::FQ_OK => TryStop::Stopped(Polling { at: self.at }),
             sys::FQ_CHANGED => TryStop::Changed(self),
             said => unexpected("seat_busy_stop", said),

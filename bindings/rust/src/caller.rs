@@ -1,6 +1,7 @@
 //! A caller of a shared instance that owns nothing, and one that was granted the instance.
 use crate::answers::{Sched, TryBusy, TryPrep};
 use crate::busy::Busy;
+use crate::calls;
 use crate::card::Card;
 use crate::fault::unexpected;
 use crate::handle::Handle;
@@ -60,8 +61,7 @@ pub struct Caller {
 impl Caller {
     /// Tries once to request a poll (`napi_schedule_prep`). It doesn't wait.
     pub fn try_schedule(mut self) -> TryPrep {
-        // SAFETY: only this caller has the handle.
-        let said = unsafe { sys::fq_seat_schedule(self.at.raw()) };
+        let said = calls::seat_schedule(self.at.raw());
         match Prep::of("seat_schedule", said) {
             Some(Prep::Granted) => TryPrep::Granted(Granted { at: self.at }),
             Some(Prep::Missed) => TryPrep::Missed(self),
@@ -83,8 +83,7 @@ impl Caller {
     }
 
     fn prep(&mut self) -> Prep {
-        // SAFETY: only this caller has the handle.
-        let said = unsafe { sys::fq_seat_schedule_prep(self.at.raw()) };
+        let said = calls::seat_schedule_prep(self.at.raw());
         match Prep::of("seat_schedule_prep", said) {
             Some(prep) => prep,
             None => unexpected("seat_schedule_prep", said),
@@ -145,8 +144,7 @@ impl Caller {
     /// Takes the instance from the list or from its thread's queue, with its poll context (`net_rx_action`,
     /// `napi_thread_wait`). Returns `Err`, and changes nothing, if it isn't there.
     pub fn take(mut self, kind: Kind) -> Result<Polling, Caller> {
-        // SAFETY: only this caller has the handle.
-        match unsafe { sys::fq_seat_take(self.at.raw(), kind.number()) } {
+        match calls::seat_take(self.at.raw(), kind.number()) {
             sys::FQ_TAKEN => Ok(Polling { at: self.at }),
             sys::FQ_NOT_THERE => Err(self),
             said => unexpected("seat_take", said),
@@ -160,8 +158,7 @@ impl Caller {
 
     /// Tries once to take an idle instance to busy poll it (`napi_busy_loop`). It doesn't wait.
     pub fn try_busy(mut self) -> TryBusy {
-        // SAFETY: only this caller has the handle.
-        match unsafe { sys::fq_seat_busy_take(self.at.raw()) } {
+        match calls::seat_busy_take(self.at.raw()) {
             sys::FQ_TAKEN => TryBusy::Taken(Busy { at: self.at }),
             sys::FQ_BUSY => TryBusy::Refused(self),
             sys::FQ_CHANGED => TryBusy::Changed(self),
@@ -184,8 +181,7 @@ impl Caller {
 
     /// Sets whether the instance is scheduled on its own thread from now on (`dev_set_threaded`). Allowed in any state.
     pub fn set_threaded(&mut self, threaded: bool) {
-        // SAFETY: only this caller has the handle.
-        match unsafe { sys::fq_seat_set_threaded(self.at.raw(), threaded) } {
+        match calls::seat_set_threaded(self.at.raw(), threaded) {
             sys::FQ_OK => {}
             said => unexpected("seat_set_threaded", said),
         }
@@ -221,8 +217,7 @@ impl Granted {
 
 // Queues a granted instance on the list or for its thread.
 fn hand(at: &mut Handle, kind: Kind) {
-    // SAFETY: only this call has the handle.
-    match unsafe { sys::fq_seat_hand(at.raw(), kind.number()) } {
+    match calls::seat_hand(at.raw(), kind.number()) {
         sys::FQ_OK => {}
         said => unexpected("seat_hand", said),
     }
@@ -231,8 +226,7 @@ fn hand(at: &mut Handle, kind: Kind) {
 // Queues a granted instance as its state word says.
 fn hand_again(at: &mut Handle) -> Next {
     let mut next = sys::FQ_NEXT_GONE;
-    // SAFETY: only this call has the handle, and the number is elsewhere.
-    match unsafe { sys::fq_seat_hand_again(at.raw(), &mut next) } {
+    match calls::seat_hand_again(at.raw(), &mut next) {
         sys::FQ_OK => Next::of("seat_hand_again", next),
         said => unexpected("seat_hand_again", said),
     }

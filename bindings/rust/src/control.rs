@@ -1,6 +1,7 @@
 //! The controller of a shared instance, which enables and disables it.
 use crate::answers::TryTake;
 use crate::caller::Caller;
+use crate::calls;
 use crate::card::Card;
 use crate::fault::unexpected;
 use crate::handle::Handle;
@@ -70,8 +71,7 @@ impl Control<Off> {
     /// Tries once to enable the instance, and sets whether it is scheduled on its own thread (`napi_enable`). It doesn't wait.
     /// Returns `Err` if another thread interfered; nothing is decided then.
     pub fn try_enable(mut self, threaded: bool) -> Result<Control<On>, Control<Off>> {
-        // SAFETY: only this controller has the handle.
-        match unsafe { sys::fq_control_enable(self.at.raw(), threaded) } {
+        match calls::control_enable(self.at.raw(), threaded) {
             sys::FQ_OK => Ok(Control::of(self.at)),
             sys::FQ_CHANGED => Err(self),
             said => unexpected("control_enable", said),
@@ -82,8 +82,7 @@ impl Control<Off> {
     /// [`open`](Control::open): packets that arrived while the instance was disabled are polled only after the next request.
     /// Without one, a masked card with a full ring would wait forever.
     pub fn enable(mut self, threaded: bool) -> Control<On> {
-        // SAFETY: only this controller has the handle.
-        match unsafe { sys::fq_control_step(self.at.raw(), true, threaded) } {
+        match calls::control_step(self.at.raw(), true, threaded) {
             sys::FQ_OK => Control::of(self.at),
             said => unexpected("control_step", said),
         }
@@ -106,8 +105,7 @@ impl Control<Off> {
 impl Control<On> {
     /// Marks a disable as pending (the first step of `napi_disable`): from now on requests for a poll fail.
     pub fn mark(mut self) -> Control<Marked> {
-        // SAFETY: only this controller has the handle.
-        match unsafe { sys::fq_control_mark(self.at.raw()) } {
+        match calls::control_mark(self.at.raw()) {
             sys::FQ_OK => Control::of(self.at),
             said => unexpected("control_mark", said),
         }
@@ -118,8 +116,7 @@ impl Control<On> {
     /// returns.
     pub fn disable(mut self) -> Control<Off> {
         loop {
-            // SAFETY: only this controller has the handle.
-            match unsafe { sys::fq_control_step(self.at.raw(), false, false) } {
+            match calls::control_step(self.at.raw(), false, false) {
                 sys::FQ_OK => return Control::of(self.at),
                 sys::FQ_BUSY => thread::yield_now(),
                 said => unexpected("control_step", said),
@@ -132,8 +129,7 @@ impl Control<Marked> {
     /// Tries once to take the instance, if no caller owns it, and clears the mark (the second and third step of
     /// `napi_disable`). It doesn't wait.
     pub fn try_take(mut self) -> TryTake {
-        // SAFETY: only this controller has the handle.
-        match unsafe { sys::fq_control_try_take(self.at.raw()) } {
+        match calls::control_try_take(self.at.raw()) {
             sys::FQ_TAKEN => TryTake::Taken(Control::of(self.at)),
             sys::FQ_BUSY => TryTake::Busy(self),
             sys::FQ_CHANGED => TryTake::Changed(self),

@@ -1,4 +1,5 @@
 //! Byte queue limits.
+use crate::calls;
 use crate::fault::Fault;
 use crate::sys;
 use std::cell::Cell;
@@ -39,8 +40,7 @@ impl Dql {
     /// Returns a new limit between `min` and `max`, with the hold time `hold_ms` (`dql_init`). Fails with
     /// [`BAD_BOUNDS`](Fault::BAD_BOUNDS).
     pub fn new(min: u32, max: u32, hold_ms: u64, now_ms: u64) -> Result<Dql, Fault> {
-        // SAFETY: it takes only numbers.
-        let made = unsafe { sys::fq_dql_new(min, max, hold_ms, now_ms) };
+        let made = calls::dql_new(min, max, hold_ms, now_ms);
         Fault::unless_made(made.status)?;
         Ok(Dql {
             raw: made.dql,
@@ -51,38 +51,32 @@ impl Dql {
     /// Adds an object of `count` bytes that was sent to the device (`dql_queued`). Fails with [`TOO_LARGE`](Fault::TOO_LARGE)
     /// or [`TOO_MUCH_IN_FLIGHT`](Fault::TOO_MUCH_IN_FLIGHT).
     pub fn queued(&mut self, count: u32) -> Result<(), Fault> {
-        // SAFETY: the library made the limit, and only this call borrows it.
-        Fault::unless_made(unsafe { sys::fq_dql_queued(&mut self.raw, count) })
+        Fault::unless_made(calls::dql_queued(&mut self.raw, count))
     }
 
     /// Completes `count` bytes, and adapts the limit (`dql_completed`). Fails with
     /// [`MORE_THAN_QUEUED`](Fault::MORE_THAN_QUEUED).
     pub fn completed(&mut self, count: u32, now_ms: u64) -> Result<(), Fault> {
-        // SAFETY: as in `queued`.
-        Fault::unless_made(unsafe { sys::fq_dql_completed(&mut self.raw, count, now_ms) })
+        Fault::unless_made(calls::dql_completed(&mut self.raw, count, now_ms))
     }
 
     /// Resets the limit: nothing is in flight (`dql_reset`).
     pub fn reset(&mut self, now_ms: u64) {
-        // SAFETY: as in `queued`.
-        unsafe { sys::fq_dql_reset(&mut self.raw, now_ms) }
+        calls::dql_reset(&mut self.raw, now_ms)
     }
 
     /// The limit in bytes.
     pub fn limit(&self) -> u32 {
-        // SAFETY: the library made the limit and only reads it; no other thread does, because it isn't `Sync`.
-        unsafe { sys::fq_dql_limit(&self.raw) }
+        calls::dql_limit(&self.raw)
     }
 
     /// The bytes that may still be sent to the device (`dql_avail`); if negative, the queue has to be stopped.
     pub fn avail(&self) -> i64 {
-        // SAFETY: as in `limit`.
-        unsafe { sys::fq_dql_avail(&self.raw) }
+        calls::dql_avail(&self.raw)
     }
 
     /// The bytes in flight.
     pub fn in_flight(&self) -> u32 {
-        // SAFETY: as in `limit`.
-        unsafe { sys::fq_dql_in_flight(&self.raw) }
+        calls::dql_in_flight(&self.raw)
     }
 }

@@ -1,4 +1,5 @@
 //! The driver of up to 64 devices on one thread.
+use crate::calls;
 use crate::fault::{unexpected, Fault};
 use crate::handle::Handle;
 use crate::list::RunReport;
@@ -37,7 +38,19 @@ pub struct Todo {
 impl Todo {
     /// No action, for the first [`Driver::step`]: there is nothing to report.
     pub const NONE: Todo = Todo {
-        raw: sys::FQ_TODO_INIT,
+        raw: sys::fq_todo {
+            size: std::mem::size_of::<sys::fq_todo>(),
+            number: 0,
+            what: sys::FQ_TODO_SLEEP,
+            device: 0,
+            most: 0,
+            packets: 0,
+            run: RunReport {
+                polls: 0,
+                work: 0,
+                squeezed: false,
+            },
+        },
     };
 
     /// Sets the packets that a look found or a fetch took, for the report by [`Driver::step`].
@@ -180,8 +193,7 @@ impl Driver {
     pub fn new(devices: u32, budget: u32, weight: Weight, window: u32) -> Result<Driver, Fault> {
         let mut at = Handle::NONE;
         let weight = weight.get() as u32;
-        // SAFETY: only this call has the handle.
-        let said = unsafe { sys::fq_driver_new(at.raw(), devices, budget, weight, window) };
+        let said = calls::driver_new(at.raw(), devices, budget, weight, window);
         Fault::unless_made(said)?;
         Ok(Driver { at })
     }
@@ -189,22 +201,19 @@ impl Driver {
     /// Opens a closed device (`napi_enable`). Fails with [`NOT_DUE`](Fault::NOT_DUE) if it isn't closed, and with
     /// [`BAD_DEVICE`](Fault::BAD_DEVICE).
     pub fn open(&mut self, device: u32) -> Result<(), Fault> {
-        // SAFETY: only this driver has the handle.
-        Fault::unless_made(unsafe { sys::fq_driver_open(self.at.raw(), device) })
+        Fault::unless_made(calls::driver_open(self.at.raw(), device))
     }
 
     /// Stops an open device (`napi_disable`): polls that were requested are made, its card is masked, and then it is closed.
     /// Fails with [`NOT_DUE`](Fault::NOT_DUE) if it isn't open, and with [`BAD_DEVICE`](Fault::BAD_DEVICE).
     pub fn stop(&mut self, device: u32) -> Result<(), Fault> {
-        // SAFETY: only this driver has the handle.
-        Fault::unless_made(unsafe { sys::fq_driver_stop(self.at.raw(), device) })
+        Fault::unless_made(calls::driver_stop(self.at.raw(), device))
     }
 
     /// Reports an interrupt of a card (`napi_schedule`), at any time. Report those that came before each step or act: a device
     /// that always has packets keeps the driver from sleeping. Fails with [`BAD_DEVICE`](Fault::BAD_DEVICE).
     pub fn interrupt(&mut self, device: u32) -> Result<Prep, Fault> {
-        // SAFETY: only this driver has the handle.
-        match unsafe { sys::fq_driver_interrupt(self.at.raw(), device) } {
+        match calls::driver_interrupt(self.at.raw(), device) {
             sys::FQ_BAD_DEVICE => Err(Fault::BAD_DEVICE),
             said => Prep::of("driver_interrupt", said)
                 .map_or_else(|| unexpected("driver_interrupt", said), Ok),
@@ -214,8 +223,7 @@ impl Driver {
     /// Returns what has to be done now. An action that isn't reported is returned again.
     pub fn next(&mut self) -> Todo {
         let mut todo = Todo::NONE;
-        // SAFETY: only this driver has the handle, and `todo` is elsewhere.
-        match unsafe { sys::fq_driver_next(self.at.raw(), &mut todo.raw) } {
+        match calls::driver_next(self.at.raw(), &mut todo.raw) {
             sys::FQ_OK => todo,
             said => unexpected("driver_next", said),
         }
@@ -229,8 +237,7 @@ impl Driver {
             packets,
             ..todo.raw
         };
-        // SAFETY: only this driver has the handle, and `todo` is elsewhere.
-        Fault::unless_made(unsafe { sys::fq_driver_done(self.at.raw(), &raw) })
+        Fault::unless_made(calls::driver_done(self.at.raw(), &raw))
     }
 
     /// Reports that the action in `todo` was done, with its packets, and sets `todo` to what has to be done now, which it
@@ -238,8 +245,7 @@ impl Driver {
     /// the driver doesn't wait for any more changes nothing. Fails with [`BAD_WORK`](Fault::BAD_WORK) if a fetch took too many
     /// packets; then nothing has changed, and `todo` is still that fetch.
     pub fn step(&mut self, todo: &mut Todo) -> Result<What, Fault> {
-        // SAFETY: only this driver has the handle, and `todo` is elsewhere.
-        match unsafe { sys::fq_driver_step(self.at.raw(), &mut todo.raw) } {
+        match calls::driver_step(self.at.raw(), &mut todo.raw) {
             sys::FQ_OK | sys::FQ_NOT_DUE => Ok(todo.what()),
             sys::FQ_BAD_WORK => Err(Fault::BAD_WORK),
             said => unexpected("driver_step", said),
@@ -273,10 +279,13 @@ impl Driver {
     pub fn shown(&mut self, device: u32) -> Result<DeviceShown, Fault> {
         let mut shown = sys::fq_device_shown {
             size: std::mem::size_of::<sys::fq_device_shown>(),
-            ..sys::fq_device_shown::default()
+            state: 0,
+            scheduled: false,
+            missed: false,
+            polls: 0,
+            packets: 0,
         };
-        // SAFETY: only this driver has the handle, and the result is elsewhere.
-        let said = unsafe { sys::fq_driver_show(self.at.raw(), device, &mut shown) };
+        let said = calls::driver_show(self.at.raw(), device, &mut shown);
         Fault::unless_made(said)?;
         Ok(DeviceShown {
             state: match shown.state {

@@ -1,4 +1,5 @@
 //! Why a call failed.
+use crate::calls;
 use crate::sys;
 use std::error::Error;
 use std::fmt;
@@ -16,46 +17,62 @@ use std::fmt;
 pub struct Fault(u32);
 
 impl Fault {
-    /// Limit: the least is greater than the greatest, or the greatest is over 1879048192.
+    // scripts/abi.py: begin
+    /// Limit: min is above max, or max above 1879048192 bytes.
     pub const BAD_BOUNDS: Fault = Fault(sys::FQ_BAD_BOUNDS);
-    /// Limit: an object of more than 268435455 bytes.
+    /// Limit, send: an object of more than 268435455 bytes.
     pub const TOO_LARGE: Fault = Fault(sys::FQ_TOO_LARGE);
-    /// Limit: more than 1073741823 bytes would be in flight.
+    /// Limit, send: more than 1073741823 bytes would be in flight.
     pub const TOO_MUCH_IN_FLIGHT: Fault = Fault(sys::FQ_TOO_MUCH_IN_FLIGHT);
-    /// Limit: more bytes completed than are in flight.
+    /// Limit: more bytes are completed than are in flight.
     pub const MORE_THAN_QUEUED: Fault = Fault(sys::FQ_MORE_THAN_QUEUED);
-    /// There is no room.
-    pub const FULL: Fault = Fault(sys::FQ_FULL);
-    /// List: only the run over it has the number.
-    pub const BUSY: Fault = Fault(sys::FQ_BUSY);
-    /// List: neither the list nor the run over it has the number.
+    /// Take, remove: the instance is not queued there, or the number is not on the list.
     pub const NOT_THERE: Fault = Fault(sys::FQ_NOT_THERE);
-    /// Transmit ring: the limit has stopped the queue.
+    /// Busy take, take disable, remove: another caller owns the instance, or a run has the number.
+    pub const BUSY: Fault = Fault(sys::FQ_BUSY);
+    /// Put, push, send: there is no room.
+    pub const FULL: Fault = Fault(sys::FQ_FULL);
+    /// Send: the limit has stopped the queue.
     pub const STOPPED: Fault = Fault(sys::FQ_STOPPED);
-    /// Transmit ring: more packets complete than it holds.
+    /// Done: more packets are completed than were sent.
     pub const MORE_THAN_SENT: Fault = Fault(sys::FQ_MORE_THAN_SENT);
-    /// Driver: this action isn't due, and nothing has changed.
+    /// Driver: this is not due, and nothing has changed.
     pub const NOT_DUE: Fault = Fault(sys::FQ_NOT_DUE);
-    /// The call isn't allowed in the object's state.
+    /// The state of the object does not allow this call.
     pub const NOT_ALLOWED: Fault = Fault(sys::FQ_NOT_ALLOWED);
-    /// List: the number is in it already.
+    /// The kind is 0 (list) or 1 (thread).
+    pub const BAD_KIND: Fault = Fault(sys::FQ_BAD_KIND);
+    /// The handle has no object, or one of another kind.
+    pub const BAD_HANDLE: Fault = Fault(sys::FQ_BAD_HANDLE);
+    /// The handle is set already, or the number is listed already.
     pub const IN_USE: Fault = Fault(sys::FQ_IN_USE);
     /// Out of memory.
     pub const OUT_OF_MEMORY: Fault = Fault(sys::FQ_OUT_OF_MEMORY);
-    /// The capacity of a receive or a transmit ring isn't 1 to 65536.
+    /// The capacity of a ring is 1 to 65536.
     pub const BAD_CAPACITY: Fault = Fault(sys::FQ_BAD_CAPACITY);
-    /// A weight isn't 1 to 64.
+    /// A weight is 1 to 64 packets.
     pub const BAD_WEIGHT: Fault = Fault(sys::FQ_BAD_WEIGHT);
-    /// The budget or the window of a run isn't 1 to 65535.
+    /// The array is too short.
+    pub const NO_ROOM: Fault = Fault(sys::FQ_NO_ROOM);
+    /// Budget and window are 1 to 65535.
     pub const BAD_BUDGET: Fault = Fault(sys::FQ_BAD_BUDGET);
-    /// A shared instance doesn't have 2 to 8 callers, or a driver doesn't have 1 to 64 devices.
+    /// A shared instance has 2 to 8 seats, a driver 1 to 64 devices.
     pub const BAD_COUNT: Fault = Fault(sys::FQ_BAD_COUNT);
-    /// Run, driver: a poll reported more packets than the weight.
+    /// How a poll ended is 0 to 4 (enum `fq_next`).
+    pub const BAD_NEXT: Fault = Fault(sys::FQ_BAD_NEXT);
+    /// A poll is reported with more packets than the weight.
     pub const BAD_WORK: Fault = Fault(sys::FQ_BAD_WORK);
-    /// Driver: it has no device with this number.
+    /// Replay, raise: the bytes are not a trace, or a row of it can't be processed.
+    pub const BAD_TRACE: Fault = Fault(sys::FQ_BAD_TRACE);
+    /// The driver has no device with this number.
     pub const BAD_DEVICE: Fault = Fault(sys::FQ_BAD_DEVICE);
-    /// Machine: the `size` of a struct isn't right.
+    /// A struct's size is not one that the library knows.
     pub const BAD_SIZE: Fault = Fault(sys::FQ_BAD_SIZE);
+    /// Machine: a setting of the machine is out of its range.
+    pub const BAD_SETTING: Fault = Fault(sys::FQ_BAD_SETTING);
+    /// Machine: the bytes are not arrivals.
+    pub const BAD_ARRIVALS: Fault = Fault(sys::FQ_BAD_ARRIVALS);
+    // scripts/abi.py: end
 
     /// Returns its number.
     pub fn number(self) -> u32 {
@@ -70,9 +87,7 @@ impl Fault {
     /// Returns its message, for example `"a weight is 1 to 64 packets"`.
     pub fn message(self) -> String {
         let mut text = vec![0; sys::FQ_MESSAGE_ROOM];
-        let (to, room) = (text.as_mut_ptr().cast(), text.len());
-        // SAFETY: the array has this many bytes, and only this call uses it.
-        let length = unsafe { sys::fq_status_message(self.0, to, room) };
+        let length = calls::status_message(self.0, &mut text);
         text.truncate(length);
         String::from_utf8_lossy(&text).into_owned()
     }
@@ -104,7 +119,7 @@ impl Error for Fault {}
 #[cold]
 pub(crate) fn unexpected(call: &str, status: u32) -> ! {
     panic!(
-        "fq_{call} answered {status}: {}",
+        "fq_{call} returned {status}: {}",
         sys::fq_status_name(status)
     )
 }

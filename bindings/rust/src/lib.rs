@@ -50,6 +50,7 @@
 mod answers;
 mod busy;
 mod caller;
+mod calls;
 mod card;
 mod control;
 mod dql;

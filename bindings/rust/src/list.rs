@@ -1,4 +1,5 @@
 //! Poll lists, and runs over them.
+use crate::calls;
 use crate::fault::{unexpected, Fault};
 use crate::handle::Handle;
 use crate::packets::Weight;
@@ -27,30 +28,26 @@ impl List {
     /// Returns an empty list. Fails with [`OUT_OF_MEMORY`](Fault::OUT_OF_MEMORY).
     pub fn new() -> Result<List, Fault> {
         let mut at = Handle::NONE;
-        // SAFETY: only this call has the handle.
-        Fault::unless_made(unsafe { sys::fq_list_new(at.raw()) })?;
+        Fault::unless_made(calls::list_new(at.raw()))?;
         Ok(List { at })
     }
 
     /// Appends a number to the list. Fails with [`IN_USE`](Fault::IN_USE) if it is in the list already, with
     /// [`FULL`](Fault::FULL) if list and run hold 64.
     pub fn push(&mut self, id: u32) -> Result<(), Fault> {
-        // SAFETY: only this list has the handle.
-        Fault::unless_made(unsafe { sys::fq_list_push(self.at.raw(), id) })
+        Fault::unless_made(calls::list_push(self.at.raw(), id))
     }
 
     /// Removes a number from the list; the others keep their order. Fails with [`BUSY`](Fault::BUSY) if only the run over the list
     /// has it, which polls it, will poll it, or lists it at its end; with [`NOT_THERE`](Fault::NOT_THERE) if neither of them has it.
     pub fn remove(&mut self, id: u32) -> Result<(), Fault> {
-        // SAFETY: only this list has the handle.
-        Fault::unless_made(unsafe { sys::fq_list_remove(self.at.raw(), id) })
+        Fault::unless_made(calls::list_remove(self.at.raw(), id))
     }
 
     /// Returns how many numbers the list holds, including those of a run over it.
     pub fn len(&mut self) -> usize {
         let mut len = 0;
-        // SAFETY: only this list has the handle, and the number is elsewhere.
-        match unsafe { sys::fq_list_len(self.at.raw(), &mut len) } {
+        match calls::list_len(self.at.raw(), &mut len) {
             sys::FQ_OK => len as usize,
             said => unexpected("list_len", said),
         }
@@ -112,16 +109,14 @@ struct Run<'l> {
 impl<'l> Run<'l> {
     fn begin(list: &'l mut List, budget: u32, weight: Weight, window: u32) -> Result<Self, Fault> {
         let weight = weight.get() as u32;
-        // SAFETY: only this list has the handle.
-        let said = unsafe { sys::fq_run_begin(list.at.raw(), budget, weight, window) };
+        let said = calls::run_begin(list.at.raw(), budget, weight, window);
         Fault::unless_made(said)?;
         Ok(Run { list })
     }
 
     fn next(&mut self) -> Option<u32> {
         let mut id = 0;
-        // SAFETY: only this list has the handle, and the number is elsewhere.
-        match unsafe { sys::fq_run_next(self.list.at.raw(), &mut id) } {
+        match calls::run_next(self.list.at.raw(), &mut id) {
             sys::FQ_OK => Some(id),
             sys::FQ_DONE => None,
             said => unexpected("run_next", said),
@@ -130,15 +125,13 @@ impl<'l> Run<'l> {
 
     fn polled(&mut self, polled: Polled) -> Result<(), Fault> {
         let Polled { work, next } = polled;
-        // SAFETY: only this list has the handle.
-        let said = unsafe { sys::fq_run_polled(self.list.at.raw(), work, next.number()) };
+        let said = calls::run_polled(self.list.at.raw(), work, next.number());
         Fault::unless_made(said)
     }
 
     fn end(&mut self) -> Result<RunReport, Fault> {
         let mut report = RunReport::default();
-        // SAFETY: only this list has the handle, and the report is elsewhere.
-        let said = unsafe { sys::fq_run_end(self.list.at.raw(), &mut report) };
+        let said = calls::run_end(self.list.at.raw(), &mut report);
         Fault::unless_made(said)?;
         Ok(report)
     }

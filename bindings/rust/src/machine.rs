@@ -1,4 +1,5 @@
 //! A machine that receives packets over simulated time.
+use crate::calls;
 use crate::fault::Fault;
 use crate::sys;
 use std::error::Error;
@@ -13,8 +14,7 @@ impl Default for MachineSettings {
         let size = std::mem::size_of::<MachineSettings>();
         // SAFETY: all members are integers, for which 0 is a value.
         let mut settings: MachineSettings = unsafe { std::mem::zeroed() };
-        // SAFETY: the pointer leads to a whole struct of this size.
-        match unsafe { sys::fq_machine_default(&mut settings, size) } {
+        match calls::machine_default(&mut settings, size) {
             sys::FQ_OK => settings,
             said => crate::fault::unexpected("machine_default", said),
         }
@@ -76,17 +76,7 @@ pub fn machine(arrivals: &[u8], settings: &MachineSettings) -> Result<Vec<u8>, M
         message: [0; 64],
     };
     loop {
-        // SAFETY: each pointer leads to as many bytes as its length says, and they don't overlap.
-        let said = unsafe {
-            sys::fq_machine(
-                settings,
-                arrivals.as_ptr(),
-                arrivals.len(),
-                report.as_mut_ptr(),
-                report.len(),
-                &mut ran,
-            )
-        };
+        let said = calls::machine(settings, arrivals, &mut report, &mut ran);
         match said {
             sys::FQ_NO_ROOM => report.resize(ran.length, 0),
             sys::FQ_BAD_SETTING => return Err(MachineFault::Setting(ran.setting)),

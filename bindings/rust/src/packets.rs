@@ -3,12 +3,12 @@ use crate::fault::{unexpected, Fault};
 use crate::sys;
 use std::fmt;
 
-/// A packet: a number that the user chooses, for example the index of a buffer, and its size in bytes.
-pub use crate::sys::fq_packet as Packet;
-/// The counts of a ring's polls.
-pub use crate::sys::fq_counts as Counts;
 /// The counts of the results of a caller's calls.
 pub use crate::sys::fq_answers as Answers;
+/// The counts of a ring's polls.
+pub use crate::sys::fq_counts as Counts;
+/// A packet: a number that the user chooses, for example the index of a buffer, and its size in bytes.
+pub use crate::sys::fq_packet as Packet;
 pub use crate::sys::fq_ring_shown as RingShown;
 pub use crate::sys::fq_totals as Totals;
 
@@ -58,10 +58,9 @@ impl Batch {
     // Lets a poll write at most 64 packets to the buffer, and their count.
     pub(crate) fn filled_by<F>(&mut self, poll: F) -> &[Packet]
     where
-        F: FnOnce(*mut Packet, usize, *mut usize) -> u32,
+        F: FnOnce(&mut [Packet], &mut usize) -> u32,
     {
-        let room = self.packets.len();
-        match poll(self.packets.as_mut_ptr(), room, &mut self.count) {
+        match poll(&mut self.packets, &mut self.count) {
             sys::FQ_OK => self.as_slice(),
             said => unexpected("poll", said),
         }

@@ -1,6 +1,7 @@
 //! A poller, which has the poll context.
 use crate::answers::{Completed, End, TryDone};
 use crate::caller::{Caller, Granted};
+use crate::calls;
 use crate::card::{Look, Poll};
 use crate::fault::unexpected;
 use crate::handle::Handle;
@@ -51,8 +52,7 @@ impl Polling {
 
     /// Queues the instance at the end of the list again (`net_rx_action`, after a poll of the whole weight).
     pub fn requeue(mut self) -> Caller {
-        // SAFETY: only this poller has the handle.
-        match unsafe { sys::fq_seat_requeue(self.at.raw()) } {
+        match calls::seat_requeue(self.at.raw()) {
             sys::FQ_OK => Caller { at: self.at },
             said => unexpected("seat_requeue", said),
         }
@@ -64,8 +64,7 @@ impl Polling {
     /// poll from the list.
     pub fn end(mut self, full: bool) -> End {
         let mut next = 0;
-        // SAFETY: only this poller has the handle, and the number is elsewhere.
-        match unsafe { sys::fq_seat_end(self.at.raw(), full, &mut next) } {
+        match calls::seat_end(self.at.raw(), full, &mut next) {
             sys::FQ_OK => End::Over(Caller { at: self.at }, Next::of("seat_end", next)),
             sys::FQ_HELD => End::Held(self),
             said => unexpected("seat_end", said),
@@ -116,8 +115,7 @@ impl Polling {
 
     /// Tries once to end the poll (`napi_complete_done`). It doesn't wait.
     pub fn try_complete(mut self) -> TryDone {
-        // SAFETY: only this poller has the handle.
-        match unsafe { sys::fq_seat_complete(self.at.raw()) } {
+        match calls::seat_complete(self.at.raw()) {
             sys::FQ_RELEASED => TryDone::Released(Caller { at: self.at }),
             sys::FQ_AGAIN => TryDone::Again(Granted { at: self.at }),
             sys::FQ_CHANGED => TryDone::Changed(self),
@@ -127,8 +125,7 @@ impl Polling {
 
     /// Ends the poll, and retries until an attempt decides (`napi_complete_done`).
     pub fn complete(mut self) -> Completed {
-        // SAFETY: only this poller has the handle.
-        match unsafe { sys::fq_seat_complete_done(self.at.raw()) } {
+        match calls::seat_complete_done(self.at.raw()) {
             sys::FQ_RELEASED => Completed::Released(Caller { at: self.at }),
             sys::FQ_AGAIN => Completed::Again(Granted { at: self.at }),
             said => unexpected("seat_complete_done", said),
@@ -139,8 +136,5 @@ impl Polling {
 // Polls with a handle that has the poll context.
 pub(crate) fn poll<'b>(at: &mut Handle, weight: Weight, batch: &'b mut Batch) -> &'b [Packet] {
     let at = at.raw();
-    batch.filled_by(|out, len, count| {
-        // SAFETY: only this call has the handle, the packets and the count, and they don't overlap.
-        unsafe { sys::fq_seat_poll(at, weight.get(), out, len, count) }
-    })
+    batch.filled_by(|out, count| calls::seat_poll(at, weight.get(), out, count))
 }

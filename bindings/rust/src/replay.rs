@@ -1,4 +1,5 @@
 //! The whole replay on one thread.
+use crate::calls;
 use crate::fault::Fault;
 use crate::sys;
 use std::error::Error;
@@ -61,10 +62,7 @@ impl Error for NoReport {}
 /// assert_eq!(refused.to_string(), "trace fault 1 BadHeader row 0");
 /// ```
 pub fn replay(trace: &[u8], settings: &Settings) -> Result<Vec<u8>, NoReport> {
-    written(|out, room, replayed| {
-        // SAFETY: each pointer leads to as many bytes as its length says, and they don't overlap.
-        unsafe { sys::fq_replay(settings, trace.as_ptr(), trace.len(), out, room, replayed) }
-    })
+    written(|out, replayed| calls::replay(settings, trace, out, replayed))
 }
 
 /// Adds to a trace the runs that the kernel would make with these settings, as `fintaqush raise` does, and returns the trace.
@@ -97,31 +95,16 @@ pub fn raise_runs(
     settings: &Settings,
     restarts: Option<u32>,
 ) -> Result<Vec<u8>, NoReport> {
-    let restarts = restarts.unwrap_or(u32::MAX); // FQ_UNTIL_EMPTY
-    written(|out, room, replayed| {
-        // SAFETY: each pointer leads to as many bytes as its length says, and they don't overlap.
-        unsafe {
-            sys::fq_raise(
-                settings,
-                restarts,
-                trace.as_ptr(),
-                trace.len(),
-                out,
-                room,
-                replayed,
-            )
-        }
-    })
+    let restarts = restarts.unwrap_or(sys::FQ_UNTIL_EMPTY);
+    written(|out, replayed| calls::raise(settings, restarts, trace, out, replayed))
 }
 
 // Returns what a call writes to an array of this many bytes, which grows until there is room.
-fn written(
-    call: impl Fn(*mut u8, usize, &mut sys::fq_replayed) -> u32,
-) -> Result<Vec<u8>, NoReport> {
+fn written(call: impl Fn(&mut [u8], &mut sys::fq_replayed) -> u32) -> Result<Vec<u8>, NoReport> {
     let mut out = vec![0; 4096];
     loop {
         let mut replayed = sys::fq_replayed::default();
-        match call(out.as_mut_ptr(), out.len(), &mut replayed) {
+        match call(&mut out, &mut replayed) {
             sys::FQ_NO_ROOM => out.resize(replayed.length, 0),
             sys::FQ_BAD_TRACE => {
                 return Err(NoReport::Trace {

@@ -1,4 +1,5 @@
 //! Receive rings.
+use crate::calls;
 use crate::fault::{unexpected, Fault};
 use crate::handle::Handle;
 use crate::packets::{Batch, Counts, Packet, RingShown, Totals, Weight};
@@ -31,8 +32,7 @@ impl Ring {
     /// [`OUT_OF_MEMORY`](Fault::OUT_OF_MEMORY).
     pub fn new(capacity: usize) -> Result<Ring, Fault> {
         let mut at = Handle::NONE;
-        // SAFETY: only this call has the handle.
-        Fault::unless_made(unsafe { sys::fq_ring_new(at.raw(), capacity) })?;
+        Fault::unless_made(calls::ring_new(at.raw(), capacity))?;
         Ok(Ring { at })
     }
 
@@ -90,16 +90,14 @@ impl Ring {
     /// ```
     pub fn split(mut self) -> Result<(Input, Output), Fault> {
         let mut out = Handle::NONE;
-        // SAFETY: only this call has both handles, which don't overlap.
-        Fault::unless_made(unsafe { sys::fq_ring_split(self.at.raw(), out.raw()) })?;
+        Fault::unless_made(calls::ring_split(self.at.raw(), out.raw()))?;
         Ok((Input { at: self.at }, Output { at: out }))
     }
 
     /// Finishes the ring, and returns its totals.
     pub fn finish(mut self) -> Totals {
         let mut totals = Totals::default();
-        // SAFETY: only this ring has the handle, and the totals are elsewhere.
-        match unsafe { sys::fq_ring_finish(self.at.raw(), &mut totals) } {
+        match calls::ring_finish(self.at.raw(), &mut totals) {
             sys::FQ_OK => totals,
             said => unexpected("ring_finish", said),
         }
@@ -153,15 +151,11 @@ impl Input {
 
 fn poll<'b>(ring: &mut Handle, weight: Weight, batch: &'b mut Batch) -> &'b [Packet] {
     let at = ring.raw();
-    batch.filled_by(|out, len, count| {
-        // SAFETY: only this call has the handle, the packets and the count, and they don't overlap.
-        unsafe { sys::fq_ring_poll(at, weight.get(), out, len, count) }
-    })
+    batch.filled_by(|out, count| calls::ring_poll(at, weight.get(), out, count))
 }
 
 fn put(ring: &mut Handle, packet: Packet) -> Result<(), Fault> {
-    // SAFETY: only this call has the handle.
-    match unsafe { sys::fq_ring_put(ring.raw(), packet.number, packet.bytes) } {
+    match calls::ring_put(ring.raw(), packet.number, packet.bytes) {
         said @ (sys::FQ_OK | sys::FQ_FULL) => Fault::unless_made(said),
         said => unexpected("ring_put", said),
     }
@@ -169,9 +163,7 @@ fn put(ring: &mut Handle, packet: Packet) -> Result<(), Fault> {
 
 fn put_all(ring: &mut Handle, packets: &[Packet]) -> usize {
     let mut count = 0;
-    let (first, len) = (packets.as_ptr().cast(), packets.len());
-    // SAFETY: only this call has the handle and the count, and the packets are only read.
-    match unsafe { sys::fq_ring_put_all(ring.raw(), first, len, &mut count) } {
+    match calls::ring_put_all(ring.raw(), packets, &mut count) {
         sys::FQ_OK | sys::FQ_FULL => count,
         said => unexpected("ring_put_all", said),
     }

@@ -1,4 +1,5 @@
 //! Instances of one thread.
+use crate::calls;
 use crate::fault::{unexpected, Fault};
 use crate::sys;
 use crate::words::{Done, Kind, Next, Prep};
@@ -18,16 +19,14 @@ impl SerialNapi {
     /// Returns a new instance, which is disabled (`netif_napi_add`).
     pub fn new(controller: u32) -> SerialNapi {
         SerialNapi {
-            // SAFETY: it takes only a number.
-            raw: unsafe { sys::fq_napi_new(controller) },
+            raw: calls::napi_new(controller),
             by_one: PhantomData,
         }
     }
 
     /// Requests a poll (`napi_schedule_prep`).
     pub fn schedule(&mut self, who: u32) -> Prep {
-        // SAFETY: only this call borrows the instance.
-        let said = unsafe { sys::fq_napi_schedule(&mut self.raw, who) };
+        let said = calls::napi_schedule(&mut self.raw, who);
         match Prep::of("napi_schedule", said) {
             Some(prep) => prep,
             None => unexpected("napi_schedule", said),
@@ -36,21 +35,18 @@ impl SerialNapi {
 
     /// Queues a granted instance (`____napi_schedule`), or puts a polled one on the list again.
     pub fn hand(&mut self, who: u32, kind: Kind) -> Result<(), Fault> {
-        // SAFETY: only this call borrows the instance.
-        Fault::unless_made(unsafe { sys::fq_napi_hand(&mut self.raw, who, kind.number()) })
+        Fault::unless_made(calls::napi_hand(&mut self.raw, who, kind.number()))
     }
 
     /// Takes the instance from the list or as its thread; returns false if it isn't there.
     pub fn take(&mut self, who: u32, kind: Kind) -> bool {
-        // SAFETY: only this call borrows the instance.
-        let said = unsafe { sys::fq_napi_take(&mut self.raw, who, kind.number()) };
+        let said = calls::napi_take(&mut self.raw, who, kind.number());
         said == sys::FQ_TAKEN
     }
 
     /// Ends a poll (`napi_complete_done`).
     pub fn complete(&mut self, who: u32) -> Result<Done, Fault> {
-        // SAFETY: only this call borrows the instance.
-        match unsafe { sys::fq_napi_complete(&mut self.raw, who) } {
+        match calls::napi_complete(&mut self.raw, who) {
             sys::FQ_RELEASED => Ok(Done::Released),
             sys::FQ_AGAIN => Ok(Done::Again),
             sys::FQ_HELD => Ok(Done::Held),
@@ -65,8 +61,7 @@ impl SerialNapi {
     /// thread.
     pub fn end(&mut self, who: u32, full: bool) -> Result<Option<Next>, Fault> {
         let mut next = sys::FQ_NEXT_GONE;
-        // SAFETY: only this call borrows the instance, and the number is elsewhere.
-        match unsafe { sys::fq_napi_end(&mut self.raw, who, full, &mut next) } {
+        match calls::napi_end(&mut self.raw, who, full, &mut next) {
             sys::FQ_OK => Ok(Some(Next::of("napi_end", next))),
             sys::FQ_HELD => Ok(None),
             sys::FQ_NOT_ALLOWED => Err(Fault::NOT_ALLOWED),
@@ -76,33 +71,28 @@ impl SerialNapi {
 
     /// Takes an idle instance to busy poll it (`napi_busy_loop`); returns false if it isn't idle.
     pub fn busy_take(&mut self, who: u32) -> bool {
-        // SAFETY: only this call borrows the instance.
-        let said = unsafe { sys::fq_napi_busy_take(&mut self.raw, who) };
+        let said = calls::napi_busy_take(&mut self.raw, who);
         said == sys::FQ_TAKEN
     }
 
     /// Stops busy polling (`busy_poll_stop`): one poll has to follow.
     pub fn busy_stop(&mut self, who: u32) -> Result<(), Fault> {
-        // SAFETY: only this call borrows the instance.
-        Fault::unless_made(unsafe { sys::fq_napi_busy_stop(&mut self.raw, who) })
+        Fault::unless_made(calls::napi_busy_stop(&mut self.raw, who))
     }
 
     /// Sets whether the instance is scheduled on its own thread (`dev_set_threaded`).
     pub fn set_threaded(&mut self, who: u32, threaded: bool) {
-        // SAFETY: only this call borrows the instance.
-        unsafe { sys::fq_napi_set_threaded(&mut self.raw, who, threaded) }
+        calls::napi_set_threaded(&mut self.raw, who, threaded)
     }
 
     /// For the controller: marks a disable as pending (the first step of `napi_disable`).
     pub fn mark_disable(&mut self, who: u32) -> Result<(), Fault> {
-        // SAFETY: only this call borrows the instance.
-        Fault::unless_made(unsafe { sys::fq_napi_mark_disable(&mut self.raw, who) })
+        Fault::unless_made(calls::napi_mark_disable(&mut self.raw, who))
     }
 
     /// For the controller: takes a marked instance (the second step); returns false if a caller owns it.
     pub fn take_disable(&mut self, who: u32) -> Result<bool, Fault> {
-        // SAFETY: only this call borrows the instance.
-        match unsafe { sys::fq_napi_take_disable(&mut self.raw, who) } {
+        match calls::napi_take_disable(&mut self.raw, who) {
             sys::FQ_TAKEN => Ok(true),
             sys::FQ_BUSY => Ok(false),
             sys::FQ_NOT_ALLOWED => Err(Fault::NOT_ALLOWED),
@@ -112,20 +102,17 @@ impl SerialNapi {
 
     /// For the controller: clears the mark (the third step).
     pub fn unmark(&mut self, who: u32) -> Result<(), Fault> {
-        // SAFETY: only this call borrows the instance.
-        Fault::unless_made(unsafe { sys::fq_napi_unmark(&mut self.raw, who) })
+        Fault::unless_made(calls::napi_unmark(&mut self.raw, who))
     }
 
     /// For the controller: enables the instance (`napi_enable`). Call [`schedule`](SerialNapi::schedule) once after it, because
     /// an earlier request isn't polled.
     pub fn enable(&mut self, who: u32, threaded: bool) -> Result<(), Fault> {
-        // SAFETY: only this call borrows the instance.
-        Fault::unless_made(unsafe { sys::fq_napi_enable(&mut self.raw, who, threaded) })
+        Fault::unless_made(calls::napi_enable(&mut self.raw, who, threaded))
     }
 
     /// Returns the state word, a sum of the [`sys`] constants `FQ_BIT_..`.
     pub fn word(&self) -> u64 {
-        // SAFETY: the library only reads it; no other thread does, because it isn't `Sync`.
-        unsafe { sys::fq_napi_word(&self.raw) }
+        calls::napi_word(&self.raw)
     }
 }

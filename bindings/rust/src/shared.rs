@@ -1,10 +1,10 @@
 //! Instances that threads share.
 use crate::caller::Caller;
+use crate::calls;
 use crate::control::{Control, Off};
 use crate::fault::Fault;
 use crate::handle::Handle;
 use crate::ring::{Input, Ring};
-use crate::sys;
 
 /// A new instance that threads share: the input of its ring, its controller, and its callers, 2 to
 /// 8. Each goes to a thread of its own; a caller that isn't needed may be dropped.
@@ -43,17 +43,12 @@ impl<const CALLERS: usize> Shared<CALLERS> {
     pub fn new(capacity: usize) -> Result<Shared<CALLERS>, Fault> {
         let mut ring = Ring::new(capacity)?;
         let mut control = Handle::NONE;
-        let mut seats = [Handle::NONE; CALLERS];
-        let first = seats.as_mut_ptr().cast::<sys::fq_handle>();
-        // SAFETY: only this call has the handles, which don't overlap; a `Handle` is a `fq_handle` and nothing else, and their
-        // number is passed.
-        Fault::unless_made(unsafe {
-            sys::fq_shared_new(ring.at.raw(), control.raw(), first, CALLERS)
-        })?;
+        let mut seats = [Handle::UNSET; CALLERS];
+        Fault::unless_made(calls::shared_new(ring.at.raw(), control.raw(), &mut seats))?;
         Ok(Shared {
             input: Input { at: ring.at },
             control: Control::of(control),
-            callers: seats.map(|at| Caller { at }),
+            callers: seats.map(|at| Caller { at: Handle(at) }),
         })
     }
 }
@@ -73,13 +68,11 @@ impl<const CALLERS: usize> Bare<CALLERS> {
     /// [`OUT_OF_MEMORY`](Fault::OUT_OF_MEMORY).
     pub fn new() -> Result<Bare<CALLERS>, Fault> {
         let mut control = Handle::NONE;
-        let mut seats = [Handle::NONE; CALLERS];
-        let first = seats.as_mut_ptr().cast::<sys::fq_handle>();
-        // SAFETY: as for `Shared::new`.
-        Fault::unless_made(unsafe { sys::fq_shared_bare(control.raw(), first, CALLERS) })?;
+        let mut seats = [Handle::UNSET; CALLERS];
+        Fault::unless_made(calls::shared_bare(control.raw(), &mut seats))?;
         Ok(Bare {
             control: Control::of(control),
-            callers: seats.map(|at| Caller { at }),
+            callers: seats.map(|at| Caller { at: Handle(at) }),
         })
     }
 }

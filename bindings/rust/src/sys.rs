@@ -1,136 +1,181 @@
-//! `include/fintaqush.h` in Rust: its numbers, structs and functions. The header says what each does, and what it requires of
-//! its caller; the other modules of this crate meet that.
+//! `include/fintaqush.h` in Rust: its numbers, structs and functions. The head of the header says what it requires of its
+//! caller; the other modules of this crate meet that. `scripts/abi.py` writes this file.
 #![allow(non_camel_case_types)]
 
+mod functions;
+
+pub use functions::*;
 use std::os::raw::{c_char, c_void};
-use std::sync::atomic::{AtomicU64, Ordering};
 
-macro_rules! statuses {
-    ($($name:ident = $number:literal,)*) => {
-        $(
-            #[doc = concat!("`", stringify!($name), "` of `enum fq_status`.")]
-            pub const $name: u32 = $number;
-        )*
+/// Done.
+pub const FQ_OK: u32 = 0;
+/// Limit: min is above max, or max above 1879048192 bytes.
+pub const FQ_BAD_BOUNDS: u32 = 1;
+/// Limit, send: an object of more than 268435455 bytes.
+pub const FQ_TOO_LARGE: u32 = 2;
+/// Limit, send: more than 1073741823 bytes would be in flight.
+pub const FQ_TOO_MUCH_IN_FLIGHT: u32 = 3;
+/// Limit: more bytes are completed than are in flight.
+pub const FQ_MORE_THAN_QUEUED: u32 = 4;
+/// Schedule: the caller owns the instance, and has to queue it.
+pub const FQ_GRANTED: u32 = 16;
+/// Schedule: already scheduled: one more poll follows, unless the instance is disabled.
+pub const FQ_MISSED: u32 = 17;
+/// Schedule: a disable is pending, and no poll was requested.
+pub const FQ_DISABLED: u32 = 18;
+/// Take, busy take, take disable: the caller owns the instance.
+pub const FQ_TAKEN: u32 = 19;
+/// Take, remove: the instance is not queued there, or the number is not on the list.
+pub const FQ_NOT_THERE: u32 = 20;
+/// Complete: no caller owns the instance any more.
+pub const FQ_RELEASED: u32 = 21;
+/// Complete: a request was missed: the caller has to queue the instance again.
+pub const FQ_AGAIN: u32 = 22;
+/// Complete, end: the caller keeps polling.
+pub const FQ_HELD: u32 = 23;
+/// Busy take, take disable, remove: another caller owns the instance, or a run has the number.
+pub const FQ_BUSY: u32 = 24;
+/// Shared instances: another thread interfered, and nothing is decided: call again.
+pub const FQ_CHANGED: u32 = 25;
+/// Put, push, send: there is no room.
+pub const FQ_FULL: u32 = 26;
+/// Next: no poll is left in the run.
+pub const FQ_DONE: u32 = 27;
+/// Send: the limit has stopped the queue.
+pub const FQ_STOPPED: u32 = 28;
+/// Done: more packets are completed than were sent.
+pub const FQ_MORE_THAN_SENT: u32 = 29;
+/// Driver: this is not due, and nothing has changed.
+pub const FQ_NOT_DUE: u32 = 30;
+/// The state of the object does not allow this call.
+pub const FQ_NOT_ALLOWED: u32 = 100;
+/// The kind is 0 (list) or 1 (thread).
+pub const FQ_BAD_KIND: u32 = 101;
+/// The handle has no object, or one of another kind.
+pub const FQ_BAD_HANDLE: u32 = 110;
+/// The handle is set already, or the number is listed already.
+pub const FQ_IN_USE: u32 = 111;
+/// Out of memory.
+pub const FQ_OUT_OF_MEMORY: u32 = 112;
+/// The capacity of a ring is 1 to 65536.
+pub const FQ_BAD_CAPACITY: u32 = 113;
+/// A weight is 1 to 64 packets.
+pub const FQ_BAD_WEIGHT: u32 = 114;
+/// The array is too short.
+pub const FQ_NO_ROOM: u32 = 115;
+/// Budget and window are 1 to 65535.
+pub const FQ_BAD_BUDGET: u32 = 116;
+/// A shared instance has 2 to 8 seats, a driver 1 to 64 devices.
+pub const FQ_BAD_COUNT: u32 = 117;
+/// How a poll ended is 0 to 4 (enum `fq_next`).
+pub const FQ_BAD_NEXT: u32 = 118;
+/// A poll is reported with more packets than the weight.
+pub const FQ_BAD_WORK: u32 = 119;
+/// Replay, raise: the bytes are not a trace, or a row of it can't be processed.
+pub const FQ_BAD_TRACE: u32 = 120;
+/// The driver has no device with this number.
+pub const FQ_BAD_DEVICE: u32 = 121;
+/// A struct's size is not one that the library knows.
+pub const FQ_BAD_SIZE: u32 = 122;
+/// Machine: a setting of the machine is out of its range.
+pub const FQ_BAD_SETTING: u32 = 123;
+/// Machine: the bytes are not arrivals.
+pub const FQ_BAD_ARRIVALS: u32 = 124;
 
-        /// Returns the name of a status, for example "FQ_GRANTED"; "?" for an unknown number.
-        pub fn fq_status_name(status: u32) -> &'static str {
-            match status {
-                $($number => stringify!($name),)*
-                _ => "?",
-            }
-        }
-    };
-}
-
-statuses! {
-    FQ_OK = 0,
-    FQ_BAD_BOUNDS = 1,
-    FQ_TOO_LARGE = 2,
-    FQ_TOO_MUCH_IN_FLIGHT = 3,
-    FQ_MORE_THAN_QUEUED = 4,
-    FQ_GRANTED = 16,
-    FQ_MISSED = 17,
-    FQ_DISABLED = 18,
-    FQ_TAKEN = 19,
-    FQ_NOT_THERE = 20,
-    FQ_RELEASED = 21,
-    FQ_AGAIN = 22,
-    FQ_HELD = 23,
-    FQ_BUSY = 24,
-    FQ_CHANGED = 25,
-    FQ_FULL = 26,
-    FQ_DONE = 27,
-    FQ_STOPPED = 28,
-    FQ_MORE_THAN_SENT = 29,
-    FQ_NOT_DUE = 30,
-    FQ_NOT_ALLOWED = 100,
-    FQ_BAD_KIND = 101,
-    FQ_BAD_HANDLE = 110,
-    FQ_IN_USE = 111,
-    FQ_OUT_OF_MEMORY = 112,
-    FQ_BAD_CAPACITY = 113,
-    FQ_BAD_WEIGHT = 114,
-    FQ_NO_ROOM = 115,
-    FQ_BAD_BUDGET = 116,
-    FQ_BAD_COUNT = 117,
-    FQ_BAD_NEXT = 118,
-    FQ_BAD_WORK = 119,
-    FQ_BAD_TRACE = 120,
-    FQ_BAD_DEVICE = 121,
-    FQ_BAD_SIZE = 122,
-    FQ_BAD_SETTING = 123,
-    FQ_BAD_ARRIVALS = 124,
-}
-
-/// The size of an array that has room for each text of the library and a terminating 0.
-pub const FQ_MESSAGE_ROOM: usize = 96;
-
-/// The number of `struct fq_handle` for [`fq_struct_size`].
+/// `FQ_STRUCT_HANDLE` of `enum fq_struct`.
 pub const FQ_STRUCT_HANDLE: u32 = 0;
-/// The number of `struct fq_dql` for [`fq_struct_size`].
+/// `FQ_STRUCT_DQL` of `enum fq_struct`.
 pub const FQ_STRUCT_DQL: u32 = 1;
-/// The number of `struct fq_dql_made` for [`fq_struct_size`].
+/// `FQ_STRUCT_DQL_MADE` of `enum fq_struct`.
 pub const FQ_STRUCT_DQL_MADE: u32 = 2;
-/// The number of `struct fq_napi` for [`fq_struct_size`].
+/// `FQ_STRUCT_NAPI` of `enum fq_struct`.
 pub const FQ_STRUCT_NAPI: u32 = 3;
-/// The number of `struct fq_packet` for [`fq_struct_size`].
+/// `FQ_STRUCT_PACKET` of `enum fq_struct`.
 pub const FQ_STRUCT_PACKET: u32 = 4;
-/// The number of `struct fq_counts` for [`fq_struct_size`].
+/// `FQ_STRUCT_COUNTS` of `enum fq_struct`.
 pub const FQ_STRUCT_COUNTS: u32 = 5;
-/// The number of `struct fq_totals` for [`fq_struct_size`].
+/// `FQ_STRUCT_TOTALS` of `enum fq_struct`.
 pub const FQ_STRUCT_TOTALS: u32 = 6;
-/// The number of `struct fq_ring_shown` for [`fq_struct_size`].
+/// `FQ_STRUCT_RING_SHOWN` of `enum fq_struct`.
 pub const FQ_STRUCT_RING_SHOWN: u32 = 7;
-/// The number of `struct fq_tx_shown` for [`fq_struct_size`].
+/// `FQ_STRUCT_TX_SHOWN` of `enum fq_struct`.
 pub const FQ_STRUCT_TX_SHOWN: u32 = 8;
-/// The number of `struct fq_answers` for [`fq_struct_size`].
+/// `FQ_STRUCT_ANSWERS` of `enum fq_struct`.
 pub const FQ_STRUCT_ANSWERS: u32 = 9;
-/// The number of `struct fq_run_report` for [`fq_struct_size`].
+/// `FQ_STRUCT_RUN_REPORT` of `enum fq_struct`.
 pub const FQ_STRUCT_RUN_REPORT: u32 = 10;
-/// The number of `struct fq_todo` for [`fq_struct_size`].
+/// `FQ_STRUCT_TODO` of `enum fq_struct`.
 pub const FQ_STRUCT_TODO: u32 = 11;
-/// The number of `struct fq_device_shown` for [`fq_struct_size`].
+/// `FQ_STRUCT_DEVICE_SHOWN` of `enum fq_struct`.
 pub const FQ_STRUCT_DEVICE_SHOWN: u32 = 12;
-/// The number of `struct fq_tx_watchdog` for [`fq_struct_size`].
+/// `FQ_STRUCT_TX_WATCHDOG` of `enum fq_struct`.
 pub const FQ_STRUCT_TX_WATCHDOG: u32 = 13;
 
-/// `FQ_LIST` of `enum fq_kind`: on a poll list.
+/// On a poll list.
 pub const FQ_LIST: u32 = 0;
-/// `FQ_THREAD` of `enum fq_kind`: for the instance's own thread.
+/// For its own thread.
 pub const FQ_THREAD: u32 = 1;
 
-/// `FQ_NEXT_GONE` of `enum fq_next`.
+/// The device leaves the list.
 pub const FQ_NEXT_GONE: u32 = 0;
-/// `FQ_NEXT_AGAIN` of `enum fq_next`.
+/// It has to be listed again.
 pub const FQ_NEXT_AGAIN: u32 = 1;
-/// `FQ_NEXT_AGAIN_THREAD` of `enum fq_next`.
+/// It is queued for its thread.
 pub const FQ_NEXT_AGAIN_THREAD: u32 = 2;
-/// `FQ_NEXT_REPOLL` of `enum fq_next`.
+/// It returned its whole weight, and is polled again after all others.
 pub const FQ_NEXT_REPOLL: u32 = 3;
-/// `FQ_NEXT_ABSENT` of `enum fq_next`.
+/// Its instance wasn't queued there.
 pub const FQ_NEXT_ABSENT: u32 = 4;
 
-/// `FQ_TODO_SLEEP` of `enum fq_what`.
+/// Nothing, until the next interrupt, open or stop.
 pub const FQ_TODO_SLEEP: u32 = 0;
-/// `FQ_TODO_MASK` of `enum fq_what`.
+/// Mask the interrupt of the device's card.
 pub const FQ_TODO_MASK: u32 = 1;
-/// `FQ_TODO_UNMASK` of `enum fq_what`.
+/// Unmask the interrupt of the device's card.
 pub const FQ_TODO_UNMASK: u32 = 2;
-/// `FQ_TODO_LOOK` of `enum fq_what`.
+/// Look whether the card has packets, and set `packets` to how many, or to 1 if it has any, or to 0: after a full
+/// memory fence, if the card works at the same time.
 pub const FQ_TODO_LOOK: u32 = 3;
-/// `FQ_TODO_FETCH` of `enum fq_what`.
+/// Take packets from the card, at most `most` of them, deliver them, and set `packets` to how many.
 pub const FQ_TODO_FETCH: u32 = 4;
-/// `FQ_TODO_ENDED` of `enum fq_what`.
+/// A run ended, with the report `run` (`net_rx_action`): do other work first, if there is some.
 pub const FQ_TODO_ENDED: u32 = 5;
 
-/// `FQ_DEVICE_CLOSED` of `enum fq_device_state`.
+/// Closed, and its card is masked.
 pub const FQ_DEVICE_CLOSED: u32 = 0;
-/// `FQ_DEVICE_OPEN` of `enum fq_device_state`.
+/// Open.
 pub const FQ_DEVICE_OPEN: u32 = 1;
-/// `FQ_DEVICE_STOPPING` of `enum fq_device_state`.
+/// Being stopped.
 pub const FQ_DEVICE_STOPPING: u32 = 2;
 
-/// `NAPI_STATE_SCHED` in a state word.
+/// `FQ_FAULT_BAD_HEADER` of `enum fq_fault`.
+pub const FQ_FAULT_BAD_HEADER: u32 = 1;
+/// `FQ_FAULT_BAD_FIELDS` of `enum fq_fault`.
+pub const FQ_FAULT_BAD_FIELDS: u32 = 2;
+/// `FQ_FAULT_BAD_NUMBER` of `enum fq_fault`.
+pub const FQ_FAULT_BAD_NUMBER: u32 = 3;
+/// `FQ_FAULT_BAD_EVENT` of `enum fq_fault`.
+pub const FQ_FAULT_BAD_EVENT: u32 = 4;
+/// `FQ_FAULT_OUT_OF_RANGE` of `enum fq_fault`.
+pub const FQ_FAULT_OUT_OF_RANGE: u32 = 5;
+/// `FQ_FAULT_UNKNOWN_DEVICE` of `enum fq_fault`.
+pub const FQ_FAULT_UNKNOWN_DEVICE: u32 = 6;
+/// `FQ_FAULT_OPEN_TWICE` of `enum fq_fault`.
+pub const FQ_FAULT_OPEN_TWICE: u32 = 7;
+/// `FQ_FAULT_WRONG_STATE` of `enum fq_fault`.
+pub const FQ_FAULT_WRONG_STATE: u32 = 8;
+/// `FQ_FAULT_TOO_MANY_ROWS` of `enum fq_fault`.
+pub const FQ_FAULT_TOO_MANY_ROWS: u32 = 9;
+/// `FQ_FAULT_READ_FAILED` of `enum fq_fault`.
+pub const FQ_FAULT_READ_FAILED: u32 = 10;
+/// `FQ_FAULT_OUT_OF_MEMORY` of `enum fq_fault`.
+pub const FQ_FAULT_OUT_OF_MEMORY: u32 = 11;
+/// `FQ_FAULT_PENDING` of `enum fq_fault`.
+pub const FQ_FAULT_PENDING: u32 = 12;
+
+/// Bytes of an array that has room for each text and its terminating 0.
+pub const FQ_MESSAGE_ROOM: usize = 96;
+/// `NAPI_STATE_SCHED`.
 pub const FQ_BIT_SCHED: u64 = 1 << 0;
 /// `NAPI_STATE_MISSED`.
 pub const FQ_BIT_MISSED: u64 = 1 << 1;
@@ -144,39 +189,34 @@ pub const FQ_BIT_IN_BUSY_POLL: u64 = 1 << 6;
 pub const FQ_BIT_THREADED: u64 = 1 << 8;
 /// `NAPI_STATE_SCHED_THREADED`.
 pub const FQ_BIT_SCHED_THREADED: u64 = 1 << 9;
-/// The library's own: the instance is on a list, and wasn't taken yet.
+/// On a poll list, and not taken yet.
 pub const FQ_BIT_QUEUED: u64 = 1 << 32;
-/// The library's own: the instance is queued for its thread, and wasn't taken yet.
+/// Queued for its thread, and not taken yet.
 pub const FQ_BIT_TO_THREAD: u64 = 1 << 33;
-/// A deprecated name of [`FQ_BIT_QUEUED`], for older programs. The kernel's `NAPI_STATE_LISTED` is another flag, bit 4, which
-/// isn't here.
-#[deprecated(note = "use FQ_BIT_QUEUED")]
-pub const FQ_BIT_LISTED: u64 = FQ_BIT_QUEUED;
-/// A deprecated name of [`FQ_BIT_TO_THREAD`], for older programs.
-#[deprecated(note = "use FQ_BIT_TO_THREAD")]
-pub const FQ_BIT_WITH_THREAD: u64 = FQ_BIT_TO_THREAD;
+/// As many added runs as empty the list.
+pub const FQ_UNTIL_EMPTY: u32 = 4294967295;
 
 /// A byte queue limit. It isn't copied, and only calls write its fields.
 #[repr(C)]
 #[derive(Debug)]
 pub struct fq_dql {
-    private_a: [u32; 8],
-    private_b: u64,
-    private_c: [u32; 2],
-    private_d: u64,
+    pub(crate) private_a: [u32; 8],
+    pub(crate) private_b: u64,
+    pub(crate) private_c: [u32; 2],
+    pub(crate) private_d: u64,
 }
 
-/// The result of [`fq_dql_new`].
+/// What `fq_dql_new` returns.
 #[repr(C)]
 #[derive(Debug)]
 pub struct fq_dql_made {
-    /// The limit; all zero if the call failed.
+    /// The limit; a limit of 0 unless the status is `FQ_OK`.
     pub dql: fq_dql,
     /// `FQ_OK` or `FQ_BAD_BOUNDS`.
     pub status: u32,
 }
 
-/// An instance of one thread. Each flag is set unless it is 0.
+/// An instance of one thread. Each flag is set unless its byte is 0.
 #[repr(C)]
 #[derive(Clone, Debug, PartialEq, Eq)]
 pub struct fq_napi {
@@ -194,15 +234,15 @@ pub struct fq_napi {
     pub threaded: u8,
     /// `NAPI_STATE_SCHED_THREADED`.
     pub sched_threaded: u8,
-    /// 0 no owner, 1 granted, 2 on the list, 3 waits for its thread, 4 polled, otherwise owned by the controller.
+    /// 0 no owner, 1 granted, 2 listed, 3 queued for its thread, 4 polled, otherwise: owned by the controller.
     pub place: u8,
     /// The number of its owner.
     pub owner: u32,
-    /// The number of the caller that may enable and disable it.
+    /// The number of the caller that enables and disables it.
     pub controller: u32,
 }
 
-/// A handle to an object of the library on the heap. It isn't copied, and only calls write its fields.
+/// A handle to an object of the library. It isn't copied, and only calls write its fields.
 #[repr(C)]
 #[derive(Debug)]
 pub struct fq_handle {
@@ -210,23 +250,17 @@ pub struct fq_handle {
     pub(crate) private_at: *mut c_void,
 }
 
-/// A handle without an object.
-pub const FQ_NONE: fq_handle = fq_handle {
-    private_set: false,
-    private_at: std::ptr::null_mut(),
-};
-
 /// A packet.
 #[repr(C)]
 #[derive(Clone, Copy, Debug, Default, PartialEq, Eq)]
 pub struct fq_packet {
-    /// A number that the user chooses, for example an index or a pointer.
+    /// A number that the caller chooses: an index, a pointer.
     pub number: u64,
     /// Its size in bytes.
     pub bytes: u32,
 }
 
-/// The counts of a ring's polls. Each count saturates.
+/// The counts of a ring's polls, each of which saturates at its maximum.
 #[repr(C)]
 #[derive(Clone, Copy, Debug, Default, PartialEq, Eq)]
 pub struct fq_counts {
@@ -238,7 +272,7 @@ pub struct fq_counts {
     pub bytes: u64,
 }
 
-/// The counts of a whole ring. Each count saturates.
+/// The counts of a whole ring, each of which saturates at its maximum.
 #[repr(C)]
 #[derive(Clone, Copy, Debug, Default, PartialEq, Eq)]
 pub struct fq_totals {
@@ -252,17 +286,42 @@ pub struct fq_totals {
     pub bytes: u64,
 }
 
-/// The state of the input of a ring.
+/// The state of a ring, or of its input.
 #[repr(C)]
 #[derive(Clone, Copy, Debug, Default, PartialEq, Eq)]
 pub struct fq_ring_shown {
-    /// The packets that were put so far; the count saturates.
+    /// The packets put so far, a count that saturates; minus the packets of `fq_count`, it is the number in the ring.
     pub put: u64,
-    /// How many packets the ring can hold.
+    /// The ring's capacity in packets.
     pub places: usize,
 }
 
-/// The counts of the results of a caller's calls. Each count saturates.
+/// The state of a transmit ring.
+#[repr(C)]
+#[derive(Clone, Copy, Debug, Default, PartialEq, Eq)]
+pub struct fq_tx_shown {
+    /// The bytes of all packets ever sent, modulo 2^32.
+    pub queued: u32,
+    /// The bytes of all packets ever completed, modulo 2^32: queued - completed are in flight.
+    pub completed: u32,
+    /// The limit in bytes.
+    pub limit: u32,
+    /// The bytes that may still be sent; if negative, the queue is over its limit.
+    pub avail: i64,
+    /// Whether the limit has stopped the queue, and no completion has started it since.
+    pub stopped: bool,
+}
+
+/// What a driver's watchdog timer keeps about a transmit ring (`dev_watchdog`): all 0 at first.
+#[repr(C)]
+#[derive(Clone, Copy, Debug, Default, PartialEq, Eq)]
+pub struct fq_tx_watchdog {
+    pub(crate) private_stopped: u8,
+    pub(crate) private_completed: u32,
+    pub(crate) private_since: u64,
+}
+
+/// How often a seat's calls returned each result. Each count saturates at its maximum.
 #[repr(C)]
 #[derive(Clone, Copy, Debug, Default, PartialEq, Eq)]
 pub struct fq_answers {
@@ -278,104 +337,58 @@ pub struct fq_answers {
     pub again: u64,
     /// Completions of a busy poller.
     pub held: u64,
-    /// Attempts of any call that decided nothing, because another thread interfered.
+    /// Attempts of any call that failed because another thread changed the instance.
     pub changed: u64,
-}
-
-/// The state of a transmit ring.
-#[repr(C)]
-#[derive(Clone, Copy, Debug, Default, PartialEq, Eq)]
-pub struct fq_tx_shown {
-    /// The bytes of all packets ever sent, modulo 2^32.
-    pub queued: u32,
-    /// The bytes of all packets that are complete, modulo 2^32.
-    pub completed: u32,
-    /// The limit in bytes.
-    pub limit: u32,
-    /// The bytes that may still be sent, negative if the queue is over its limit.
-    pub avail: i64,
-    /// Whether the queue is stopped.
-    pub stopped: bool,
-}
-
-/// A word of pending bits, which other threads than a list's poller may set.
-#[repr(C)]
-#[derive(Debug, Default)]
-pub struct fq_word {
-    private_bits: AtomicU64,
-}
-
-/// What a driver's watchdog timer keeps for a transmit ring; all 0 at first.
-#[repr(C)]
-#[derive(Clone, Copy, Debug, Default, PartialEq, Eq)]
-pub struct fq_tx_watchdog {
-    private_stopped: bool,
-    private_completed: u32,
-    private_since: u64,
 }
 
 /// The report of a polling run.
 #[repr(C)]
 #[derive(Clone, Copy, Debug, Default, PartialEq, Eq)]
 pub struct fq_run_report {
-    /// The number of polls, at most the window.
+    /// The polls, at most the window.
     pub polls: u32,
-    /// The packets of all polls together.
+    /// The packets of all polls.
     pub work: u32,
-    /// Whether budget or window was used up.
+    /// Whether the run stopped because its budget or its window was used up, whether or not anything was left.
     pub squeezed: bool,
 }
 
-/// What a driver has to do next.
+/// An action that has to be done.
 #[repr(C)]
 #[derive(Clone, Copy, Debug, PartialEq, Eq)]
 pub struct fq_todo {
-    /// The size of this struct.
+    /// The size of this struct: set by the caller, once (`FQ_TODO_INIT`), because the struct may grow.
     pub size: usize,
-    /// The number under which to report it; 0 if there is nothing to report.
+    /// The number under which to report it: each action has another one; 0 if there is nothing to report.
     pub number: u64,
-    /// What has to be done, a number of `enum fq_what`.
+    /// What has to be done: a number of enum `fq_what`.
     pub what: u32,
-    /// The device.
+    /// The device; 0 for `FQ_TODO_SLEEP` and `FQ_TODO_ENDED`.
     pub device: u32,
-    /// The packets that a fetch may take.
+    /// The packets that a fetch may take, the driver's weight; 0 for anything else.
     pub most: u32,
-    /// The packets of a look or a fetch, set for the report.
+    /// The packets of a look and a fetch: 0 at first; the caller sets it after a look and a fetch.
     pub packets: u32,
-    /// The report of a run that ended.
+    /// The report of the run that ended; all 0 for anything else.
     pub run: fq_run_report,
 }
 
-/// A struct that says that there is nothing to do, with its size set.
-pub const FQ_TODO_INIT: fq_todo = fq_todo {
-    size: std::mem::size_of::<fq_todo>(),
-    number: 0,
-    what: FQ_TODO_SLEEP,
-    device: 0,
-    most: 0,
-    packets: 0,
-    run: fq_run_report {
-        polls: 0,
-        work: 0,
-        squeezed: false,
-    },
-};
-
-/// The state of a device of a driver, and the counts of its polls, which saturate.
+/// The state of a device, and the counts of its polls.
 #[repr(C)]
-#[derive(Clone, Copy, Debug, Default, PartialEq, Eq)]
+#[derive(Clone, Copy, Debug, PartialEq, Eq)]
 pub struct fq_device_shown {
-    /// The size of this struct.
+    /// The size of this struct, which the caller sets.
     pub size: usize,
-    /// The device's state, a number of `enum fq_device_state`.
+    /// The device's state: a number of enum `fq_device_state`.
     pub state: u32,
-    /// Whether a poll is requested and isn't completed.
+    /// Whether a poll is requested and isn't completed (`NAPI_STATE_SCHED`); set for a closed device too, as in the
+    /// kernel.
     pub scheduled: bool,
-    /// Whether an interrupt came meanwhile.
+    /// Whether an interrupt came meanwhile (`NAPI_STATE_MISSED`).
     pub missed: bool,
-    /// Fetches that were reported.
+    /// How many fetches were reported; saturates.
     pub polls: u64,
-    /// The packets of these fetches.
+    /// The packets of these fetches; saturates.
     pub packets: u64,
 }
 
@@ -383,58 +396,65 @@ pub struct fq_device_shown {
 #[repr(C)]
 #[derive(Clone, Copy, Debug, PartialEq, Eq)]
 pub struct fq_settings {
-    /// The packets that a run polls before it is squeezed, 1 to 65535.
+    /// Packets that a run polls before it is squeezed, 1 to 65535 (`netdev_budget`).
     pub budget: u32,
-    /// The most packets that one poll processes, 1 to 64.
+    /// Packets that one poll returns at most, 1 to 64 (`NAPI_POLL_WEIGHT`).
     pub weight: u32,
-    /// The polls that a run makes before it is squeezed, 1 to 65535.
+    /// Polls that a run makes before it is squeezed, 1 to 65535 (in place of `netdev_budget_usecs`).
     pub window: u32,
 }
 
-/// The result of a replay besides its status.
+/// What a replay returns besides its status.
 #[repr(C)]
 #[derive(Clone, Copy, Debug, Default, PartialEq, Eq)]
 pub struct fq_replayed {
-    /// The length of the report, or of the raised trace, in bytes, even if there is no room for it; 0 if there is none.
+    /// The length of the report or trace in bytes, even if there is no room for it; 0 if there is none.
     pub length: usize,
-    /// The number of the trace's error; 0 if it has none.
+    /// The trace's fault: a number of enum `fq_fault`; 0 if it has none.
     pub fault: u32,
-    /// The row that the error names; 0 if it names none.
+    /// The row that the fault names, counted from 1; 0 if it names none.
     pub row: u32,
 }
 
-/// The settings of the machine. Times are in nanoseconds; a flag is 0 or 1.
+/// The settings of the machine. The members after `size` are the options of `napi_machine`, with their ranges and
+/// defaults.
 #[repr(C)]
 #[derive(Clone, Copy, Debug, PartialEq, Eq)]
 pub struct fq_machine_settings {
-    /// The size of this struct.
+    /// The size of this struct, which `fq_machine_default` sets.
     pub size: usize,
-    // scripts/options.py: begin
-    /// Processors that receive; queue q belongs to processor (q - 1) mod N, and each serves at most 64 queues, 1 to 64 (1).
+    /// Processors that receive; queue q belongs to processor (q - 1) mod N, and each serves at most 64 queues, 1 to
+    /// 64 (1).
     pub processors: u32,
     /// Queues of each device, chosen by the packet's flow (RSS: ethtool -L, -X), 1 to 64 (1).
     pub queues: u32,
-    /// Packets that the ring of a queue holds (ethtool -G); of a backlog net.core.netdev_max_backlog plus 1, 1 to 65536 (256).
+    /// Packets that the ring of a queue holds (ethtool -G); of a backlog net.core.`netdev_max_backlog` plus 1, 1 to
+    /// 65536 (256).
     pub ring: u32,
-    /// Packets that the socket of a processor's application holds (SO_RCVBUF), 1 to 65536 (512).
+    /// Packets that the socket of a processor's application holds (`SO_RCVBUF`), 1 to 65536 (512).
     pub socket: u32,
-    /// 1: polls take packets as a processor's backlog does (RPS: rps_cpus, process_backlog), 0 to 1 (0).
+    /// 1: polls take packets as a processor's backlog does (RPS: `rps_cpus`, `process_backlog`), 0 to 1 (0).
     pub backlog: u32,
-    /// Packets after which a run ends and is squeezed (net.core.netdev_budget); 0: no polls, an interrupt for each packet, 0 to 65535 (300).
+    /// Packets after which a run ends and is squeezed (net.core.`netdev_budget`); 0: no polls, an interrupt for each
+    /// packet, 0 to 65535 (300).
     pub budget: u32,
-    /// Packets that one poll takes at most (NAPI_POLL_WEIGHT for most cards; of a backlog net.core.dev_weight times dev_weight_rx_bias), 1 to 64 (64).
+    /// Packets that one poll takes at most (`NAPI_POLL_WEIGHT` for most cards; of a backlog net.core.`dev_weight`
+    /// times `dev_weight_rx_bias`), 1 to 64 (64).
     pub weight: u32,
     /// Polls after which a run ends and is squeezed; Linux has no such limit, 1 to 65535 (1024).
     pub window: u32,
-    /// Time after which a run ends and is squeezed (net.core.netdev_budget_usecs, in us there), 1 to 1000000000 ns (8000000).
+    /// Time after which a run ends and is squeezed (net.core.`netdev_budget_usecs`, in us there), 1 to 1000000000 ns
+    /// (8000000).
     pub time_limit: u32,
     /// Time by which a card delays its interrupt (ethtool -C rx-usecs, in us there), 0 to 1000000000 ns (0).
     pub rx_nsecs: u32,
     /// Packets at which the interrupt comes before that time (ethtool -C rx-frames); 0: never, 0 to 65535 (0).
     pub rx_frames: u32,
-    /// Polls without packets, one after each timeout, of which the last unmasks the queue (napi_defer_hard_irqs), 0 to 65535 (0).
+    /// Polls without packets, one after each timeout, of which the last unmasks the queue (`napi_defer_hard_irqs`), 0
+    /// to 65535 (0).
     pub defer_hard_irqs: u32,
-    /// Time until a queue that stays masked is polled again (gro_flush_timeout); 0: none does, 0 to 1000000000 ns (0).
+    /// Time until a queue that stays masked is polled again (`gro_flush_timeout`); 0: none does, 0 to 1000000000 ns
+    /// (0).
     pub gro_flush_timeout: u32,
     /// 1: each queue is polled by a thread of its own (/sys/class/net/DEV/threaded), 0 to 1 (0).
     pub threaded: u32,
@@ -452,242 +472,88 @@ pub struct fq_machine_settings {
     pub use_time: u32,
     /// Time to wake an idle processor, which counts as interrupt time, 0 to 1000000000 ns (0).
     pub wake: u32,
-    // scripts/options.py: end
+    /// 1: the driver unmasks the queue whatever `napi_complete_done` returns (vmxnet3, tg3, be2net, mana), 0 to 1
+    /// (0).
+    pub heedless: u32,
 }
 
-/// The result of a run of the machine besides its status.
+/// What a run of the machine returns besides its status.
 #[repr(C)]
 #[derive(Clone, Copy, Debug, PartialEq, Eq)]
 pub struct fq_machine_ran {
-    /// The size of this struct.
+    /// The size of this struct, which the caller sets.
     pub size: usize,
     /// The length of the report in bytes, even if there is no room for it; 0 if there is none.
     pub length: usize,
-    /// The row that the fault of the arrivals names; 0 if it names none.
+    /// The row that the fault of the arrivals names, counted from 1; 0 if it names none.
     pub row: u64,
-    /// The number of that fault; 0 if they have none.
+    /// The number of that fault, 1 to 8; 0 if they have none.
     pub fault: u32,
-    /// The first setting that is out of its range, counted from 1; 0 if none is.
+    /// The first setting that is out of its range: 1 for processors, 2 for queues and so on; 0 if none is.
     pub setting: u32,
-    /// The message of that fault, with a terminating 0.
+    /// The message of the fault of the arrivals, as `napi_machine` prints it, with a terminating 0; otherwise empty.
     pub message: [c_char; 64],
 }
 
-#[allow(missing_docs)] // include/fintaqush.h documents them
-extern "C" {
-    pub fn fq_version(to: *mut c_char, room: usize) -> usize;
-    pub fn fq_status_text(status: u32, to: *mut c_char, room: usize) -> usize;
-    pub fn fq_status_message(status: u32, to: *mut c_char, room: usize) -> usize;
-    pub fn fq_fault_text(fault: u32, to: *mut c_char, room: usize) -> usize;
-    pub fn fq_struct_size(which: u32) -> usize;
-
-    pub fn fq_dql_new(min: u32, max: u32, hold_ms: u64, now_ms: u64) -> fq_dql_made;
-    pub fn fq_dql_renew(
-        dql: *mut fq_dql,
-        min: u32,
-        max: u32,
-        hold_ms: u64,
-        now_ms: u64,
-    ) -> u32;
-    pub fn fq_dql_queued(dql: *mut fq_dql, count: u32) -> u32;
-    pub fn fq_dql_completed(dql: *mut fq_dql, count: u32, now_ms: u64) -> u32;
-    pub fn fq_dql_reset(dql: *mut fq_dql, now_ms: u64);
-    pub fn fq_dql_limit(dql: *const fq_dql) -> u32;
-    pub fn fq_dql_avail(dql: *const fq_dql) -> i64;
-    pub fn fq_dql_in_flight(dql: *const fq_dql) -> u32;
-
-    pub fn fq_napi_new(controller: u32) -> fq_napi;
-    pub fn fq_napi_init(napi: *mut fq_napi, controller: u32);
-    pub fn fq_napi_schedule(napi: *mut fq_napi, who: u32) -> u32;
-    pub fn fq_napi_hand(napi: *mut fq_napi, who: u32, kind: u32) -> u32;
-    pub fn fq_napi_take(napi: *mut fq_napi, who: u32, kind: u32) -> u32;
-    pub fn fq_napi_complete(napi: *mut fq_napi, who: u32) -> u32;
-    pub fn fq_napi_end(napi: *mut fq_napi, who: u32, full: bool, next: *mut u32) -> u32;
-    pub fn fq_napi_busy_take(napi: *mut fq_napi, who: u32) -> u32;
-    pub fn fq_napi_busy_stop(napi: *mut fq_napi, who: u32) -> u32;
-    pub fn fq_napi_set_threaded(napi: *mut fq_napi, who: u32, threaded: bool);
-    pub fn fq_napi_mark_disable(napi: *mut fq_napi, who: u32) -> u32;
-    pub fn fq_napi_take_disable(napi: *mut fq_napi, who: u32) -> u32;
-    pub fn fq_napi_unmark(napi: *mut fq_napi, who: u32) -> u32;
-    pub fn fq_napi_enable(napi: *mut fq_napi, who: u32, threaded: bool) -> u32;
-    pub fn fq_napi_word(napi: *const fq_napi) -> u64;
-
-    pub fn fq_free(handle: *mut fq_handle) -> u32;
-    pub fn fq_abandon(handle: *mut fq_handle) -> u32;
-    pub fn fq_move(from: *mut fq_handle, to: *mut fq_handle) -> u32;
-
-    pub fn fq_ring_new(ring: *mut fq_handle, capacity: usize) -> u32;
-    pub fn fq_ring_put(ring: *mut fq_handle, number: u64, bytes: u32) -> u32;
-    pub fn fq_ring_put_all(
-        ring: *mut fq_handle,
-        packets: *const fq_packet,
-        len: usize,
-        count: *mut usize,
-    ) -> u32;
-    pub fn fq_ring_poll(
-        ring: *mut fq_handle,
-        weight: usize,
-        out: *mut fq_packet,
-        len: usize,
-        count: *mut usize,
-    ) -> u32;
-
-    pub fn fq_count(handle: *mut fq_handle, counts: *mut fq_counts) -> u32;
-    pub fn fq_ring_show(ring: *mut fq_handle, shown: *mut fq_ring_shown) -> u32;
-    pub fn fq_ring_split(ring: *mut fq_handle, out: *mut fq_handle) -> u32;
-    pub fn fq_ring_finish(ring: *mut fq_handle, totals: *mut fq_totals) -> u32;
-
-    pub fn fq_tx_new(
-        tx: *mut fq_handle,
-        capacity: usize,
-        min: u32,
-        max: u32,
-        hold_ms: u64,
-        now_ms: u64,
-    ) -> u32;
-    pub fn fq_tx_send(tx: *mut fq_handle, bytes: u32) -> u32;
-    pub fn fq_tx_done(tx: *mut fq_handle, count: u32, now_ms: u64) -> u32;
-    pub fn fq_tx_state(tx: *mut fq_handle, state: *mut fq_tx_shown) -> u32;
-    pub fn fq_tx_watch(
-        tx: *mut fq_handle,
-        watchdog: *mut fq_tx_watchdog,
-        limit_ms: u64,
-        now_ms: u64,
-        stuck: *mut bool,
-    ) -> u32;
-
-    pub fn fq_shared_new(
-        ring: *mut fq_handle,
-        control: *mut fq_handle,
-        seats: *mut fq_handle,
-        count: usize,
-    ) -> u32;
-    pub fn fq_shared_bare(control: *mut fq_handle, seats: *mut fq_handle, count: usize) -> u32;
-    pub fn fq_seat_count(seat: *mut fq_handle, answers: *mut fq_answers) -> u32;
-    pub fn fq_seat_look(seat: *mut fq_handle, word: *mut u64) -> u32;
-    pub fn fq_seat_schedule(seat: *mut fq_handle) -> u32;
-    pub fn fq_seat_schedule_prep(seat: *mut fq_handle) -> u32;
-    pub fn fq_seat_take(seat: *mut fq_handle, kind: u32) -> u32;
-    pub fn fq_seat_busy_take(seat: *mut fq_handle) -> u32;
-    pub fn fq_seat_set_threaded(seat: *mut fq_handle, threaded: bool) -> u32;
-    pub fn fq_seat_hand(seat: *mut fq_handle, kind: u32) -> u32;
-    pub fn fq_seat_hand_again(seat: *mut fq_handle, next: *mut u32) -> u32;
-    pub fn fq_seat_poll(
-        seat: *mut fq_handle,
-        weight: usize,
-        out: *mut fq_packet,
-        len: usize,
-        count: *mut usize,
-    ) -> u32;
-    pub fn fq_seat_requeue(seat: *mut fq_handle) -> u32;
-    pub fn fq_seat_complete(seat: *mut fq_handle) -> u32;
-    pub fn fq_seat_complete_done(seat: *mut fq_handle) -> u32;
-    pub fn fq_seat_end(seat: *mut fq_handle, full: bool, next: *mut u32) -> u32;
-    pub fn fq_seat_busy_stop(seat: *mut fq_handle) -> u32;
-    pub fn fq_control_enable(control: *mut fq_handle, threaded: bool) -> u32;
-    pub fn fq_control_mark(control: *mut fq_handle) -> u32;
-    pub fn fq_control_try_take(control: *mut fq_handle) -> u32;
-    pub fn fq_control_step(control: *mut fq_handle, on: bool, threaded: bool) -> u32;
-
-    pub fn fq_list_new(list: *mut fq_handle) -> u32;
-    pub fn fq_list_push(list: *mut fq_handle, id: u32) -> u32;
-    pub fn fq_list_remove(list: *mut fq_handle, id: u32) -> u32;
-    pub fn fq_list_len(list: *mut fq_handle, len: *mut u32) -> u32;
-    pub fn fq_run_begin(list: *mut fq_handle, budget: u32, weight: u32, window: u32) -> u32;
-    pub fn fq_run_next(list: *mut fq_handle, id: *mut u32) -> u32;
-    pub fn fq_run_polled(list: *mut fq_handle, work: u32, next: u32) -> u32;
-    pub fn fq_run_end(list: *mut fq_handle, report: *mut fq_run_report) -> u32;
-
-    pub fn fq_driver_new(
-        driver: *mut fq_handle,
-        devices: u32,
-        budget: u32,
-        weight: u32,
-        window: u32,
-    ) -> u32;
-    pub fn fq_driver_open(driver: *mut fq_handle, device: u32) -> u32;
-    pub fn fq_driver_stop(driver: *mut fq_handle, device: u32) -> u32;
-    pub fn fq_driver_interrupt(driver: *mut fq_handle, device: u32) -> u32;
-    pub fn fq_driver_next(driver: *mut fq_handle, todo: *mut fq_todo) -> u32;
-    pub fn fq_driver_done(driver: *mut fq_handle, todo: *const fq_todo) -> u32;
-    pub fn fq_driver_step(driver: *mut fq_handle, todo: *mut fq_todo) -> u32;
-    pub fn fq_driver_show(
-        driver: *mut fq_handle,
-        device: u32,
-        shown: *mut fq_device_shown,
-    ) -> u32;
-
-    pub fn fq_replay(
-        settings: *const fq_settings,
-        trace: *const u8,
-        len: usize,
-        report: *mut u8,
-        room: usize,
-        replayed: *mut fq_replayed,
-    ) -> u32;
-    pub fn fq_raise(
-        settings: *const fq_settings,
-        restarts: u32,
-        trace: *const u8,
-        len: usize,
-        out: *mut u8,
-        room: usize,
-        replayed: *mut fq_replayed,
-    ) -> u32;
-
-    pub fn fq_machine_default(settings: *mut fq_machine_settings, size: usize) -> u32;
-    pub fn fq_machine(
-        settings: *const fq_machine_settings,
-        arrivals: *const u8,
-        len: usize,
-        report: *mut u8,
-        room: usize,
-        ran: *mut fq_machine_ran,
-    ) -> u32;
-}
-
-// The inline functions of the header.
-
-/// Returns the name of a trace's error, for example "BadHeader"; "?" for an unknown number.
-pub fn fq_fault_name(fault: u32) -> &'static str {
-    match fault {
-        1 => "BadHeader",
-        2 => "BadFields",
-        3 => "BadNumber",
-        4 => "BadEvent",
-        5 => "OutOfRange",
-        6 => "UnknownDevice",
-        7 => "OpenTwice",
-        8 => "WrongState",
-        9 => "TooManyRows",
-        10 => "ReadFailed",
-        11 => "OutOfMemory",
-        12 => "Pending",
+/// Returns the name of a status, for example "`FQ_GRANTED`"; "?" for an unknown number.
+pub fn fq_status_name(status: u32) -> &'static str {
+    match status {
+        FQ_OK => "FQ_OK",
+        FQ_BAD_BOUNDS => "FQ_BAD_BOUNDS",
+        FQ_TOO_LARGE => "FQ_TOO_LARGE",
+        FQ_TOO_MUCH_IN_FLIGHT => "FQ_TOO_MUCH_IN_FLIGHT",
+        FQ_MORE_THAN_QUEUED => "FQ_MORE_THAN_QUEUED",
+        FQ_GRANTED => "FQ_GRANTED",
+        FQ_MISSED => "FQ_MISSED",
+        FQ_DISABLED => "FQ_DISABLED",
+        FQ_TAKEN => "FQ_TAKEN",
+        FQ_NOT_THERE => "FQ_NOT_THERE",
+        FQ_RELEASED => "FQ_RELEASED",
+        FQ_AGAIN => "FQ_AGAIN",
+        FQ_HELD => "FQ_HELD",
+        FQ_BUSY => "FQ_BUSY",
+        FQ_CHANGED => "FQ_CHANGED",
+        FQ_FULL => "FQ_FULL",
+        FQ_DONE => "FQ_DONE",
+        FQ_STOPPED => "FQ_STOPPED",
+        FQ_MORE_THAN_SENT => "FQ_MORE_THAN_SENT",
+        FQ_NOT_DUE => "FQ_NOT_DUE",
+        FQ_NOT_ALLOWED => "FQ_NOT_ALLOWED",
+        FQ_BAD_KIND => "FQ_BAD_KIND",
+        FQ_BAD_HANDLE => "FQ_BAD_HANDLE",
+        FQ_IN_USE => "FQ_IN_USE",
+        FQ_OUT_OF_MEMORY => "FQ_OUT_OF_MEMORY",
+        FQ_BAD_CAPACITY => "FQ_BAD_CAPACITY",
+        FQ_BAD_WEIGHT => "FQ_BAD_WEIGHT",
+        FQ_NO_ROOM => "FQ_NO_ROOM",
+        FQ_BAD_BUDGET => "FQ_BAD_BUDGET",
+        FQ_BAD_COUNT => "FQ_BAD_COUNT",
+        FQ_BAD_NEXT => "FQ_BAD_NEXT",
+        FQ_BAD_WORK => "FQ_BAD_WORK",
+        FQ_BAD_TRACE => "FQ_BAD_TRACE",
+        FQ_BAD_DEVICE => "FQ_BAD_DEVICE",
+        FQ_BAD_SIZE => "FQ_BAD_SIZE",
+        FQ_BAD_SETTING => "FQ_BAD_SETTING",
+        FQ_BAD_ARRIVALS => "FQ_BAD_ARRIVALS",
         _ => "?",
     }
 }
 
-/// Sets a bit, 0 to 63, and returns whether the word was 0.
-///
-/// # Safety `word` points to a word.
-pub unsafe fn fq_word_raise(word: *mut fq_word, bit: u32) -> bool {
-    // SAFETY: as the caller says.
-    let bits = unsafe { &(*word).private_bits };
-    bits.fetch_or(1 << (bit & 63), Ordering::SeqCst) == 0
-}
-
-/// Returns whether any bit is set.
-///
-/// # Safety As for [`fq_word_raise`].
-pub unsafe fn fq_word_any(word: *const fq_word) -> bool {
-    // SAFETY: as the caller says.
-    unsafe { (*word).private_bits.load(Ordering::SeqCst) != 0 }
-}
-
-/// Returns all bits, and sets the word to 0.
-///
-/// # Safety As for [`fq_word_raise`].
-pub unsafe fn fq_word_take(word: *mut fq_word) -> u64 {
-    // SAFETY: as the caller says.
-    unsafe { (*word).private_bits.swap(0, Ordering::SeqCst) }
+/// Returns the name of a fault, for example "BadHeader"; "?" for an unknown number.
+pub fn fq_fault_name(fault: u32) -> &'static str {
+    match fault {
+        FQ_FAULT_BAD_HEADER => "BadHeader",
+        FQ_FAULT_BAD_FIELDS => "BadFields",
+        FQ_FAULT_BAD_NUMBER => "BadNumber",
+        FQ_FAULT_BAD_EVENT => "BadEvent",
+        FQ_FAULT_OUT_OF_RANGE => "OutOfRange",
+        FQ_FAULT_UNKNOWN_DEVICE => "UnknownDevice",
+        FQ_FAULT_OPEN_TWICE => "OpenTwice",
+        FQ_FAULT_WRONG_STATE => "WrongState",
+        FQ_FAULT_TOO_MANY_ROWS => "TooManyRows",
+        FQ_FAULT_READ_FAILED => "ReadFailed",
+        FQ_FAULT_OUT_OF_MEMORY => "OutOfMemory",
+        FQ_FAULT_PENDING => "Pending",
+        _ => "?",
+    }
 }

@@ -1,4 +1,5 @@
 //! Transmit rings under a byte queue limit.
+use crate::calls;
 use crate::fault::{unexpected, Fault};
 use crate::handle::Handle;
 use crate::sys;
@@ -45,8 +46,7 @@ impl TxRing {
         now_ms: u64,
     ) -> Result<TxRing, Fault> {
         let mut at = Handle::NONE;
-        // SAFETY: only this call has the handle.
-        let said = unsafe { sys::fq_tx_new(at.raw(), capacity, min, max, hold_ms, now_ms) };
+        let said = calls::tx_new(at.raw(), capacity, min, max, hold_ms, now_ms);
         Fault::unless_made(said)?;
         Ok(TxRing { at })
     }
@@ -55,23 +55,20 @@ impl TxRing {
     /// [`STOPPED`](Fault::STOPPED), [`FULL`](Fault::FULL), [`TOO_LARGE`](Fault::TOO_LARGE) or
     /// [`TOO_MUCH_IN_FLIGHT`](Fault::TOO_MUCH_IN_FLIGHT); nothing is sent then.
     pub fn send(&mut self, bytes: u32) -> Result<(), Fault> {
-        // SAFETY: only this ring has the handle.
-        Fault::unless_made(unsafe { sys::fq_tx_send(self.at.raw(), bytes) })
+        Fault::unless_made(calls::tx_send(self.at.raw(), bytes))
     }
 
     /// Completes the `count` oldest packets: the limit adapts, and the queue is started if the limit has room again. Fails with
     /// [`MORE_THAN_SENT`](Fault::MORE_THAN_SENT), and then completes nothing.
     pub fn done(&mut self, count: u32, now_ms: u64) -> Result<(), Fault> {
-        // SAFETY: only this ring has the handle.
-        Fault::unless_made(unsafe { sys::fq_tx_done(self.at.raw(), count, now_ms) })
+        Fault::unless_made(calls::tx_done(self.at.raw(), count, now_ms))
     }
 
     /// Returns whether it has been stopped, with no byte completed, for `limit_ms` since the first call that found it stopped
     /// (`dev_watchdog`): call it in each tick of a timer.
     pub fn watch(&mut self, watchdog: &mut TxWatchdog, limit_ms: u64, now_ms: u64) -> bool {
         let (at, mut stuck) = (self.at.raw(), false);
-        // SAFETY: only this ring has the handle; watchdog and result are elsewhere.
-        match unsafe { sys::fq_tx_watch(at, watchdog, limit_ms, now_ms, &mut stuck) } {
+        match calls::tx_watch(at, watchdog, limit_ms, now_ms, &mut stuck) {
             sys::FQ_OK => stuck,
             said => unexpected("tx_watch", said),
         }
@@ -80,8 +77,7 @@ impl TxRing {
     /// Returns the state of the ring.
     pub fn state(&mut self) -> TxState {
         let mut state = TxState::default();
-        // SAFETY: only this ring has the handle, and the state is elsewhere.
-        match unsafe { sys::fq_tx_state(self.at.raw(), &mut state) } {
+        match calls::tx_state(self.at.raw(), &mut state) {
             sys::FQ_OK => state,
             said => unexpected("tx_state", said),
         }

@@ -1,16 +1,11 @@
 //! Pending bits.
-use crate::sys;
+use std::sync::atomic::{AtomicU64, Ordering};
 
 /// A word of pending bits, which threads share: other threads raise bits, and the poller takes them.
 #[derive(Debug, Default)]
-pub struct Word(sys::fq_word);
+pub struct Word(AtomicU64);
 
 impl Word {
-    fn raw(&self) -> *mut sys::fq_word {
-        let word: *const sys::fq_word = &self.0;
-        word as *mut sys::fq_word
-    }
-
     /// Returns a word without bits.
     pub fn new() -> Word {
         Word::default()
@@ -18,19 +13,16 @@ impl Word {
 
     /// Raises a bit, 0 to 63, and returns whether the word was 0: then wake the poller.
     pub fn raise(&self, bit: u32) -> bool {
-        // SAFETY: the word exists, and is atomic.
-        unsafe { sys::fq_word_raise(self.raw(), bit) }
+        self.0.fetch_or(1 << (bit & 63), Ordering::SeqCst) == 0
     }
 
     /// Takes all bits: returns the word, and sets it to 0.
     pub fn take(&self) -> u64 {
-        // SAFETY: as for `raise`.
-        unsafe { sys::fq_word_take(self.raw()) }
+        self.0.swap(0, Ordering::SeqCst)
     }
 
     /// Returns whether a bit is raised; the poller checks this before it sleeps.
     pub fn any(&self) -> bool {
-        // SAFETY: as for `raise`.
-        unsafe { sys::fq_word_any(self.raw()) }
+        self.0.load(Ordering::SeqCst) != 0
     }
 }

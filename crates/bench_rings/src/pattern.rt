@@ -23,7 +23,8 @@ pub struct LimitCounts {
 
 /// Queues an object and completes bytes, this many times. In a phase that starves the queue, objects grow, and everything in
 /// flight completes. In a phase with slack, objects are small, and a quarter of what is in flight completes. One pair in nine
-/// raises the limit, and one in 64 lowers it.
+/// raises the limit, and one in 64 lowers it. Within `main` the loop takes six instructions more for a pair.
+#[inline(never)]
 pub fn run_pairs(pairs: u64) -> Result<LimitCounts, DqlFault> {
     let mut dql = Dql::new(0, MAX_LIMIT, HOLD, 0)?;
     let mut limits = 0u64;

@@ -5,9 +5,9 @@ use Rattle.napi_model.specs.{declared.state.Seen.Seen, Word.word_of}
 use Rattle.{rx_ring.specs.declared.packet.Packet.Packet, c_handles.specs.declared.seat.{CallerObject.CallerObject, Controller.Controller}}
 use Rattle.driver_core.specs.declared.driver.Driver.{Driver}
 use Rattle.c_handles.specs.declared.{lister.ListObject.ListObject, body.Object.Object, handle.FqHandle.FqHandle}
-use Rattle.c_handles.specs.declared.{hold.{CallerState.CallerState, SeatCall.SeatCall}}
-use Rattle.c_handles.specs.{declared.power.ControlCall.ControlCall, Answers.count_answer, Status.{OK, NOT_ALLOWED, BAD_HANDLE}}
-use Rattle.c_handles.specs.SeatCalls.{SeatAnswers, SeatLooks, SeatPolls, ControlAnswers}
+use Rattle.napi_calls.specs.declared.state.{CallerState.CallerState, ControlState.ControlState}
+use Rattle.c_handles.specs.{Answers.count_answer, Status.{OK, NOT_ALLOWED, BAD_HANDLE}}
+use Rattle.c_handles.specs.SeatCalls.{SeatLooks, SeatPolls}
 use Rattle.c_handles.specs.declared.body.Object.TheVariants as body
 
 -- for an object of the wrong kind: BAD_HANDLE, and it is unchanged
@@ -32,9 +32,9 @@ abbrev pub OnSeat : (CallerObject → ℕ → Object → Type 0) → Object → 
 OnSeat P (body.Seat s) n after = P s n after
 OnSeat P other n after = OtherKind other n after
 
--- one attempt at a call of a caller, whose result is counted
-abbrev pub SeatStep : SeatCall → CallerObject → ℕ → CallerObject → Type 0
-SeatStep call s n t = SeatAnswers call s.hold n t.hold × (t.answers ≡ count_answer n s.answers)
+-- a call of a caller had this effect on its state, and its status is counted
+abbrev pub SeatStep : (CallerState → ℕ → CallerState → Type 0) → CallerObject → ℕ → CallerObject → Type 0
+SeatStep P s n t = P s.state n t.state × (t.answers ≡ count_answer n s.answers)
 
 abbrev pub SeatDoesIn : (CallerObject → ℕ → CallerObject → Type 0) → Object → ℕ → Object → Type 0
 SeatDoesIn P = OnSeat (λ s n after. IsCallerWith (λ t. P s n t) after)
@@ -43,11 +43,11 @@ SeatDoesIn P = OnSeat (λ s n after. IsCallerWith (λ t. P s n t) after)
 abbrev pub SeatDoes : (CallerObject → ℕ → CallerObject → Type 0) → FqHandle → ℕ → FqHandle → Type 0
 SeatDoes P old n new = OnHandle (SeatDoesIn P) old.held.body n new.held.body
 
-abbrev pub SeatMakesIn : SeatCall → Object → ℕ → Object → Type 0
-SeatMakesIn call = SeatDoesIn (SeatStep call)
+abbrev pub SeatMakesIn : (CallerState → ℕ → CallerState → Type 0) → Object → ℕ → Object → Type 0
+SeatMakesIn P = SeatDoesIn (SeatStep P)
 
 abbrev pub SeatGivesIn : ℕ → List Packet → Object → ℕ → Object → Type 0
-SeatGivesIn weight given = SeatDoesIn (λ s n t. SeatPolls weight given s.hold n t.hold × (t.answers ≡ s.answers))
+SeatGivesIn weight given = SeatDoesIn (λ s n t. SeatPolls weight given s.state n t.state × (t.answers ≡ s.answers))
 
 -- A look shows this word. Of the two words, the first is the caller's variable before the call, and the second after it.
 abbrev pub ShowsWord : ℕ → ℕ → CallerState → ℕ → CallerState → Type 0
@@ -55,13 +55,13 @@ ShowsWord before after h n k = ((n ≡ OK) × ((x : Seen) × SeatLooks h (Some x
     ⊎ ((n ≡ NOT_ALLOWED) × SeatLooks h None k × (after ≡ before))
 
 abbrev pub SeatShowsIn : ℕ → ℕ → Object → ℕ → Object → Type 0
-SeatShowsIn before after = SeatDoesIn (λ s n t. ShowsWord before after s.hold n t.hold × (t.answers ≡ s.answers))
+SeatShowsIn before after = SeatDoesIn (λ s n t. ShowsWord before after s.state n t.state × (t.answers ≡ s.answers))
 
 abbrev pub SeatShows : ℕ → ℕ → FqHandle → ℕ → FqHandle → Type 0
 SeatShows before after old n new = OnHandle (SeatShowsIn before after) old.held.body n new.held.body
 
-abbrev pub SeatMakes : SeatCall → FqHandle → ℕ → FqHandle → Type 0
-SeatMakes call = SeatDoes (SeatStep call)
+abbrev pub SeatMakes : (CallerState → ℕ → CallerState → Type 0) → FqHandle → ℕ → FqHandle → Type 0
+SeatMakes P = SeatDoes (SeatStep P)
 
 abbrev pub SeatGives : ℕ → List Packet → FqHandle → ℕ → FqHandle → Type 0
 SeatGives weight given old n new = OnHandle (SeatGivesIn weight given) old.held.body n new.held.body
@@ -89,15 +89,15 @@ ControlDoesIn P = OnController (λ c n after. IsControllerWith (λ d. P c n d) a
 abbrev pub ControlDoes : (Controller → ℕ → Controller → Type 0) → FqHandle → ℕ → FqHandle → Type 0
 ControlDoes P old n new = OnHandle (ControlDoesIn P) old.held.body n new.held.body
 
--- one attempt at a call of a controller
-abbrev pub ControlStep : ControlCall → Controller → ℕ → Controller → Type 0
-ControlStep call c n d = ControlAnswers call c.power n d.power
+-- a call of a controller had this effect on its state
+abbrev pub ControlStep : (ControlState → ℕ → ControlState → Type 0) → Controller → ℕ → Controller → Type 0
+ControlStep P c n d = P c.state n d.state
 
-abbrev pub ControlMakesIn : ControlCall → Object → ℕ → Object → Type 0
-ControlMakesIn call = ControlDoesIn (ControlStep call)
+abbrev pub ControlMakesIn : (ControlState → ℕ → ControlState → Type 0) → Object → ℕ → Object → Type 0
+ControlMakesIn P = ControlDoesIn (ControlStep P)
 
-abbrev pub ControlMakes : ControlCall → FqHandle → ℕ → FqHandle → Type 0
-ControlMakes call = ControlDoes (ControlStep call)
+abbrev pub ControlMakes : (ControlState → ℕ → ControlState → Type 0) → FqHandle → ℕ → FqHandle → Type 0
+ControlMakes P = ControlDoes (ControlStep P)
 
 -- ---- lists
 

@@ -1,51 +1,50 @@
 -- The callers ("seats" in C) and the controller of a shared instance, as objects of C's handles.
 use Rattle.{std.proofs.Props.props, napi_calls.specs.{declared.types.Napi.Napi, Instance.IsSeatOf}}
-use Rattle.{c_handles.specs.declared.hold.CallerState.CallerState}
-use Rattle.c_handles.specs.declared.power.ControlState.{ControlState}
-use Rattle.c_handles.specs.declared.hold.CallerState.TheVariants as hold
-use Rattle.c_handles.specs.declared.power.ControlState.TheVariants as power
+use Rattle.napi_calls.specs.declared.state.{CallerState.CallerState, ControlState.ControlState}
+use Rattle.napi_calls.specs.declared.state.CallerState.TheVariants as caller
+use Rattle.napi_calls.specs.declared.state.ControlState.TheVariants as controller
 
 -- the caller belongs to the instance, or is taken out for a call
 abbrev pub SitsAt : Napi → CallerState → Type 0
-SitsAt n (hold.Rests c) = IsSeatOf n c.pass
-SitsAt n (hold.Granted g) = IsSeatOf n g.pass
-SitsAt n (hold.Polls w) = IsSeatOf n w.pass
-SitsAt n (hold.Busy b) = IsSeatOf n b.pass
-SitsAt n hold.Gone = Unit {0}
+SitsAt n (caller.Rests c) = IsSeatOf n c.pass
+SitsAt n (caller.Granted g) = IsSeatOf n g.pass
+SitsAt n (caller.Polls w) = IsSeatOf n w.pass
+SitsAt n (caller.Busy b) = IsSeatOf n b.pass
+SitsAt n caller.Gone = Unit {0}
 
 pub sits_prop : (n : Napi) (h : CallerState) → IsProp (SitsAt n h)
-sits_prop n (hold.Rests c) = Prim.hlevel props
-sits_prop n (hold.Granted g) = Prim.hlevel props
-sits_prop n (hold.Polls w) = Prim.hlevel props
-sits_prop n (hold.Busy b) = Prim.hlevel props
-sits_prop n hold.Gone = Prim.hlevel props
+sits_prop n (caller.Rests c) = Prim.hlevel props
+sits_prop n (caller.Granted g) = Prim.hlevel props
+sits_prop n (caller.Polls w) = Prim.hlevel props
+sits_prop n (caller.Busy b) = Prim.hlevel props
+sits_prop n caller.Gone = Prim.hlevel props
 
 -- the caller owns nothing
 abbrev pub IsResting : CallerState → Type 0
-IsResting (hold.Rests c) = Unit
+IsResting (caller.Rests c) = Unit
 IsResting _ = ⊥
 
 abbrev pub IsGrantedCaller : CallerState → Type 0
-IsGrantedCaller (hold.Granted g) = Unit
+IsGrantedCaller (caller.Granted g) = Unit
 IsGrantedCaller _ = ⊥
 
 abbrev pub IsPolling : CallerState → Type 0
-IsPolling (hold.Polls w) = Unit
+IsPolling (caller.Polls w) = Unit
 IsPolling _ = ⊥
 
 abbrev pub IsBusy : CallerState → Type 0
-IsBusy (hold.Busy b) = Unit
+IsBusy (caller.Busy b) = Unit
 IsBusy _ = ⊥
 
 -- the controller belongs to the instance, or is taken out for a call
 abbrev pub ControlsAt : Napi → ControlState → Type 0
-ControlsAt n (power.Off c) = IsSeatOf n c.pass
-ControlsAt n (power.On c) = IsSeatOf n c.pass
-ControlsAt n (power.Marked c) = IsSeatOf n c.pass
-ControlsAt n power.Gone = Unit {0}
+ControlsAt n (controller.Off c) = IsSeatOf n c.pass
+ControlsAt n (controller.On c) = IsSeatOf n c.pass
+ControlsAt n (controller.Marked c) = IsSeatOf n c.pass
+ControlsAt n controller.Gone = Unit {0}
 
 pub controls_prop : (n : Napi) (m : ControlState) → IsProp (ControlsAt n m)
-controls_prop n (power.Off c) = Prim.hlevel props
-controls_prop n (power.On c) = Prim.hlevel props
-controls_prop n (power.Marked c) = Prim.hlevel props
-controls_prop n power.Gone = Prim.hlevel props
+controls_prop n (controller.Off c) = Prim.hlevel props
+controls_prop n (controller.On c) = Prim.hlevel props
+controls_prop n (controller.Marked c) = Prim.hlevel props
+controls_prop n controller.Gone = Prim.hlevel props

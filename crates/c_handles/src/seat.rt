@@ -1,18 +1,22 @@
-//! A caller and the controller of a shared instance, each with the instance, as objects of handles.
+//! A caller and the controller of a shared instance, each with the instance, as objects of handles. Each call is one attempt,
+//! which doesn't wait. Its status is NOT_ALLOWED, and it has no effect, if the object's state doesn't allow it.
 ghost use Rattle.std.specs.Prelude.{◌≡◌, ◌≢◌, ◌≤◌, length, take};
 ghost use Rattle.std.specs.Arc.{arc_value};
 ghost use Rattle.c_handles.specs.Answers.{count_answer};
 ghost use Rattle.c_handles.specs.Status.{OK};
-ghost use Rattle.c_handles.specs.SeatCalls.{SeatAnswers, SeatLooks, ControlAnswers, SeatPolls, hold_counts, power_counts};
+ghost use Rattle.c_handles.specs.SeatCalls.{SeatLooks, SeatPolls, caller_counts, controller_counts};
+ghost use Rattle.c_handles.specs.SeatCalls.{CallerSchedules, CallerHands, CallerTakes, CallerRequeues, CallerCompletes};
+ghost use Rattle.c_handles.specs.SeatCalls.{CallerBusyTakes, CallerBusyStops, CallerSetsThreaded};
+ghost use Rattle.c_handles.specs.SeatCalls.{ControlEnables, ControlMarks, ControlTakes};
 ghost use Rattle.c_handles.specs.Seats.{SitsAt, ControlsAt, sits_prop, controls_prop};
+ghost use Rattle.napi_calls.specs.declared.state.CallerState.TheVariants as caller;
+ghost use Rattle.napi_calls.specs.declared.state.ControlState.TheVariants as controller;
 ghost use Rattle.poll_runs.specs.Ranges.{IsWeight};
 
 use crate::answers::FqAnswers;
-use crate::hold::{CallerState, SeatCall};
-use crate::power::{ControlCall, ControlState};
 use crate::status;
-use napi_calls::Napi;
-use napi_model::Seen;
+use napi_calls::{CallerState, ControlState, Napi, TryBusy, TryDone, TryPrep, TryStop, TryTake};
+use napi_model::{Kind, Seen};
 use rx_ring::{Packet, RxCounts};
 use std::alloc::Global;
 use std::mem;
@@ -42,43 +46,190 @@ impl Shared {
 }
 
 /// A caller, with its instance.
-#[derive(Drop)]
 pub struct CallerObject {
     /// Its instance.
     pub napi: Arc<Shared, Global>,
     /// Its state.
-    pub hold: CallerState,
+    pub state: CallerState,
     /// The counts of the results of its calls.
     pub answers: FqAnswers,
     /// Proof that the caller belongs to that instance.
-    pub ghost seat: { SitsAt (arc_value napi).napi hold } by { sits_prop (arc_value napi).napi hold },
+    pub ghost seat: { SitsAt (arc_value napi).napi state } by { sits_prop (arc_value napi).napi state },
+}
+
+impl Drop for CallerObject {
+    fn drop(self) {
+        let CallerObject {
+            napi: _napi,
+            state,
+            answers: _,
+        } = self;
+        state.abandon();
+    }
 }
 
 impl CallerObject {
-    /// Makes a call, counts its result, and returns its status.
+    ghost use Rattle.c_handles.specs.Handles.{SeatStep};
+
+    // Ends a call: writes the caller's state after it, counts its status, and returns that.
     #[inline(always)]
-    pub fn step(&mut self, call: SeatCall) -> u32
-        ensures made { SeatAnswers call self.old.hold result self.new.hold }
-        ensures counted { self.new.answers ≡ count_answer result self.old.answers }
+    fn end(&mut self, state: CallerState, status: u32) -> u32
+        requires gone { self.old.state ≡ caller.Gone }
+        requires sits { SitsAt (arc_value self.old.napi).napi state }
+        ensures state { self.new.state ≡ state }
+        ensures counted { self.new.answers ≡ count_answer status self.old.answers }
+        ensures status { result ≡ status }
     {
-        let status = self.hold.step(&self.napi.napi, call);
+        self.state.put(state);
         self.answers.count(status);
         status
     }
 
-    /// Reads the state word; returns `None` within a call.
-    pub fn look(&mut self) -> Option<Seen>
-        ensures looks { SeatLooks self.old.hold result self.new.hold }
-        ensures answers { self.new.answers ≡ self.old.answers }
+    /// Like `Caller::try_schedule`: returns GRANTED, MISSED, DISABLED or CHANGED.
+    #[inline]
+    pub fn schedule(&mut self) -> u32
+        ensures { SeatStep CallerSchedules self.old result self.new }
     {
-        self.hold.look(&self.napi.napi)
+        match mem::replace(&mut self.state, CallerState::Gone) {
+            CallerState::Rests(caller) => match caller.try_schedule(&self.napi.napi) {
+                TryPrep::Granted(granted) => {
+                    self.end(CallerState::Granted(granted), status::GRANTED)
+                }
+                TryPrep::Missed(caller) => self.end(CallerState::Rests(caller), status::MISSED),
+                TryPrep::Disabled(caller) => self.end(CallerState::Rests(caller), status::DISABLED),
+                TryPrep::Changed(caller) => self.end(CallerState::Rests(caller), status::CHANGED),
+            },
+            other => self.end(other, status::NOT_ALLOWED),
+        }
     }
 
-    /// The counts of the ring's polls, if it polls.
-    pub fn counts(&self) -> Option<RxCounts>
-        ensures { result ≡ hold_counts self.now.hold }
+    /// Like `Granted::hand`: returns OK.
+    #[inline]
+    pub fn hand(&mut self, kind: Kind) -> u32
+        ensures { SeatStep (CallerHands kind) self.old result self.new }
     {
-        self.hold.counts()
+        match mem::replace(&mut self.state, CallerState::Gone) {
+            CallerState::Granted(granted) => {
+                let caller = granted.hand(&self.napi.napi, kind);
+                self.end(CallerState::Rests(caller), status::OK)
+            }
+            other => self.end(other, status::NOT_ALLOWED),
+        }
+    }
+
+    /// Like `Caller::take`: returns TAKEN or NOT_THERE.
+    #[inline]
+    pub fn take(&mut self, kind: Kind) -> u32
+        ensures { SeatStep (CallerTakes kind) self.old result self.new }
+    {
+        match mem::replace(&mut self.state, CallerState::Gone) {
+            CallerState::Rests(caller) => match caller.take(&self.napi.napi, kind) {
+                Ok(polling) => self.end(CallerState::Polls(polling), status::TAKEN),
+                Err(caller) => self.end(CallerState::Rests(caller), status::NOT_THERE),
+            },
+            other => self.end(other, status::NOT_ALLOWED),
+        }
+    }
+
+    /// Like `Polling::requeue`: returns OK.
+    #[inline]
+    pub fn requeue(&mut self) -> u32
+        ensures { SeatStep CallerRequeues self.old result self.new }
+    {
+        match mem::replace(&mut self.state, CallerState::Gone) {
+            CallerState::Polls(polling) => {
+                let caller = polling.requeue(&self.napi.napi);
+                self.end(CallerState::Rests(caller), status::OK)
+            }
+            other => self.end(other, status::NOT_ALLOWED),
+        }
+    }
+
+    /// Like `Polling::try_complete`: returns RELEASED, AGAIN or CHANGED; HELD if the caller busy polls (`Busy::complete_held`).
+    #[inline]
+    pub fn complete(&mut self) -> u32
+        ensures { SeatStep CallerCompletes self.old result self.new }
+    {
+        match mem::replace(&mut self.state, CallerState::Gone) {
+            CallerState::Polls(polling) => match polling.try_complete(&self.napi.napi) {
+                TryDone::Released(caller) => self.end(CallerState::Rests(caller), status::RELEASED),
+                TryDone::Again(granted) => self.end(CallerState::Granted(granted), status::AGAIN),
+                TryDone::Changed(polling) => self.end(CallerState::Polls(polling), status::CHANGED),
+            },
+            CallerState::Busy(mut busy) => {
+                busy.complete_held(&self.napi.napi);
+                self.end(CallerState::Busy(busy), status::HELD)
+            }
+            other => self.end(other, status::NOT_ALLOWED),
+        }
+    }
+
+    /// Like `Caller::try_busy`: returns TAKEN, BUSY or CHANGED.
+    #[inline]
+    pub fn busy_take(&mut self) -> u32
+        ensures { SeatStep CallerBusyTakes self.old result self.new }
+    {
+        match mem::replace(&mut self.state, CallerState::Gone) {
+            CallerState::Rests(caller) => match caller.try_busy(&self.napi.napi) {
+                TryBusy::Taken(busy) => self.end(CallerState::Busy(busy), status::TAKEN),
+                TryBusy::Refused(caller) => self.end(CallerState::Rests(caller), status::BUSY),
+                TryBusy::Changed(caller) => self.end(CallerState::Rests(caller), status::CHANGED),
+            },
+            other => self.end(other, status::NOT_ALLOWED),
+        }
+    }
+
+    /// Like `Busy::try_stop`: returns OK or CHANGED.
+    #[inline]
+    pub fn busy_stop(&mut self) -> u32
+        ensures { SeatStep CallerBusyStops self.old result self.new }
+    {
+        match mem::replace(&mut self.state, CallerState::Gone) {
+            CallerState::Busy(busy) => match busy.try_stop(&self.napi.napi) {
+                TryStop::Stopped(polling) => self.end(CallerState::Polls(polling), status::OK),
+                TryStop::Changed(busy) => self.end(CallerState::Busy(busy), status::CHANGED),
+            },
+            other => self.end(other, status::NOT_ALLOWED),
+        }
+    }
+
+    /// Like `Caller::set_threaded`: returns OK.
+    pub fn set_threaded(&mut self, threaded: bool) -> u32
+        ensures { SeatStep (CallerSetsThreaded threaded) self.old result self.new }
+    {
+        match &mut self.state {
+            CallerState::Rests(caller) => {
+                caller.set_threaded(&self.napi.napi, threaded);
+                status::OK
+            }
+            _ => status::NOT_ALLOWED,
+        }
+    }
+
+    /// Reads the state word, in every state; returns `None` within a call.
+    pub fn look(&mut self) -> Option<Seen>
+        ensures looks { SeatLooks self.old.state result self.new.state }
+        ensures answers { self.new.answers ≡ self.old.answers }
+    {
+        let napi = &self.napi.napi;
+        match &mut self.state {
+            CallerState::Rests(caller) => Some(caller.look(napi)),
+            CallerState::Granted(granted) => Some(granted.look(napi)),
+            CallerState::Polls(polling) => Some(polling.look(napi)),
+            CallerState::Busy(busy) => Some(busy.look(napi)),
+            CallerState::Gone => None,
+        }
+    }
+
+    /// The counts of the ring's polls, if the caller polls.
+    pub fn counts(&self) -> Option<RxCounts>
+        ensures { result ≡ caller_counts self.now.state }
+    {
+        match &self.state {
+            CallerState::Polls(polling) => Some(polling.counts()),
+            CallerState::Busy(busy) => Some(busy.counts()),
+            _ => None,
+        }
     }
 
     /// Like `Polling::poll_into` and `Busy::poll_into`: sets `count`; the packets are the first `count` elements.
@@ -87,14 +238,14 @@ impl CallerObject {
         requires weight { IsWeight weight }
         requires room { weight ≤ length out.old }
         requires none { count.old ≡ 0 }
-        ensures polls { SeatPolls weight (take count.new out.new) self.old.hold result
-            self.new.hold }
+        ensures polls { SeatPolls weight (take count.new out.new) self.old.state result
+            self.new.state }
         ensures most { (count.new ≤ weight) × (count.new ≤ length out.new) }
         ensures answers { self.new.answers ≡ self.old.answers }
         ensures kept { result ≢ OK → (count.new ≡ 0) × (out.new ≡ out.old)
             × (self.new ≡ self.old) }
     {
-        *count = match &mut self.hold {
+        *count = match &mut self.state {
             CallerState::Polls(polling) => polling.poll_into(weight, out),
             CallerState::Busy(busy) => busy.poll_into(weight, out),
             _ => return status::NOT_ALLOWED,
@@ -104,33 +255,86 @@ impl CallerObject {
 }
 
 /// The controller, with its instance.
-#[derive(Drop)]
 pub struct Controller {
     /// Its instance.
     pub napi: Arc<Shared, Global>,
     /// Its state.
-    pub power: ControlState,
+    pub state: ControlState,
     /// Proof that the controller belongs to that instance.
-    pub ghost seat: { ControlsAt (arc_value napi).napi power } by { controls_prop (arc_value napi).napi power },
+    pub ghost seat: { ControlsAt (arc_value napi).napi state } by { controls_prop (arc_value napi).napi state },
+}
+
+impl Drop for Controller {
+    fn drop(self) {
+        let Controller { napi: _napi, state } = self;
+        state.abandon();
+    }
 }
 
 impl Controller {
-    /// Makes a call, and returns its status.
-    pub fn step(&mut self, call: ControlCall) -> u32
-        ensures { ControlAnswers call self.old.power result self.new.power }
+    ghost use Rattle.c_handles.specs.Handles.{ControlStep};
+
+    // Ends a call: writes the controller's state after it, and returns its status.
+    fn end(&mut self, state: ControlState, status: u32) -> u32
+        requires gone { self.old.state ≡ controller.Gone }
+        requires controls { ControlsAt (arc_value self.old.napi).napi state }
+        ensures state { self.new.state ≡ state }
+        ensures status { result ≡ status }
     {
-        let (power, status) = mem::replace(&mut self.power, ControlState::Gone).step(
-            &self.napi.napi,
-            call,
-        );
-        self.power = power;
+        self.state.put(state);
         status
+    }
+
+    /// Like `Control::try_enable`: returns OK or CHANGED.
+    pub fn enable(&mut self, threaded: bool) -> u32
+        ensures { ControlStep (ControlEnables threaded) self.old result self.new }
+    {
+        match mem::replace(&mut self.state, ControlState::Gone) {
+            ControlState::Off(control) => match control.try_enable(&self.napi.napi, threaded) {
+                Ok(control) => self.end(ControlState::On(control), status::OK),
+                Err(control) => self.end(ControlState::Off(control), status::CHANGED),
+            },
+            other => self.end(other, status::NOT_ALLOWED),
+        }
+    }
+
+    /// Like `Control::mark`: returns OK.
+    pub fn mark(&mut self) -> u32
+        ensures { ControlStep ControlMarks self.old result self.new }
+    {
+        match mem::replace(&mut self.state, ControlState::Gone) {
+            ControlState::On(control) => {
+                let control = control.mark(&self.napi.napi);
+                self.end(ControlState::Marked(control), status::OK)
+            }
+            other => self.end(other, status::NOT_ALLOWED),
+        }
+    }
+
+    /// Like `Control::try_take`: returns TAKEN, BUSY or CHANGED.
+    pub fn try_take(&mut self) -> u32
+        ensures { ControlStep ControlTakes self.old result self.new }
+    {
+        match mem::replace(&mut self.state, ControlState::Gone) {
+            ControlState::Marked(control) => match control.try_take(&self.napi.napi) {
+                TryTake::Taken(control) => self.end(ControlState::Off(control), status::TAKEN),
+                TryTake::Busy(control) => self.end(ControlState::Marked(control), status::BUSY),
+                TryTake::Changed(control) => self.end(
+                    ControlState::Marked(control),
+                    status::CHANGED,
+                ),
+            },
+            other => self.end(other, status::NOT_ALLOWED),
+        }
     }
 
     /// The counts of the ring's polls, if the instance is disabled.
     pub fn counts(&self) -> Option<RxCounts>
-        ensures { result ≡ power_counts self.now.power }
+        ensures { result ≡ controller_counts self.now.state }
     {
-        self.power.counts()
+        match &self.state {
+            ControlState::Off(control) => Some(control.counts()),
+            _ => None,
+        }
     }
 }

@@ -5,8 +5,8 @@ use Rattle.std.proofs.lemmas.{Bool.{eqb-true, eqb-false, ltb-true, ltb-false}, L
 use Rattle.device_bench.specs.{Bench.{all_settled, settled_at}, Device.{is_pending, new_device, settled}}
 use Rattle.device_bench.specs.{DeviceView.DeviceView, Kept.{IsKept, is_pending_at, is_sound, is_sound_at}}
 use Rattle.device_bench.proofs.{DeviceFacts.settled-same, Waiting.{waiting-empty, waiting-most}}
-use Rattle.device_rows.specs.Places.{DeviceTable, at, changed, changed_from, empty}
-use Rattle.device_rows.proofs.PlaceFacts.{at-index, at-set, below-some}
+use Rattle.device_places.specs.Places.{DeviceTable, at, changed, changed_from, empty}
+use Rattle.device_places.proofs.PlaceFacts.{at-index, at-set, below-some}
 
 -- a call that finds a device at a number finds it in the table's entry of that number
 pub here-at : {u : Bool} {xs : DeviceTable DeviceView} {o : Option DeviceView} {d : DeviceView} (n : ℕ) → IsKept u xs → n < 17

@@ -2,7 +2,7 @@
 use Rattle.std.proofs.Common.{◌≡◌, ◌≢◌, ◌∙◌, ◌<◌, ◌≤◌, ◌+◌, ℕ, zero, suc, Bool, true, false, Option, Some, None, [], ◌∷◌, ◌++◌, length}
 use Rattle.std.proofs.{Common.{length-append, length-set, get_or-set_other, slice_set, ap, refl, arith}, lemmas.Bool.eqb-true}
 use Rattle.std.{proofs.lemmas.Bool.eqb-false, specs.Prelude.◌==◌}
-use Rattle.device_rows.specs.Places.{DeviceTable, at}
+use Rattle.device_places.specs.Places.{DeviceTable, at}
 use Rattle.device_bench.specs.Bench.{BenchDevices}
 use Rattle.device_bench.specs.{DeviceView.DeviceView, Ending.IsEndedAt, Receive.ReceiveView}
 

@@ -7,8 +7,10 @@ use Rattle.napi_model.specs.declared.event.{Call.Call, Done.{Done, TheVariants.{
 use Rattle.napi_model.specs.declared.event.Operation.TheVariants.{Look, Take, Hand, Complete, BusyTake}
 use Rattle.napi_model.specs.Step.{CallerPolls, after, complete_reply, event, seen_of}
 use Rattle.poll_runs.specs.Plan.{Answers, Action, Does, Follows, Plan, gave, made, ◌>>=◌, ends, asks, acts, polls}
-use Rattle.poll_runs.specs.Polling.{busy_takes, completed, flags_in, gives, is_taken, makes, next_of}
-use Rattle.device_bench.specs.Device.{acted, carried_out, device_polled, counted_after, with_napi}
+use Rattle.poll_runs.specs.Polling.{BusyPolls, Given, ThreadPolls, busy_poll_plan, busy_takes, completed, flags_in, gives, is_taken}
+use Rattle.poll_runs.specs.Polling.{makes, next_of, poll_once_plan, thread_poll_plan}
+use Rattle.device_bench.specs.Device.{acted, carried_out, counted_after, device_polled, polled_busily, polled_by_thread, polled_once}
+use Rattle.device_bench.specs.Device.{with_napi}
 use Rattle.device_bench.specs.{DeviceView.DeviceView, Instance.{AtOnce, DeviceDid, IsAnswer, IsDevicePolled}}
 use Rattle.device_bench.specs.Receive.{answered, busy_taken, polled_bytes, done_by, given_of}
 use Rattle.device_bench.specs.Receive.{handed_again, is_idle, state_kind, poller_in, taker_of}
@@ -58,6 +60,30 @@ carried (polls weight go) deeds a d e f g =
 pub does-carried : {A : Type 0} (plan : Plan ℕ A) (d : DeviceView) (a : A) (e : DeviceView) → Does AtOnce DeviceDid plan d a e
     → (a ≡ (carried_out plan d).0) × (e ≡ (carried_out plan d).1)
 does-carried plan d a e done = carried plan done.0 a d e done.2 done.1
+
+-- a poll from the list has the outcome that the definition computes
+pub polled-once : (weight : ℕ) (d : DeviceView) (a : Given ℕ) (e : DeviceView)
+    → Does AtOnce DeviceDid (poll_once_plan true weight) d a e
+    → (a.once ≡ (polled_once weight d).0) × (e ≡ (polled_once weight d).1)
+unfolding polled_once
+polled-once weight d a e done =
+    let is = does-carried (poll_once_plan true weight) d a e done in (ap (λ (x : Given ℕ). x.once) is.0, is.1)
+
+-- so has the polling by the device's thread
+pub polled-by-thread : (most weight : ℕ) (d : DeviceView) (a : ThreadPolls ℕ) (e : DeviceView)
+    → Does AtOnce DeviceDid (thread_poll_plan true weight most) d a e
+    → (a.polls ≡ (polled_by_thread most weight d).0) × (e ≡ (polled_by_thread most weight d).1)
+unfolding polled_by_thread
+polled-by-thread most weight d a e done =
+    let is = does-carried (thread_poll_plan true weight most) d a e done in (ap (λ (x : ThreadPolls ℕ). x.polls) is.0, is.1)
+
+-- and busy polling
+pub polled-busily : (rounds weight : ℕ) (d : DeviceView) (a : BusyPolls ℕ) (e : DeviceView)
+    → Does AtOnce DeviceDid (busy_poll_plan sum true weight rounds) d a e
+    → (a.report ≡ (polled_busily rounds weight d).0) × (e ≡ (polled_busily rounds weight d).1)
+unfolding polled_busily
+polled-busily rounds weight d a e done =
+    let is = does-carried (busy_poll_plan sum true weight rounds) d a e done in (ap (λ (x : BusyPolls ℕ). x.report) is.0, is.1)
 
 -- two plans, one after the other, have the result of executing both on the device alone
 pub carried-then : {A B : Type 0} (plan : Plan ℕ A) (next : A → Plan ℕ B) (d : DeviceView)

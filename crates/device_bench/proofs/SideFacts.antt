@@ -2,7 +2,7 @@
 use Rattle.std.proofs.Common.{◌≡◌, ◌∙◌, ℕ, zero, suc, ◌<◌, Option, Some, None, [], ◌∷◌, length, slice_set, ap, refl, sym, arith}
 use Rattle.std.specs.Prelude.{is_some}
 use Rattle.device_bench.specs.{Transmits.Transmits, Transmit.TransmitView, Bench.{BenchDevices, HaveSides, all_settled, attached}}
-use Rattle.device_rows.specs.Places.{DeviceTable, at, changed, changed_from}
+use Rattle.device_places.specs.Places.{DeviceTable, at, changed, changed_from}
 
 module _ {A : Type 0} where
   -- if an entry is replaced by a value, a number has one as before

@@ -4,8 +4,8 @@ use Rattle.std.{proofs.{Common.{ap, refl, arith}, lemmas.List.Sums.{sum_by-cons,
 use Rattle.{napi_model.specs.{Step.is_handed, declared.state.Kind.Kind}, device_bench.specs.Bench.{BenchDevices, all_settled, settled_at}}
 use Rattle.device_bench.specs.{Device.new_device, DeviceView.DeviceView, Kept.{IsKept, is_sound_at}, Waiting.{waiting, waits_on_list}}
 use Rattle.device_bench.proofs.DeviceFacts.{settle-keeps}
-use Rattle.device_rows.specs.Places.{at, empty}
-use Rattle.device_rows.proofs.PlaceFacts.{below-some}
+use Rattle.device_places.specs.Places.{at, empty}
+use Rattle.device_places.proofs.PlaceFacts.{below-some}
 
 pub waiting-empty : waiting empty ≡ 0
 unfolding waiting

@@ -6,7 +6,7 @@ use Rattle.poll_runs.specs.{declared.bench.Next.TheVariants.Absent, declared.ben
 use Rattle.device_bench.specs.{Counts.device_counts, Device.{device_after_packet, polled_busily, polled_by_thread, polled_once, settled}}
 use Rattle.device_bench.specs.{DeviceView.DeviceView, Waiting.{one_when, is_left_to_list, leaves}}
 use Rattle.device_bench.specs.{declared.counts.DeviceCounts.DeviceCounts, declared.transmit.TxCounts.TxCounts}
-use Rattle.{device_bench.specs.Transmits.{KeepsTransmits, Transmits}, device_rows.specs.Places.{DeviceTable, at, changed}}
+use Rattle.{device_bench.specs.Transmits.{KeepsTransmits, Transmits}, device_places.specs.Places.{DeviceTable, at, changed}}
 
 abbrev pub BenchDevices : Type 0
 BenchDevices = DeviceTable DeviceView

@@ -1,5 +1,5 @@
 -- The end of a bench whose receive sides are linear.
-use Rattle.{std.specs.Prelude.{ℕ, Option, Some, None}, device_rows.specs.Places.{DeviceTable, at}}
+use Rattle.{std.specs.Prelude.{ℕ, Option, Some, None}, device_places.specs.Places.{DeviceTable, at}}
 use Rattle.device_bench.specs.{Bench.BenchDevices, DeviceView.DeviceView, Receive.ReceiveView}
 
 -- the device of an entry was ended, and left this; an empty entry left nothing

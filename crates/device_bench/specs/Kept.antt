@@ -1,7 +1,7 @@
 -- The invariant of the devices of a bench.
 use Rattle.std.specs.Prelude.{◌≡◌, ◌≤◌, ℕ, Bool, true, false, not, ◌||◌, Option, Some, None, length}
 use Rattle.napi_model.specs.{declared.state.Place.Place, declared.state.Place.TheVariants.Nobody}
-use Rattle.{device_bench.specs.{Device.is_pending, DeviceView.DeviceView, Waiting.waiting}, device_rows.specs.Places.{DeviceTable, at}}
+use Rattle.{device_bench.specs.{Device.is_pending, DeviceView.DeviceView, Waiting.waiting}, device_places.specs.Places.{DeviceTable, at}}
 
 -- a caller owns the instance, or it is queued; then it must be scheduled
 abbrev pub is_held : Place → Bool

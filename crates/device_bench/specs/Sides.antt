@@ -1,7 +1,7 @@
 -- The transmit sides of a bench's devices, as the program stores them.
 use Rattle.std.specs.Prelude.{◌≡◌, ℕ, Option, Some, None, length}
 use Rattle.device_bench.specs.{Transmits.Transmits, Transmit.{ShowsTransmit, TransmitView}, declared.sides.TransmitSides.TransmitSides}
-use Rattle.{device_bench.specs.declared.transmit.Transmit.Transmit, device_rows.specs.Places.at}
+use Rattle.{device_bench.specs.declared.transmit.Transmit.Transmit, device_places.specs.Places.at}
 
 -- the stored transmit side, if there is one, represents this one
 abbrev pub ShowsAt : Option Transmit → Option TransmitView → Type 0

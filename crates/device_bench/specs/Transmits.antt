@@ -1,5 +1,5 @@
 -- The transmit sides of devices, by number, and the effect of calls on them.
-use Rattle.{std.specs.Prelude.{Bool, false, Option, Some, None}, device_rows.specs.Places.DeviceTable}
+use Rattle.{std.specs.Prelude.{Bool, false, Option, Some, None}, device_places.specs.Places.DeviceTable}
 use Rattle.device_bench.specs.{Transmit.{TransmitView, tx_counts}, declared.transmit.TxCounts.TxCounts}
 use Rattle.device_bench.specs.declared.transmit.TheConstants.TxCounts.{NONE}
 

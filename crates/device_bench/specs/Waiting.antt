@@ -2,7 +2,7 @@
 use Rattle.std.specs.Prelude.{ℕ, Bool, true, false, Option, Some, None, ◌||◌, if◌then◌else◌, sum_by}
 use Rattle.napi_model.specs.{Step.is_handed, declared.state.Kind.Kind}
 use Rattle.{poll_runs.specs.{Polls.{is_arrival, is_repoll}, declared.bench.Next.Next}, device_bench.specs.DeviceView.DeviceView}
-use Rattle.device_rows.specs.Places.{DeviceTable}
+use Rattle.device_places.specs.Places.{DeviceTable}
 use Rattle.napi_model.specs.declared.state.Kind.TheVariants as kind
 
 abbrev pub one_when : Bool → ℕ

@@ -1,19 +1,21 @@
 //! The devices of a replay, by their numbers.
 
 ghost use Rattle.std.specs.Prelude.{◌≡◌, None, Some, IfOk, false, is_some};
-ghost use Rattle.device_rows.specs.Places.{empty};
+ghost use Rattle.device_places.specs.Places.{empty};
 ghost use Rattle.device_bench.specs.Kept.{IsKept};
 
 use crate::counts::DeviceCounts;
-use crate::device::BenchDevice;
+use crate::device::{BenchDevice, PolledBytes};
 use crate::receive_side::{Opener, ReceiveSide, SpentSide};
 use crate::replay_bench::ReplayBench;
 use crate::serial_receive::{SerialOpener, SerialReceive};
 use crate::sides::TransmitSides;
 use crate::transmit::Transmit;
-use device_rows::TABLE_LEN;
+use device_places::TABLE_LEN;
 use napi_model::Kind;
-use poll_runs::{Bench, BusyReport, Next, Once, ThreadReport};
+use poll_runs::{
+    Bench, BusyReport, Next, Once, ThreadReport, poll_busy_of, poll_once_of, poll_thread_of,
+};
 use std::alloc::{AllocError, Global};
 use std::mem;
 
@@ -55,7 +57,7 @@ fn no_devices<T>(alloc: Global) -> Result<Vec<Option<T>>, AllocError>
 
 impl DeviceBench<SerialReceive, SerialOpener> {
     ghost use Rattle.std.specs.Prelude.{IfOk};
-    ghost use Rattle.device_rows.specs.Places.{empty};
+    ghost use Rattle.device_places.specs.Places.{empty};
     ghost use Rattle.device_bench.specs.DeviceBench.{ShowsTransmits, devices_of};
 
     /// Returns a bench without devices. The table is allocated here, so only `attach` allocates later.
@@ -72,8 +74,8 @@ impl<S: ReceiveSide, O: Opener<S>> DeviceBench<S, O> {
     ghost use Rattle.device_bench.specs.Bench.{attached};
     ghost use Rattle.device_bench.specs.Device.{new_device, settled};
     ghost use Rattle.device_bench.specs.Kept.{is_pending_at};
-    ghost use Rattle.device_rows.specs.Places.{added, at, changed, empty};
-    ghost use Rattle.device_rows.specs.Range.{IsWithin};
+    ghost use Rattle.device_places.specs.Places.{added, at, changed, empty};
+    ghost use Rattle.device_places.specs.Range.{IsWithin};
     ghost use Rattle.device_bench.specs.DeviceBench.{ShowsTransmits, devices_of, waiting_of};
 
     /// Returns a bench without devices; this opener creates their receive sides. The table is allocated here, so only `attach`
@@ -135,7 +137,7 @@ impl<S: ReceiveSide, O: Opener<S>> DeviceBench<S, O> {
 
 impl<S: SpentSide, O: Opener<S> + Drop> DeviceBench<S, O> {
     ghost use Rattle.std.specs.Prelude.{IfOk};
-    ghost use Rattle.device_rows.specs.Places.{empty};
+    ghost use Rattle.device_places.specs.Places.{empty};
     ghost use Rattle.device_bench.specs.DeviceBench.{ShowsTransmits, devices_of};
     ghost use Rattle.device_bench.specs.Ending.{AllEnded};
 
@@ -185,7 +187,7 @@ impl<S: ReceiveSide, O: Opener<S>> Bench for DeviceBench<S, O> {
     fn poll_once(&mut self, id: u32, weight: u32) -> Once {
         if id < TABLE_LEN {
             if let Some(device) = &mut self.devices[id as usize] {
-                return device.poll_once(weight);
+                return poll_once_of(device, weight, &mut PolledBytes::NONE);
             }
         }
         Once {
@@ -197,7 +199,7 @@ impl<S: ReceiveSide, O: Opener<S>> Bench for DeviceBench<S, O> {
     fn poll_thread(&mut self, id: u32, weight: u32, most: u32) -> ThreadReport {
         if id < TABLE_LEN {
             if let Some(device) = &mut self.devices[id as usize] {
-                return device.poll_thread(weight, most);
+                return poll_thread_of(device, weight, most, &mut PolledBytes::NONE);
             }
         }
         ThreadReport::NONE
@@ -206,7 +208,7 @@ impl<S: ReceiveSide, O: Opener<S>> Bench for DeviceBench<S, O> {
     fn busy_poll(&mut self, id: u32, weight: u32, rounds: u32) -> BusyReport {
         if id < TABLE_LEN {
             if let Some(device) = &mut self.devices[id as usize] {
-                return device.busy_poll(weight, rounds);
+                return poll_busy_of(device, rounds, weight, &mut PolledBytes::NONE);
             }
         }
         BusyReport::NONE

@@ -1,21 +1,17 @@
 //! One device: its receive side, and its counts.
 
-ghost use Rattle.std.specs.Prelude.{◌≡◌, ◌≤◌, ◌<◌, ◌^◌, true, if◌then◌else◌};
+ghost use Rattle.std.specs.Prelude.{◌≡◌, if◌then◌else◌};
 ghost use Rattle.napi_model.specs.declared.event.{Done.TheVariants.{Again, Released}, Operation.TheVariants.{Complete}};
-ghost use Rattle.device_bench.specs.Device.{after_disable, after_enable, device_after_packet, after_request, after_threaded, is_pending, new_device, device_polled, polled_busily, polled_by_thread, polled_once, settled, device_state, counted_after};
+ghost use Rattle.device_bench.specs.Counter.{raised};
+ghost use Rattle.device_bench.specs.Device.{after_disable, after_enable, device_after_packet, after_request, after_threaded, is_pending, new_device, settled, device_state, counted_after};
 ghost use Rattle.device_bench.specs.Counts.{device_counts};
-ghost use Rattle.device_bench.specs.Receive.{polled_bytes, given_of, is_polling_place, opened_side};
-ghost use Rattle.poll_runs.specs.Thread.{IsThreadPolling};
-ghost use Rattle.poll_runs.specs.Ranges.{IsMost, IsRounds, IsWeight};
+ghost use Rattle.device_bench.specs.Receive.{opened_side};
 
 use crate::counts::{DeviceCounts, DeviceState};
 use crate::receive_side::{ReceiveSide, SpentSide};
 use crate::transmit::TxCounts;
 use napi_model::{Kind, Prep, encode};
-use poll_runs::{
-    BusyInstance, BusyReport, Instance, Once, ThreadReport, poll_busy_of, poll_once_of,
-    poll_thread_of,
-};
+use poll_runs::{BusyInstance, Instance};
 use std::marker::Model;
 
 /// The caller number of a device's interrupt handler.
@@ -166,56 +162,6 @@ impl<S: ReceiveSide> BenchDevice<S> {
     }
 }
 
-impl<S: ReceiveSide> BenchDevice<S> {
-    // Takes the next packets, at most the weight, and returns how many.
-    #[tactic(auto, unfolding(crate::specs::Device::device_polled))]
-    fn receive(&mut self, weight: u32, load: &mut PolledBytes) -> u32
-        requires weight { IsWeight weight }
-        requires polled { is_polling_place self.old.side.napi.place ≡ true }
-        ensures device { self.new ≡ device_polled weight self.old }
-        ensures work { result ≡ given_of weight self.old.side }
-        ensures bytes { load.new ≡ polled_bytes weight self.old.side }
-    {
-        let (count, bytes) = self.side.receive(weight);
-        load.bytes = bytes;
-        self.counts.polled = self.counts.polled.saturating_add(u64::from(count));
-        self.counts.bytes = self.counts.bytes.saturating_add(bytes);
-        self.counts.polls = self.counts.polls.saturating_add(1);
-        count
-    }
-
-    /// Polls once from the list. An instance that gets a repoll is queued on the list.
-    pub(crate) fn poll_once(&mut self, weight: u32) -> Once
-        requires { IsWeight weight }
-        ensures device { self.new ≡ (polled_once weight self.old).1 }
-        ensures once { result ≡ (polled_once weight self.old).0 }
-        ensures bound { result.work ≤ weight }
-    {
-        poll_once_of(self, weight, &mut PolledBytes::NONE)
-    }
-
-    /// Polls by the device's thread: takes the instance, if it was queued for the thread, and polls it at most `most` times.
-    pub(crate) fn poll_thread(&mut self, weight: u32, most: u32) -> ThreadReport
-        requires weight { IsWeight weight }
-        requires most { IsMost most }
-        ensures device { self.new ≡ (polled_by_thread most weight self.old).1 }
-        ensures report { IsThreadPolling weight most
-            (polled_by_thread most weight self.old).0 result }
-    {
-        poll_thread_of(self, weight, most, &mut PolledBytes::NONE)
-    }
-
-    /// Busy polls: takes an idle instance, polls it for this many rounds, stops, and polls once more.
-    pub(crate) fn busy_poll(&mut self, weight: u32, rounds: u32) -> BusyReport
-        requires weight { IsWeight weight }
-        requires rounds { IsRounds rounds }
-        ensures device { self.new ≡ (polled_busily rounds weight self.old).1 }
-        ensures report { result ≡ (polled_busily rounds weight self.old).0 }
-    {
-        poll_busy_of(self, rounds, weight, &mut PolledBytes::NONE)
-    }
-}
-
 impl<S: SpentSide> BenchDevice<S> {
     /// Ends the device's receive side.
     pub(crate) fn end(self) -> S::End
@@ -257,7 +203,10 @@ impl<S: ReceiveSide> Instance for BenchDevice<S> {
 
     #[tactic(auto, unfolding(crate::specs::Device::device_polled))]
     fn poll(&mut self, weight: u32, load: &mut PolledBytes) -> u32 {
-        self.receive(weight, load)
+        let (count, bytes) = self.side.receive(weight);
+        load.bytes = bytes;
+        count_poll(&mut self.counts, count, bytes);
+        count
     }
 
     fn is_disabling(&mut self) -> bool {
@@ -295,7 +244,10 @@ impl<S: ReceiveSide> BusyInstance for BenchDevice<S> {
 
     #[tactic(auto, unfolding(crate::specs::Device::device_polled))]
     fn busy_poll(&mut self, weight: u32, load: &mut PolledBytes) -> u32 {
-        self.receive(weight, load)
+        let (count, bytes) = self.side.receive(weight);
+        load.bytes = bytes;
+        count_poll(&mut self.counts, count, bytes);
+        count
     }
 
     fn hold(&mut self) {
@@ -310,6 +262,19 @@ impl<S: ReceiveSide> BusyInstance for BenchDevice<S> {
     fn bytes_of(load: &PolledBytes) -> u64 {
         load.bytes
     }
+}
+
+// Counts a poll of this many packets, which have this many bytes.
+fn count_poll(counts: &mut DeviceCounts, packets: u32, bytes: u64)
+    ensures { counts.new ≡ record counts.old {
+      polled = raised counts.old.polled packets;
+      bytes = raised counts.old.bytes bytes;
+      polls = raised counts.old.polls 1;
+    } }
+{
+    counts.polled = counts.polled.saturating_add(u64::from(packets));
+    counts.bytes = counts.bytes.saturating_add(bytes);
+    counts.polls = counts.polls.saturating_add(1);
 }
 
 // Counts a completion that didn't return Held.
@@ -340,5 +305,6 @@ impl Model for PolledBytes {
 }
 
 impl PolledBytes {
-    const NONE: PolledBytes = PolledBytes { bytes: 0 };
+    /// No packets.
+    pub(crate) const NONE: PolledBytes = PolledBytes { bytes: 0 };
 }

@@ -6,7 +6,7 @@ ghost use Rattle.napi_model.specs.declared.event.Operation.TheVariants as operat
 ghost use Rattle.napi_model.specs.declared.state.Kind.TheVariants as kind;
 ghost use Rattle.device_bench.specs.declared.device.TheConstants.{CONTROLLER, POLLER};
 ghost use Rattle.device_bench.specs.Receive.{ReceiveView, busy_taken, polled_bytes, done_by, given_of, handed_again, queued_kind, ring_has_place, is_control, is_idle, is_polling_place, opened_side, poller_in, put_if, requested, taker_of, tried_by};
-ghost use Rattle.device_rows.specs.Range.{IsWithin};
+ghost use Rattle.device_places.specs.Range.{IsWithin};
 ghost use Rattle.poll_runs.specs.Ranges.{IsWeight};
 
 use napi_model::{Kind, Prep, Seen};

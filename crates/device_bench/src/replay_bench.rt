@@ -5,8 +5,8 @@ ghost use Rattle.device_bench.specs.Bench.{AreBusyPolls, ArePolls, AreThreadPoll
 ghost use Rattle.device_bench.specs.Transmits.{Changes, KeepsTransmits, Transmits, is_used, tx_counts_of};
 ghost use Rattle.device_bench.specs.Device.{after_disable, after_enable, after_threaded, new_device};
 ghost use Rattle.device_bench.specs.Kept.{is_pending_at};
-ghost use Rattle.device_rows.specs.Places.{added, at, changed};
-ghost use Rattle.device_rows.specs.Range.{IsWithin};
+ghost use Rattle.device_places.specs.Places.{added, at, changed};
+ghost use Rattle.device_places.specs.Range.{IsWithin};
 ghost use Rattle.device_bench.specs.Transmit.{after_finish, after_tx, opened_transmit};
 ghost use Rattle.device_bench.specs.Waiting.{one_when, is_listed};
 

@@ -3,7 +3,7 @@
 ghost use Rattle.std.specs.Prelude.{◌≡◌, length};
 
 use crate::transmit::{Transmit, TxCounts};
-use device_rows::TABLE_LEN;
+use device_places::TABLE_LEN;
 use std::alloc::{AllocError, Global};
 
 /// At most sixteen transmit sides, by device number. A call with a number that has none changes nothing.
@@ -16,8 +16,8 @@ pub struct TransmitSides {
 impl TransmitSides {
     ghost use Rattle.std.specs.Prelude.{IfOk};
     ghost use Rattle.device_bench.specs.Transmits.{Changes, Transmits, is_used, tx_counts_of};
-    ghost use Rattle.device_rows.specs.Places.{added, at, changed, empty};
-    ghost use Rattle.device_rows.specs.Range.{IsWithin};
+    ghost use Rattle.device_places.specs.Places.{added, at, changed, empty};
+    ghost use Rattle.device_places.specs.Range.{IsWithin};
     ghost use Rattle.device_bench.specs.Sides.{ShowsSides};
     ghost use Rattle.device_bench.specs.Transmit.{ShowsTransmit, TransmitView, after_finish, after_tx};
 

@@ -1,7 +1,7 @@
 //! The transmit side of a device.
 
 ghost use Rattle.std.specs.Prelude.{◌≡◌, IfOk};
-ghost use Rattle.device_rows.specs.Range.{IsWithin};
+ghost use Rattle.device_places.specs.Range.{IsWithin};
 ghost use Rattle.device_bench.specs.Transmit.{ShowsTransmit, TransmitView, after_finish, after_tx, opened_transmit, tx_counts};
 
 use dql_core::{Dql, MAX_LIMIT};

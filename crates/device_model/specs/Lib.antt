@@ -1,8 +1,8 @@
 pub use Rattle.device_rows.specs.Failures
 pub use Rattle.device_rows.specs.Fault
 pub use Rattle.device_rows.specs.Laws
-pub use Rattle.device_rows.specs.Places
-pub use Rattle.device_rows.specs.Range
+pub use Rattle.device_places.specs.Places
+pub use Rattle.device_places.specs.Range
 pub use Rattle.device_rows.specs.Record
 pub use Rattle.device_rows.specs.Row as Rows
 pub use Rattle.device_rows.specs.Source

@@ -2,9 +2,9 @@
 //! instances of its own or with instances that threads could share; or each device's rows are the acts of a device that runs in
 //! its own thread.
 //!
-//! This is a facade, with no code of its own: `device_rows` has the rows, `device_bench` the devices for one thread with their
-//! transmit sides, `device_shared` those with shared instances, and `replay` a device for a run with threads. `specs/Lib.antt`
-//! re-exports what contracts cite.
+//! This is a facade, with no code of its own: `device_places` has the numbers of devices, `device_rows` the rows, `device_bench`
+//! the devices for one thread with their transmit sides, `device_shared` those with shared instances, and `replay` a device for a
+//! run with threads. `specs/Lib.antt` re-exports what contracts cite.
 #![tactic(auto)]
 
 pub use device_bench::{DeviceCounts, DeviceState, ReplayBench, SerialBench, TxCounts};

@@ -7,4 +7,3 @@ pub mod RecordsFacts
 pub mod RowsFacts
 pub mod ShortFacts
 pub mod SwitchFacts
-pub mod PlaceFacts

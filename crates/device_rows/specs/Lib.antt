@@ -9,5 +9,3 @@ pub mod Row
 pub mod Source
 pub mod Switch
 pub mod Trace
-pub mod Places
-pub mod Range

@@ -28,6 +28,3 @@ pub use row::Row;
 pub use source::{NextRecord, ReadError, next_record, reader_of};
 pub use switch::Switch;
 pub use trace::{MOST_ROWS, Trace, read_trace};
-
-/// The size of a table of devices: numbers 0 to 16, of which 0 stays empty.
-pub const TABLE_LEN: u32 = 17;

@@ -3,7 +3,7 @@
 ghost use Rattle.std.specs.Prelude.{◌≡◌, ◌≤◌, length, true, option_map, if◌then◌else◌, ℕ, ◌&&◌, ◌<◌, ◌+◌, false, Some, None, Ok, IfOk, IfSome, vec_capacity, vec_items, vec_len};
 ghost use Rattle.std.specs.Str.{all_ascii_digits};
 ghost use Rattle.csv.specs.Records.{fields_of};
-ghost use Rattle.device_rows.specs.Range.{IsWithin};
+ghost use Rattle.device_places.specs.Range.{IsWithin};
 ghost use Rattle.device_rows.specs.Record.{first_four, four_of, is_numeral, is_title, numeral, of_fields, ranged, row_of, version_of};
 ghost use Rattle.device_rows.specs.Row.{device_fits, value_fits};
 

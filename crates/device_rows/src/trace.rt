@@ -5,7 +5,7 @@ ghost use Rattle.csv.specs.Machine.{next_record};
 ghost use Rattle.csv.specs.Reading.{default_config, reader_state, records_from, strip_bom};
 ghost use Rattle.csv.specs.Records.{fields_of};
 ghost use Rattle.csv.specs.declared.parser.State.TheVariants as state;
-ghost use Rattle.device_rows.specs.Range.{IsWithin};
+ghost use Rattle.device_places.specs.Range.{IsWithin};
 ghost use Rattle.device_rows.specs.Adding.{AddsNext, IsSoFar, rows_with};
 ghost use Rattle.device_rows.specs.Block.{Holds};
 ghost use Rattle.device_rows.specs.Failures.{HasFailed, IsTraceOutOfMemory};

@@ -9,14 +9,13 @@ use Rattle.std.specs.Option.{option_map_or}
 use Rattle.std.specs.Prelude.{◌==◌, is_some}
 use Rattle.std.specs.Prelude.{position}
 use Rattle.machine_model.specs.declared.settings.MachineSettings.{MachineSettings}
-use Rattle.device_rows.specs.Places.{at, changed}
-use Rattle.machine.specs.{Deferrals.DeferralIsBounded}
-use Rattle.machine_model.specs.declared.device.Phase.{Phase}
-use Rattle.machine_model.specs.declared.device.Phase.TheVariants.{Deferred}
+use Rattle.device_places.specs.Places.{at, changed}
+use Rattle.machine.specs.{Deferrals.{DeferralIsBounded, IsDeferred}}
+use Rattle.machine_model.specs.declared.device.{Phase.Phase, NapiState.TheVariants.Idle, Line.TheVariants.Masked}
 use Rattle.machine_model.specs.declared.processor.Work.TheVariants.{Nothing, Interrupt, Poll, Packet}
 use Rattle.machine_model.specs.declared.{processor.Upcoming.{Upcoming, TheVariants.{Ends, Expires}}}
-use Rattle.machine_model.specs.Device.{QueueView, asks, expired, interrupted, is_fired, next_packet, without_next}
-use Rattle.machine_model.specs.Devices.{QueueViews, asks_at}
+use Rattle.machine_model.specs.Device.{QueueView, asks, expired, handled, interrupted, next_packet, schedules, without_next}
+use Rattle.machine_model.specs.Devices.{QueueViews, asks_at, schedules_at}
 use Rattle.machine_model.specs.Devices.{next_packet_at}
 use Rattle.machine_model.specs.Softirq.{RunView, SoftirqView, asked_in, begun, run_next, pushed}
 use Rattle.machine_model.specs.Waits.{saturated}
@@ -26,7 +25,7 @@ use Rattle.machine_model.specs.Processor.{is_busy, is_polling, poll_looks, polls
 use Rattle.machine_model.specs.Processor.{spent, step}
 use Rattle.machine_model.specs.Processor.{takes_up, upcoming, woken}
 use Rattle.machine_model.specs.Device as device
-use Rattle.machine.proofs.{TableFacts.{at-apart, at-changed, map_at}, WalkFacts.stirred}
+use Rattle.machine.proofs.{TableFacts.{at-apart, at-changed, at-either, at-same, map_at}, TendFacts.handled-phase, WalkFacts.stirred}
 use Rattle.machine.proofs.WorkFacts.{Goes, goes-on, same-polling, same-threaded}
 use Rattle.machine.proofs.LeftFacts.{Resting, list-empty, rested-on}
 
@@ -65,29 +64,50 @@ pub record Interrupted (n : ℕ) (p q : ProcessorView) : Type 0 where
   pub softirq : q.softirq ≡ pushed n p.softirq
   pub devices : q.devices ≡ changed (interrupted true) n p.devices
 
-interrupted-is : (n : ℕ) (p : ProcessorView) → is_polling p.settings ≡ true → p.settings.threaded ≡ false → Interrupted n p (interrupts n p)
+interrupted-is : (n : ℕ) (p : ProcessorView) → is_polling p.settings ≡ true → p.settings.threaded ≡ false
+    → schedules_at (at n p.devices) ≡ true → Interrupted n p (interrupts n p)
 unfolding interrupts
-interrupted-is n p h1 h2 = grind (arith, common_steps)
+interrupted-is n p h1 h2 h3 = grind (arith, common_steps)
+
+-- a queue whose interrupt is deferred, after its timer expired
+deferred-asks : (until : ℕ) (phase : Phase) → IsDeferred until phase
+    → (asks (device.expired_phase phase) ≡ true) × (schedules (device.expired_phase phase) ≡ true)
+    × (asks (handled true (device.expired_phase phase)) ≡ false)
+deferred-asks until phase deferred = by phase deferred.line deferred.state deferred.timer
+  where
+    by : (phase : Phase) → phase.line ≡ Masked → phase.state ≡ Idle → phase.timer ≡ Some until
+        → (asks (device.expired_phase phase) ≡ true) × (schedules (device.expired_phase phase) ≡ true)
+        × (asks (handled true (device.expired_phase phase)) ≡ false)
+    by phase h1 h2 h3 = grind (arith, common_steps)
 
 -- the queue whose timer expired asks for an interrupt, and no other queue does
-one-asks : (n : ℕ) (ds : QueueViews) (d : QueueView) (until : ℕ) → ((k : ℕ) → asks_at (at k ds) ≡ false) → at n ds ≡ Some d → d.phase
-    ≡ Deferred until
+one-asks : (n : ℕ) (ds : QueueViews) (d : QueueView) (until : ℕ) → ((k : ℕ) → asks_at (at k ds) ≡ false) → at n ds ≡ Some d
+    → IsDeferred until d.phase
     → position asks_at (changed expired n ds) ≡ Some n
 unfolding map_at
 one-asks n ds d until quiet there deferred =
     position-is (changed expired n ds) n
     (ap asks_at (at-changed expired n ds) ∙ (ap (λ (o : Option QueueView). asks_at (map_at expired o)) there
-    ∙ ap (λ (x : Phase). asks (device.expired_phase x)) deferred))
+    ∙ (deferred-asks until d.phase deferred).0))
     (λ k below. ap asks_at (at-apart expired n k ds (apart k below)) ∙ quiet k)
   where
     apart : (k : ℕ) → k < n → (n == k) ≡ false
     apart k below = grind (arith, common_steps)
 
 -- after its interrupt was taken up, no queue asks for one
-none-asks : (n : ℕ) (ds : QueueViews) → ((k : ℕ) → asks_at (at k ds) ≡ false) → (k : ℕ)
-    → asks_at (at k (changed (interrupted true) n (changed expired n ds))) ≡ false
-unfolding map_at interrupted
-none-asks n ds h1 k = grind (arith, common_steps, at-apart)
+none-asks : (n : ℕ) (ds : QueueViews) (d : QueueView) (until : ℕ) → ((k : ℕ) → asks_at (at k ds) ≡ false) → at n ds ≡ Some d
+    → IsDeferred until d.phase
+    → (k : ℕ) → asks_at (at k (changed (interrupted true) n (changed expired n ds))) ≡ false
+unfolding map_at
+none-asks n ds d until quiet there deferred k =
+    at-either (λ b o. asks_at o ≡ false) (interrupted true) n k (changed expired n ds)
+    (λ here. rw (at-changed-same k here) (ap asks (handled-phase true (expired d)) ∙ (deferred-asks until d.phase deferred).2))
+    (λ other. ap asks_at (at-apart expired n k ds other) ∙ quiet k)
+  where
+    at-changed-same : (k : ℕ) → (n == k) ≡ true → at k (changed expired n ds) ≡ Some (expired d)
+    at-changed-same k here =
+        at-same (λ o. o ≡ Some (expired d)) n k (changed expired n ds) here
+        (at-changed expired n ds ∙ ap (λ (o : Option QueueView). map_at expired o) there)
 
 -- ---- the interrupt ends
 
@@ -184,9 +204,9 @@ awake until n p =
 
 after-timer : (n until : ℕ) (d : QueueView) (p : ProcessorView) → ((k : ℕ) → asks_at (at k p.devices) ≡ false) → is_polling p.settings
     ≡ true
-    → p.settings.threaded ≡ false → p.work ≡ Nothing → at n p.devices ≡ Some d → d.phase ≡ Deferred until
+    → p.settings.threaded ≡ false → p.work ≡ Nothing → at n p.devices ≡ Some d → IsDeferred until d.phase
     → upcoming p ≡ Expires (record { at = until; device = n }) → Interrupted n (awake until n p) (step p)
-unfolding step disturbed
+unfolding step disturbed map_at
 after-timer n until d p quiet polling single nothing there deferred first =
     let q : ProcessorView = record p { devices = changed expired n p.devices } in
     let asks = one-asks n p.devices d until quiet there deferred in
@@ -194,7 +214,10 @@ after-timer n until d p quiet polling single nothing there deferred first =
     ap (λ (u : Upcoming). happens u p) first
     ∙ (ap takes_up (stirred-idle until q nothing ∙ ap (λ (o : Option ℕ). woken until (is_some o) q) asks)
     ∙ takes-interrupt n (awake until n p) nothing asks) in
-    subst (λ (x : ProcessorView). Interrupted n (awake until n p) x) (sym is) (interrupted-is n (awake until n p) polling single)
+    subst (λ (x : ProcessorView). Interrupted n (awake until n p) x) (sym is)
+    (interrupted-is n (awake until n p) polling single
+    (ap schedules_at (at-changed expired n p.devices ∙ ap (λ (o : Option QueueView). map_at expired o) there)
+    ∙ (deferred-asks until d.phase deferred).1))
 
 next-same : (backlog : Bool) (d : QueueView) → next_packet backlog (interrupted true (expired d)) ≡ next_packet backlog d
 unfolding interrupted
@@ -206,7 +229,7 @@ unfolding map_at
 next-there backlog n came ds d h1 h2 = grind (arith, common_steps, at-changed, next-same)
 
 deferral-steps : (s : MachineSettings) (n until came : ℕ) (d : QueueView) (p : ProcessorView) → Goes s p → Resting p → is_polling s ≡ true
-    → s.threaded ≡ false → p.work ≡ Nothing → at n p.devices ≡ Some d → d.phase ≡ Deferred until
+    → s.threaded ≡ false → p.work ≡ Nothing → at n p.devices ≡ Some d → IsDeferred until d.phase
     → upcoming p ≡ Expires (record { at = until; device = n }) → next_packet s.backlog d ≡ Some came → upcoming (step p) ≡ Ends
     → upcoming (step (step p)) ≡ Ends
     → ((step (step (step p))).work ≡ Packet (record { device = n; came = came; given = 0 }))
@@ -224,7 +247,7 @@ deferral-steps s n until came d p goes r polls single nothing there deferred fir
     ap (λ (x : SoftirqView). x.list) i.softirq ∙ ap (λ (xs : List ℕ). xs ++ n ∷ []) empty in
     let idle : q.softirq.run ≡ None = ap (λ (x : SoftirqView). x.run) i.softirq ∙ r.idle in
     let quiet : (k : ℕ) → asks_at (at k q.devices) ≡ false =
-    λ k. ap (λ (ds : QueueViews). asks_at (at k ds)) i.devices ∙ none-asks n p.devices r.quiet k in
+    λ k. ap (λ (ds : QueueViews). asks_at (at k ds)) i.devices ∙ none-asks n p.devices d until r.quiet there deferred k in
     let f = after-interrupt n q i.work q-polling quiet idle list second in
     let v = step q in
     let v-settings : v.settings ≡ s = f.settings ∙ (q-settings ∙ is) in

@@ -3,16 +3,16 @@ use Rattle.std.proofs.Common.{arith}
 use Rattle.std.proofs.lemmas.Grind.{common_steps}
 use Rattle.std.proofs.Common.{◌≡◌, ◌∙◌, ℕ, ◌+◌, ◌-◌, Bool, true, false, Option, Some, None, List, [], ◌∷◌, refl, ap}
 use Rattle.std.proofs.lemmas.Bool.{and_left, and_right}
-use Rattle.std.specs.{Prelude.{◌==◌, ◌&&◌, if◌then◌else◌, nat_lt, not, option_map}}
+use Rattle.std.specs.{Prelude.{◌==◌, ◌&&◌, ◌||◌, if◌then◌else◌, nat_lt, not, option_map}}
 use Rattle.machine_model.specs.declared.settings.MachineSettings.{MachineSettings}
-use Rattle.device_rows.specs.Places.{at, changed}
+use Rattle.device_places.specs.Places.{at, changed}
 use Rattle.{machine.specs.Fates.{delivery_of, used_by}}
 use Rattle.machine_model.specs.declared.{processor.ProcessorCounts.ProcessorCounts, tasks.RunnableTask.{RunnableTask, TheVariants.Thread}}
 use Rattle.machine_model.specs.{Application.{ApplicationView, fed, has_place, used}, Kept.polled_by, Tasks.with_application}
 use Rattle.machine_model.specs.{Waits.saturated}
 use Rattle.machine_model.specs.declared.processor.{InHand.InHand, Work.{Work, TheVariants.{Nothing, Interrupt, Poll, Packet, Use}}}
 use Rattle.machine_model.specs.{Device.{QueueView, queue_delivered, queue_polled, raised_again, without_next}}
-use Rattle.machine_model.specs.{Devices.{QueueViews, next_packet_at}}
+use Rattle.machine_model.specs.{Devices.{QueueViews, is_missed_at, next_packet_at}}
 use Rattle.machine_model.specs.Processor.{ProcessorView, delivers, delivers_oldest, ends_by, ends_current, ends_interrupt, ends_poll}
 use Rattle.machine_model.specs.Processor.{is_busy, is_polling, poll_looks, spent}
 use Rattle.machine.proofs.{TableFacts.{at-keeps, map_at}, WalkFacts.{looks-by, polled-by}}
@@ -180,7 +180,7 @@ over-polled n given p nothing =
     (λ counts t. over-none p _ refl refl refl refl nothing None refl)
   where
     full : Bool
-    full = given == p.settings.weight
+    full = given == p.settings.weight || is_missed_at (at n p.devices)
 
     again : Bool → Option ℕ
     again b = if b then Some n else None

@@ -4,7 +4,7 @@ use Rattle.std.proofs.{Common.{refl, sym, ap, subst, arith}}
 use Rattle.std.proofs.{lemmas.{List.append-nil, Bool.{and_left, and_right}, Grind.common_steps}}
 use Rattle.std.specs.{List.AllByRecursion, Prelude.{◌==◌, ◌&&◌, if◌then◌else◌, not, slice_get}}
 use Rattle.{machine_model.specs.declared.settings.MachineSettings.MachineSettings}
-use Rattle.device_rows.specs.Places.{added_at, at, changed}
+use Rattle.device_places.specs.Places.{added_at, at, changed}
 use Rattle.machine.specs.Lives.{MachineEvent, behind, next, packet}
 use Rattle.machine.specs.Fates.{DeliversInOrder, came, delivered_packets, next_delivery, delivery_by, delivery_of, finds_room}
 use Rattle.machine.specs.Fates.{hand_of, packet_for, queue_ring, taken_in}

@@ -6,26 +6,26 @@ use Rattle.std.proofs.lemmas.{Bool.{and_left, and_right, eqb-true, false_from_ne
 use Rattle.std.proofs.lemmas.List.Sums.{fails_before_first, sum_by-cons}
 use Rattle.std.specs.{Prelude.{◌==◌, ◌&&◌, if◌then◌else◌, min, not, position}}
 use Rattle.machine_model.specs.declared.settings.MachineSettings.{MachineSettings}
-use Rattle.device_rows.specs.Places.{at}
+use Rattle.device_places.specs.Places.{at}
 use Rattle.machine.specs.{Lives.{MachineEvent, behind, next, packet}, Fates.{NothingIsLeft, delivery_of, queue_ring, taken_in}}
-use Rattle.machine_model.specs.declared.{devices.Timer.Timer}
+use Rattle.machine_model.specs.declared.{device.Phase.Phase, devices.Timer.Timer}
 use Rattle.machine_model.specs.declared.{processor.ProcessorCounts.ProcessorCounts}
 use Rattle.machine_model.specs.declared.processor.{Upcoming.{Upcoming, TheVariants.{Never, Expires}}, Work.{Work, TheVariants.{Nothing}}}
 use Rattle.machine_model.specs.declared.tasks.RunnableTask.{RunnableTask, TheVariants.{Application, Thread}}
 use Rattle.machine_model.specs.Tasks.{applications, is_application, runnable, with_application}
 use Rattle.machine_model.specs.Application.{fed, has_place, put, refuses}
-use Rattle.machine_model.specs.Device.{QueueView, asks, has_room}
+use Rattle.machine_model.specs.Device.{QueueView, asks, has_room, timer_of}
 use Rattle.machine_model.specs.Devices.{QueueViews, asks_at, has_room_at, with_device}
-use Rattle.machine_model.specs.{Kept.{scheduled_at}, Softirq.{RunView}}
+use Rattle.machine_model.specs.{Kept.{is_scheduled, scheduled_at}, Softirq.{RunView}}
 use Rattle.machine_model.specs.Processor.{ProcessorView, ends_current, is_busy, is_by, is_polling, step, upcoming}
-use Rattle.machine.proofs.{WalkFacts.{IsSettled, NoTask, Still, Walk, idle-is, nexted}, SocketFacts.fed-here}
+use Rattle.machine.proofs.{WalkFacts.{IsSettled, NoTask, Still, Walk, idle-is, is_scheduling, nexted}, SocketFacts.fed-here}
 use Rattle.machine.proofs.EndFacts.{feeds, put_first, tasks_after}
 use Rattle.machine.proofs.WorkFacts.{Goes, Life, Rests, all_applications, devices_arrived, goes-on, life-arrives}
 use Rattle.machine.proofs.WorkFacts.{life-happens, same-apart, same-polling, same-threaded}
 use Rattle.machine.proofs.FateFacts.{at-arrived, made-part, made_at, queued, room-made}
 use Rattle.machine.proofs.StandFacts.{Stands, by_thread, count, count_in, listed_at, no-thread, places, polled_at, stands-on, threads}
-use Rattle.machine.proofs.TendFacts.{Tend, full-phase, tended-on}
-use Rattle.machine.proofs.{TimeFacts.{now, since}, TimerFacts.{Late, NextBy, NotBefore, SetAt, next-is, set-first, timer_in}}
+use Rattle.machine.proofs.TendFacts.{Unstuck, Tend, unstuck-on, full-phase, is_quiet, is_stuck, tended-on}
+use Rattle.machine.proofs.{TimeFacts.{now, since}, TimerFacts.{Late, NextBy, NotBefore, Set, SetAt, next-is, set-first, timer_in}}
 use Rattle.machine_model.specs.declared.processor.Upcoming.TheVariants as upcomings
 
 -- ---- runnable tasks
@@ -122,7 +122,7 @@ busy-rested s p busy h = record { tasked = h; resting = λ is. absurd (cc (ap is
 rested-walk : (s : MachineSettings) → Walk (Tasked s) (Rested s)
 rested-walk s = record {
   interrupt = λ n time counts p free h asks.
-      busy-rested s _ refl (tasked-of s p _ h refl (apps-more (is_polling p.settings && p.settings.threaded) n p.tasks) (omega arith));
+      busy-rested s _ refl (tasked-of s p _ h refl (apps-more (is_scheduling n p && p.settings.threaded) n p.tasks) (omega arith));
   next = λ p free h. tasked-of s p _ h refl refl (omega arith);
   asks = λ n p h asked. busy-rested s _ refl (tasked-of s (nexted p) _ h refl refl (omega arith));
   over = λ counts p free h. tasked-of s p _ h refl refl (omega arith);
@@ -284,10 +284,16 @@ both-empty (x ∷ xs) ys is = cc is
 one-not : (b : Bool) → ◌≡◌ {A = ℕ} (if b then 1 else 0) 0 → b ≡ false
 one-not b h1 = grind (arith, common_steps)
 
-left-device : (t gro : ℕ) (o : Option QueueView) → Tend o → asks_at o ≡ false → Late (2 ^ 64) (timer_in o) → SetAt t gro o
+left-phase : (t gro : ℕ) (phase : Phase) → is_stuck phase ≡ false → asks phase ≡ false → Late (2 ^ 64) (timer_of phase) → Set t gro phase
+    → ◌≡◌ {A = ℕ} (if is_scheduled phase then 1 else 0) 0 → is_quiet phase ≡ true
+left-phase t gro phase free quiet late set none = grind (arith, common_steps)
+
+left-device : (t gro : ℕ) (o : Option QueueView) → Tend o → Unstuck o → asks_at o ≡ false → Late (2 ^ 64) (timer_in o) → SetAt t gro o
     → scheduled_at o ≡ 0 → (taken_in o ≡ []) × (queue_ring o ≡ [])
 unfolding queued
-left-device t gro o h1 h2 h3 h4 h5 = grind (arith, common_steps, both-empty, one-not)
+left-device t gro None tend free quiet late set none = (refl, refl)
+left-device t gro (Some d) tend free quiet late set none =
+    both-empty d.taken d.ring (tend (left-phase t gro d.phase free quiet late set none))
 
 pub nothing-is-left : NothingIsLeft
 nothing-is-left s events turns none =
@@ -300,7 +306,8 @@ nothing-is-left s events turns none =
     let r = (rested-on s events).resting nothing in
     let goes = goes-on s events in (
       nothing,
-      λ n. left-device (now s events) s.gro_flush_timeout (at n p.devices) (tended-on s n events (rw nothing refl)) (r.quiet n)
+      λ n. left-device (now s events) s.gro_flush_timeout (at n p.devices) (tended-on s n events (rw nothing refl))
+          (unstuck-on s n events) (r.quiet n)
           (free.timers n) (cells n).timer
           (by n p goes r (stands-on s n events) nothing),
       r.rest,

@@ -3,27 +3,32 @@
 use Rattle.std.proofs.Common.{◌≡◌, ◌∙◌, ℕ, ◌+◌, ◌≤◌, Bool, true, false, Option, Some, None, List, [], ◌∷◌, ◌++◌, drop, length, refl}
 use Rattle.std.proofs.Common.{sym, ap, arith}
 use Rattle.std.proofs.lemmas.Grind.{common_steps}
-use Rattle.std.specs.{Option.{option_map_or}, Prelude.{◌==◌, ◌&&◌, if◌then◌else◌, not, slice_get}}
+use Rattle.std.specs.{Prelude.{◌==◌, ◌&&◌, ◌||◌, if◌then◌else◌, not, slice_get}}
 use Rattle.machine_model.specs.declared.settings.MachineSettings.{MachineSettings}
-use Rattle.device_rows.specs.Places.{at, changed}
+use Rattle.device_places.specs.Places.{at, changed}
 use Rattle.machine.specs.Lives.{MachineEvent, behind, next, packet}
 use Rattle.poll_runs.specs.{Turn.asked_for, declared.bench.{Next.TheVariants.{Gone, Repoll}}}
-use Rattle.machine_model.specs.declared.{device.Phase.{Phase, TheVariants.Raised}, processor.ProcessorCounts.ProcessorCounts}
+use Rattle.machine_model.specs.declared.device.{NapiState.{NapiState, TheVariants.{Idle, Scheduled, Missed}}, Phase.Phase}
+use Rattle.machine_model.specs.declared.device.{Line.TheVariants.Raised}
+use Rattle.machine_model.specs.declared.{processor.ProcessorCounts.ProcessorCounts}
 use Rattle.machine_model.specs.declared.processor.{Work.{Work, TheVariants.{Nothing, Interrupt, Poll, Packet}}}
 use Rattle.machine_model.specs.declared.tasks.RunnableTask.{RunnableTask, TheVariants.{Application, Thread}}
-use Rattle.machine_model.specs.Device.{QueueView, after_packet, expired, expired_phase, interrupted, is_masked, notified, queue_completed}
-use Rattle.machine_model.specs.Device.{queue_delivered, queue_polled, raised_again, without_next}
-use Rattle.machine_model.specs.Devices.{QueueViews, asks_at, next_packet_at}
+use Rattle.machine_model.specs.Device.{QueueView, completed_state, expired, expired_phase, interrupted, is_napi_idle, is_missed}
+use Rattle.machine_model.specs.{Device.{is_missed_state}, Waits.saturated}
+use Rattle.machine_model.specs.Device.{queue_completed, queue_delivered, queue_polled, raised_again, without_next}
+use Rattle.machine_model.specs.Devices.{QueueViews, asks_at, is_missed_at, next_packet_at, schedules_at}
 use Rattle.machine_model.specs.Kept.{is_scheduled, polled_by, scheduled_at}
-use Rattle.machine_model.specs.Softirq.{RunView, SoftirqView, asked_in, begun, filled, pushed, run_ended, run_next, softirq_polled}
+use Rattle.machine_model.specs.Softirq.{RunView, SoftirqView, asked_in, begun, filled, poll_ended, pushed, run_ended, run_next}
+use Rattle.machine_model.specs.Softirq.{softirq_polled}
 use Rattle.machine_model.specs.{Tasks.{runnable, with_application}, Application.{has_place}}
 use Rattle.machine_model.specs.Processor.{ProcessorView, delivers, delivers_oldest, ends_by, ends_current, ends_interrupt, ends_poll}
 use Rattle.machine_model.specs.Processor.{is_busy, is_polling, poll_looks, polls, step, upcoming}
-use Rattle.machine_model.proofs.{PendingFacts.phase-next, PlacesFacts.same-packet}
-use Rattle.machine.proofs.TableFacts.{at-either, at-keeps, at-kept, at-same, map_at}
-use Rattle.machine.proofs.{FateFacts.{at-arrives, made-part}, WalkFacts.{Walk, either, looks-by, nexted, polled-by}}
+use Rattle.machine_model.proofs.{PendingFacts.phase-next, PlacesFacts.{interrupted-one, same-packet}}
+use Rattle.machine.proofs.TableFacts.{at-either, at-kept, at-same, map_at}
+use Rattle.machine.proofs.{FateFacts.{at-arrives, made-part}}
+use Rattle.machine.proofs.WalkFacts.{Walk, either, is_scheduling, looks-by, nexted, polled-by}
 use Rattle.machine.proofs.WorkFacts.{Asks, Goes, Life, Polls, Rests, devices_arrived, expired_at, goes-on, life-arrives, life-happens}
-use Rattle.machine.proofs.WorkFacts.{polls-delivers, polls-devices, polls-of, same-polling, same-threaded, work-walk}
+use Rattle.machine.proofs.WorkFacts.{polls-delivers, polls-devices, polls-of, same-threaded, work-walk}
 
 abbrev pub one : ℕ → ℕ → ℕ
 one m n = if m == n then 1 else 0
@@ -81,12 +86,20 @@ listed-pushed : (n m : ℕ) (q : SoftirqView) → listed_at n (pushed m q) ≡ l
 unfolding listed_at count
 listed-pushed n m q = omega (arith, count-append n q.list (m ∷ []))
 
-listed-told : (n m : ℕ) (full : Bool) (work : ℕ) (list : List ℕ) (run : Option RunView) (began : ℕ) → asked_in run ≡ Some m
+told-asked : (n m : ℕ) (full : Bool) (work : ℕ) (list : List ℕ) (run : Option RunView) (began : ℕ) → asked_in run ≡ Some m
     → let q : SoftirqView = record { list = list; run = run; began = began } in
     listed_at n (softirq_polled (record { work = work; next = if full then Repoll else Gone }) q) + (if full then 0 else one m n)
     ≡ listed_at n q
 unfolding listed_at count_in softirq_polled count
-listed-told n m full work list run began asked = grind (arith, common_steps, count-append)
+told-asked n m full work list run began asked = grind (arith, common_steps, count-append)
+
+listed-told : (n m : ℕ) (full again : Bool) (work : ℕ) (q : SoftirqView) → asked_in q.run ≡ Some m
+    → listed_at n (poll_ended m work full again q) + (if full || again then 0 else one m n) ≡ listed_at n q
+listed-told n m true again work q asked = told-asked n m true work q.list q.run q.began asked
+listed-told n m false true work q asked =
+    let once = told-asked n m false work q.list q.run q.began asked in
+    omega (arith, once, listed-pushed n m (softirq_polled (record { work = work; next = Gone }) q))
+listed-told n m false false work q asked = told-asked n m false work q.list q.run q.began asked
 
 -- ---- runnable tasks
 
@@ -111,63 +124,69 @@ threads-woken n b tasks = grind (arith, common_steps, threads-append)
 
 -- ---- one queue
 
-abbrev pub masked_at : Option QueueView → Bool
-masked_at o = option_map_or (λ d. is_masked d.phase) o false
+bit-interrupted : (polling : Bool) (o : Option QueueView) → asks_at o ≡ true
+    → scheduled_at (map_at (interrupted polling) o) ≡ scheduled_at o + (if polling && schedules_at o then 1 else 0)
+unfolding map_at
+bit-interrupted polling None asks = cc asks
+bit-interrupted polling (Some d) asks = interrupted-one polling d
 
-bit-interrupted : (polling : Bool) (o : Option QueueView) → asks_at o ≡ true → (polling ≡ false → masked_at o ≡ false)
-    → scheduled_at (map_at (interrupted polling) o) ≡ scheduled_at o + (if polling then 1 else 0)
-unfolding map_at interrupted
-bit-interrupted polling o h1 h2 = grind (arith, common_steps)
+kept-changed : (f : QueueView → QueueView) (m n : ℕ) (ds : QueueViews) → ((d : QueueView) → is_scheduled (f d).phase ≡ is_scheduled d.phase)
+    → scheduled_at (at n (changed f m ds)) ≡ scheduled_at (at n ds)
+kept-changed f m n ds keeps = at-kept scheduled_at f m n ds (λ d. ap (λ (b : Bool). if b then 1 else 0) (keeps d))
 
-masked-interrupted : (o : Option QueueView) → masked_at o ≡ false → masked_at (map_at (interrupted false) o) ≡ false
-unfolding map_at interrupted
-masked-interrupted o never = grind (arith, common_steps)
+next-scheduled : (backlog : Bool) (d : QueueView) → is_scheduled (without_next backlog d).phase ≡ is_scheduled d.phase
+next-scheduled backlog d = ap is_scheduled (phase-next backlog d)
 
--- the phase may change, but whether it counts as scheduled stays the same
-pub record PhaseKept (a b : Phase) : Type 0 where
-  pub scheduled : is_scheduled b ≡ is_scheduled a
-  pub masked : is_masked b ≡ is_masked a
+expired-scheduled : (d : QueueView) → is_scheduled (expired d).phase ≡ is_scheduled d.phase
+expired-scheduled d = by d.phase
+  where
+    by : (phase : Phase) → is_scheduled (expired_phase phase) ≡ is_scheduled phase
+    by phase = grind (arith, common_steps)
 
-kept-same : (a : Phase) → PhaseKept a a
-kept-same a = record { scheduled = refl; masked = refl }
+raised-scheduled : (d : QueueView) → is_scheduled (raised_again d).phase ≡ is_scheduled d.phase
+raised-scheduled d = by (length d.ring == 0)
+  where
+    by : (b : Bool) → is_scheduled (if b then d.phase else record d.phase { line = Raised }) ≡ is_scheduled d.phase
+    by true = refl
+    by false = refl
 
-kept-expired : (phase : Phase) → PhaseKept phase (expired_phase phase)
-kept-expired phase = record { scheduled = grind (arith, common_steps); masked = grind (arith, common_steps) }
+completed-bit : (i : NapiState) (m n : ℕ) → (m == n) ≡ true → ◌≡◌ {A = ℕ} (if not (is_napi_idle i) then 1 else 0) 1
+    → (if not (is_napi_idle (completed_state i)) then 1 else 0) + (if is_missed_state i then 0 else one m n)
+    ≡ (if not (is_napi_idle i) then 1 else 0)
+completed-bit Idle m n here is = cc is
+completed-bit Scheduled m n here is = rw here refl
+completed-bit Missed m n here is = refl
 
-kept-raised : (phase : Phase) (b : Bool) → is_masked phase ≡ false → PhaseKept phase (if b then phase else Raised)
-kept-raised phase b never = record { scheduled = grind (arith, common_steps); masked = grind (arith, common_steps) }
-
-masked-packet : (moment : ℕ) (s : MachineSettings) (d : QueueView) → is_masked (after_packet moment s d).phase ≡ is_masked d.phase
-unfolding after_packet notified
-masked-packet moment s d = grind (arith, common_steps)
-
-kept-next : (backlog : Bool) (d : QueueView) → PhaseKept d.phase (without_next backlog d).phase
-kept-next backlog d = record { scheduled = ap is_scheduled (phase-next backlog d); masked = ap is_masked (phase-next backlog d) }
-
-pub record KeptAt (o q : Option QueueView) : Type 0 where
-  pub scheduled : scheduled_at q ≡ scheduled_at o
-  pub masked : masked_at q ≡ masked_at o
-
-kept-changed : (f : QueueView → QueueView) (m n : ℕ) (ds : QueueViews) → ((d : QueueView) → PhaseKept d.phase (f d).phase)
-    → KeptAt (at n ds) (at n (changed f m ds))
-kept-changed f m n ds keeps = record {
-  scheduled = at-kept scheduled_at f m n ds (λ d. ap (λ (b : Bool). if b then 1 else 0) (keeps d).scheduled);
-  masked = at-kept masked_at f m n ds (λ d. (keeps d).masked);
-}
-
--- after a poll that used its whole weight the queue stays scheduled; after any other one it isn't scheduled any more
+-- after a poll that used its whole weight, or that missed an interrupt, the queue stays scheduled; after any other one it isn't
+-- scheduled any more
 bit-polled : (now given : ℕ) (s : MachineSettings) (o : Option QueueView) (m n : ℕ) → (m == n) ≡ true → scheduled_at o ≡ 1
-    → scheduled_at (map_at (queue_polled now given s) o) + (if given == s.weight then 0 else one m n) ≡ scheduled_at o
+    → scheduled_at (map_at (queue_polled now given s) o) + (if given == s.weight || is_missed_at o then 0 else one m n) ≡ scheduled_at o
 unfolding map_at queue_polled queue_completed
-bit-polled now given s o m n h1 h2 = grind (arith, common_steps)
+bit-polled now given s None m n here is = cc is
+bit-polled now given s (Some d) m n here is =
+    by (record d { counts = record d.counts { polls = saturated (d.counts.polls + 1) } }) (given == s.weight) is
+  where
+    by : (e : QueueView) (full : Bool) → scheduled_at (Some e) ≡ 1
+        → scheduled_at (Some (if full then e else queue_completed now given s e)) + (if full || is_missed e.phase then 0 else one m n)
+        ≡ scheduled_at (Some e)
+    by e true is = omega arith
+    by e false is = completed-bit e.phase.state m n here is
+
+missed-same : (m n : ℕ) (ds : QueueViews) → (m == n) ≡ true → is_missed_at (at m ds) ≡ is_missed_at (at n ds)
+missed-same m n ds here = at-same (λ o. is_missed_at (at m ds) ≡ is_missed_at o) m n ds here refl
+
+schedules-same : (m n : ℕ) (ds : QueueViews) → (m == n) ≡ true → schedules_at (at m ds) ≡ schedules_at (at n ds)
+schedules-same m n ds here = at-same (λ o. schedules_at (at m ds) ≡ schedules_at o) m n ds here refl
 
 bits-polled : (now given : ℕ) (s : MachineSettings) (m n : ℕ) (ds : QueueViews) → ((m == n) ≡ true → scheduled_at (at n ds) ≡ 1)
-    → scheduled_at (at n (changed (queue_polled now given s) m ds)) + (if given == s.weight then 0 else one m n) ≡ scheduled_at (at n ds)
+    → scheduled_at (at n (changed (queue_polled now given s) m ds))
+    + (if given == s.weight || is_missed_at (at m ds) then 0 else one m n) ≡ scheduled_at (at n ds)
 bits-polled now given s m n ds is =
-    at-either (λ b o. scheduled_at o + (if given == s.weight then 0 else (if b then 1 else 0)) ≡ scheduled_at (at n ds))
+    at-either (λ b o. scheduled_at o + (if given == s.weight || is_missed_at (at m ds) then 0 else (if b then 1 else 0))
+    ≡ scheduled_at (at n ds))
     (queue_polled now given s) m n ds
-    (λ here. rw here at (bit-polled now given s (at n ds) m n here (is here)))
-    (λ other. by (given == s.weight))
+    (λ here. rw (missed-same m n ds here) (rw here at (bit-polled now given s (at n ds) m n here (is here))))
+    (λ other. by (given == s.weight || is_missed_at (at m ds)))
   where
     by : (b : Bool) → scheduled_at (at n ds) + (if b then 0 else 0) ≡ scheduled_at (at n ds)
     by true = omega arith
@@ -187,14 +206,9 @@ places n p = listed_at n p.softirq + threads n p.tasks
 abbrev pub by_thread : MachineSettings → ℕ → ℕ
 by_thread s k = if s.threaded then k else 0
 
--- without polling, no card's interrupt is ever masked
-abbrev pub NeverMasked : MachineSettings → ℕ → QueueViews → Type 0
-NeverMasked s n ds = is_polling s ≡ false → masked_at (at n ds) ≡ false
-
 -- a queue is scheduled exactly if its number occurs once, counting `more` occurrences elsewhere
 pub record Even (s : MachineSettings) (n more : ℕ) (p : ProcessorView) : Type 0 where
   pub same : places n p + more ≡ scheduled_at (at n p.devices)
-  pub never : NeverMasked s n p.devices
 
 -- no work is in progress
 pub record Lies (s : MachineSettings) (n : ℕ) (p : ProcessorView) : Type 0 where
@@ -218,22 +232,19 @@ places-put : (n m : ℕ) (b t : Bool) (q : SoftirqView) (tasks : List RunnableTa
 unfolding threads
 places-put n m b t q tasks = grind (arith, common_steps, threads-append, listed-pushed)
 
-bits-interrupted : (polling : Bool) (m n : ℕ) (ds : QueueViews) → asks_at (at m ds) ≡ true → (polling ≡ false → masked_at (at n ds) ≡ false)
-    → scheduled_at (at n (changed (interrupted polling) m ds)) ≡ scheduled_at (at n ds) + (if polling then one m n else 0)
-bits-interrupted polling m n ds asks never =
-    at-either (λ b o. scheduled_at o ≡ scheduled_at (at n ds) + (if polling then (if b then 1 else 0) else 0)) (interrupted polling) m n ds
-    (λ here. bit-interrupted polling (at n ds) (at-same (λ o. asks_at o ≡ true) m n ds here asks) never)
-    (λ other. by polling)
+bits-interrupted : (polling : Bool) (m n : ℕ) (ds : QueueViews) → asks_at (at m ds) ≡ true
+    → scheduled_at (at n (changed (interrupted polling) m ds))
+    ≡ scheduled_at (at n ds) + (if polling && schedules_at (at m ds) then one m n else 0)
+bits-interrupted polling m n ds asks =
+    at-either (λ b o. scheduled_at o ≡ scheduled_at (at n ds) + (if polling && schedules_at (at m ds) then (if b then 1 else 0) else 0))
+    (interrupted polling) m n ds
+    (λ here. rw (schedules-same m n ds here)
+    (bit-interrupted polling (at n ds) (at-same (λ o. asks_at o ≡ true) m n ds here asks)))
+    (λ other. by (polling && schedules_at (at m ds)))
   where
     by : (b : Bool) → scheduled_at (at n ds) ≡ scheduled_at (at n ds) + (if b then 0 else 0)
     by true = omega arith
     by false = omega arith
-
-never-interrupted : (s : MachineSettings) (polling : Bool) (m n : ℕ) (ds : QueueViews) → polling ≡ is_polling s → NeverMasked s n ds
-    → NeverMasked s n (changed (interrupted polling) m ds)
-never-interrupted s true m n ds same never lone = cc (same, lone)
-never-interrupted s false m n ds same never lone =
-    at-keeps (λ o. masked_at o ≡ false) (interrupted false) m n ds (λ here. masked-interrupted (at n ds)) (never lone)
 
 -- the processor is free
 idle-stands : (s : MachineSettings) (n : ℕ) (p : ProcessorView) → p.work ≡ Nothing → Even s n 0 p → Stands s n p
@@ -245,24 +256,21 @@ stand-walk s n =
     let w = work-walk s in
     record {
       interrupt = λ m time counts p free h asks.
-          let polling = is_polling p.settings in
-          let same = same-polling s p h.rests.settings in
-          let bits = bits-interrupted polling m n p.devices asks (λ lone. h.even.never (sym same ∙ lone)) in
+          let bits = bits-interrupted (is_polling p.settings) m n p.devices asks in
           record {
             even = record {
               same = omega (
                 arith,
-                places-put n m polling p.settings.threaded p.softirq p.tasks,
+                places-put n m (is_scheduling m p) p.settings.threaded p.softirq p.tasks,
                 bits,
                 h.even.same,
                 no-thread s,
               );
-              never = never-interrupted s polling m n p.devices same h.even.never;
             };
           };
       next = λ p free h. record {
         rests = w.next p free h.rests;
-        even = record { same = omega (arith, listed-next n p.softirq free.unasked, h.even.same); never = h.even.never };
+        even = record { same = omega (arith, listed-next n p.softirq free.unasked, h.even.same) };
       };
       asks = λ m p h asked.
           let g = w.asks m p h.rests asked in
@@ -273,7 +281,6 @@ stand-walk s n =
         rests = w.over counts p free h.rests;
         even = record {
           same = omega (arith, listed-ended n p.softirq.list p.softirq.run p.softirq.began free.unasked, h.even.same);
-          never = h.even.never;
         };
       };
       start = λ p h none polling some.
@@ -286,7 +293,6 @@ stand-walk s n =
                 listed-begun n p.softirq.list p.softirq.run p.softirq.began p.clock x.budget x.weight x.window none,
                 h.even.same,
               );
-              never = h.even.never;
             };
           };
       resume = λ rest p free h is quiet. record { even = even-of s n 0 (by_thread s 0) p _ h.even refl refl refl (no-thread s) };
@@ -300,14 +306,13 @@ stand-walk s n =
                 ap (threads n) is,
                 threads-runnable n (length p.application.socket.items == 0) p.tasks,
               );
-          never = h.even.never;
         };
       };
       thread = λ m more p free h threaded is.
           let all : s.threaded ≡ true = sym (same-threaded s p h.rests.settings) ∙ threaded in
           let polled : by_thread s (one m n) ≡ one m n = rw all refl in
           let tasks : threads n p.tasks ≡ one m n + threads n more = ap (threads n) is in
-          record { even = record { same = omega (arith, h.even.same, polled, tasks); never = h.even.never } };
+          record { even = record { same = omega (arith, h.even.same, polled, tasks) } };
       uses = λ came more p free h none is quiet first. record {
         even = even-of s n 0 (by_thread s 0) p _ h.even refl refl refl (no-thread s);
       };
@@ -349,28 +354,26 @@ polled-scheduled s n m p e asks here = by s.threaded refl
         omega (arith, e.same, more, one-here m n here, bit-most (at n p.devices))
     by false is = omega (arith, e.same, count-asked n m q.list q.run q.began (asks.list is), one-here m n here, bit-most (at n p.devices))
 
-never-polled : (s : MachineSettings) (n : ℕ) (ds : QueueViews) → is_polling s ≡ true → NeverMasked s n ds
-never-polled s n ds polling lone = cc (polling, lone)
-
 stand-polled : (s : MachineSettings) (n m given : ℕ) (p : ProcessorView) → Polls s m p → Even s n (by_thread s (one m n)) p
     → Stands s n (ends_poll m given p)
 unfolding threads
 stand-polled s n m given p g e =
     let ds = changed (queue_polled p.clock given p.settings) m p.devices in
     let full = given == p.settings.weight in
-    let bits : scheduled_at (at n ds) + (if full then 0 else one m n) ≡ scheduled_at (at n p.devices) =
+    let again = is_missed_at (at m p.devices) in
+    let bits : scheduled_at (at n ds) + (if full || again then 0 else one m n) ≡ scheduled_at (at n p.devices) =
     bits-polled p.clock given p.settings m n p.devices (λ here. polled-scheduled s n m p e g.asks here) in
     polled-by (Stands s n) m given p
     (λ counts t.
     let all : by_thread s (one m n) ≡ one m n = rw (sym (same-threaded s p g.rests.settings) ∙ t) refl in
-    idle-stands s n _ g.nothing (record { same = omega (arith, by full, bits, e.same, all); never = never-polled s n ds g.polling }))
+    idle-stands s n _ g.nothing (record { same = omega (arith, by (full || again), bits, e.same, all) }))
     (λ counts t.
     let single : s.threaded ≡ false = sym (same-threaded s p g.rests.settings) ∙ t in
     let none : by_thread s (one m n) ≡ 0 = rw single refl in
-    let told = listed-told n m full given p.softirq.list p.softirq.run p.softirq.began (g.asks.list single) in
-    idle-stands s n _ g.nothing (record { same = omega (arith, told, bits, e.same, none); never = never-polled s n ds g.polling }))
+    let told = listed-told n m full again given p.softirq (g.asks.list single) in
+    idle-stands s n _ g.nothing (record { same = omega (arith, told, bits, e.same, none) }))
   where
-    by : (full : Bool) → threads n (if full then Thread m ∷ p.tasks else p.tasks) + (if full then 0 else one m n)
+    by : (again : Bool) → threads n (if again then Thread m ∷ p.tasks else p.tasks) + (if again then 0 else one m n)
         ≡ one m n + threads n p.tasks
     by true = omega arith
     by false = omega arith
@@ -379,52 +382,39 @@ stand-looks : (s : MachineSettings) (n m given : ℕ) (p : ProcessorView) → Po
     → Stands s n (poll_looks m given p)
 stand-looks s n m given p g e =
     let q : ProcessorView = record p { devices = changed (without_next p.settings.backlog) m p.devices } in
-    let k = kept-changed (without_next p.settings.backlog) m n p.devices (kept-next p.settings.backlog) in
-    let first : Even s n (by_thread s (one m n)) q = record {
-      same = e.same ∙ sym k.scheduled;
-      never = never-polled s n q.devices g.polling;
-    } in
-    looks-by (Stands s n) m given p (λ came is less. record { even = record { same = first.same; never = first.never } })
+    let k = kept-changed (without_next p.settings.backlog) m n p.devices (next-scheduled p.settings.backlog) in
+    let first : Even s n (by_thread s (one m n)) q = record { same = e.same ∙ sym k } in
+    looks-by (Stands s n) m given p (λ came is less. record { even = record { same = first.same } })
     (λ none. stand-polled s n m given q (polls-devices s m q.devices p g) first) (λ full. stand-polled s n m given p g e)
 
 even-kept : (s : MachineSettings) (n k : ℕ) (p q : ProcessorView) → Even s n k p → places n q ≡ places n p
-    → KeptAt (at n p.devices) (at n q.devices) → Even s n k q
-even-kept s n k p q h1 h2 h3 = grind (arith, common_steps)
+    → scheduled_at (at n q.devices) ≡ scheduled_at (at n p.devices) → Even s n k q
+even-kept s n k p q e same kept = record { same = omega (arith, e.same, same, kept) }
 
 delivers-even : (s : MachineSettings) (n k m came : ℕ) (p : ProcessorView) → Even s n k p → Even s n k (delivers m came p)
 unfolding delivers
 delivers-even s n k m came p e =
     even-kept s n k p (delivers m came p) e
     (omega (arith, threads-woken n (p.settings.threaded && not p.settings.apart && has_place p.application) p.tasks))
-    (kept-changed (queue_delivered p.clock came) m n p.devices (λ d. kept-same d.phase))
+    (kept-changed (queue_delivered p.clock came) m n p.devices (λ d. refl))
 
 even-next : (s : MachineSettings) (n k m : ℕ) (p : ProcessorView) → Even s n k p
     → Even s n k (record p { devices = changed (without_next false) m p.devices })
-even-next s n k m p e = even-kept s n k p _ e refl (kept-changed (without_next false) m n p.devices (kept-next false))
+even-next s n k m p e = even-kept s n k p _ e refl (kept-changed (without_next false) m n p.devices (next-scheduled false))
 
 -- after an interrupt on a machine without polling, a queue is scheduled exactly if its number occurs once
-even-again : (s : MachineSettings) (n m : ℕ) (p : ProcessorView) → is_polling s ≡ false → Even s n 0 p
+even-again : (s : MachineSettings) (n m : ℕ) (p : ProcessorView) → Even s n 0 p
     → Even s n 0 (record p { devices = changed raised_again m p.devices })
-unfolding map_at
-even-again s n m p lone e =
-    even-kept s n 0 p _ e refl
-    (at-keeps (λ o. KeptAt (at n p.devices) o) raised_again m n p.devices (λ here k. by (at n p.devices) (e.never lone))
-    (record { scheduled = refl; masked = refl }))
-  where
-    by : (o : Option QueueView) → masked_at o ≡ false → KeptAt o (map_at raised_again o)
-    by None never = record { scheduled = refl; masked = refl }
-    by (Some d) never =
-        let k = kept-raised d.phase (length d.ring == 0) never in
-        record { scheduled = ap (λ (b : Bool). if b then 1 else 0) k.scheduled; masked = k.masked }
+even-again s n m p e = even-kept s n 0 p _ e refl (kept-changed raised_again m n p.devices raised-scheduled)
 
-stand-lone : (s : MachineSettings) (n m : ℕ) (o : Option ℕ) (p : ProcessorView) → p.work ≡ Nothing → is_polling s ≡ false → Even s n 0 p
+stand-lone : (s : MachineSettings) (n m : ℕ) (o : Option ℕ) (p : ProcessorView) → p.work ≡ Nothing → Even s n 0 p
     → let q = delivers_oldest m o p in Stands s n (record q { devices = changed raised_again m q.devices })
 unfolding delivers
-stand-lone s n m None p nothing lone e = idle-stands s n _ nothing (even-again s n m p lone e)
-stand-lone s n m (Some came) p nothing lone e =
+stand-lone s n m None p nothing e = idle-stands s n _ nothing (even-again s n m p e)
+stand-lone s n m (Some came) p nothing e =
     let q : ProcessorView = record p { devices = changed (without_next false) m p.devices } in
     let r = delivers m came q in
-    idle-stands s n _ nothing (even-again s n m r lone (delivers-even s n 0 m came q (even-next s n 0 m p e)))
+    idle-stands s n _ nothing (even-again s n m r (delivers-even s n 0 m came q (even-next s n 0 m p e)))
 
 stand-work : (s : MachineSettings) (n : ℕ) (w : Work) (p : ProcessorView) → Rests s p → p.work ≡ Nothing → Asks s (polled_by w) p.softirq
     → (is_polling s ≡ false → polled_by w ≡ None) → Even s n (by_thread s (polled_at n w)) p → Stands s n (ends_by w p)
@@ -432,7 +422,7 @@ unfolding ends_interrupt
 stand-work s n (Interrupt m) p h nothing asks polled e =
     let e0 = even-of s n (by_thread s 0) 0 p p e refl refl refl (sym (no-thread s)) in
     either (Stands s n) (is_polling p.settings) p (ends_interrupt m p) (λ polling. idle-stands s n p nothing e0)
-    (λ lone. stand-lone s n m (next_packet_at false (at m p.devices)) p nothing (sym (same-polling s p h.settings) ∙ lone) e0)
+    (λ lone. stand-lone s n m (next_packet_at false (at m p.devices)) p nothing e0)
 stand-work s n (Poll m) p h nothing asks polled e = stand-looks s n m 0 p (polls-of s m (Poll m) p h nothing asks polled refl) e
 stand-work s n (Packet hand) p h nothing asks polled e =
     let g = polls-of s hand.device (Packet hand) p h nothing asks polled refl in
@@ -447,22 +437,19 @@ stand-ended s n p h1 h2 = grind (arith, common_steps, stand-work)
 
 -- ---- over a processor's life
 
-kept-expires : (e : Option ℕ) (n : ℕ) (ds : QueueViews) → KeptAt (at n ds) (at n (expired_at e ds))
-kept-expires None n ds = record { scheduled = refl; masked = refl }
-kept-expires (Some m) n ds = kept-changed expired m n ds (λ d. kept-expired d.phase)
+kept-expires : (e : Option ℕ) (n : ℕ) (ds : QueueViews) → scheduled_at (at n (expired_at e ds)) ≡ scheduled_at (at n ds)
+kept-expires None n ds = refl
+kept-expires (Some m) n ds = kept-changed expired m n ds expired-scheduled
 
-kept-arrived : (moment m n : ℕ) (p : ProcessorView) → KeptAt (at n p.devices) (at n (devices_arrived moment m p))
-kept-arrived moment m n p = record {
-  scheduled = at-arrives (λ o. scheduled_at o ≡ scheduled_at (at n p.devices)) moment m n p
-      (λ d is. ap (λ (b : Bool). if b then 1 else 0) (same-packet moment p.settings d)
-      ∙ (ap (λ (e : QueueView). scheduled_at (Some e)) is ∙ made-part scheduled_at p.settings.ring (at n p.devices) refl)) refl;
-  masked = at-arrives (λ o. masked_at o ≡ masked_at (at n p.devices)) moment m n p
-      (λ d is. masked-packet moment p.settings d
-      ∙ (ap (λ (e : QueueView). is_masked e.phase) is ∙ made-part masked_at p.settings.ring (at n p.devices) refl)) refl;
-}
+kept-arrived : (moment m n : ℕ) (p : ProcessorView) → scheduled_at (at n (devices_arrived moment m p)) ≡ scheduled_at (at n p.devices)
+kept-arrived moment m n p =
+    at-arrives (λ o. scheduled_at o ≡ scheduled_at (at n p.devices)) moment m n p
+    (λ d is. ap (λ (b : Bool). if b then 1 else 0) (same-packet moment p.settings d)
+    ∙ (ap (λ (e : QueueView). scheduled_at (Some e)) is ∙ made-part scheduled_at p.settings.ring (at n p.devices) refl)) refl
 
 stand-kept : (s : MachineSettings) (n clock : ℕ) (counts : ProcessorCounts) (devices : QueueViews) (p : ProcessorView)
-    → KeptAt (at n p.devices) (at n devices) → Stands s n p → Stands s n (record p { clock = clock; counts = counts; devices = devices })
+    → scheduled_at (at n devices) ≡ scheduled_at (at n p.devices) → Stands s n p
+    → Stands s n (record p { clock = clock; counts = counts; devices = devices })
 stand-kept s n clock counts devices p k h = record { even = even-kept s n (by_thread s (polled_at n p.work)) p _ h.even refl k }
 
 stand-life : (s : MachineSettings) (n : ℕ) → Life s (Lies s n) (Stands s n) (Stands s n)
@@ -477,7 +464,7 @@ stand-life s n = record {
 
 pub stands-on : (s : MachineSettings) (n : ℕ) (events : List MachineEvent) → Stands s n (behind s events)
 unfolding behind step listed_at count_in count threads
-stands-on s n [] = record { even = record { same = omega (arith, no-thread s); never = λ lone. refl } }
+stands-on s n [] = record { even = record { same = omega (arith, no-thread s) } }
 stands-on s n (packet moment m ∷ earlier) =
     let p = behind s earlier in
     let now = stand-kept s n (if is_busy p.work then p.clock else moment) p.counts (devices_arrived moment m p) p

@@ -2,7 +2,7 @@
 use Rattle.std.proofs.Common.{◌≡◌, ℕ, Bool, true, false, Option, Some, None}
 use Rattle.std.proofs.{Common.{refl, subst, arith}, lemmas.{Bool.{eqb-true}, Grind.{common_steps}}}
 use Rattle.std.{specs.Prelude.{◌==◌}}
-use Rattle.device_rows.specs.Places.{DeviceTable, at, changed, changed_from}
+use Rattle.device_places.specs.Places.{DeviceTable, at, changed, changed_from}
 
 unfoldable pub map_at : {A : Type 0} → (A → A) → Option A → Option A
 map_at f None = None

@@ -1,29 +1,42 @@
 -- Law: a queue has no packets unless its interrupt is raised, deferred or in progress.
-use Rattle.std.proofs.Common.{◌≡◌, ◌∙◌, ℕ, ◌+◌, ◌<◌, ◌≤◌, Bool, true, false, Option, Some, None, List, [], ◌∷◌, refl, sym, ap}
-use Rattle.std.proofs.Common.{arith}
+use Rattle.std.proofs.Common.{◌≡◌, ◌∙◌, ℕ, ◌+◌, ◌<◌, ◌≤◌, Bool, true, false, Option, Some, None, List, [], ◌∷◌, ◌++◌, refl, sym, ap}
+use Rattle.std.proofs.Common.{arith, length}
 use Rattle.std.proofs.lemmas.{Bool.{and_left, and_right, eq-eqb, ltb-false}, Grind.common_steps}
-use Rattle.std.specs.Prelude.{◌==◌, ◌&&◌, if◌then◌else◌, nat_lt, not}
+use Rattle.std.specs.Prelude.{◌==◌, ◌&&◌, ◌||◌, if◌then◌else◌, is_some, nat_le, nat_lt, not}
 use Rattle.machine_model.specs.declared.settings.MachineSettings.{MachineSettings}
-use Rattle.device_rows.specs.Places.{at, changed}
+use Rattle.device_places.specs.Places.{at, changed}
 use Rattle.machine.specs.{Lives.{MachineEvent, behind, next, packet}, Fates.{taken_in}}
-use Rattle.machine_model.specs.declared.device.Phase.{Phase, TheVariants.{Quiet, Scheduled}}
+use Rattle.machine_model.specs.declared.device.{Phase.Phase, Line.{Line, TheVariants.{Quiet, Raised}}}
+use Rattle.machine_model.specs.declared.device.Expiry.{Expiry, TheVariants.Expired}
 use Rattle.machine_model.specs.declared.processor.{Work.{Work, TheVariants.{Interrupt, Packet}}, InHand.InHand}
-use Rattle.machine_model.specs.Device.{QueueView, after_packet, expired, expired_phase, has_room, interrupted, notified, queue_polled}
-use Rattle.machine_model.specs.Device.{raised_again, without_next}
-use Rattle.machine_model.specs.Devices.{QueueViews, next_packet_at}
+use Rattle.machine_model.specs.Device.{QueueView, after_packet, coalesced, completed_state, expired, expired_phase, handled, has_room}
+use Rattle.machine_model.specs.Device.{interrupted, is_fired, is_napi_idle, is_masked, is_missed, notified, queue_completed}
+use Rattle.machine_model.specs.Device.{queue_polled, raised_again, unmasked_line, without_next}
+use Rattle.machine_model.specs.{Devices.{QueueViews, next_packet_at}, Waits.saturated}
 use Rattle.machine_model.specs.Kept.{is_scheduled, polled_by, scheduled_at}
 use Rattle.machine_model.specs.Processor.{ProcessorView, is_polling, step, upcoming}
 use Rattle.machine_model.proofs.PendingFacts.{phase-next}
-use Rattle.machine.proofs.TableFacts.{IfThere, at-apart, at-either, at-keeps, at-kept, at-same, map_at}
-use Rattle.machine.proofs.{EndFacts.{Ends, Looks, ends}}
+use Rattle.machine.proofs.TableFacts.{IfThere, at-apart, at-either, at-keeps, at-kept, at-same, map-there, map_at}
+use Rattle.machine.proofs.{EndFacts.{Ends, Keeps, Looks, ends, ends-at}}
 use Rattle.machine.proofs.WorkFacts.{Goes, Life, devices_arrived, expired_at, goes-on, life-arrives, life-happens, same-polling}
 use Rattle.machine.proofs.FateFacts.{IsPlain, at-arrives, look-none, made_at, next-none-at, packet-queued, plain-of, queued}
-use Rattle.machine.proofs.FateFacts.{queued-delivered, queued-expired, queued-polled}
+use Rattle.machine.proofs.FateFacts.{Steady, queued-delivered, queued-expired, queued-interrupted, queued-polled, steady-life}
 use Rattle.machine.proofs.StandFacts.{Stands, polled_at, scheduled-of, stands-on}
 use Rattle.machine_model.specs.Device as device
 
+abbrev pub is_quiet_line : Line → Bool
+is_quiet_line Quiet = true
+is_quiet_line _ = false
+
+-- no interrupt is to come, and no poll
+abbrev pub is_quiet : Phase → Bool
+is_quiet phase = is_quiet_line phase.line && is_napi_idle phase.state
+
+abbrev pub Held : QueueView → Type 0
+Held d = is_quiet d.phase ≡ true → queued (Some d) ≡ []
+
 abbrev pub Tend : Option QueueView → Type 0
-Tend o = IfThere (λ d. d.phase ≡ Quiet → queued (Some d) ≡ []) o
+Tend o = IfThere Held o
 
 -- its interrupt is in progress, on a machine without polling
 abbrev pub lone : MachineSettings → ℕ → Work → Bool
@@ -34,17 +47,29 @@ abbrev pub Tended : MachineSettings → ℕ → ProcessorView → Type 0
 Tended s n p = lone s n p.work ≡ false → Tend (at n p.devices)
 
 -- a change of a queue that keeps its packets, and by which it isn't quiet if it wasn't before
-tend-kept : (f : QueueView → QueueView) (m n : ℕ) (ds : QueueViews) → ((d : QueueView) → (f d).phase ≡ Quiet → d.phase ≡ Quiet)
+tend-kept : (f : QueueView → QueueView) (m n : ℕ) (ds : QueueViews)
+    → ((d : QueueView) → is_quiet (f d).phase ≡ true → is_quiet d.phase ≡ true)
     → ((d : QueueView) → queued (Some (f d)) ≡ queued (Some d)) → Tend (at n ds) → Tend (at n (changed f m ds))
-tend-kept f m n ds h1 h2 h3 = grind (arith, common_steps)
+tend-kept f m n ds h1 h2 h3 =
+    at-keeps Tend f m n ds (λ here. map-there Held Held f (at n ds) (λ d held is. h2 d ∙ held (h1 d is))) h3
 
 -- ---- when work begins, and when timers expire
 
-masked-now : (d : QueueView) → (interrupted true d).phase ≡ Scheduled
-unfolding interrupted
-masked-now d = grind (arith, common_steps)
+quiet-handled : (phase : Phase) → is_quiet (handled true phase) ≡ true → is_quiet phase ≡ true
+quiet-handled phase is = grind (arith, common_steps)
 
-quiet-expired : (phase : Phase) → expired_phase phase ≡ Quiet → phase ≡ Quiet
+pub handled-phase : (polling : Bool) (d : QueueView) → (interrupted polling d).phase ≡ handled polling d.phase
+unfolding interrupted
+handled-phase polling d = by (is_fired d.phase)
+  where
+    by : (b : Bool)
+        → (let e = record d { phase = handled polling d.phase } in
+        let counts = record d.counts { interrupts = saturated (d.counts.interrupts + 1) } in
+        (if b then e else record e { frames = 0; counts = counts }).phase ≡ handled polling d.phase)
+    by true = refl
+    by false = refl
+
+quiet-expired : (phase : Phase) → is_quiet (expired_phase phase) ≡ true → is_quiet phase ≡ true
 quiet-expired phase is = grind (arith, common_steps)
 
 tend-life : (s : MachineSettings) (n : ℕ) → Life s (λ p. (p.settings ≡ s) × Tend (at n p.devices)) (Tended s n) (Tended s n)
@@ -53,7 +78,7 @@ tend-life s n = record {
   walk = record {
     interrupt = λ m time counts p free h asks none.
         at-either (λ b o. (not (is_polling p.settings) && b) ≡ false → Tend o) (interrupted (is_polling p.settings)) m n p.devices
-        (λ here. by (is_polling p.settings) (at n p.devices)) (λ other no. h.1) (rw h.0 none);
+        (λ here. by (is_polling p.settings) (at n p.devices) h.1) (λ other no. h.1) (rw h.0 none);
     next = λ p free h. h;
     asks = λ m p h asked none. h.1;
     over = λ counts p free h. h;
@@ -70,10 +95,11 @@ tend-life s n = record {
   moved = λ e clock counts p h none. also e p.devices (h none);
 }
   where
-    by : (polling : Bool) (o : Option QueueView) → (not polling && true) ≡ false → Tend (map_at (interrupted polling) o)
-    by polling None none = tt
-    by true (Some d) none = λ quiet. cc (masked-now d, quiet)
-    by false (Some d) none = cc none
+    by : (polling : Bool) (o : Option QueueView) → Tend o → (not polling && true) ≡ false → Tend (map_at (interrupted polling) o)
+    by polling None t none = tt
+    by true (Some d) t none = λ quiet.
+        queued-interrupted true d ∙ t (quiet-handled d.phase (sym (ap is_quiet (handled-phase true d)) ∙ quiet))
+    by false (Some d) t none = cc none
 
     also : (e : Option ℕ) (ds : QueueViews) → Tend (at n ds) → Tend (at n (expired_at e ds))
     also None ds t = t
@@ -90,7 +116,7 @@ tend-again : (m n : ℕ) (ds : QueueViews) → taken_in (at n ds) ≡ [] → ((m
 unfolding map_at queued
 tend-again m n ds h1 h2 = grind (arith, common_steps)
 
-sched-quiet : (phase : Phase) → ◌≡◌ {A = ℕ} (if is_scheduled phase then 1 else 0) 1 → phase ≡ Quiet → ⊥
+sched-quiet : (phase : Phase) → ◌≡◌ {A = ℕ} (if is_scheduled phase then 1 else 0) 1 → is_quiet phase ≡ true → ⊥
 sched-quiet phase is quiet = grind (arith, common_steps)
 
 full-is : (given weight : ℕ) → given ≤ weight → nat_lt given weight ≡ false → (given == weight) ≡ true
@@ -114,7 +140,7 @@ looks-tend s n m given now ds most plain scheduled t = record {
       ∙ (next-none-at s.backlog (at n ds) (plain n) (at-same (λ o. next_packet_at s.backlog o ≡ None) m n ds here none)).0)) next;
   full = λ not-less.
       tend-kept (queue_polled now given s) m n ds
-      (λ d quiet. sym (full-polled s now given d (full-is given s.weight most not-less)) ∙ quiet)
+      (λ d quiet. sym (ap is_quiet (full-polled s now given d (full-is given s.weight most not-less))) ∙ quiet)
       (queued-polled now given s) t;
 }
   where
@@ -123,7 +149,7 @@ looks-tend s n m given now ds most plain scheduled t = record {
 
     by : (o : Option QueueView) → scheduled_at o ≡ 1 → Tend (map_at (without_next s.backlog) o)
     by None is = tt
-    by (Some d) is = λ quiet. absurd (sched-quiet d.phase is (sym (phase-next s.backlog d) ∙ quiet))
+    by (Some d) is = λ quiet. absurd (sched-quiet d.phase is (sym (ap is_quiet (phase-next s.backlog d)) ∙ quiet))
 
     next : Tend (at n es)
     next = at-keeps Tend (without_next s.backlog) m n ds (λ here held. by (at n ds) (scheduled here)) t
@@ -177,17 +203,37 @@ ends-tend s n p goes stands plain h = record {
 
 -- ---- a packet arrives
 
-packet-busy : (moment : ℕ) (s : MachineSettings) (d : QueueView) → has_room d ≡ true → (after_packet moment s d).phase ≡ Quiet → ⊥
-unfolding after_packet notified
-packet-busy moment s d room quiet = grind (arith, common_steps)
+notified-busy : (moment : ℕ) (s : MachineSettings) (d : QueueView) → is_quiet (notified moment s d).phase ≡ true → ⊥
+unfolding notified
+notified-busy moment s d quiet =
+    by d.phase (s.rx_nsecs == 0 || not (s.rx_frames == 0) && nat_le s.rx_frames (saturated (d.frames + 1)))
+    (saturated (moment + s.rx_nsecs)) quiet
+  where
+    by : (phase : Phase) (at_once : Bool) (until : ℕ)
+        → is_quiet (record phase { line = if at_once then Raised else coalesced until phase.line }) ≡ true → ⊥
+    by phase at_once until quiet = grind (arith, common_steps)
+
+masked-busy : (phase : Phase) → is_masked phase ≡ true → is_quiet phase ≡ true → ⊥
+masked-busy phase masked quiet = grind (arith, common_steps)
+
+packet-busy : (moment : ℕ) (s : MachineSettings) (d : QueueView) → has_room d ≡ true → is_quiet (after_packet moment s d).phase ≡ true → ⊥
+unfolding after_packet
+packet-busy moment s d room quiet = by (is_masked d.phase) refl (rw room at quiet)
+  where
+    e : QueueView
+    e = record d { counts = record d.counts { arrived = saturated (d.counts.arrived + 1) }; ring = d.ring ++ moment ∷ [] }
+
+    by : (b : Bool) → is_masked d.phase ≡ b → is_quiet (if b then e else notified moment s e).phase ≡ true → ⊥
+    by true masked quiet = masked-busy d.phase masked quiet
+    by false clear quiet = notified-busy moment s e quiet
 
 -- a packet that finds no room doesn't change the phase of its queue
 pub full-phase : (moment : ℕ) (s : MachineSettings) (d : QueueView) → has_room d ≡ false → (after_packet moment s d).phase ≡ d.phase
 unfolding after_packet
 full-phase moment s d full = rw full refl
 
-tend-packet : (moment : ℕ) (s : MachineSettings) (d : QueueView) → (d.phase ≡ Quiet → queued (Some d) ≡ [])
-    → (after_packet moment s d).phase ≡ Quiet
+tend-packet : (moment : ℕ) (s : MachineSettings) (d : QueueView) → (is_quiet d.phase ≡ true → queued (Some d) ≡ [])
+    → is_quiet (after_packet moment s d).phase ≡ true
     → queued (Some (after_packet moment s d)) ≡ []
 tend-packet moment s d h1 h2 = grind (arith, common_steps, packet-busy, packet-queued, full-phase)
 
@@ -196,7 +242,8 @@ unfolding made_at queued
 tend-arrives moment m n p t =
     at-arrives Tend moment m n p (λ d is. tend-packet moment p.settings d (rw is (by (at n p.devices) t))) t
   where
-    by : (o : Option QueueView) → Tend o → (made_at p.settings.ring o).phase ≡ Quiet → queued (Some (made_at p.settings.ring o)) ≡ []
+    by : (o : Option QueueView) → Tend o → is_quiet (made_at p.settings.ring o).phase ≡ true
+        → queued (Some (made_at p.settings.ring o)) ≡ []
     by None t quiet = refl
     by (Some d) t quiet = t quiet
 
@@ -215,3 +262,131 @@ tended-on s n (next ∷ earlier) =
     life-happens (tend-life s n) (upcoming p) p (goes-on s earlier) h h
     (λ is none. ends (λ o ds w. Tend (at n ds)) p
     (ends-tend s n p (goes-on s earlier) (stands-on s n earlier) (λ k. plain-of s k earlier) h))
+
+-- ---- a masked card
+
+abbrev pub is_unmet : Expiry → Bool
+is_unmet Expired = true
+is_unmet _ = false
+
+-- the card doesn't report packets, and nothing will unmask it
+abbrev pub is_stuck : Phase → Bool
+is_stuck phase = is_masked phase && is_napi_idle phase.state && not (is_some phase.timer || is_unmet phase.expiry)
+
+abbrev pub Unstuck : Option QueueView → Type 0
+Unstuck o = IfThere (λ d. is_stuck d.phase ≡ false) o
+
+unstuck-handled : (polling : Bool) (phase : Phase) → is_stuck phase ≡ false → is_stuck (handled polling phase) ≡ false
+unstuck-handled polling phase free = grind (arith, common_steps)
+
+unstuck-expired : (phase : Phase) → is_stuck phase ≡ false → is_stuck (expired_phase phase) ≡ false
+unstuck-expired phase free = grind (arith, common_steps)
+
+unstuck-steady : Steady Unstuck
+unfolding map_at
+unstuck-steady = record {
+  interrupted = λ polling o asks t. first polling o t;
+  expired = λ o t. second o t;
+}
+  where
+    first : (polling : Bool) (o : Option QueueView) → Unstuck o → Unstuck (map_at (interrupted polling) o)
+    first polling None t = tt
+    first polling (Some d) t = ap is_stuck (handled-phase polling d) ∙ unstuck-handled polling d.phase t
+
+    second : (o : Option QueueView) → Unstuck o → Unstuck (map_at expired o)
+    second None t = tt
+    second (Some d) t = unstuck-expired d.phase t
+
+-- a queue that completes and stays masked has a timer, or is scheduled again
+unstuck-completed : (now : ℕ) (defers heedless : Bool) (gro : ℕ) (phase : Phase)
+    → is_stuck (record {
+      line = if defers && not heedless then phase.line else unmasked_line phase.line;
+      state = completed_state phase.state;
+      timer = if defers && not (is_missed phase) then Some (saturated (now + gro)) else phase.timer;
+      expiry = phase.expiry;
+    })
+    ≡ false
+unstuck-completed now defers heedless gro phase = grind (arith, common_steps)
+
+unstuck-polled : (now given : ℕ) (s : MachineSettings) (d : QueueView) → is_stuck d.phase ≡ false
+    → is_stuck (queue_polled now given s d).phase ≡ false
+unfolding queue_polled queue_completed
+unstuck-polled now given s d free = by (given == s.weight)
+  where
+    e : QueueView
+    e = record d { counts = record d.counts { polls = saturated (d.counts.polls + 1) } }
+
+    by : (full : Bool) → is_stuck (if full then e else queue_completed now given s e).phase ≡ false
+    by true = free
+    by false =
+        let k = if given == 0 then d.deferrals else s.defer_hard_irqs in
+        unstuck-completed now (not (k == 0) && not (s.gro_flush_timeout == 0)) s.heedless s.gro_flush_timeout d.phase
+
+unstuck-raised : (phase : Phase) (b : Bool) → is_stuck phase ≡ false
+    → is_stuck (if b then phase else record phase { line = Raised }) ≡ false
+unstuck-raised phase true free = free
+unstuck-raised phase false free = refl
+
+unstuck-ends : (p : ProcessorView) → Keeps Unstuck p
+unfolding map_at
+unstuck-ends p = record { raised = first; next = λ backlog o plain polls t. second backlog o t; delivered = third; polled = fourth }
+  where
+    first : (o : Option QueueView) → Unstuck o → Unstuck (map_at raised_again o)
+    first None t = tt
+    first (Some d) t = unstuck-raised d.phase (length d.ring == 0) t
+
+    second : (backlog : Bool) (o : Option QueueView) → Unstuck o → Unstuck (map_at (without_next backlog) o)
+    second backlog None t = tt
+    second backlog (Some d) t = ap is_stuck (phase-next backlog d) ∙ t
+
+    third : (came : ℕ) (o : Option QueueView) → Unstuck o → Unstuck (map_at (device.queue_delivered p.ends came) o)
+    third came None t = tt
+    third came (Some d) t = t
+
+    fourth : (given : ℕ) (o : Option QueueView) → Unstuck o → Unstuck (map_at (queue_polled p.ends given p.settings) o)
+    fourth given None t = tt
+    fourth given (Some d) t = unstuck-polled p.ends given p.settings d t
+
+notified-unstuck : (phase : Phase) (at_once : Bool) (until : ℕ) → is_masked phase ≡ false
+    → is_stuck (record phase { line = if at_once then Raised else coalesced until phase.line }) ≡ false
+notified-unstuck phase at_once until clear = grind (arith, common_steps)
+
+unstuck-packet : (moment : ℕ) (s : MachineSettings) (d : QueueView) → is_stuck d.phase ≡ false
+    → is_stuck (after_packet moment s d).phase ≡ false
+unfolding after_packet notified
+unstuck-packet moment s d free = by (has_room d) (is_masked d.phase) refl
+  where
+    e : QueueView
+    e = record d { counts = record d.counts { arrived = saturated (d.counts.arrived + 1) } }
+
+    f : QueueView
+    f = record e { ring = d.ring ++ moment ∷ [] }
+
+    by : (room masked : Bool) → is_masked d.phase ≡ masked
+        → is_stuck (if not room then record e { counts = record e.counts { dropped = saturated (d.counts.dropped + 1) } }
+        else (if masked then f else notified moment s f)).phase ≡ false
+    by false masked is = free
+    by true true is = free
+    by true false is =
+        notified-unstuck d.phase (s.rx_nsecs == 0 || not (s.rx_frames == 0) && nat_le s.rx_frames (saturated (d.frames + 1)))
+        (saturated (moment + s.rx_nsecs)) is
+
+pub unstuck-on : (s : MachineSettings) (n : ℕ) (events : List MachineEvent) → Unstuck (at n (behind s events).devices)
+unfolding behind step made_at
+unstuck-on s n [] = tt
+unstuck-on s n (packet moment m ∷ earlier) =
+    let p = behind s earlier in
+    let before = unstuck-on s n earlier in
+    let now = at-arrives Unstuck moment m n p
+    (λ d is. unstuck-packet moment p.settings d (rw is (made (at n p.devices) before))) before in
+    life-arrives (steady-life s Unstuck unstuck-steady n) moment m p (goes-on s earlier) now (λ full. now)
+  where
+    made : (o : Option QueueView) → Unstuck o → is_stuck (made_at (behind s earlier).settings.ring o).phase ≡ false
+    made None t = refl
+    made (Some d) t = t
+unstuck-on s n (next ∷ earlier) =
+    let p = behind s earlier in
+    let goes = goes-on s earlier in
+    let before = unstuck-on s n earlier in
+    life-happens (steady-life s Unstuck unstuck-steady n) (upcoming p) p goes before before
+    (λ is. ends-at Unstuck n p (unstuck-ends p) before)

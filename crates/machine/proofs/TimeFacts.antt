@@ -6,14 +6,14 @@ use Rattle.std.proofs.Common.{ap}
 use Rattle.std.proofs.{Common.{arith}, lemmas.{Bool.{and_left, and_parts, leb-true}}}
 use Rattle.std.specs.{List.AllByRecursion, Prelude.{◌==◌, ◌&&◌, if◌then◌else◌, is_some, not, position}}
 use Rattle.machine_model.specs.declared.settings.MachineSettings.{MachineSettings}
-use Rattle.device_rows.specs.Places.{at, changed}
+use Rattle.device_places.specs.Places.{at, changed}
 use Rattle.circular_buffer.specs.Buffer.{buffer}
 use Rattle.machine.specs.{Deferrals.TimersAreNear, Lives.{MachineEvent, InTurn, behind, next, packet}, Times.{ClocksNeverFall}}
 use Rattle.machine.specs.Fates.{delivery_of, finds_room, taken_in}
 use Rattle.machine_model.specs.declared.processor.Work.{Work}
 use Rattle.machine_model.specs.declared.processor.Work.TheVariants.{Interrupt, Poll, Packet, Use}
 use Rattle.machine_model.specs.declared.processor.{InHand.{InHand}, ProcessorCounts.ProcessorCounts, Rest.{Rest}}
-use Rattle.machine_model.specs.declared.{device.Phase.TheVariants.Deferred, processor.{Upcoming.{Upcoming, TheVariants.{Never, Expires}}}}
+use Rattle.machine_model.specs.declared.{processor.{Upcoming.{Upcoming, TheVariants.{Never, Expires}}}}
 use Rattle.machine_model.specs.{Softirq.{SoftirqView, run_ended, run_next}, Waits.{saturated}}
 use Rattle.machine_model.specs.declared.tasks.RunnableTask.{RunnableTask}
 use Rattle.machine_model.specs.Device.{QueueView, expired, interrupted, queue_polled, raised_again, without_next}
@@ -22,14 +22,14 @@ use Rattle.machine_model.specs.Application.{ApplicationView, fed}
 use Rattle.machine_model.specs.Processor.{ProcessorView, arrives, begins, disturbed, ends_current, happens, is_busy, is_by, is_due}
 use Rattle.machine_model.specs.Processor.{is_polling, step, takes_up, upcoming}
 use Rattle.machine.proofs.TableFacts.{at-kept, map-kept, map-there, map_at}
-use Rattle.machine.proofs.WalkFacts.{Walk, either, enqueued, nexted, started, stirred, stirred-by, walk-any}
+use Rattle.machine.proofs.WalkFacts.{Walk, either, enqueued, is_scheduling, nexted, started, stirred, stirred-by, walk-any}
 use Rattle.machine.proofs.EndFacts.{Keeps, Looks, ends, ends-at, feeds}
 use Rattle.machine.proofs.WorkFacts.{Goes, devices_arrived, goes-on, goes-unasked, same-polling}
 use Rattle.machine.proofs.WorkFacts.{work-ended, work-moved, work-stirred}
 use Rattle.machine.proofs.FateFacts.{IsPlain, Steady, arrived-queued, at-arrived, ends-plain, made_at, next-keeps}
 use Rattle.machine.proofs.FateFacts.{next-some-at, plain-on, queued, queued-delivered, queued-expired, queued-interrupted}
 use Rattle.machine.proofs.FateFacts.{queued-polled, queued-raised, steady-life}
-use Rattle.machine.proofs.TimerFacts.{NextBy, NotBefore, Set, SetAt, next-is, not-due, set-expired, set-first, set-interrupted}
+use Rattle.machine.proofs.TimerFacts.{NextBy, NotBefore, SetAt, SetTimer, next-is, not-due, set-expired, set-first, set-interrupted}
 use Rattle.machine.proofs.TimerFacts.{set-later}
 use Rattle.machine.proofs.TimerFacts.{set-next, set-packet, set-polled, set-raised}
 use Rattle.machine.proofs.SocketFacts.{fed-here}
@@ -169,7 +169,7 @@ timed-walk s t = record {
   interrupt = λ n time counts p free b asks.
       let h = b.waits in
       timed-begins s t (Interrupt n) time
-      (enqueued n (record p { devices = changed (interrupted (is_polling p.settings)) n p.devices; counts = counts }))
+      (enqueued (is_scheduling n p) n (record p { devices = changed (interrupted (is_polling p.settings)) n p.devices; counts = counts }))
       (record {
         settings = h.settings;
         cells = λ m. (steady-life s (Cell s t) (cell-steady s t) m).walk.interrupt n time counts p free (h.cells m) asks;
@@ -490,7 +490,7 @@ cell-arrived s moment n m p fits c = record {
     made = made_at p.settings.ring (at m p.devices)
 
     new : (o : Option QueueView) → SetAt moment s.gro_flush_timeout o → SetAt moment s.gro_flush_timeout (Some (made_at p.settings.ring o))
-    new None set = tt
+    new None set = (tt, tt)
     new (Some d) set = set
 
     one : (b : Bool) → AllByRecursion (λ x. x ≤ moment) (if b then moment ∷ [] else [])
@@ -577,10 +577,10 @@ clocks-never-fall s until event earlier fits turns =
     ((rises s until event earlier fits turns).clock, omega (arith, l.timed.clock, l.within))
 
 pub timers-are-near : TimersAreNear
-timers-are-near s moment events n d until fits turns there deferred =
+timers-are-near s moment events n d until fits turns there is =
     let l = since s moment events fits turns in
     let set : SetAt (now s events) s.gro_flush_timeout (Some d) = rw there at (l.timed.waits.cells n).timer in
-    let near : Set (now s events) s.gro_flush_timeout (Deferred until) = rw deferred at set in
+    let near : SetTimer (now s events) s.gro_flush_timeout (Some until) = rw is at set.1 in
     omega (arith, near.2, l.within)
 
 -- ---- no wait is shorter than the time of its work

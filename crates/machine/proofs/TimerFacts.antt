@@ -1,18 +1,19 @@
 -- Timers: none that is set is before the last event, after the next event, or too late.
-use Rattle.std.proofs.Common.{◌≡◌, ℕ, zero, suc, ◌+◌, ◌-◌, ◌<◌, ◌≤◌, ◌^◌, Bool, true, false, Option, Some, None, [], ◌∷◌, refl}
-use Rattle.std.proofs.Common.{arith}
+use Rattle.std.proofs.Common.{◌≡◌, ℕ, zero, suc, ◌+◌, ◌-◌, ◌<◌, ◌≤◌, ◌^◌, Bool, true, false, Option, Some, None, [], ◌∷◌, ◌++◌, refl}
+use Rattle.std.proofs.Common.{arith, length, subst, sym}
 use Rattle.std.proofs.lemmas.{Bool.{leb-true, leb-false}, Grind.common_steps}
-use Rattle.std.specs.{Option.{option_map, option_map_or}, Prelude.{◌&&◌, if◌then◌else◌, nat_le}}
+use Rattle.std.specs.{Option.{option_map, option_map_or}, Prelude.{◌==◌, ◌&&◌, ◌||◌, if◌then◌else◌, is_some, nat_le, not}}
 use Rattle.machine_model.specs.declared.settings.MachineSettings.{MachineSettings}
-use Rattle.device_rows.specs.Places.{at}
+use Rattle.device_places.specs.Places.{at}
 use Rattle.machine_model.specs.declared.devices.Timer.{Timer}
-use Rattle.machine_model.specs.declared.device.Phase.{Phase}
-use Rattle.machine_model.specs.declared.device.Phase.TheVariants.{Coalescing, Deferred}
+use Rattle.machine_model.specs.declared.device.{Phase.Phase, Line.{Line, TheVariants.{Quiet, Coalescing, Raised, Masked}}}
 use Rattle.machine_model.specs.declared.processor.Upcoming.{Upcoming, TheVariants.{Never, Ends, Expires}}
-use Rattle.machine_model.specs.Device.{QueueView, after_packet, expired, interrupted, notified, queue_completed, queue_polled, raised_again}
+use Rattle.machine_model.specs.Device.{QueueView, after_napi_timer, after_packet, card_timer, coalesced, expired, expired_phase, handled}
+use Rattle.machine_model.specs.Device.{has_room, interrupted, is_card_first, is_fired, is_masked, is_missed, notified, queue_completed}
+use Rattle.machine_model.specs.{Device.{queue_polled, raised_again, unmasked_line}, Waits.saturated}
 use Rattle.machine_model.specs.{Device.{timer_of, without_next}, Devices.{QueueViews, soonest_from, sooner, timer_at}}
 use Rattle.machine_model.specs.Processor.{ProcessorView, is_busy, is_by, is_due, upcoming}
-use Rattle.machine_model.proofs.WeightFacts.{soonest-is}
+use Rattle.machine_model.proofs.{PendingFacts.phase-next, WeightFacts.{soonest-is}}
 use Rattle.machine.proofs.{TableFacts.IfThere}
 
 -- ---- a timer that isn't before a given time
@@ -108,39 +109,139 @@ not-due m p none = due-not m (upcoming p) p (next-is p) none
 -- ---- the timer of a queue, at the time of the last event
 
 -- it isn't before that time or after the end of the clock, and a deferred interrupt waits at most this long
+abbrev pub SetLine : ℕ → Line → Type 0
+SetLine t (Coalescing until) = (t ≤ until) × (until < 2 ^ 64)
+SetLine t line = Unit {0}
+
+abbrev pub SetTimer : ℕ → ℕ → Option ℕ → Type 0
+SetTimer t gro None = Unit {0}
+SetTimer t gro (Some until) = (t ≤ until) × (until < 2 ^ 64) × (until ≤ t + gro)
+
 abbrev pub Set : ℕ → ℕ → Phase → Type 0
-Set t gro (Coalescing until) = (t ≤ until) × (until < 2 ^ 64)
-Set t gro (Deferred until) = (t ≤ until) × (until < 2 ^ 64) × (until ≤ t + gro)
-Set t gro phase = Unit {0}
+Set t gro phase = SetLine t phase.line × SetTimer t gro phase.timer
 
 abbrev pub SetAt : ℕ → ℕ → Option QueueView → Type 0
 SetAt t gro o = IfThere (λ d. Set t gro d.phase) o
 
 pub set-interrupted : (t gro : ℕ) (polling : Bool) (d : QueueView) → Set t gro d.phase → Set t gro (interrupted polling d).phase
 unfolding interrupted
-set-interrupted t gro polling d set = grind (arith, common_steps)
+set-interrupted t gro polling d set = by (is_fired d.phase) (handled-set polling d.phase set)
+  where
+    handled-set : (polling : Bool) (phase : Phase) → Set t gro phase → Set t gro (handled polling phase)
+    handled-set polling phase set = grind (arith, common_steps)
+
+    by : (b : Bool) → Set t gro (handled polling d.phase)
+        → (let e = record d { phase = handled polling d.phase } in
+        let counts = record d.counts { interrupts = saturated (d.counts.interrupts + 1) } in
+        Set t gro (if b then e else record e { frames = 0; counts = counts }).phase)
+    by true set = set
+    by false set = set
 
 pub set-raised : (t gro : ℕ) (d : QueueView) → Set t gro d.phase → Set t gro (raised_again d).phase
-set-raised t gro d set = grind (arith, common_steps)
+set-raised t gro d set = by (length d.ring == 0)
+  where
+    by : (b : Bool) → Set t gro (if b then d.phase else record d.phase { line = Raised })
+    by true = set
+    by false = (tt, set.1)
 
 pub set-next : (t gro : ℕ) (backlog : Bool) (d : QueueView) → Set t gro d.phase → Set t gro (without_next backlog d).phase
-set-next t gro backlog d set = grind (arith, common_steps)
+set-next t gro backlog d set = subst (λ (phase : Phase). Set t gro phase) (sym (phase-next backlog d)) set
+
+set-unmasked_line : (t : ℕ) (b : Bool) (line : Line) → SetLine t line → SetLine t (if b then line else unmasked_line line)
+set-unmasked_line t true line set = set
+set-unmasked_line t false Quiet set = tt
+set-unmasked_line t false (Coalescing until) set = set
+set-unmasked_line t false Raised set = tt
+set-unmasked_line t false Masked set = tt
+
+set-again : (t gro : ℕ) (b : Bool) (o : Option ℕ) → t < 2 ^ 64 → SetTimer t gro o
+    → SetTimer t gro (if b then Some (saturated (t + gro)) else o)
+set-again t gro true o fits set = (omega (arith, fits), omega arith, omega arith)
+set-again t gro false o fits set = set
 
 pub set-polled : (t given : ℕ) (s : MachineSettings) (d : QueueView) → t < 2 ^ 64 → Set t s.gro_flush_timeout d.phase
     → Set t s.gro_flush_timeout (queue_polled t given s d).phase
 unfolding queue_polled queue_completed
-set-polled t given s d fits set = grind (arith, common_steps)
+set-polled t given s d fits set =
+    by (record d { counts = record d.counts { polls = saturated (d.counts.polls + 1) } }) set (given == s.weight)
+  where
+    by : (e : QueueView) → Set t s.gro_flush_timeout e.phase → (full : Bool)
+        → Set t s.gro_flush_timeout (if full then e else queue_completed t given s e).phase
+    by e set true = set
+    by e set false =
+        let k = if given == 0 then e.deferrals else s.defer_hard_irqs in
+        let defers = not (k == 0) && not (s.gro_flush_timeout == 0) in (
+          set-unmasked_line t (defers && not s.heedless) e.phase.line set.0,
+          set-again t s.gro_flush_timeout (defers && not (is_missed e.phase)) e.phase.timer fits set.1,
+        )
+
+expired-set : (t gro : ℕ) (phase : Phase) → Set t gro phase → Set t gro (expired_phase phase)
+expired-set t gro phase set = by (is_card_first (card_timer phase.line) phase.timer) (is_some phase.timer)
+  where
+    by : (first some : Bool)
+        → Set t gro (if first then record phase { line = Raised } else (if some then after_napi_timer phase else phase))
+    by true some = (tt, set.1)
+    by false true = (set.0, tt)
+    by false false = set
 
 pub set-expired : (t gro : ℕ) (d : QueueView) → Set t gro d.phase → Set t gro (expired d).phase
-set-expired t gro d set = grind (arith, common_steps)
+set-expired t gro d set = expired-set t gro d.phase set
+
+set-coalesced : (t until : ℕ) (at_once : Bool) (line : Line) → t ≤ until → until < 2 ^ 64 → SetLine t line
+    → SetLine t (if at_once then Raised else coalesced until line)
+set-coalesced t until true line later fits set = tt
+set-coalesced t until false Quiet later fits set = (later, fits)
+set-coalesced t until false (Coalescing other) later fits set = set
+set-coalesced t until false Raised later fits set = tt
+set-coalesced t until false Masked later fits set = tt
 
 pub set-packet : (t gro : ℕ) (s : MachineSettings) (d : QueueView) → t < 2 ^ 64 → Set t gro d.phase → Set t gro (after_packet t s d).phase
 unfolding after_packet notified
-set-packet t gro s d fits set = grind (arith, common_steps)
+set-packet t gro s d fits set = by (has_room d) (is_masked d.phase)
+  where
+    e : QueueView
+    e = record d { counts = record d.counts { arrived = saturated (d.counts.arrived + 1) } }
+
+    f : QueueView
+    f = record e { ring = d.ring ++ t ∷ [] }
+
+    by : (room masked : Bool)
+        → Set t gro (if not room then record e { counts = record e.counts { dropped = saturated (d.counts.dropped + 1) } }
+        else (if masked then f else notified t s f)).phase
+    by false masked = set
+    by true true = set
+    by true false = (
+      set-coalesced t (saturated (t + s.rx_nsecs))
+          (s.rx_nsecs == 0 || not (s.rx_frames == 0) && nat_le s.rx_frames (saturated (d.frames + 1))) d.phase.line
+          (omega (arith, fits)) (omega arith) set.0,
+      set.1,
+    )
 
 -- nothing has happened until a later time
+later-phase : (t u gro : ℕ) (line : Line) (timer : Option ℕ) → t ≤ u
+    → Late u (if is_card_first (card_timer line) timer then card_timer line else timer) → SetLine t line → SetTimer t gro timer
+    → SetLine u line × SetTimer u gro timer
+later-phase t u gro (Coalescing card) (Some napi) more late line timer = by (nat_le card napi) refl late
+  where
+    by : (b : Bool) → nat_le card napi ≡ b → Late u (if b then Some card else Some napi)
+        → SetLine u (Coalescing card) × SetTimer u gro (Some napi)
+    by true less late =
+        let first : card ≤ napi = leb-true card napi less in
+        ((late, line.1), (omega (arith, late, first), timer.1, omega (arith, more, timer.2)))
+    by false after late =
+        let first : napi < card = leb-false card napi after in
+        ((omega (arith, late, first), line.1), (late, timer.1, omega (arith, more, timer.2)))
+later-phase t u gro (Coalescing card) None more late line timer = ((late, line.1), tt)
+later-phase t u gro Quiet None more late line timer = (tt, tt)
+later-phase t u gro Raised None more late line timer = (tt, tt)
+later-phase t u gro Masked None more late line timer = (tt, tt)
+later-phase t u gro Quiet (Some napi) more late line timer = (tt, (late, timer.1, omega (arith, more, timer.2)))
+later-phase t u gro Raised (Some napi) more late line timer = (tt, (late, timer.1, omega (arith, more, timer.2)))
+later-phase t u gro Masked (Some napi) more late line timer = (tt, (late, timer.1, omega (arith, more, timer.2)))
+
 pub set-later : (t u gro : ℕ) (o : Option QueueView) → t ≤ u → Late u (timer_in o) → SetAt t gro o → SetAt u gro o
-set-later t u gro o h1 h2 h3 = grind (arith, common_steps)
+set-later t u gro None more late set = tt
+set-later t u gro (Some d) more late set = later-phase t u gro d.phase.line d.phase.timer more late set.0 set.1
 
 -- the timer that expires first is one of those that are set
 pub set-first : (t gro : ℕ) (timer : Timer) (p : ProcessorView) → ((n : ℕ) → SetAt t gro (at n p.devices)) → upcoming p ≡ Expires timer
@@ -156,11 +257,19 @@ set-first t gro timer p set is =
         → soonest ≡ Some timer
     expires-soonest soonest is = grind (arith, common_steps)
 
-    phase-by : (phase : Phase) → Set t gro phase
-        → option_map (λ (at : ℕ). record { at = at; device = timer.device }) (timer_of phase) ≡ Some timer
+    time-by : (o : Option ℕ) → ((x : ℕ) → o ≡ Some x → (t ≤ x) × (x < 2 ^ 64))
+        → option_map (λ (at : ℕ). record { at = at; device = timer.device }) o ≡ Some timer
         → (t ≤ timer.at) × (timer.at < 2 ^ 64)
-    phase-by phase set is = grind (arith, common_steps)
+    time-by None each is = cc is
+    time-by (Some x) each is =
+        let same : x ≡ timer.at = cc is in
+        let both = each x refl in
+        (omega (arith, same, both.0), omega (arith, same, both.1))
+
+    first-time : (line : Line) (napi : Option ℕ) → SetLine t line → SetTimer t gro napi → (x : ℕ)
+        → (if is_card_first (card_timer line) napi then card_timer line else napi) ≡ Some x → (t ≤ x) × (x < 2 ^ 64)
+    first-time line napi set also x is = grind (arith, common_steps)
 
     by : (o : Option QueueView) → SetAt t gro o → timer_at timer.device o ≡ Some timer → (t ≤ timer.at) × (timer.at < 2 ^ 64)
     by None set is = cc is
-    by (Some d) set is = phase-by d.phase set is
+    by (Some d) set is = time-by (timer_of d.phase) (first-time d.phase.line d.phase.timer set.0 set.1) is

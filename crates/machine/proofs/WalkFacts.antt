@@ -1,20 +1,20 @@
 -- Which work a processor begins, case by case, and a property that each case preserves; and the cases of an interruption and of
 -- the end of a poll.
-use Rattle.std.specs.Prelude.{◌==◌, ◌&&◌, if◌then◌else◌, is_some, not, nat_lt, position, slice_get}
+use Rattle.std.specs.Prelude.{◌==◌, ◌&&◌, ◌||◌, if◌then◌else◌, is_some, not, nat_lt, position, slice_get}
 use Rattle.std.proofs.Common.{◌≡◌, ℕ, ◌+◌, ◌-◌, arith, Bool, true, false, Option, Some, None, List, [], ◌∷◌, ◌++◌, length, refl}
 use Rattle.std.{proofs.lemmas.{List.Quantifiers.position-Some, Grind.common_steps}, specs.Option.option_map_or}
-use Rattle.device_rows.proofs.PlaceFacts.{none-of}
-use Rattle.device_rows.specs.Places.{at, changed}
+use Rattle.device_places.proofs.PlaceFacts.{none-of}
+use Rattle.device_places.specs.Places.{at, changed}
 use Rattle.{machine_model.specs.declared.settings.MachineSettings.MachineSettings}
-use Rattle.poll_runs.specs.declared.bench.{Next.TheVariants.{Gone, Repoll}}
 use Rattle.machine_model.specs.declared.processor.Work.{Work}
 use Rattle.machine_model.specs.declared.processor.Work.TheVariants.{Nothing, Interrupt, Packet, Use}
 use Rattle.machine_model.specs.declared.processor.{ProcessorCounts.ProcessorCounts, Rest.Rest}
 use Rattle.machine_model.specs.declared.tasks.RunnableTask.{RunnableTask}
 use Rattle.machine_model.specs.declared.tasks.RunnableTask.TheVariants.{Application, Thread}
-use Rattle.machine_model.specs.{Device.{interrupted, queue_polled, without_next}, Devices.{asks_at, is_fired_at, next_packet_at}}
+use Rattle.machine_model.specs.Device.{interrupted, queue_polled, without_next}
+use Rattle.machine_model.specs.Devices.{asks_at, is_fired_at, is_missed_at, next_packet_at, schedules_at}
 use Rattle.machine_model.specs.{Waits.saturated}
-use Rattle.machine_model.specs.Softirq.{SoftirqView, asked_in, begun, pushed, run_ended, run_next, softirq_polled}
+use Rattle.machine_model.specs.Softirq.{SoftirqView, asked_in, begun, poll_ended, pushed, run_ended, run_next}
 use Rattle.machine_model.specs.Tasks.{after_first, runnable}
 use Rattle.machine_model.specs.Processor.{ProcessorView, begins, begins_run, ends_poll, ends_run, goes_on, interrupts, is_busy}
 use Rattle.machine_model.specs.Processor.{is_polling, leaves_softirq, poll_looks, polls, rests, runs, runs_first, set_aside}
@@ -55,11 +55,15 @@ nexted p = record p { softirq = run_next p.softirq }
 abbrev pub started : ProcessorView → ProcessorView
 started p = record p { softirq = begun p.clock p.settings.budget p.settings.weight p.settings.window p.softirq }
 
--- a queue is scheduled, if there is polling: its thread is runnable, or its number is on the poll list
-abbrev pub enqueued : ℕ → ProcessorView → ProcessorView
-enqueued n p = record p {
-  softirq = if is_polling p.settings && not p.settings.threaded then pushed n p.softirq else p.softirq;
-  tasks = if is_polling p.settings && p.settings.threaded then p.tasks ++ Thread n ∷ [] else p.tasks;
+-- the interrupt of a queue schedules it
+abbrev pub is_scheduling : ℕ → ProcessorView → Bool
+is_scheduling n p = is_polling p.settings && schedules_at (at n p.devices)
+
+-- a queue is scheduled, if its interrupt does that: its thread is runnable, or its number is on the poll list
+abbrev pub enqueued : Bool → ℕ → ProcessorView → ProcessorView
+enqueued again n p = record p {
+  softirq = if again && not p.settings.threaded then pushed n p.softirq else p.softirq;
+  tasks = if again && p.settings.threaded then p.tasks ++ Thread n ∷ [] else p.tasks;
 }
 
 -- the poll of the queue for which the run asks, or other work
@@ -74,7 +78,7 @@ IsSettled P p = p.settings.threaded ≡ true
 pub record Walk (P Q : ProcessorView → Type 0) : Type 0 where
   pub interrupt : (n time : ℕ) (counts : ProcessorCounts) (p : ProcessorView) → Free p → P p → asks_at (at n p.devices) ≡ true
       → Q (begins (Interrupt n) time
-      (enqueued n (record p { devices = changed (interrupted (is_polling p.settings)) n p.devices; counts = counts })))
+      (enqueued (is_scheduling n p) n (record p { devices = changed (interrupted (is_polling p.settings)) n p.devices; counts = counts })))
   pub next : (p : ProcessorView) → Free p → P p → P (nexted p)
   pub asks : (n : ℕ) (p : ProcessorView) → P (nexted p) → asked_in (run_next p.softirq).run ≡ Some n → Q (polls n (nexted p))
   pub over : (counts : ProcessorCounts) (p : ProcessorView) → Free p → P p
@@ -180,7 +184,7 @@ walk-interrupts : {P Q : ProcessorView → Type 0} → Walk P Q → (n : ℕ) (p
     → Q (interrupts n p)
 unfolding interrupts
 walk-interrupts {Q = Q} w n p free held asks =
-    by (is_polling p.settings) p.settings.threaded (w.interrupt n time counts p free held asks)
+    by (is_scheduling n p) p.settings.threaded (w.interrupt n time counts p free held asks)
   where
     time : ℕ
     time = if is_polling p.settings then p.settings.interrupt else p.settings.interrupt + p.settings.packet
@@ -255,13 +259,13 @@ pub polled-by : (Q : ProcessorView → Type 0) (n given : ℕ) (p : ProcessorVie
     → Q (record p {
       devices = changed (queue_polled p.clock given p.settings) n p.devices;
       counts = counts;
-      tasks = if given == p.settings.weight then Thread n ∷ p.tasks else p.tasks;
+      tasks = if given == p.settings.weight || is_missed_at (at n p.devices) then Thread n ∷ p.tasks else p.tasks;
     }))
     → ((counts : ProcessorCounts) → p.settings.threaded ≡ false
     → Q (record p {
       devices = changed (queue_polled p.clock given p.settings) n p.devices;
       counts = counts;
-      softirq = softirq_polled (record { work = given; next = if given == p.settings.weight then Repoll else Gone }) p.softirq;
+      softirq = poll_ended n given (given == p.settings.weight) (is_missed_at (at n p.devices)) p.softirq;
     }))
     → Q (ends_poll n given p)
 unfolding ends_poll

@@ -3,12 +3,12 @@
 use Rattle.std.proofs.lemmas.{Bool.{and_left, and_right, ltb-true}, Grind.{common_steps}}
 use Rattle.std.specs.List.{AllByRecursion}
 use Rattle.std.specs.Prelude.{◌==◌, ◌&&◌, if◌then◌else◌, is_some, not, option_map}
-use Rattle.std.proofs.Common.{◌≡◌, ◌∙◌, ℕ, ◌+◌, ◌-◌, ◌<◌, ◌≤◌, Bool, true, false, Option, Some, None, List, [], ◌∷◌, length, refl}
+use Rattle.std.proofs.Common.{◌≡◌, ◌∙◌, ℕ, ◌+◌, ◌-◌, ◌<◌, ◌≤◌, Bool, true, false, Option, Some, None, List, [], ◌∷◌, ◌++◌, length, refl}
 use Rattle.std.proofs.Common.{sym, ap, arith}
 use Rattle.poll_runs.specs.declared.bench.Next.TheVariants.{Gone, Repoll}
 use Rattle.poll_runs.specs.declared.bench.Once.{Once}
 use Rattle.machine_model.specs.declared.settings.MachineSettings.{MachineSettings}
-use Rattle.device_rows.specs.Places.{at, changed}
+use Rattle.device_places.specs.Places.{at, changed}
 use Rattle.machine.specs.Lives.{MachineEvent, behind, next, packet}
 use Rattle.machine.specs.Times.{WorksWithin}
 use Rattle.machine_model.specs.declared.processor.{ProcessorCounts.ProcessorCounts, Work.{Work}}
@@ -20,12 +20,14 @@ use Rattle.machine_model.specs.Kept.{work_given, polled_by}
 use Rattle.machine_model.specs.Softirq.{RunView, SoftirqView, asked_in, polled_run, pushed, run_ended, run_next, softirq_polled}
 use Rattle.machine_model.specs.{Device.{after_packet, expired, raised_again, without_next}}
 use Rattle.{circular_buffer.specs.Buffer.buffer}
-use Rattle.machine_model.specs.{Devices.{QueueViews, has_room_at, next_packet_at, with_device}, Waits.saturated}
+use Rattle.machine_model.specs.Devices.{QueueViews, has_room_at, is_missed_at, next_packet_at, schedules_at, with_device}
+use Rattle.machine_model.specs.{Waits.saturated}
 use Rattle.machine_model.specs.Tasks.{is_application, runnable, with_application}
 use Rattle.machine_model.specs.Processor.{ProcessorView, arrives, begins, delivers, delivers_oldest, disturbed, ends_by, ends_current}
 use Rattle.machine_model.specs.Processor.{ends_interrupt, ends_poll, happens, is_busy, is_polling, poll_looks, spent, step, takes_up}
 use Rattle.machine_model.specs.Processor.{upcoming}
-use Rattle.machine.proofs.WalkFacts.{Walk, either, idle-is, looks-by, nexted, polled-by, stirred, stirred-by, walk-any}
+use Rattle.machine.proofs.WalkFacts.{Walk, either, idle-is, is_scheduling, looks-by, nexted, polled-by, stirred, stirred-by, walk-any}
+use Rattle.machine_model.proofs.ListedFacts.{pushed-run}
 use Rattle.std.proofs.Common.{◌≡◌, ◌∙◌, ℕ, zero, suc, ◌<◌, Bool, true, false, None, refl, sym, ap, arith}
 use Rattle.std.specs.Prelude.{if◌then◌else◌}
 use Rattle.{machine_model.specs.declared.settings.MachineSettings.MachineSettings}
@@ -95,8 +97,14 @@ runs-told s run once n asked few held = grind (arith, common_steps)
 told-asks : (run : Option RunView) (once : Once) → asked_in (option_map (polled_run once) run) ≡ None
 told-asks run once = grind (arith, common_steps)
 
-pushed-run : (b : Bool) (n : ℕ) (q : SoftirqView) → (if b then pushed n q else q).run ≡ q.run
-pushed-run b n q = grind (arith, common_steps)
+-- without a poll list, no interrupt puts a number on it; without threads, none makes one runnable
+pushed-none : (polling again single : Bool) (n : ℕ) (q : SoftirqView) → (polling && single) ≡ false
+    → (if (polling && again) && single then pushed n q else q) ≡ q
+pushed-none polling again single n q none = grind (arith, common_steps)
+
+thread-none : (polling again threaded : Bool) (tasks more : List RunnableTask) → (polling && threaded) ≡ false
+    → (if (polling && again) && threaded then tasks ++ more else tasks) ≡ tasks
+thread-none polling again threaded tasks more none = grind (arith, common_steps)
 
 all-runnable : (idle : Bool) (tasks : List RunnableTask) → all_applications tasks → all_applications (runnable idle tasks)
 all-runnable idle tasks h1 = grind (arith, common_steps)
@@ -136,15 +144,20 @@ goes-free s p h1 h2 h3 = grind (arith, common_steps)
 pub work-walk : (s : MachineSettings) → Walk (Rests s) (Goes s)
 work-walk s = record {
   interrupt = λ n time counts p free h asks.
-      let b = is_polling p.settings && not p.settings.threaded in
+      let again = schedules_at (at n p.devices) in
+      let b = is_scheduling n p && not p.settings.threaded in
       let none : asked_in (if b then pushed n p.softirq else p.softirq).run ≡ None =
       ap asked_in (pushed-run b n p.softirq) ∙ free.unasked in
       record {
         rests = record {
           settings = h.settings;
           run = rw (pushed-run b n p.softirq) h.run;
-          soft = λ no. rw (h.settings, no) (h.soft no);
-          threads = λ no. rw (h.settings, no) (h.threads no);
+          soft = λ no.
+              rw (pushed-none (is_polling p.settings) again (not p.settings.threaded) n p.softirq
+              (ap (λ (x : MachineSettings). is_polling x && not x.threaded) h.settings ∙ no)) (h.soft no);
+          threads = λ no.
+              rw (thread-none (is_polling p.settings) again p.settings.threaded p.tasks (Thread n ∷ [])
+              (ap (λ (x : MachineSettings). is_polling x && x.threaded) h.settings ∙ no)) (h.threads no);
         };
         asks = record { list = λ t. none; none = λ t. none };
         polled = λ no. refl;
@@ -233,12 +246,13 @@ work-polled s n given p g few =
     }) (g.asks.none (sym (same-threaded s p h.settings) ∙ t)))
     (λ counts t.
     let single : s.threaded ≡ false = sym (same-threaded s p h.settings) ∙ t in
+    let same = pushed-run (not (given == p.settings.weight) && is_missed_at (at n p.devices)) n (softirq_polled once p.softirq) in
     goes-free s _ g.nothing (record {
       settings = h.settings;
-      run = runs-told s p.softirq.run once n (g.asks.list single) few h.run;
+      run = rw same (runs-told s p.softirq.run once n (g.asks.list single) few h.run);
       soft = λ no. cc (rw (g.polling, single) at no);
       threads = h.threads;
-    }) (told-asks p.softirq.run once))
+    }) (ap asked_in same ∙ told-asks p.softirq.run once))
 
 work-looks : (s : MachineSettings) (n given : ℕ) (p : ProcessorView) → Polls s n p → given ≤ s.weight → Goes s (poll_looks n given p)
 work-looks s n given p g few =

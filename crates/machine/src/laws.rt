@@ -62,8 +62,7 @@ pub fn every_run_ends()
     ensures { EveryRunEnds }
 {}
 
-/// When a packet arrives for a queue whose interrupt is deferred, the queue's NAPI timer expires at most `gro-flush-timeout`
-/// later.
+/// When a packet arrives for a queue whose NAPI timer is set, the timer expires at most `gro-flush-timeout` later.
 pub fn timers_are_near()
     ensures { TimersAreNear }
 {}

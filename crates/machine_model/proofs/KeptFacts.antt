@@ -1,15 +1,16 @@
 -- The invariant of each processor is preserved.
 use Rattle.std.proofs.Common.{◌≡◌, ◌∙◌, ℕ, ◌+◌, ◌<◌, ◌≤◌, Bool, true, false, Option, Some, None, length, refl, sym, arith}
-use Rattle.std.{proofs.lemmas.Grind.common_steps, specs.Prelude.{◌==◌, if◌then◌else◌}}
+use Rattle.std.{proofs.{Common.ap, lemmas.Grind.common_steps}, specs.Prelude.{◌==◌, ◌&&◌, if◌then◌else◌, is_some, not}}
 use Rattle.machine_model.specs.declared.settings.MachineSettings.{MachineSettings}
 use Rattle.poll_runs.specs.declared.bench.Next.TheVariants.{Gone, Repoll}
-use Rattle.device_rows.specs.Places.{changed}
+use Rattle.device_places.specs.Places.{at, changed}
 use Rattle.poll_runs.specs.declared.bench.Once.{Once}
-use Rattle.machine_model.specs.{Device.{queue_polled}, Devices.{QueueViews}, Processor.is_polling, Shown.{held_in, listed}}
+use Rattle.machine_model.specs.{Device.{queue_polled}, Devices.{QueueViews, is_missed_at}, Processor.is_polling}
+use Rattle.machine_model.specs.{Shown.{held_in, listed, weight_in}}
 use Rattle.machine_model.specs.Kept.{ProcessorKept, all_scheduled, work_given, has_list, polled_by}
-use Rattle.machine_model.specs.Softirq.{RunView, SoftirqView, asked_in, begun, run_ended, run_next, softirq_polled, pushed}
+use Rattle.machine_model.specs.Softirq.{RunView, SoftirqView, asked_in, begun, poll_ended, run_ended, run_next, softirq_polled, pushed}
 use Rattle.machine_model.specs.declared.processor.Work.{Work, TheVariants.{Nothing}}
-use Rattle.machine_model.proofs.ListedFacts.{asked-polled, listed-begun, listed-ended, listed-polled, listed-pushed, next-keeps}
+use Rattle.machine_model.proofs.ListedFacts.{asked-polled, listed-again, listed-begun, listed-ended, listed-pushed, next-keeps, pushed-run}
 use Rattle.machine_model.proofs.{ListedFacts.weight-polled, PlacesFacts.{scheduled-polled}}
 
 pub if-none : (b : Bool) (o : Option ℕ) → o ≡ None → (if b then None else o) ≡ None
@@ -107,17 +108,20 @@ kept-ended s w ds q k none idle =
 pub kept-polled : (s : MachineSettings) (w : Work) (ds : QueueViews) (q : SoftirqView) (now given n : ℕ) → ProcessorKept s w ds q
     → s.threaded ≡ false
     → asked_in q.run ≡ Some n → 1 ≤ s.weight
-    → ProcessorKept s Nothing (changed (queue_polled now given s) n ds)
-    (softirq_polled (record { work = given; next = if given == s.weight then Repoll else Gone }) q)
+    → ProcessorKept s Nothing (changed (queue_polled now given s) n ds) (poll_ended n given (given == s.weight) (is_missed_at (at n ds)) q)
 kept-polled s w ds q now given n k threaded asked least =
-    let once : Once = record { work = given; next = if given == s.weight then Repoll else Gone } in
-    let count = listed-polled (given == s.weight) given n q asked in
+    let full = given == s.weight in
+    let again = is_missed_at (at n ds) in
+    let once : Once = record { work = given; next = if full then Repoll else Gone } in
+    let r = softirq_polled once q in
+    let count = listed-again full again given n q asked in
+    let run = pushed-run (not full && again) n r in
     let same = weight-polled once q in
     record {
       few = omega (arith, k.few, count, scheduled-polled now given s n ds);
       unused = λ not. omega (arith, count, k.unused not);
-      asked = asked-polled once q ∙ (rw threaded refl);
-      weight = λ some. same.0 ∙ k.weight (sym same.1 ∙ some);
+      asked = ap asked_in run ∙ (asked-polled once q ∙ (rw threaded refl));
+      weight = λ some. ap weight_in run ∙ (same.0 ∙ k.weight (sym same.1 ∙ (sym (ap (λ (o : Option RunView). is_some o) run) ∙ some)));
       within = least;
     }
 

@@ -2,21 +2,21 @@
 use Rattle.std.proofs.Common.{◌≡◌, ◌∙◌, ℕ, ◌+◌, ◌-◌, ◌*◌, ◌<◌, ◌≤◌, Bool, true, false, Option, Some, None, List, [], ◌∷◌, ◌++◌}
 use Rattle.std.proofs.Common.{length, ap, refl, sym, arith}
 use Rattle.std.proofs.lemmas.{List.Quantifiers.position-Some, Bool.eqb-true, Grind.common_steps}
-use Rattle.std.specs.Prelude.{◌==◌, ◌&&◌, if◌then◌else◌, is_some, nat_le, nat_lt, not, position, slice_get}
+use Rattle.std.specs.Prelude.{◌==◌, ◌&&◌, ◌||◌, if◌then◌else◌, is_some, nat_le, nat_lt, not, position, slice_get}
 use Rattle.std.specs.Option.{option_map_or}
 use Rattle.poll_runs.specs.Turn.{asked_for}
 use Rattle.poll_runs.specs.declared.bench.Once.{Once}
-use Rattle.device_rows.specs.Places.{at, changed}
+use Rattle.device_places.specs.Places.{at, changed}
 use Rattle.machine_model.specs.declared.settings.MachineSettings.{MachineSettings}
-use Rattle.machine_model.specs.declared.{device.Phase.{TheVariants.{Raised}}, devices.Timer.Timer}
+use Rattle.machine_model.specs.declared.{device.Line.{TheVariants.{Raised}}, devices.Timer.Timer}
 use Rattle.machine_model.specs.declared.processor.{InHand.InHand, Rest.Rest, Upcoming.Upcoming}
 use Rattle.machine_model.specs.declared.processor.{Work.{Work, TheVariants.{Nothing, Interrupt, Poll, Packet, Use}}}
 use Rattle.machine_model.specs.declared.{processor.Upcoming.TheVariants.{Ends, Expires, Never}}
 use Rattle.machine_model.specs.declared.{tasks.RunnableTask.{RunnableTask, TheVariants.{Application, Thread}}}
 use Rattle.machine_model.specs.Device.{QueueView, queue_delivered, expired, interrupted, queue_polled, raised_again}
 use Rattle.machine_model.specs.Device.{without_next}
-use Rattle.machine_model.specs.Devices.{asks_at, is_fired_at, next_packet_at, soonest_from}
-use Rattle.machine_model.specs.Softirq.{RunView, SoftirqView, asked_in, begun, run_next, softirq_polled, pushed}
+use Rattle.machine_model.specs.Devices.{asks_at, is_fired_at, is_missed_at, next_packet_at, schedules_at, soonest_from}
+use Rattle.machine_model.specs.Softirq.{RunView, SoftirqView, asked_in, begun, poll_ended, run_next, softirq_polled, pushed}
 use Rattle.machine_model.specs.Waits.{saturated}
 use Rattle.machine_model.specs.Tasks.{after_first, runnable}
 use Rattle.machine_model.specs.{Application.{has_place, used}, Kept.{IsProcessorKept, polled_by}, Processor.ProcessorView}
@@ -26,8 +26,8 @@ use Rattle.machine_model.specs.Processor.{ends_run, goes_on, happens, interrupts
 use Rattle.machine_model.specs.Processor.{leaves_softirq, poll_looks, polls, rests}
 use Rattle.machine_model.specs.Processor.{runs, runs_first, scheduled, set_aside, spent, step, takes_up, upcoming, uses, woken}
 use Rattle.poll_runs.specs.declared.bench.Next.TheVariants.{Gone, Repoll}
-use Rattle.machine_model.proofs.{ApplicationFacts.fed-few, KeptFacts.if-none, ListedFacts.asked-polled, PlacesFacts.{map_at}}
-use Rattle.machine_model.proofs.WeightFacts.{phase_weight, weight_of, weight_at, weights, weights-most, weights-less}
+use Rattle.machine_model.proofs.{ApplicationFacts.fed-few, KeptFacts.if-none, ListedFacts.{asked-polled, pushed-run}, PlacesFacts.{map_at}}
+use Rattle.machine_model.proofs.WeightFacts.{changed-weights, phase_weight, weight_of, weight_at, weights, weights-most, weights-less}
 use Rattle.machine_model.proofs.WeightFacts.{weight-interrupted, weight-raised, weight-delivered, taken-less, looked-most}
 use Rattle.machine_model.proofs.WeightFacts.{weight-polled, expired-less, soonest-is, entries, entries-pushed, entries-next}
 use Rattle.machine_model.proofs.WeightFacts.{entries-begun, entries-ended, entries-polled, threads, threads-thread, if-application}
@@ -65,8 +65,8 @@ idle-left w p nothing = rw nothing (omega arith)
 
 -- ---- when work begins
 
-schedules-less : (w n time : ℕ) (polling : Bool) (q : ProcessorView)
-    → left w (begins (Interrupt n) time (if polling then scheduled n q else q)) ≤ base w q + 3
+schedules-less : (w n time : ℕ) (again : Bool) (q : ProcessorView)
+    → left w (begins (Interrupt n) time (if again then scheduled n q else q)) ≤ base w q + (if again then 3 else 1)
 unfolding left left_by base
 schedules-less w n time true q =
     by-if (λ r. left w (begins (Interrupt n) time r) ≤ base w q + 3) q.settings.threaded (record q { tasks = q.tasks ++ Thread n ∷ [] })
@@ -78,14 +78,15 @@ interrupts-less : (w n : ℕ) (p : ProcessorView) → asks_at (at n p.devices) �
 unfolding base interrupts
 interrupts-less w n p up =
     let polling = is_polling p.settings in
+    let again = polling && schedules_at (at n p.devices) in
     let time = if polling then p.settings.interrupt else p.settings.interrupt + p.settings.packet in
     let counts = if is_fired_at (at n p.devices) then record p.counts { timers = saturated (p.counts.timers + 1) }
     else record p.counts { interrupts = saturated (p.counts.interrupts + 1) } in
     let q = record p { devices = changed (interrupted polling) n p.devices; counts = counts } in
     omega (
       arith,
-      schedules-less w n time polling q,
-      weights-less w 3 (interrupted polling) n p.devices (weight-interrupted w polling (at n p.devices) up),
+      schedules-less w n time again q,
+      weights-less w (if again then 3 else 1) (interrupted polling) n p.devices (weight-interrupted w polling (at n p.devices) up),
     )
 
 uses-less : (w : ℕ) (items : List ℕ) (p : ProcessorView) → p.application.socket.items ≡ items → p.work ≡ Nothing
@@ -240,7 +241,8 @@ raised-none w None none = omega arith
 raised-none w (Some d) none = by d.ring none
   where
     by : (ring : List ℕ) → slice_get ring 0 ≡ None
-        → w * (length ring + length d.taken) + 5 * d.deferrals + phase_weight (if length ring == 0 then d.phase else Raised)
+        → w * (length ring + length d.taken) + 5 * d.deferrals
+        + phase_weight (if length ring == 0 then d.phase else record d.phase { line = Raised })
         ≤ w * (length ring + length d.taken) + 5 * d.deferrals + phase_weight d.phase + 0
     by [] none = omega arith
     by (x ∷ xs) none = cc none
@@ -266,41 +268,57 @@ lone-less w n p least = by (next_packet_at false (at n p.devices)) refl
 abbrev pub extra : ℕ → ℕ
 extra given = if given == 0 then 0 else 327677
 
-after-poll : (w n given : ℕ) (full : Bool) (q : ProcessorView)
-    → (let once : Once = record { work = given; next = if full then Repoll else Gone } in
-    base w (if q.settings.threaded then record q { tasks = if full then Thread n ∷ q.tasks else q.tasks }
-    else record q { softirq = softirq_polled once q.softirq })
-    ≤ base w q + (if full then 2 else 0))
+after-poll : (w n given : ℕ) (full missed : Bool) (p q : ProcessorView) → q.softirq ≡ p.softirq → q.tasks ≡ p.tasks
+    → base w (if p.settings.threaded then record q { tasks = if full || missed then Thread n ∷ p.tasks else p.tasks }
+    else record q { softirq = poll_ended n given full missed p.softirq })
+    ≤ base w q + (if full || missed then 2 else 0)
 unfolding base
-after-poll w n given true q =
-    let once : Once = record { work = given; next = Repoll } in
-    by-if (λ r. base w r ≤ base w q + 2) q.settings.threaded (record q { tasks = Thread n ∷ q.tasks })
-    (record q { softirq = softirq_polled once q.softirq }) (λ e. omega arith) (λ e. omega (arith, entries-polled once q.softirq))
-after-poll w n given false q =
-    let once : Once = record { work = given; next = Gone } in
-    by-if (λ r. base w r ≤ base w q + 0) q.settings.threaded (record q { tasks = q.tasks })
-    (record q { softirq = softirq_polled once q.softirq }) (λ e. omega arith) (λ e. omega (arith, entries-polled once q.softirq))
+after-poll w n given full missed p q soft tasks =
+    by-if (λ r. base w r ≤ base w q + (if full || missed then 2 else 0)) p.settings.threaded
+    (record q { tasks = if full || missed then Thread n ∷ p.tasks else p.tasks })
+    (record q { softirq = poll_ended n given full missed p.softirq }) (λ e. first full missed)
+    (λ e. second full missed)
+  where
+    first : (full missed : Bool)
+        → base w (record q { tasks = if full || missed then Thread n ∷ p.tasks else p.tasks })
+        ≤ base w q + (if full || missed then 2 else 0)
+    first true missed = omega (arith, ap threads tasks)
+    first false true = omega (arith, ap threads tasks)
+    first false false = omega (arith, ap threads tasks)
 
-bound : (defer : ℕ) (full none : Bool) → defer ≤ 65535 → (full ≡ true → none ≡ true → ⊥)
-    → (if full then 2 else 0) + (if full then 0 else (if none then 0 else 5 * defer)) ≤ (if none then 0 else 327677)
-bound defer true true most not = absurd (not refl refl)
-bound defer true false most not = omega arith
-bound defer false true most not = omega arith
-bound defer false false most not = omega (arith, most)
+    second : (full missed : Bool)
+        → base w (record q { softirq = poll_ended n given full missed p.softirq }) ≤ base w q + (if full || missed then 2 else 0)
+    second true missed =
+        omega (arith, entries-polled (record { work = given; next = Repoll }) p.softirq, ap entries soft)
+    second false true =
+        let once : Once = record { work = given; next = Gone } in
+        omega (arith, entries-polled once p.softirq, ap entries soft, entries-pushed n (softirq_polled once p.softirq))
+    second false false = omega (arith, entries-polled (record { work = given; next = Gone }) p.softirq, ap entries soft)
+
+bound : (defer : ℕ) (full again none : Bool) → defer ≤ 65535 → (full ≡ true → none ≡ true → ⊥)
+    → (if full || again then 2 else 0) + (if full then 0 else (if none then 0 else 5 * defer))
+    ≤ (if none then 0 else 327677) + (if not full && again then 2 else 0)
+bound defer true again true most not = absurd (not refl refl)
+bound defer true again false most not = omega arith
+bound defer false true true most not = omega arith
+bound defer false true false most not = omega (arith, most)
+bound defer false false true most not = omega arith
+bound defer false false false most not = omega (arith, most)
 
 poll-less : (w n given : ℕ) (p : ProcessorView) → base w (ends_poll n given p) ≤ base w p + extra given
 unfolding base ends_poll
 poll-less w n given p =
     let s = p.settings in
     let full = given == s.weight in
+    let again = is_missed_at (at n p.devices) in
     let counts = record p.counts { polls = saturated (p.counts.polls + 1); work = saturated (p.counts.work + given) } in
     let q = record p { devices = changed (queue_polled p.clock given s) n p.devices; counts = counts } in
     omega (
       arith,
-      after-poll w n given full q,
-      weights-most w (if full then 0 else (if given == 0 then 0 else 5 * s.defer_hard_irqs)) (queue_polled p.clock given s) n p.devices
-          (weight-polled w p.clock given s (at n p.devices)),
-      bound s.defer_hard_irqs full (given == 0) s.defer_hard_irqs_in
+      after-poll w n given full again p q refl refl,
+      changed-weights w (queue_polled p.clock given s) n p.devices,
+      weight-polled w p.clock given s (at n p.devices),
+      bound s.defer_hard_irqs full again (given == 0) s.defer_hard_irqs_in
           (λ full none. omega (arith, eqb-true given s.weight full, eqb-true given 0 none, s.weight_in.0)),
     )
 
@@ -401,7 +419,11 @@ poll-unasked : (n given : ℕ) (p : ProcessorView) → (p.settings.threaded ≡ 
     → asked_in (ends_poll n given p).softirq.run ≡ None
 unfolding ends_poll
 poll-unasked n given p none =
-    by-if (λ q. asked_in q.softirq.run ≡ None) p.settings.threaded _ _ (λ threaded. none threaded) (λ e. asked-polled _ p.softirq)
+    let full = given == p.settings.weight in
+    let once : Once = record { work = given; next = if full then Repoll else Gone } in
+    let same = pushed-run (not full && is_missed_at (at n p.devices)) n (softirq_polled once p.softirq) in
+    by-if (λ q. asked_in q.softirq.run ≡ None) p.settings.threaded _ _ (λ threaded. none threaded)
+    (λ e. ap asked_in same ∙ asked-polled once p.softirq)
 
 looks-unasked : (n given : ℕ) (p : ProcessorView) → (p.settings.threaded ≡ true → asked_in p.softirq.run ≡ None)
     → (poll_looks n given p).work ≡ Nothing → asked_in (poll_looks n given p).softirq.run ≡ None

@@ -1,12 +1,12 @@
 -- How many numbers are on the poll list and in its run after each call, and the weight of the run.
 use Rattle.std.proofs.lemmas.Grind.{common_steps}
 use Rattle.std.proofs.Common.{◌≡◌, ℕ, ◌+◌, Bool, true, false, Option, Some, None, List, [], ◌∷◌, ◌++◌, drop, length, length-append, refl}
-use Rattle.std.{proofs.Common.arith, specs.Prelude.{is_some, slice_get, if◌then◌else◌, option_map}}
+use Rattle.std.{proofs.Common.arith, specs.Prelude.{◌||◌, is_some, slice_get, if◌then◌else◌, option_map}}
 use Rattle.poll_runs.specs.Turn.{asked_for}
 use Rattle.{poll_runs.specs.declared.bench.{Next.TheVariants.{Gone, Repoll}, Once.Once}}
 use Rattle.{machine_model.specs.Softirq.{RunView, SoftirqView}}
-use Rattle.machine_model.specs.Softirq.{asked_in, begun, run_ended, filled, is_run_spent, next_from, run_next, pushed, softirq_polled}
-use Rattle.machine_model.specs.Softirq.{polled_run}
+use Rattle.machine_model.specs.Softirq.{asked_in, begun, run_ended, filled, is_run_spent, next_from, run_next, poll_ended}
+use Rattle.machine_model.specs.Softirq.{polled_run, pushed, softirq_polled}
 use Rattle.machine_model.specs.Shown.{weight_in, listed}
 
 pub listed-pushed : (n : ℕ) (q : SoftirqView) → listed (pushed n q) ≡ listed q + 1
@@ -68,6 +68,18 @@ polled-moves full work n list run began asked = grind (arith, common_steps)
 pub listed-polled : (full : Bool) (work n : ℕ) (q : SoftirqView) → asked_in q.run ≡ Some n
     → listed (softirq_polled (record { work = work; next = if full then Repoll else Gone }) q) + (if full then 0 else 1) ≡ listed q
 listed-polled full work n q asked = polled-moves full work n q.list q.run q.began asked
+
+-- a queue that completes and missed an interrupt is put on the list again
+pub listed-again : (full missed : Bool) (work n : ℕ) (q : SoftirqView) → asked_in q.run ≡ Some n
+    → listed (poll_ended n work full missed q) + (if full || missed then 0 else 1) ≡ listed q
+listed-again true missed work n q asked = listed-polled true work n q asked
+listed-again false true work n q asked =
+    omega (arith, listed-polled false work n q asked, listed-pushed n (softirq_polled (record { work = work; next = Gone }) q))
+listed-again false false work n q asked = listed-polled false work n q asked
+
+pub pushed-run : (b : Bool) (n : ℕ) (q : SoftirqView) → (if b then pushed n q else q).run ≡ q.run
+pushed-run true n q = refl
+pushed-run false n q = refl
 
 polled-rests : (run : Option RunView) (once : Once) → asked_in (option_map (polled_run once) run) ≡ None
 polled-rests run once = grind (arith, common_steps)

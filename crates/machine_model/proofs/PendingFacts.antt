@@ -2,15 +2,15 @@
 use Rattle.std.proofs.Common.{◌≡◌, ◌∙◌, ◌⊎◌, inl, inr, ℕ, zero, suc, ◌+◌, ◌^◌, ◌<◌, ◌≤◌, Bool, true, false}
 use Rattle.std.proofs.Common.{Option, Some, None, List, [], ◌∷◌}
 use Rattle.std.proofs.Common.{◌++◌, length, replicate, slice_index_or, slice_set, refl, sym, ap, subst, arith, w64}
-use Rattle.std.specs.{Prelude.{◌==◌, position}, List.position_or_len, Option.option_map_or, Int.{bit_at, trailing_zeros}}
+use Rattle.std.specs.{Prelude.{◌==◌, drop, position, slice_get}, List.position_or_len, Option.option_map_or, Int.{bit_at, trailing_zeros}}
 use Rattle.std.proofs.lemmas.{Bool.cases_eq, Grind.{common_steps, get_or-set_at}}
 use Rattle.std.proofs.lemmas.List.{get_or-set_other, length-set, Sums.position_or_len_is}
 use Rattle.std.proofs.lemmas.Nat.Bits.{bit_at-trailing_zeros, bit_at-zero}
-use Rattle.device_rows.proofs.PlaceFacts.{at-index, below-some}
-use Rattle.device_rows.specs.Places.{at, changed, changed_from}
+use Rattle.device_places.proofs.PlaceFacts.{at-index, below-some}
+use Rattle.device_places.specs.Places.{at, changed, changed_from}
 use Rattle.machine_model.specs.declared.settings.MachineSettings.{MachineSettings}
-use Rattle.machine_model.specs.Device.{QueueView, after_packet, is_masked, new_queue, without_next}
-use Rattle.machine_model.specs.Devices.{QueueViews, asks_at, soonest_from, sooner, timer_at}
+use Rattle.machine_model.specs.Device.{QueueView, after_packet, is_masked, new_queue, next_packet, without_next}
+use Rattle.machine_model.specs.Devices.{QueueViews, asks_at, next_packet_at, soonest_from, sooner, timer_at}
 use Rattle.machine_model.specs.Shown.{IsMask, IsPending, earlier, mask_bit, has_timer}
 use Rattle.machine_model.{specs.declared.devices.{Pending.Pending, Timer.Timer}, proofs.WeightFacts.{named, soonest-is}}
 
@@ -292,6 +292,23 @@ phase-kept xs n x d e old below found some same kept =
 
 pub phase-next : (backlog : Bool) (d : QueueView) → (without_next backlog d).phase ≡ d.phase
 phase-next backlog d = grind (arith, common_steps)
+
+-- without polling, a queue that has no packet stays as it is when its next one is taken
+front-none : (xs : List ℕ) → slice_get xs 0 ≡ None → drop 1 xs ≡ xs
+front-none [] none = refl
+front-none (x ∷ xs) none = cc none
+
+taken-one : (d : QueueView) → next_packet false d ≡ None → without_next false d ≡ d
+taken-one d none = ap (λ (ring : List ℕ). record d { ring = ring }) (front-none d.ring none)
+
+pub taken-none : (n : ℕ) (xs : QueueViews) → next_packet_at false (at n xs) ≡ None → changed (without_next false) n xs ≡ xs
+taken-none n xs none = by (at n xs) refl none
+  where
+    by : (o : Option QueueView) → at n xs ≡ o → next_packet_at false o ≡ None → changed_from (without_next false) n o xs ≡ xs
+    by None is none = refl
+    by (Some d) is none =
+        ap (λ (e : QueueView). slice_set xs n (Some e)) (taken-one d none)
+        ∙ (ap (λ (o : Option QueueView). slice_set xs n o) (sym is) ∙ set-same xs n)
 
 pub phase-masked : (moment : ℕ) (s : MachineSettings) (d : QueueView) → is_masked d.phase ≡ true → (after_packet moment s d).phase ≡ d.phase
 unfolding after_packet

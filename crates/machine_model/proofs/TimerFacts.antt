@@ -4,7 +4,7 @@ use Rattle.std.proofs.Common.{Option, Some, None, length, drop, get_or, refl, ap
 use Rattle.std.proofs.{lemmas.{Bool.cases_eq, Grind.common_steps, List.drop_all, Nat.and_le_l}, Math.Seq.drop-cons}
 use Rattle.std.proofs.lemmas.Nat.Bits.{bit_at-trailing_zeros, bit_at-zero, bit_at_clear_other, bit_at_clear_same}
 use Rattle.std.specs.{Prelude.{bit_and, is_some, nat_le, nat_lt, if◌then◌else◌}, Int.{bit_at, bit_not, trailing_zeros}, Option.option_map}
-use Rattle.device_rows.specs.Places.{at}
+use Rattle.device_places.specs.Places.{at}
 use Rattle.machine_model.specs.Device.{QueueView, timer_of}
 use Rattle.machine_model.specs.{Devices.{QueueViews, soonest_from, sooner, timer_at}, declared.devices.Timer.Timer}
 use Rattle.machine_model.{specs.Shown.{IsMask, has_timer}, proofs.PendingFacts.{clear-at, inside}}

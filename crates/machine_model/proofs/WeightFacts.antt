@@ -3,19 +3,21 @@
 use Rattle.std.proofs.Common.{◌≡◌, ◌∙◌, ℕ, zero, suc, ◌+◌, ◌-◌, ◌*◌, ◌≤◌, Bool, true, false, Option, Some, None, List, [], ◌∷◌, ◌++◌}
 use Rattle.std.proofs.Common.{◌⊎◌, inl, inr, length, length-append, drop, ap, refl, arith}
 use Rattle.std.proofs.lemmas.{Bool.eqb-true, Grind.common_steps}
-use Rattle.std.specs.Prelude.{◌==◌, if◌then◌else◌, nat_le, slice_get, sum_by}
+use Rattle.std.specs.Prelude.{◌==◌, ◌&&◌, if◌then◌else◌, nat_le, not, slice_get, sum_by}
 use Rattle.std.specs.Option.{option_map, option_map_or}
 use Rattle.poll_runs.specs.Polls.{is_repoll}
 use Rattle.poll_runs.specs.Turn.{asked_for}
 use Rattle.poll_runs.specs.declared.bench.Once.{Once}
-use Rattle.device_rows.specs.Places.{at, changed}
+use Rattle.device_places.specs.Places.{at, changed}
 use Rattle.machine_model.specs.declared.settings.MachineSettings.{MachineSettings}
-use Rattle.machine_model.specs.declared.{device.Phase.{Phase, TheVariants.{Coalescing, Raised, Deferred, Fired}}, devices.Timer.Timer}
+use Rattle.machine_model.specs.declared.device.{Phase.Phase, QueueCounts.QueueCounts, Line.{Line, TheVariants.{Coalescing, Raised}}}
+use Rattle.machine_model.specs.declared.{devices.Timer.Timer}
 use Rattle.machine_model.specs.declared.{tasks.RunnableTask.{RunnableTask, TheVariants.{Application, Thread}}}
-use Rattle.machine_model.specs.Device.{QueueView, queue_completed, queue_delivered, expired, interrupted, next_packet, queue_polled}
-use Rattle.machine_model.specs.Device.{raised_again}
-use Rattle.machine_model.specs.Device.{timer_of, without_next}
-use Rattle.machine_model.specs.Devices.{QueueViews, asks_at, next_packet_at, soonest_from, sooner, timer_at}
+use Rattle.machine_model.specs.Device.{QueueView, asks, completed_state, expired, expired_phase, handled, has_expired, interrupted}
+use Rattle.machine_model.specs.Device.{is_fired, is_missed, next_packet, queue_completed, queue_delivered, queue_polled, raised_again}
+use Rattle.machine_model.specs.Device.{schedules, timer_of, unmasked_line, without_next}
+use Rattle.machine_model.specs.Devices.{QueueViews, asks_at, is_missed_at, next_packet_at, schedules_at, soonest_from, sooner, timer_at}
+use Rattle.machine_model.specs.{Waits.saturated}
 use Rattle.machine_model.specs.Softirq.{RunView, SoftirqView, asked_in, begun, run_ended, filled, is_run_spent, next_from, run_next}
 use Rattle.machine_model.specs.Softirq.{softirq_polled, polled_run, pushed}
 use Rattle.machine_model.specs.Tasks.{after_first, applications, runnable, with_application}
@@ -23,12 +25,20 @@ use Rattle.machine_model.proofs.{PlacesFacts.{map_at, sum-changed}}
 
 -- ---- queues
 
+abbrev pub line_weight : Line → ℕ
+line_weight Raised = 3
+line_weight (Coalescing until) = 4
+line_weight _ = 0
+
+abbrev pub timer_weight : Option ℕ → ℕ
+timer_weight None = 0
+timer_weight (Some until) = 4
+
+-- its parts: the card's interrupt, the NAPI timer, its expiry, and an instance that will be scheduled again
 abbrev pub phase_weight : Phase → ℕ
-phase_weight Raised = 3
-phase_weight Fired = 3
-phase_weight (Coalescing until) = 4
-phase_weight (Deferred until) = 4
-phase_weight _ = 0
+phase_weight phase =
+    line_weight phase.line + timer_weight phase.timer + (if has_expired phase.expiry then 3 else 0)
+    + (if is_missed phase then 2 else 0)
 
 unfoldable pub weight_of : ℕ → QueueView → ℕ
 weight_of w d = w * (length d.ring + length d.taken) + 5 * d.deferrals + phase_weight d.phase
@@ -53,14 +63,27 @@ pub weights-less : (w less : ℕ) (f : QueueView → QueueView) (n : ℕ) (xs : 
     → weight_at w (map_at f (at n xs)) + less ≤ weight_at w (at n xs) → weights w (changed f n xs) + less ≤ weights w xs
 weights-less w less f n xs most = omega (arith, changed-weights w f n xs, most)
 
-pub asks-three : (phase : Phase) (w : ℕ) (d : QueueView) → d.phase ≡ phase → asks_at (Some d) ≡ true → phase_weight d.phase ≡ 3
-asks-three phase w d is up = grind (arith, common_steps)
+-- what an interrupt takes off: what its work counts, and what the scheduled instance counts
+handled-less : (polling : Bool) (phase : Phase) → asks phase ≡ true
+    → phase_weight (handled polling phase) + (if polling && schedules phase then 3 else 1) ≤ phase_weight phase
+handled-less polling phase up = grind (arith, common_steps)
+
+-- a change of a queue's phase and of its counts
+phase-less : (w less : ℕ) (d : QueueView) (phase : Phase) (b : Bool) (frames : ℕ) (counts : QueueCounts)
+    → phase_weight phase + less ≤ phase_weight d.phase
+    → (let e = record d { phase = phase } in
+    weight_of w (if b then e else record e { frames = frames; counts = counts }) + less ≤ weight_of w d)
+unfolding weight_of
+phase-less w less d phase true frames counts less_is = omega (arith, less_is)
+phase-less w less d phase false frames counts less_is = omega (arith, less_is)
 
 pub weight-interrupted : (w : ℕ) (polling : Bool) (o : Option QueueView) → asks_at o ≡ true
-    → weight_at w (map_at (interrupted polling) o) + 3 ≤ weight_at w o
-unfolding map_at weight_at weight_of interrupted
-weight-interrupted w polling None up = grind (arith, common_steps)
-weight-interrupted w polling (Some d) up = grind (arith, common_steps)
+    → weight_at w (map_at (interrupted polling) o) + (if polling && schedules_at o then 3 else 1) ≤ weight_at w o
+unfolding map_at weight_at interrupted
+weight-interrupted w polling None up = cc up
+weight-interrupted w polling (Some d) up =
+    phase-less w (if polling && schedules d.phase then 3 else 1) d (handled polling d.phase) (is_fired d.phase) 0
+    (record d.counts { interrupts = saturated (d.counts.interrupts + 1) }) (handled-less polling d.phase up)
 
 pub weight-raised : (w : ℕ) (o : Option QueueView) → weight_at w (map_at raised_again o) ≤ weight_at w o + 3
 unfolding map_at weight_at weight_of
@@ -143,22 +166,61 @@ unfolding map_at weight_at
 looked-most w backlog None = omega arith
 looked-most w backlog (Some d) = omega (arith, weight-looked w backlog d)
 
--- a poll that completes may leave deferred interrupts, if it processed packets
+-- a poll that completes may leave deferred interrupts, if it processed packets; a missed interrupt doesn't count any more
+completed-phase : (now : ℕ) (defers heedless : Bool) (gro : ℕ) (phase : Phase)
+    → phase_weight (record {
+      line = if defers && not heedless then phase.line else unmasked_line phase.line;
+      state = completed_state phase.state;
+      timer = if defers && not (is_missed phase) then Some (saturated (now + gro)) else phase.timer;
+      expiry = phase.expiry;
+    })
+    + (if is_missed phase then 2 else 0)
+    ≤ phase_weight phase + (if defers then 4 else 0)
+completed-phase now defers heedless gro phase = grind (arith, common_steps)
+
+left-deferrals : (given deferrals defer gro : ℕ)
+    → let k = if given == 0 then deferrals else defer in
+    5 * (k - 1) + (if not (k == 0) && not (gro == 0) then 4 else 0) ≤ 5 * deferrals + (if given == 0 then 0 else 5 * defer)
+left-deferrals given deferrals defer gro = grind (arith, common_steps)
+
 pub weight-completed : (w now given : ℕ) (s : MachineSettings) (d : QueueView)
-    → weight_of w (queue_completed now given s d) ≤ weight_of w d + (if given == 0 then 0 else 5 * s.defer_hard_irqs)
+    → weight_of w (queue_completed now given s d) + (if is_missed d.phase then 2 else 0)
+    ≤ weight_of w d + (if given == 0 then 0 else 5 * s.defer_hard_irqs)
 unfolding weight_of queue_completed
-weight-completed w now given s d = grind (arith, common_steps)
+weight-completed w now given s d =
+    let k = if given == 0 then d.deferrals else s.defer_hard_irqs in
+    let defers = not (k == 0) && not (s.gro_flush_timeout == 0) in
+    omega (
+      arith,
+      completed-phase now defers s.heedless s.gro_flush_timeout d.phase,
+      left-deferrals given d.deferrals s.defer_hard_irqs s.gro_flush_timeout,
+    )
+
+weight-counts : (w : ℕ) (counts : QueueCounts) (d : QueueView) → weight_of w (record d { counts = counts }) ≡ weight_of w d
+unfolding weight_of
+weight-counts w counts d = refl
 
 pub weight-polled : (w now given : ℕ) (s : MachineSettings) (o : Option QueueView)
-    → weight_at w (map_at (queue_polled now given s) o)
+    → weight_at w (map_at (queue_polled now given s) o) + (if not (given == s.weight) && is_missed_at o then 2 else 0)
     ≤ weight_at w o + (if given == s.weight then 0 else (if given == 0 then 0 else 5 * s.defer_hard_irqs))
-unfolding map_at weight_at weight_of queue_polled
-weight-polled w now given s None = omega arith
-weight-polled w now given s (Some d) = grind (arith, common_steps, weight-completed)
+unfolding map_at weight_at queue_polled
+weight-polled w now given s None = grind (arith, common_steps)
+weight-polled w now given s (Some d) =
+    by (record d { counts = record d.counts { polls = saturated (d.counts.polls + 1) } })
+    (weight-counts w (record d.counts { polls = saturated (d.counts.polls + 1) }) d) (given == s.weight)
+  where
+    by : (e : QueueView) → weight_of w e ≡ weight_of w d → (full : Bool)
+        → weight_of w (if full then e else queue_completed now given s e) + (if not full && is_missed e.phase then 2 else 0)
+        ≤ weight_of w d + (if full then 0 else (if given == 0 then 0 else 5 * s.defer_hard_irqs))
+    by e same true = omega (arith, same)
+    by e same false = omega (arith, same, weight-completed w now given s e)
 
-pub weight-expired : (w at : ℕ) (d : QueueView) → timer_of d.phase ≡ Some at → weight_of w (expired d) + 1 ≡ weight_of w d
+expired-phase : (at : ℕ) (phase : Phase) → timer_of phase ≡ Some at → phase_weight (expired_phase phase) + 1 ≤ phase_weight phase
+expired-phase at phase is = grind (arith, common_steps)
+
+pub weight-expired : (w at : ℕ) (d : QueueView) → timer_of d.phase ≡ Some at → weight_of w (expired d) + 1 ≤ weight_of w d
 unfolding weight_of
-weight-expired w at d is = grind (arith, common_steps)
+weight-expired w at d is = omega (arith, expired-phase at d.phase is)
 
 pub expired-less : (w number : ℕ) (timer : Timer) (o : Option QueueView) → timer_at number o ≡ Some timer
     → weight_at w (map_at expired o) + 1 ≤ weight_at w o

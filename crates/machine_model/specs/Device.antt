@@ -1,10 +1,12 @@
 -- A receive queue of a card, with its NAPI instance (`struct napi_struct`).
 use Rattle.std.specs.Prelude.{ℕ, ◌+◌, ◌-◌, ◌==◌, ◌||◌, ◌&&◌, not, nat_le, nat_lt, Bool, true, false, List, [], ◌∷◌, ◌++◌, length, drop}
-use Rattle.std.specs.Prelude.{slice_get, Option, Some, None, if◌then◌else◌}
+use Rattle.std.specs.Prelude.{slice_get, Option, Some, None, is_some, if◌then◌else◌}
 use Rattle.{machine_model.specs.declared.settings.MachineSettings.MachineSettings}
 use Rattle.{machine_model.specs.Waits.{WaitsView, counted, saturated, no_waits}}
-use Rattle.machine_model.specs.declared.device.{QueueCounts.QueueCounts, TheConstants.QueueCounts.NONE, Phase.Phase}
-use Rattle.machine_model.specs.declared.device.Phase.TheVariants.{Quiet, Coalescing, Raised, Scheduled, Deferred, Fired}
+use Rattle.machine_model.specs.declared.device.{QueueCounts.QueueCounts, Phase.Phase, TheConstants.{Phase.QUIET, QueueCounts.NONE}}
+use Rattle.machine_model.specs.declared.device.{Line.{Line, TheVariants.{Quiet, Coalescing, Raised, Masked}}, NapiState.NapiState}
+use Rattle.machine_model.specs.declared.device.NapiState.TheVariants.{Idle, Scheduled, Missed}
+use Rattle.machine_model.specs.declared.device.Expiry.{Expiry, TheVariants.{NotExpired, Expired, MetScheduled}}
 
 pub record QueueView : Type 0 where
   -- the arrival times of the packets in its ring, the oldest first; the next field is how many the ring may hold
@@ -21,38 +23,69 @@ pub record QueueView : Type 0 where
 
 abbrev pub new_queue : ℕ → QueueView
 new_queue capacity =
-    record { ring = []; capacity = capacity; taken = []; phase = Quiet; frames = 0; deferrals = 0; counts = NONE; waits = no_waits }
+    record { ring = []; capacity = capacity; taken = []; phase = QUIET; frames = 0; deferrals = 0; counts = NONE; waits = no_waits }
 
 -- ---- its phase
 
+abbrev pub is_masked_line : Line → Bool
+is_masked_line Masked = true
+is_masked_line _ = false
+
+abbrev pub is_raised : Line → Bool
+is_raised Raised = true
+is_raised _ = false
+
+abbrev pub is_napi_idle : NapiState → Bool
+is_napi_idle Idle = true
+is_napi_idle _ = false
+
+abbrev pub is_missed_state : NapiState → Bool
+is_missed_state Missed = true
+is_missed_state _ = false
+
+abbrev pub has_expired : Expiry → Bool
+has_expired NotExpired = false
+has_expired _ = true
+
 abbrev pub is_masked : Phase → Bool
-is_masked Scheduled = true
-is_masked (Deferred until) = true
-is_masked Fired = true
-is_masked _ = false
+is_masked phase = is_masked_line phase.line
+
+-- the NAPI timer expired, and its interrupt wasn't handled yet
+abbrev pub is_fired : Phase → Bool
+is_fired phase = has_expired phase.expiry
 
 -- the card asks for an interrupt, or the NAPI timer of the queue expired
 abbrev pub asks : Phase → Bool
-asks Raised = true
-asks Fired = true
-asks _ = false
+asks phase = is_raised phase.line || has_expired phase.expiry
 
-abbrev pub is_fired : Phase → Bool
-is_fired Fired = true
-is_fired _ = false
+-- an interrupt of the card came while the instance was scheduled (`NAPI_STATE_MISSED`)
+abbrev pub is_missed : Phase → Bool
+is_missed phase = is_missed_state phase.state
 
--- the time of the card's timer or of the NAPI timer, if one is set
+-- the time of the card's timer, if it is set
+abbrev pub card_timer : Line → Option ℕ
+card_timer (Coalescing until) = Some until
+card_timer _ = None
+
+-- the card's timer is set and expires first, or at the same time as the NAPI timer
+abbrev pub is_card_first : Option ℕ → Option ℕ → Bool
+is_card_first None napi = false
+is_card_first (Some card) None = true
+is_card_first (Some card) (Some napi) = nat_le card napi
+
+-- the time of its timer that expires first, if one is set: the card's or the NAPI timer
 abbrev pub timer_of : Phase → Option ℕ
-timer_of (Coalescing until) = Some until
-timer_of (Deferred until) = Some until
-timer_of _ = None
+timer_of phase = if is_card_first (card_timer phase.line) phase.timer then card_timer phase.line else phase.timer
 
--- the timer expires: after the card's timer the interrupt is raised; after the NAPI timer the instance is scheduled
--- (`napi_watchdog`)
+-- the NAPI timer expires: its interrupt will schedule the instance, unless that is scheduled now (`napi_watchdog`)
+abbrev pub after_napi_timer : Phase → Phase
+after_napi_timer phase = record phase { timer = None; expiry = if is_napi_idle phase.state then Expired else MetScheduled }
+
+-- the timer that expires first expires; after the card's timer the interrupt is raised
 abbrev pub expired_phase : Phase → Phase
-expired_phase (Coalescing until) = Raised
-expired_phase (Deferred until) = Fired
-expired_phase phase = phase
+expired_phase phase =
+    if is_card_first (card_timer phase.line) phase.timer then record phase { line = Raised }
+    else (if is_some phase.timer then after_napi_timer phase else phase)
 
 abbrev pub expired : QueueView → QueueView
 expired d = record d { phase = expired_phase d.phase }
@@ -60,16 +93,17 @@ expired d = record d { phase = expired_phase d.phase }
 -- ---- a packet arrives
 
 -- the card delays its interrupt until this time, unless it delays one or asks for one already
-abbrev pub coalesced : ℕ → Phase → Phase
+abbrev pub coalesced : ℕ → Line → Line
 coalesced until Quiet = Coalescing until
-coalesced until phase = phase
+coalesced until line = line
 
 -- the card has one more frame, and asks for an interrupt now or later
 unfoldable pub notified : ℕ → MachineSettings → QueueView → QueueView
 notified moment s d =
     let frames = saturated (d.frames + 1) in
     let at_once = s.rx_nsecs == 0 || not (s.rx_frames == 0) && nat_le s.rx_frames frames in
-    record d { frames = frames; phase = if at_once then Raised else coalesced (saturated (moment + s.rx_nsecs)) d.phase }
+    let line = if at_once then Raised else coalesced (saturated (moment + s.rx_nsecs)) d.phase.line in
+    record d { frames = frames; phase = record d.phase { line = line } }
 
 abbrev pub has_room : QueueView → Bool
 has_room d = nat_lt (length d.ring) d.capacity
@@ -83,15 +117,40 @@ after_packet moment s d =
 
 -- ---- an interrupt is handled: that of the NAPI timer, or that of the card, which is then masked if there is polling
 
+-- the NAPI timer expired while the instance was scheduled
+abbrev pub is_met : Expiry → Bool
+is_met MetScheduled = true
+is_met _ = false
+
+-- with polling, the interrupt schedules the instance, unless it is scheduled already, or was when the NAPI timer expired
+abbrev pub schedules : Phase → Bool
+schedules phase = is_napi_idle phase.state && not (is_met phase.expiry)
+
+abbrev pub timer_handled : Phase → Phase
+timer_handled phase = record phase { state = if schedules phase then Scheduled else phase.state; expiry = NotExpired }
+
+-- an interrupt of the card while the instance is scheduled is remembered (`napi_schedule_prep`)
+abbrev pub prepared : NapiState → NapiState
+prepared Idle = Scheduled
+prepared _ = Missed
+
+abbrev pub card_handled : Phase → Phase
+card_handled phase = record phase { line = Masked; state = prepared phase.state }
+
+-- without polling nothing is masked or scheduled
+abbrev pub handled : Bool → Phase → Phase
+handled true phase = if is_fired phase then timer_handled phase else card_handled phase
+handled false phase = record phase { line = Quiet; expiry = NotExpired }
+
 unfoldable pub interrupted : Bool → QueueView → QueueView
 interrupted polling d =
+    let e = record d { phase = handled polling d.phase } in
     let counts = record d.counts { interrupts = saturated (d.counts.interrupts + 1) } in
-    if is_fired d.phase then record d { phase = Scheduled }
-    else record d { phase = if polling then Scheduled else Quiet; frames = 0; counts = counts }
+    if is_fired d.phase then e else record e { frames = 0; counts = counts }
 
 -- an interrupt without polling ends: it is raised again unless the ring is empty
 abbrev pub raised_again : QueueView → QueueView
-raised_again d = record d { phase = if length d.ring == 0 then d.phase else Raised }
+raised_again d = record d { phase = if length d.ring == 0 then d.phase else record d.phase { line = Raised } }
 
 -- ---- a poll
 
@@ -111,12 +170,26 @@ abbrev pub queue_delivered : ℕ → ℕ → QueueView → QueueView
 queue_delivered now came d =
     record d { counts = record d.counts { polled = saturated (d.counts.polled + 1) }; waits = counted (now - came) d.waits }
 
--- `napi_complete_done`, and the driver that unmasks the card after it, unless the interrupt is deferred
+-- the instance isn't scheduled any more, unless it missed an interrupt
+abbrev pub completed_state : NapiState → NapiState
+completed_state Missed = Scheduled
+completed_state _ = Idle
+
+abbrev pub unmasked_line : Line → Line
+unmasked_line Masked = Quiet
+unmasked_line line = line
+
+-- `napi_complete_done`, and the driver that unmasks the card after it, unless the interrupt is deferred. A heedless driver unmasks
+-- it in any case.
 unfoldable pub queue_completed : ℕ → ℕ → MachineSettings → QueueView → QueueView
 queue_completed now given s d =
     let deferrals = if given == 0 then d.deferrals else s.defer_hard_irqs in
     let defers = not (deferrals == 0) && not (s.gro_flush_timeout == 0) in
-    record d { deferrals = deferrals - 1; phase = if defers then Deferred (saturated (now + s.gro_flush_timeout)) else Quiet }
+    let timer = if defers && not (is_missed d.phase) then Some (saturated (now + s.gro_flush_timeout)) else d.phase.timer in
+    let line = if defers && not s.heedless then d.phase.line else unmasked_line d.phase.line in
+    let phase : Phase =
+    record { line = line; state = completed_state d.phase.state; timer = timer; expiry = d.phase.expiry } in
+    record d { deferrals = deferrals - 1; phase = phase }
 
 -- a poll ends: after one of the whole weight the queue is polled again, otherwise it completes
 unfoldable pub queue_polled : ℕ → ℕ → MachineSettings → QueueView → QueueView

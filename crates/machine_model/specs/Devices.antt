@@ -1,9 +1,9 @@
 -- The queues of a processor, by their numbers there.
 use Rattle.std.specs.Prelude.{ℕ, ◌+◌, ◌-◌, nat_le, Bool, false, [], ◌∷◌, ◌++◌, length, replicate, Option, Some, None, if◌then◌else◌}
 use Rattle.std.specs.Option.{option_and_then, option_map, option_map_or}
-use Rattle.device_rows.specs.Places.{DeviceTable, added}
+use Rattle.device_places.specs.Places.{DeviceTable, added}
 use Rattle.machine_model.specs.declared.devices.Timer.{Timer}
-use Rattle.machine_model.specs.Device.{QueueView, asks, is_fired, has_room, next_packet, new_queue, timer_of}
+use Rattle.machine_model.specs.Device.{QueueView, asks, is_fired, is_missed, schedules, has_room, next_packet, new_queue, timer_of}
 
 abbrev pub QueueViews : Type 0
 QueueViews = DeviceTable QueueView
@@ -19,6 +19,12 @@ asks_at place = option_map_or (λ d. asks d.phase) place false
 
 abbrev pub is_fired_at : Option QueueView → Bool
 is_fired_at place = option_map_or (λ d. is_fired d.phase) place false
+
+abbrev pub is_missed_at : Option QueueView → Bool
+is_missed_at place = option_map_or (λ d. is_missed d.phase) place false
+
+abbrev pub schedules_at : Option QueueView → Bool
+schedules_at place = option_map_or (λ d. schedules d.phase) place false
 
 abbrev pub has_room_at : Option QueueView → Bool
 has_room_at place = option_map_or has_room place false

@@ -1,15 +1,14 @@
 -- The invariant of each processor in the program. It isn't part of the machine's definition.
 use Rattle.std.specs.Prelude.{◌≡◌, ◌≤◌, ◌<◌, ◌&&◌, not, Bool, true, false, is_some, ℕ, sum_by, Option, Some, None, if◌then◌else◌}
 use Rattle.{std.specs.Option.option_map_or, machine_model.specs.declared.settings.MachineSettings.MachineSettings}
-use Rattle.{machine_model.specs.Device.QueueView}
+use Rattle.machine_model.specs.Device.{QueueView, is_napi_idle}
 use Rattle.machine_model.specs.{Devices.QueueViews, Shown.{listed, weight_in}, Softirq.{SoftirqView, asked_in}}
 use Rattle.machine_model.specs.{Processor.{ProcessorView, is_polling}}
-use Rattle.machine_model.specs.declared.{device.Phase.{Phase, TheVariants.Scheduled}, processor.Work.{Work, TheVariants.{Poll, Packet}}}
+use Rattle.machine_model.specs.declared.{device.Phase.Phase, processor.Work.{Work, TheVariants.{Poll, Packet}}}
 
 -- how many queues are scheduled
 abbrev pub is_scheduled : Phase → Bool
-is_scheduled Scheduled = true
-is_scheduled _ = false
+is_scheduled phase = not (is_napi_idle phase.state)
 
 abbrev pub scheduled_at : Option QueueView → ℕ
 scheduled_at place = option_map_or (λ d. if is_scheduled d.phase then 1 else 0) place 0

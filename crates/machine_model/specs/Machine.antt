@@ -1,6 +1,6 @@
 -- The machine: its processors, the effect of arrivals on them, and the contents of the report.
 use Rattle.std.specs.Prelude.{◌≡◌, ℕ, ◌-◌, ◌/◌, ◌%◌, if◌then◌else◌}
-use Rattle.device_rows.specs.Places.{at}
+use Rattle.device_places.specs.Places.{at}
 use Rattle.machine_model.specs.declared.settings.MachineSettings.{MachineSettings}
 use Rattle.std.specs.Prelude.{◌^◌, List, length, replicate, slice_get, slice_set, Option, Some, None}
 use Rattle.std.specs.Option.{option_and_then, option_map}

@@ -44,6 +44,7 @@ machine_options =
     ∷ rule (codes "packet") (λ s. s.packet) 0 1000000000 1000
     ∷ rule (codes "use") (λ s. s.use_time) 0 1000000000 2000
     ∷ rule (codes "wake") (λ s. s.wake) 0 1000000000 0
+    ∷ rule (codes "heedless") (λ s. flag_number s.heedless) 0 1 0
     ∷ []
 
 -- this is that option; its unit and its description are for readers only

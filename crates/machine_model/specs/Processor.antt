@@ -2,13 +2,12 @@
 use Rattle.std.specs.Prelude.{◌≡◌, ℕ, zero, suc, ◌+◌, ◌-◌, ◌<◌, ◌==◌, ◌||◌, ◌&&◌, not, nat_le, nat_lt, Bool, true, false, List, [], ◌∷◌}
 use Rattle.std.specs.{Prelude.{◌++◌, length, position, slice_get, Option, Some, None, is_some, if◌then◌else◌}, Option.option_map_or}
 use Rattle.circular_buffer.specs.Buffer.{buffer}
-use Rattle.device_rows.specs.Places.{at, changed}
+use Rattle.device_places.specs.Places.{at, changed}
 use Rattle.{machine_model.specs.declared.settings.MachineSettings.MachineSettings}
-use Rattle.{poll_runs.specs.declared.bench.Next.TheVariants.{Gone, Repoll}}
-use Rattle.poll_runs.specs.declared.bench.Once.{Once}
 use Rattle.machine_model.specs.Device.{after_packet, queue_delivered, expired, interrupted, queue_polled, raised_again, without_next}
-use Rattle.machine_model.specs.Devices.{QueueViews, asks_at, has_room_at, is_fired_at, next_packet_at, soonest_from, with_device}
-use Rattle.machine_model.specs.Softirq.{SoftirqView, begun, asked_in, run_ended, is_run_spent, run_next, softirq_polled, pushed}
+use Rattle.machine_model.specs.Devices.{QueueViews, asks_at, has_room_at, is_fired_at, is_missed_at, next_packet_at, schedules_at}
+use Rattle.machine_model.specs.Devices.{soonest_from, with_device}
+use Rattle.machine_model.specs.Softirq.{SoftirqView, begun, asked_in, poll_ended, run_ended, is_run_spent, run_next, pushed}
 use Rattle.machine_model.specs.{Application.{ApplicationView, fed, has_place, opened_application, used}, Waits.saturated}
 use Rattle.machine_model.specs.Tasks.{after_first, runnable, with_application}
 use Rattle.machine_model.specs.declared.{devices.Timer.Timer, tasks.RunnableTask.{RunnableTask, TheVariants.{Application, Thread}}}
@@ -57,7 +56,7 @@ interrupts number p =
     let counts = if is_fired_at (at number p.devices) then record p.counts { timers = saturated (p.counts.timers + 1) }
     else record p.counts { interrupts = saturated (p.counts.interrupts + 1) } in
     let q = record p { devices = changed (interrupted polling) number p.devices; counts = counts } in
-    begins (Interrupt number) time (if polling then scheduled number q else q)
+    begins (Interrupt number) time (if polling && schedules_at (at number p.devices) then scheduled number q else q)
 
 abbrev pub polls : ℕ → ProcessorView → ProcessorView
 polls number p = begins (Poll number) p.settings.poll p
@@ -149,15 +148,15 @@ ends_interrupt number p =
     record q { devices = changed raised_again number q.devices }
 
 -- A poll that processed this many packets ends. If the queue is polled again, the run puts it on its repolls, or its thread is
--- the first task again.
+-- the first task again. If it completes and missed an interrupt, it is scheduled again, and its thread is the first task too.
 unfoldable pub ends_poll : ℕ → ℕ → ProcessorView → ProcessorView
 ends_poll number given p =
     let full = given == p.settings.weight in
     let counts = record p.counts { polls = saturated (p.counts.polls + 1); work = saturated (p.counts.work + given) } in
     let q = record p { devices = changed (queue_polled p.clock given p.settings) number p.devices; counts = counts } in
-    let once : Once = record { work = given; next = if full then Repoll else Gone } in
-    if p.settings.threaded then record q { tasks = if full then Thread number ∷ q.tasks else q.tasks }
-    else record q { softirq = softirq_polled once q.softirq }
+    let missed = is_missed_at (at number p.devices) in
+    if p.settings.threaded then record q { tasks = if full || missed then Thread number ∷ p.tasks else p.tasks }
+    else record q { softirq = poll_ended number given full missed p.softirq }
 
 -- a poll that processed this many packets takes its next one, or ends
 unfoldable pub poll_looks : ℕ → ℕ → ProcessorView → ProcessorView

@@ -4,7 +4,7 @@ use Rattle.std.specs.Prelude.{◌≡◌, ◌<◌, ℕ, ◌+◌, ◌==◌, ◌||�
 use Rattle.std.specs.{Prelude.{if◌then◌else◌}, Option.option_map_or, Int.bit_at}
 use Rattle.poll_runs.specs.Turn.{asked_for}
 use Rattle.poll_runs.specs.declared.polling_run.PollingRun.{PollingRun}
-use Rattle.device_rows.specs.Places.{at}
+use Rattle.device_places.specs.Places.{at}
 use Rattle.machine_model.specs.{Device.{QueueView, timer_of}, Devices.{QueueViews, asks_at, soonest_from}, Softirq.{RunView, SoftirqView}}
 use Rattle.machine_model.specs.declared.devices.{Pending.Pending, Timer.Timer}
 

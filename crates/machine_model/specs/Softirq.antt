@@ -1,8 +1,8 @@
 -- A processor's poll list, and the polling run in progress over it (`struct softnet_data`).
-use Rattle.std.specs.Prelude.{ℕ, ◌+◌, Bool, List, [], ◌∷◌, ◌++◌, drop, slice_get, Option, Some, None, if◌then◌else◌}
+use Rattle.std.specs.Prelude.{ℕ, ◌+◌, ◌&&◌, not, Bool, List, [], ◌∷◌, ◌++◌, drop, slice_get, Option, Some, None, if◌then◌else◌}
 use Rattle.std.specs.Option.{option_and_then, option_map, option_map_or}
 use Rattle.poll_runs.specs.{Polls.is_repoll, Run.is_squeezed, Turn.asked_for}
-use Rattle.poll_runs.specs.declared.bench.Once.{Once}
+use Rattle.poll_runs.specs.declared.bench.{Next.TheVariants.{Gone, Repoll}, Once.Once}
 
 pub record RunView : Type 0 where
   -- the numbers that the run took and hasn't polled; the next field has the repolls
@@ -61,6 +61,13 @@ polled_run once r =
 
 unfoldable pub softirq_polled : Once → SoftirqView → SoftirqView
 softirq_polled once q = record q { run = option_map (polled_run once) q.run }
+
+-- A poll that processed this many packets ends: if it used its whole weight (`full`), its number goes to the repolls. A queue that
+-- completes and missed an interrupt is on the list again.
+abbrev pub poll_ended : ℕ → ℕ → Bool → Bool → SoftirqView → SoftirqView
+poll_ended number given full missed q =
+    let r = softirq_polled (record { work = given; next = if full then Repoll else Gone }) q in
+    if not full && missed then pushed number r else r
 
 -- the run ends: the list has what the run took and didn't poll, then what arrived meanwhile, then the repolls
 unfoldable pub run_ended : SoftirqView → SoftirqView

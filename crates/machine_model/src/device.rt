@@ -2,7 +2,7 @@
 
 ghost use Rattle.std.specs.Prelude.{◌≡◌, ◌≤◌, Some, IfOk, OnErr, OnOk};
 ghost use Rattle.machine_model.specs.Machine.{queue_report};
-ghost use Rattle.machine_model.specs.Device.{after_packet, asks, queue_completed, queue_delivered, expired, has_room, interrupted, is_fired, is_masked, next_packet, notified, new_queue, queue_polled, raised_again, timer_of, without_next};
+ghost use Rattle.machine_model.specs.Device.{after_packet, asks, completed_state, queue_completed, queue_delivered, expired, has_room, interrupted, is_fired, is_masked, is_missed, next_packet, notified, new_queue, queue_polled, raised_again, schedules, timer_of, unmasked_line, without_next};
 
 use crate::settings::MachineSettings;
 use crate::waits::{WaitCounts, Waits};
@@ -46,22 +46,211 @@ pub struct QueueReport {
     pub waits: WaitCounts,
 }
 
-/// How a queue asks for a poll, or waits for one. In the first three phases its interrupt isn't masked.
+/// The interrupt of a queue's card.
 #[derive(Clone, Copy, Debug, PartialEq, Eq)]
-pub enum Phase {
-    /// It neither asks nor waits.
+pub enum Line {
+    /// The card doesn't ask for an interrupt.
     Quiet,
     /// The card delays its interrupt until this time, for more frames (`rx-usecs`).
     Coalescing(u64),
     /// The card asks for an interrupt.
     Raised,
-    /// The interrupt was handled: the queue is on the poll list, or its thread is runnable, or it is being polled
-    /// (`NAPI_STATE_SCHED`).
+    /// The interrupt was handled, and the card doesn't report packets until the driver unmasks it.
+    Masked,
+}
+
+/// The state of a queue's NAPI instance.
+#[derive(Clone, Copy, Debug, PartialEq, Eq)]
+pub enum NapiState {
+    /// It isn't scheduled.
+    Idle,
+    /// It is on the poll list, or its thread is runnable, or it is being polled (`NAPI_STATE_SCHED`).
     Scheduled,
-    /// Its interrupt is deferred: the NAPI timer will schedule it at this time (`napi_defer_hard_irqs`).
-    Deferred(u64),
-    /// The NAPI timer has expired (`napi_watchdog`).
-    Fired,
+    /// It is scheduled, and the interrupt came once more since (`NAPI_STATE_MISSED`).
+    Missed,
+}
+
+/// Whether a queue's NAPI timer expired (`napi_watchdog`).
+#[derive(Clone, Copy, Debug, PartialEq, Eq)]
+pub enum Expiry {
+    /// It didn't, or the interrupt of its expiry was handled.
+    NotExpired,
+    /// It expired while the instance was idle.
+    Expired,
+    /// It expired while the instance was scheduled, so its interrupt schedules nothing.
+    MetScheduled,
+}
+
+/// How a queue asks for a poll, or waits for one.
+#[derive(Clone, Copy, Debug, PartialEq, Eq)]
+pub struct Phase {
+    /// The interrupt of its card.
+    pub line: Line,
+    /// Its NAPI instance.
+    pub state: NapiState,
+    /// When its NAPI timer will schedule the instance, if the timer is set (`napi_defer_hard_irqs`).
+    pub timer: Option<u64>,
+    /// Whether that timer expired.
+    pub expiry: Expiry,
+}
+
+impl Phase {
+    ghost use Rattle.std.specs.Prelude.{◌≡◌};
+    ghost use Rattle.machine_model.specs.Device.{after_napi_timer, asks, card_handled, expired_phase, handled, is_fired, is_masked, is_missed, schedules, timer_handled, timer_of};
+
+    /// The phase of a new queue: nothing is asked for, scheduled or set.
+    pub const QUIET: Phase = Phase {
+        line: Line::Quiet,
+        state: NapiState::Idle,
+        timer: None,
+        expiry: Expiry::NotExpired,
+    };
+
+    // Returns whether the card asks for an interrupt, or the NAPI timer expired.
+    fn asks(&self) -> bool
+        ensures { result ≡ asks self.now }
+    {
+        self.line == Line::Raised || self.is_fired()
+    }
+
+    // Returns whether the card's interrupt is masked.
+    fn is_masked(&self) -> bool
+        ensures { result ≡ is_masked self.now }
+    {
+        self.line == Line::Masked
+    }
+
+    // Returns whether the NAPI timer expired, and its interrupt wasn't handled yet.
+    fn is_fired(&self) -> bool
+        ensures { result ≡ is_fired self.now }
+    {
+        self.expiry != Expiry::NotExpired
+    }
+
+    // Returns whether the instance missed an interrupt.
+    fn is_missed(&self) -> bool
+        ensures { result ≡ is_missed self.now }
+    {
+        self.state == NapiState::Missed
+    }
+
+    // Returns whether an interrupt schedules the instance.
+    fn schedules(&self) -> bool
+        ensures { result ≡ schedules self.now }
+    {
+        self.state == NapiState::Idle && self.expiry != Expiry::MetScheduled
+    }
+
+    // Returns when the timer expires that is the card's or the NAPI timer, whichever is first, if one is set.
+    fn timer(&self) -> Option<u64>
+        ensures { result ≡ timer_of self.now }
+    {
+        match (self.line, self.timer) {
+            (Line::Coalescing(card), Some(napi)) if napi < card => Some(napi),
+            (Line::Coalescing(card), _) => Some(card),
+            (_, napi) => napi,
+        }
+    }
+
+    // Returns the phase after that timer expired.
+    fn expired(&self) -> Phase
+        ensures { result ≡ expired_phase self.now }
+    {
+        match (self.line, self.timer) {
+            (Line::Coalescing(card), Some(napi)) if napi < card => self.after_napi_timer(),
+            (Line::Coalescing(_), _) => Phase {
+                line: Line::Raised,
+                ..*self
+            },
+            (_, Some(_)) => self.after_napi_timer(),
+            (_, None) => *self,
+        }
+    }
+
+    // Returns the phase after the NAPI timer expired.
+    fn after_napi_timer(&self) -> Phase
+        ensures { result ≡ after_napi_timer self.now }
+    {
+        let expiry = if self.state == NapiState::Idle {
+            Expiry::Expired
+        } else {
+            Expiry::MetScheduled
+        };
+        Phase {
+            timer: None,
+            expiry,
+            ..*self
+        }
+    }
+
+    // Returns the phase after the interrupt of the NAPI timer was handled, with polling.
+    fn timer_handled(&self) -> Phase
+        ensures { result ≡ timer_handled self.now }
+    {
+        let state = if self.schedules() {
+            NapiState::Scheduled
+        } else {
+            self.state
+        };
+        Phase {
+            state,
+            expiry: Expiry::NotExpired,
+            ..*self
+        }
+    }
+
+    // Returns the phase after the interrupt of the card was handled, with polling: it is masked, and the instance is scheduled.
+    fn card_handled(&self) -> Phase
+        ensures { result ≡ card_handled self.now }
+    {
+        let state = match self.state {
+            NapiState::Idle => NapiState::Scheduled,
+            NapiState::Scheduled | NapiState::Missed => NapiState::Missed,
+        };
+        Phase {
+            line: Line::Masked,
+            state,
+            ..*self
+        }
+    }
+
+    // Returns the phase after its interrupt was handled. Without polling nothing is masked or scheduled.
+    fn handled(&self, polling: bool) -> Phase
+        ensures { result ≡ handled polling self.now }
+    {
+        if !polling {
+            return Phase {
+                line: Line::Quiet,
+                expiry: Expiry::NotExpired,
+                ..*self
+            };
+        }
+        if self.is_fired() {
+            self.timer_handled()
+        } else {
+            self.card_handled()
+        }
+    }
+}
+
+// Returns the card's interrupt after the driver unmasked it.
+fn unmasked_line(line: Line) -> Line
+    ensures { result ≡ unmasked_line line }
+{
+    match line {
+        Line::Masked => Line::Quiet,
+        other => other,
+    }
+}
+
+// Returns the state of an instance after it completed: one that missed an interrupt is scheduled again.
+fn completed(state: NapiState) -> NapiState
+    ensures { result ≡ completed_state state }
+{
+    match state {
+        NapiState::Missed => NapiState::Scheduled,
+        NapiState::Idle | NapiState::Scheduled => NapiState::Idle,
+    }
 }
 
 /// A receive queue with its NAPI instance.
@@ -106,7 +295,7 @@ impl ReceiveQueue {
         Ok(ReceiveQueue {
             ring,
             taken,
-            phase: Phase::Quiet,
+            phase: Phase::QUIET,
             frames: 0,
             deferrals: 0,
             counts: QueueCounts::NONE,
@@ -118,45 +307,49 @@ impl ReceiveQueue {
     pub(crate) fn asks(&self) -> bool
         ensures { result ≡ asks self.now.phase }
     {
-        matches!(self.phase, Phase::Raised | Phase::Fired)
+        self.phase.asks()
     }
 
     /// Returns whether its interrupt is masked, so that the card doesn't report packets.
     pub(crate) fn is_masked(&self) -> bool
         ensures { result ≡ is_masked self.now.phase }
     {
-        matches!(
-            self.phase,
-            Phase::Scheduled | Phase::Deferred(_) | Phase::Fired
-        )
+        self.phase.is_masked()
     }
 
     /// Returns whether its NAPI timer expired.
     pub(crate) fn is_fired(&self) -> bool
         ensures { result ≡ is_fired self.now.phase }
     {
-        self.phase == Phase::Fired
+        self.phase.is_fired()
     }
 
-    /// When its timer expires, if one is set.
+    /// Returns whether its instance missed an interrupt.
+    pub(crate) fn is_missed(&self) -> bool
+        ensures { result ≡ is_missed self.now.phase }
+    {
+        self.phase.is_missed()
+    }
+
+    /// Returns whether its interrupt schedules the instance.
+    pub(crate) fn schedules(&self) -> bool
+        ensures { result ≡ schedules self.now.phase }
+    {
+        self.phase.schedules()
+    }
+
+    /// When the timer expires that is first, the card's or its NAPI timer, if one is set.
     pub(crate) fn timer(&self) -> Option<u64>
         ensures { result ≡ timer_of self.now.phase }
     {
-        match self.phase {
-            Phase::Coalescing(until) | Phase::Deferred(until) => Some(until),
-            _ => None,
-        }
+        self.phase.timer()
     }
 
-    /// Expires its timer.
+    /// Expires that timer.
     pub(crate) fn expire(&mut self)
         ensures { self.new ≡ expired self.old }
     {
-        self.phase = match self.phase {
-            Phase::Coalescing(_) => Phase::Raised,
-            Phase::Deferred(_) => Phase::Fired,
-            other => other,
-        };
+        self.phase = self.phase.expired();
     }
 
     // Counts one more frame for the card, which asks for an interrupt now or later.
@@ -167,9 +360,10 @@ impl ReceiveQueue {
         self.frames = self.frames.saturating_add(1);
         let wanted = u64::from(settings.rx_frames);
         if settings.rx_nsecs == 0 || wanted != 0 && wanted <= self.frames {
-            self.phase = Phase::Raised;
-        } else if self.phase == Phase::Quiet {
-            self.phase = Phase::Coalescing(moment.saturating_add(u64::from(settings.rx_nsecs)));
+            self.phase.line = Line::Raised;
+        } else if self.phase.line == Line::Quiet {
+            let until = moment.saturating_add(u64::from(settings.rx_nsecs));
+            self.phase.line = Line::Coalescing(until);
         }
     }
 
@@ -196,17 +390,12 @@ impl ReceiveQueue {
     pub(crate) fn interrupt(&mut self, polling: bool)
         ensures { self.new ≡ interrupted polling self.old }
     {
-        if self.phase == Phase::Fired {
-            self.phase = Phase::Scheduled;
-            return;
+        let is_timer = self.is_fired();
+        self.phase = self.phase.handled(polling);
+        if !is_timer {
+            self.frames = 0;
+            self.counts.interrupts = self.counts.interrupts.saturating_add(1);
         }
-        self.phase = if polling {
-            Phase::Scheduled
-        } else {
-            Phase::Quiet
-        };
-        self.frames = 0;
-        self.counts.interrupts = self.counts.interrupts.saturating_add(1);
     }
 
     /// Ends an interrupt without polling: it is raised again if the ring isn't empty.
@@ -214,7 +403,7 @@ impl ReceiveQueue {
         ensures { self.new ≡ raised_again self.old }
     {
         if !self.ring.is_empty() {
-            self.phase = Phase::Raised;
+            self.phase.line = Line::Raised;
         }
     }
 
@@ -244,7 +433,7 @@ impl ReceiveQueue {
         Ok(())
     }
 
-    // Unmasks its interrupt, unless that is deferred (`napi_complete_done`).
+    // Unmasks its interrupt, unless that is deferred (`napi_complete_done`); a heedless driver unmasks it in any case.
     #[tactic(auto, unfolding(crate::specs::Device::queue_completed))]
     fn complete(&mut self, now: u64, given: u32, settings: &MachineSettings)
         ensures { self.new ≡ queue_completed now given settings.now self.old }
@@ -255,11 +444,13 @@ impl ReceiveQueue {
         let wait = u64::from(settings.gro_flush_timeout);
         let defers = self.deferrals != 0 && wait != 0;
         self.deferrals = self.deferrals.saturating_sub(1);
-        self.phase = if defers {
-            Phase::Deferred(now.saturating_add(wait))
-        } else {
-            Phase::Quiet
-        };
+        if defers && !self.is_missed() {
+            self.phase.timer = Some(now.saturating_add(wait));
+        }
+        self.phase.state = completed(self.phase.state);
+        if !defers || settings.heedless {
+            self.phase.line = unmasked_line(self.phase.line);
+        }
     }
 
     /// Ends a poll that processed this many packets. If it used its whole weight, the queue is polled again; otherwise it

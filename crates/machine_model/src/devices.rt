@@ -3,7 +3,7 @@
 ghost use Rattle.std.specs.Prelude.{◌≡◌, ◌≢◌, ◌≤◌, ◌<◌, ◌+◌, ◌-◌, ◌++◌, ◌==◌, ℕ, IfSome, OnOk, length, position, replicate, None, false, true};
 ghost use Rattle.std.specs.Int.{bit_at};
 ghost use Rattle.std.specs.Option.{option_map_or};
-ghost use Rattle.device_rows.specs.Places.{at, changed};
+ghost use Rattle.device_places.specs.Places.{at, changed};
 ghost use Rattle.machine_model.specs.Device.{QueueView};
 ghost use Rattle.machine_model.specs.Devices.{QueueViews, asks_at, soonest_from, sooner, timer_at};
 ghost use Rattle.machine_model.specs.Kept.{all_scheduled};
@@ -240,9 +240,9 @@ impl QueueTable {
     ghost use Rattle.std.specs.Prelude.{◌≡◌, ◌≤◌, ◌<◌, [], IfSome, OnOk, length, position};
     ghost use Rattle.std.specs.Option.{option_map};
     ghost use Rattle.machine_model.specs.Machine.{queue_report};
-    ghost use Rattle.device_rows.specs.Places.{at, changed};
+    ghost use Rattle.device_places.specs.Places.{at, changed};
     ghost use Rattle.machine_model.specs.Device.{after_packet, queue_delivered, expired, interrupted, queue_polled, raised_again, without_next};
-    ghost use Rattle.machine_model.specs.Devices.{asks_at, has_room_at, is_fired_at, next_packet_at, soonest_from, with_device};
+    ghost use Rattle.machine_model.specs.Devices.{asks_at, has_room_at, is_fired_at, is_missed_at, next_packet_at, schedules_at, soonest_from, with_device};
     ghost use Rattle.machine_model.specs.Kept.{all_scheduled};
 
     /// Returns an empty table.
@@ -311,7 +311,7 @@ impl QueueTable {
         false
     }
 
-    /// Expires the timer of a queue.
+    /// Expires the timer of a queue that is first.
     pub(crate) fn expire(&mut self, number: usize)
         ensures { self.new ≡ changed expired number self.old }
     {
@@ -328,6 +328,20 @@ impl QueueTable {
         ensures { result ≡ is_fired_at (at number self.now) }
     {
         matches!(self.places.get(number), Some(Some(device)) if device.is_fired())
+    }
+
+    /// Returns whether the instance of a queue missed an interrupt.
+    pub(crate) fn is_missed(&self, number: usize) -> bool
+        ensures { result ≡ is_missed_at (at number self.now) }
+    {
+        matches!(self.places.get(number), Some(Some(device)) if device.is_missed())
+    }
+
+    /// Returns whether the interrupt of a queue schedules its instance.
+    pub(crate) fn schedules(&self, number: usize) -> bool
+        ensures { result ≡ schedules_at (at number self.now) }
+    {
+        matches!(self.places.get(number), Some(Some(device)) if device.schedules())
     }
 
     /// Handles the interrupt of a queue.

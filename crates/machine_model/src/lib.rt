@@ -22,7 +22,7 @@ mod waits;
 
 pub use application::{Activity, ApplicationReport};
 pub use args::parse_words;
-pub use device::{Phase, QueueCounts, QueueReport};
+pub use device::{Expiry, Line, NapiState, Phase, QueueCounts, QueueReport};
 pub use devices::Timer;
 pub use machine::Machine;
 pub use processor::{InHand, ProcessorCounts, ProcessorReport, Rest, Upcoming, Work};

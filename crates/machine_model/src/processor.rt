@@ -2,8 +2,7 @@
 
 ghost use Rattle.std.specs.Prelude.{◌≡◌, ◌≤◌, ◌<◌, ◌+◌, true, false, None, Some, IfOk, OnOk, if◌then◌else◌};
 ghost use Rattle.std.specs.Option.{option_map};
-ghost use Rattle.poll_runs.specs.declared.bench.Next.TheVariants.{Gone, Repoll};
-ghost use Rattle.device_rows.specs.Places.{at};
+ghost use Rattle.device_places.specs.Places.{at};
 ghost use Rattle.machine_model.specs.Devices.{asks_at};
 ghost use Rattle.machine_model.specs.Kept.{IsProcessorKept, all_scheduled, polled_by};
 ghost use Rattle.machine_model.specs.Machine.{ArrivesAt, FinishesAt, processor_report, queue_report};
@@ -19,7 +18,6 @@ use crate::settings::MachineSettings;
 use crate::softirq::Softirq;
 use crate::tasks::{RunQueue, RunnableTask};
 use crate::waits::WaitCounts;
-use poll_runs::{Next, Once};
 use std::alloc::{AllocError, Global};
 use std::marker::Model;
 
@@ -182,13 +180,6 @@ fn is_polling(settings: &MachineSettings) -> bool
     settings.budget != 0
 }
 
-// Returns how a poll ends; `full` says whether it used its whole weight.
-fn next_after(full: bool) -> Next
-    ensures { result ≡ (if full then Repoll else Gone) }
-{
-    if full { Next::Repoll } else { Next::Gone }
-}
-
 // Returns when work ends that begins at this time and takes this long.
 fn end_after(clock: u64, time: u32) -> u64
     ensures { result ≡ saturated (clock + time) }
@@ -222,12 +213,13 @@ impl Processor {
     {
         let polling = is_polling(&self.settings);
         let is_timer = self.devices.is_fired(number as usize);
+        let schedules = self.devices.schedules(number as usize);
         self.devices.interrupt(number as usize, polling);
         let mut cost = self.settings.interrupt;
-        if polling {
-            self.schedule(number)?;
-        } else {
+        if !polling {
             cost += self.settings.packet;
+        } else if schedules {
+            self.schedule(number)?;
         }
         if is_timer {
             self.counts.timers = self.counts.timers.saturating_add(1);
@@ -410,7 +402,7 @@ impl Processor {
         Ok(())
     }
 
-    // Ends a poll that processed this many packets.
+    // Ends a poll that processed this many packets. An instance that completes and missed an interrupt is scheduled again.
     #[tactic(auto, unfolding(crate::specs::Processor::ends_poll))]
     fn end_poll(&mut self, number: u32, given: u32) -> Result<(), AllocError>
         requires polled { polled_by self.old.work ≡ Some number }
@@ -419,10 +411,11 @@ impl Processor {
             (self.new ≡ ends_poll number given (record self.old { work = Nothing })) }
     {
         let full = given == self.settings.weight;
+        let missed = self.devices.is_missed(number as usize);
+        let again = full || missed;
         if !self.settings.threaded {
-            let next = next_after(full);
-            self.softirq.polled(Once { work: given, next });
-        } else if full {
+            self.softirq.poll_ended(number, given, full, missed);
+        } else if again {
             self.tasks.push_first(number)?;
         }
         self.devices

@@ -36,7 +36,7 @@ macro_rules! options {
 }
 
 /// The number of options.
-pub const OPTION_COUNT: usize = 21;
+pub const OPTION_COUNT: usize = 22;
 
 /// The options, in the order of the settings: name, least and greatest value, default, unit, and what it is. `scripts/options.py`
 /// reads this table, and writes what other languages, tools and pages have of it.
@@ -62,6 +62,7 @@ pub const OPTIONS: [MachineOption; OPTION_COUNT] = options! {
     ("packet", 0, 1000000000, 1000, "ns", "time of each packet of a poll"),
     ("use", 0, 1000000000, 2000, "ns", "time that the application takes for a packet"),
     ("wake", 0, 1000000000, 0, "ns", "time to wake an idle processor, which counts as interrupt time"),
+    ("heedless", 0, 1, 0, "", "1: the driver unmasks the queue whatever napi_complete_done returns (vmxnet3, tg3, be2net, mana)"),
 };
 
 /// The settings of a receiving machine. Times are in nanoseconds.
@@ -115,6 +116,8 @@ pub struct MachineSettings {
     pub use_time: u32,
     /// The time that it takes to wake an idle processor, 0 to 1000000000. It counts as interrupt time.
     pub wake: u32,
+    /// Whether the driver unmasks the queue whatever `napi_complete_done` returns, so that a deferred interrupt isn't masked.
+    pub heedless: bool,
     ghost processors_in: { (1 ≤ processors) × (processors ≤ 64) },
     ghost queues_in: { (1 ≤ queues) × (queues ≤ 64) },
     ghost ring_in: { (1 ≤ ring) × (ring ≤ 65536) },
@@ -199,6 +202,7 @@ impl MachineSettings {
             packet: values[18],
             use_time: values[19],
             wake: values[20],
+            heedless: values[21] == 1,
         }
     }
 
@@ -254,6 +258,7 @@ impl MachineSettings {
             self.packet,
             self.use_time,
             self.wake,
+            u32::from(self.heedless),
         ]
     }
 }

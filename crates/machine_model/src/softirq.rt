@@ -1,10 +1,11 @@
 //! A processor's poll list and its polling run.
 
-ghost use Rattle.std.specs.Prelude.{◌≡◌, ◌<◌, ◌≤◌, None, true, false, is_some, length};
+ghost use Rattle.std.specs.Prelude.{◌≡◌, ◌<◌, ◌≤◌, None, Some, true, false, is_some, length, if◌then◌else◌};
 ghost use Rattle.machine_model.specs.Shown.{listed, weight_in};
-ghost use Rattle.machine_model.specs.Softirq.{asked_in, begun, run_ended, is_run_spent, run_next, softirq_polled, pushed};
+ghost use Rattle.machine_model.specs.Softirq.{asked_in, begun, poll_ended, run_ended, is_run_spent, run_next, softirq_polled, pushed};
 ghost use Rattle.std.specs.Option.{option_map_or};
 ghost use Rattle.poll_runs.specs.Polls.{is_arrival};
+ghost use Rattle.poll_runs.specs.declared.bench.Next.TheVariants.{Gone, Repoll};
 ghost use Rattle.poll_runs.specs.Ranges.{IsBudget, IsWeight, IsWindow};
 
 use poll_runs::{Next, Once, PlainList, PollList, PollingRun};
@@ -33,10 +34,17 @@ impl Model for Softirq {
         × (s.is_running ≡ false → HoldsNothing s.run) };
 }
 
+// Returns how a poll ends; `full` says whether it used its whole weight.
+fn next_after(full: bool) -> Next
+    ensures { result ≡ (if full then Repoll else Gone) }
+{
+    if full { Next::Repoll } else { Next::Gone }
+}
+
 impl Softirq {
     ghost use Rattle.std.specs.Prelude.{◌≡◌, ◌<◌, ◌≤◌, None, Some, [], ◌==◌, true, false, is_some, length};
     ghost use Rattle.machine_model.specs.Shown.{listed, weight_in};
-    ghost use Rattle.machine_model.specs.Softirq.{asked_in, begun, run_ended, is_run_spent, run_next, softirq_polled, pushed};
+    ghost use Rattle.machine_model.specs.Softirq.{asked_in, begun, poll_ended, run_ended, is_run_spent, run_next, softirq_polled, pushed};
     ghost use Rattle.std.specs.Option.{option_map_or};
     ghost use Rattle.poll_runs.specs.Polls.{is_arrival};
 
@@ -117,6 +125,24 @@ impl Softirq {
     {
         if self.is_running {
             self.run.polled(&mut self.list, once);
+        }
+    }
+
+    /// Ends the poll of that number, which processed this many packets: if it used its whole weight (`full`), it is polled again
+    /// by the run. If it completed and missed an interrupt, it is appended to the list.
+    pub(crate) fn poll_ended(&mut self, number: u32, given: u32, full: bool, missed: bool)
+        requires asked { asked_in self.old.run ≡ Some number }
+        requires work { given ≤ weight_in self.old.run }
+        ensures { self.new ≡ poll_ended number given full missed self.old }
+    {
+        if self.is_running {
+            self.polled(Once {
+                work: given,
+                next: next_after(full),
+            });
+            if missed && !full {
+                self.push(number);
+            }
         }
     }
 

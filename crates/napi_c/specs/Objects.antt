@@ -1,9 +1,10 @@
 -- Which kind of object a handle has. The exports check it, and return BAD_HANDLE for a handle without an object of their kind.
 use Rattle.std.specs.Prelude.{◌≡◌, Bool, true, false, is_some, Option, Some, None}
 use Rattle.c_handles.specs.Rings.{ring_counts_in}
-use Rattle.c_handles.specs.declared.{body.Object.Object, handle.FqHandle.FqHandle, hold.CallerState.CallerState}
+use Rattle.c_handles.specs.declared.{body.Object.Object, handle.FqHandle.FqHandle}
+use Rattle.napi_calls.specs.declared.state.CallerState.{CallerState}
 use Rattle.c_handles.specs.declared.body.Object.TheVariants as body
-use Rattle.c_handles.specs.declared.hold.CallerState.TheVariants as hold
+use Rattle.napi_calls.specs.declared.state.CallerState.TheVariants as caller
 
 -- ---- kinds of objects
 
@@ -36,13 +37,13 @@ is_seat _ = false
 
 -- the caller polls or busy polls
 abbrev pub is_poller : CallerState → Bool
-is_poller (hold.Polls polling) = true
-is_poller (hold.Busy busy) = true
+is_poller (caller.Polls polling) = true
+is_poller (caller.Busy busy) = true
 is_poller _ = false
 
 -- a caller that polls or busy polls
 abbrev pub is_polling_seat : Object → Bool
-is_polling_seat (body.Seat seat) = is_poller seat.hold
+is_polling_seat (body.Seat seat) = is_poller seat.state
 is_polling_seat _ = false
 
 -- an object that has the poll end of a ring, and so the counts of its polls: a ring, its poll end, a caller that polls, the

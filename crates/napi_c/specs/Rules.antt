@@ -2,15 +2,15 @@
 -- are repeated until no other thread interferes, the queueing of a granted instance, the end of a poll, and a driver's open and stop.
 use Rattle.std.specs.Prelude.{◌≡◌, ◌≢◌, ◌==◌, if◌then◌else◌, ℕ, zero, suc, Bool, true, false, Some}
 use Rattle.napi_model.specs.declared.state.{Seen.Seen}
-use Rattle.c_handles.specs.declared.{seat.{CallerObject.CallerObject, Controller.Controller}, hold.CallerState.CallerState}
-use Rattle.c_handles.specs.{declared.power.ControlState.ControlState, Handles.{SeatStep, ControlStep}, SeatCalls.SeatLooks}
+use Rattle.c_handles.specs.declared.seat.{CallerObject.CallerObject, Controller.Controller}
+use Rattle.napi_calls.specs.declared.state.{CallerState.CallerState, ControlState.ControlState}
+use Rattle.c_handles.specs.{Handles.{SeatStep, ControlStep}, SeatCalls.SeatLooks}
+use Rattle.c_handles.specs.SeatCalls.{CallerCompletes, CallerHands, CallerRequeues, ControlEnables, ControlMarks, ControlTakes}
 use Rattle.c_handles.specs.Freeing.{is_control_off}
 use Rattle.c_handles.specs.Status.{OK, TAKEN, RELEASED, AGAIN, HELD, CHANGED, NOT_ALLOWED}
 use Rattle.napi_c.specs.Serial.{again_kind, next_again, stays_scheduled, NEXT_GONE, NEXT_REPOLL}
-use Rattle.c_handles.specs.declared.hold.CallerState.TheVariants as hold
-use Rattle.c_handles.specs.declared.hold.SeatCall.TheVariants as seat_call
-use Rattle.c_handles.specs.declared.power.ControlState.TheVariants as power
-use Rattle.c_handles.specs.declared.power.ControlCall.TheVariants as control_call
+use Rattle.napi_calls.specs.declared.state.CallerState.TheVariants as caller
+use Rattle.napi_calls.specs.declared.state.ControlState.TheVariants as controller
 
 -- ---- repeated attempts
 
@@ -35,23 +35,23 @@ pub record Repeats {A : Type 0} (attempt : A → ℕ → A → Type 0) (before :
 
 -- a look at the state word shows this, and counts as no result
 abbrev pub SeatLooked : CallerObject → Seen → CallerObject → Type 0
-SeatLooked s seen t = SeatLooks s.hold (Some seen) t.hold × (t.answers ≡ s.answers)
+SeatLooked s seen t = SeatLooks s.state (Some seen) t.state × (t.answers ≡ s.answers)
 
 -- The caller looks, and queues the instance: for its thread if THREADED is set, on the list otherwise. `next` says which.
 pub record Queues (s : CallerObject) (next : ℕ) (t : CallerObject) : Type 0 where
   pub seen : Seen
   pub looked : CallerObject
   pub looks : SeatLooked s seen looked
-  pub queues : SeatStep (seat_call.Hand (again_kind seen.flags)) looked OK t
+  pub queues : SeatStep (CallerHands (again_kind seen.flags)) looked OK t
   pub says : next ≡ next_again seen.flags
 
 -- a caller that was granted the instance queues it; any other is refused
 abbrev pub QueuesIn : CallerState → CallerObject → ℕ → ℕ → CallerObject → Type 0
-QueuesIn (hold.Granted g) s n next t = (n ≡ OK) × Queues s next t
+QueuesIn (caller.Granted g) s n next t = (n ≡ OK) × Queues s next t
 QueuesIn other s n next t = (n ≡ NOT_ALLOWED) × (next ≡ NEXT_GONE) × (t ≡ s)
 
 abbrev pub SeatQueues : ℕ → CallerObject → ℕ → CallerObject → Type 0
-SeatQueues next s n t = QueuesIn s.hold s n next t
+SeatQueues next s n t = QueuesIn s.state s n next t
 
 -- ---- `__napi_poll`
 
@@ -65,7 +65,7 @@ pub record AfterComplete (said : ℕ) (s : CallerObject) (n next : ℕ) (t : Cal
 pub record SeatCompletes (s : CallerObject) (n next : ℕ) (t : CallerObject) : Type 0 where
   pub said : ℕ
   pub completed : CallerObject
-  pub completes : Repeats (SeatStep seat_call.Complete) s said completed
+  pub completes : Repeats (SeatStep CallerCompletes) s said completed
   pub ends : AfterComplete said completed n next t
 
 -- After a full poll the caller looks. If a disable is pending it completes; a thread's poll goes on; any other puts the instance on
@@ -78,11 +78,11 @@ pub record SeatEndsFull (s : CallerObject) (n next : ℕ) (t : CallerObject) : T
   pub thread : stays_scheduled true seen.flags ≡ true → seen.flags.sched_threaded ≡ true
       → (n ≡ HELD) × (next ≡ NEXT_GONE) × (t ≡ looked)
   pub list : stays_scheduled true seen.flags ≡ true → seen.flags.sched_threaded ≡ false
-      → (n ≡ OK) × (next ≡ NEXT_REPOLL) × SeatStep seat_call.Requeue looked OK t
+      → (n ≡ OK) × (next ≡ NEXT_REPOLL) × SeatStep CallerRequeues looked OK t
 
 -- a poll that returned the whole weight, and isn't a busy poll
 abbrev pub is_full_poll : Bool → CallerState → Bool
-is_full_poll full (hold.Polls w) = full
+is_full_poll full (caller.Polls w) = full
 is_full_poll full _ = false
 
 abbrev pub SeatEndsBy : Bool → CallerObject → ℕ → ℕ → CallerObject → Type 0
@@ -91,7 +91,7 @@ SeatEndsBy false = SeatCompletes
 
 -- the end of a poll, full or not. `next` says what a run has to know of it.
 abbrev pub SeatEnds : Bool → ℕ → CallerObject → ℕ → CallerObject → Type 0
-SeatEnds full next s n t = SeatEndsBy (is_full_poll full s.hold) s n next t
+SeatEnds full next s n t = SeatEndsBy (is_full_poll full s.state) s n next t
 
 -- ---- `napi_enable` and `napi_disable`
 
@@ -99,9 +99,9 @@ SeatEnds full next s n t = SeatEndsBy (is_full_poll full s.hold) s n next t
 pub record ControlDisables (c : Controller) (n : ℕ) (d : Controller) : Type 0 where
   pub said : ℕ
   pub marked : Controller
-  pub marks : ControlStep control_call.Mark c said marked
+  pub marks : ControlStep ControlMarks c said marked
   pub last : ℕ
-  pub takes : Repeats (ControlStep control_call.TryTake) marked last d
+  pub takes : Repeats (ControlStep ControlTakes) marked last d
   pub status : n ≡ (if last == TAKEN then OK else last)
 
 -- an instance that is off stays off
@@ -110,15 +110,15 @@ ControlStopsBy true c n d = (n ≡ OK) × (d ≡ c)
 ControlStopsBy false c n d = ControlDisables c n d
 
 abbrev pub ControlStops : Controller → ℕ → Controller → Type 0
-ControlStops c n d = ControlStopsBy (is_control_off c.power) c n d
+ControlStops c n d = ControlStopsBy (is_control_off c.state) c n d
 
 -- one step of a driver's open (`on`) or stop
 abbrev pub ControlSteps : Bool → Bool → Controller → ℕ → Controller → Type 0
-ControlSteps true threaded c n d = Repeats (ControlStep (control_call.Enable threaded)) c n d
+ControlSteps true threaded c n d = Repeats (ControlStep (ControlEnables threaded)) c n d
 ControlSteps false threaded c n d = ControlStops c n d
 
 -- the controller of an instance that is on, or off
 abbrev pub IsSwitched : Bool → ControlState → Type 0
-IsSwitched true (power.On on) = Unit
-IsSwitched false (power.Off off) = Unit
+IsSwitched true (controller.On on) = Unit
+IsSwitched false (controller.Off off) = Unit
 IsSwitched _ _ = ⊥

@@ -2,11 +2,12 @@
 use Rattle.std.specs.{Prelude.{◌≡◌, true, false, List, [], None}, Arc.arc_value, List.All}
 use Rattle.c_handles.specs.{Answers.no_answers, Endings.LeadsToSeat, Freeing.is_control_off, SeatCalls.RestsWith, Seats.IsResting}
 use Rattle.c_handles.specs.{Handles.LeadsToController}
-use Rattle.c_handles.specs.declared.{handle.FqHandle.FqHandle, power.ControlState.ControlState, seat.CallerObject.CallerObject}
+use Rattle.c_handles.specs.declared.{handle.FqHandle.FqHandle, seat.CallerObject.CallerObject}
+use Rattle.napi_calls.specs.declared.state.ControlState.{ControlState}
 use Rattle.napi_model.specs.declared.{event.Event.Event, state.State.State}
 use Rattle.napi_calls.specs.{Instance.first_of_instance, Seats.{own_list, state_shown}, declared.types.Napi.Napi}
 use Rattle.rx_ring.specs.declared.ends.RxCtx.{RxCtx}
-use Rattle.c_handles.specs.declared.power.ControlState.TheVariants as power
+use Rattle.napi_calls.specs.declared.state.ControlState.TheVariants as controller
 
 -- the handle has no object
 abbrev pub IsFree : FqHandle → Type 0
@@ -17,12 +18,12 @@ AreFree handles = All IsFree handles
 
 -- the handle has a caller of this instance, which owns nothing and isn't in a call
 abbrev pub LeadsToRestingSeat : Napi → FqHandle → Type 0
-LeadsToRestingSeat n handle = LeadsToSeat (λ s. ((arc_value s.napi).napi ≡ n) × IsResting s.hold) handle.held.body
+LeadsToRestingSeat n handle = LeadsToSeat (λ s. ((arc_value s.napi).napi ≡ n) × IsResting s.state) handle.held.body
 
 -- the first handle has the controller of a disabled instance, and each other handle one of its callers
 abbrev pub AreOfOne : FqHandle → List FqHandle → Type 0
 AreOfOne control seats = (n : Napi)
-    × LeadsToController (λ c. ((arc_value c.napi).napi ≡ n) × (is_control_off c.power ≡ true)) control.held.body
+    × LeadsToController (λ c. ((arc_value c.napi).napi ≡ n) × (is_control_off c.state ≡ true)) control.held.body
     × All (LeadsToRestingSeat n) seats
 
 -- the instance was made over this poll context
@@ -44,22 +45,22 @@ pub record IsUnthreaded (operations : List Event) (seen : State) : Type 0 where
   pub not_threaded : seen.flags.threaded ≡ false
 
 abbrev pub LeadsToUnthreadedSeat : FqHandle → Type 0
-LeadsToUnthreadedSeat handle = LeadsToSeat (λ s. RestsWith (λ p. IsUnthreaded (own_list p) (state_shown p)) s.hold) handle.held.body
+LeadsToUnthreadedSeat handle = LeadsToSeat (λ s. RestsWith (λ p. IsUnthreaded (own_list p) (state_shown p)) s.state) handle.held.body
 
 abbrev pub IsOffUnthreaded : ControlState → Type 0
-IsOffUnthreaded (power.Off c) = IsUnthreaded (own_list c.pass) (state_shown c.pass)
+IsOffUnthreaded (controller.Off c) = IsUnthreaded (own_list c.pass) (state_shown c.pass)
 IsOffUnthreaded _ = ⊥
 
 -- the controller and the callers made no operation on the instance yet, and it isn't threaded
 abbrev pub AreUnthreaded : FqHandle → List FqHandle → Type 0
-AreUnthreaded control seats = LeadsToController (λ c. IsOffUnthreaded c.power) control.held.body × All LeadsToUnthreadedSeat seats
+AreUnthreaded control seats = LeadsToController (λ c. IsOffUnthreaded c.state) control.held.body × All LeadsToUnthreadedSeat seats
 
 -- a new caller of this instance: it owns nothing, and no call was made on it
 pub record IsNewCaller (n : Napi) (s : CallerObject) : Type 0 where
   pub instance : (arc_value s.napi).napi ≡ n
-  pub rests : IsResting s.hold
+  pub rests : IsResting s.state
   pub fresh : s.answers ≡ no_answers
-  pub unthreaded : RestsWith (λ p. IsUnthreaded (own_list p) (state_shown p)) s.hold
+  pub unthreaded : RestsWith (λ p. IsUnthreaded (own_list p) (state_shown p)) s.state
 
 abbrev pub LeadsToNewSeat : Napi → FqHandle → Type 0
 LeadsToNewSeat n handle = LeadsToSeat (IsNewCaller n) handle.held.body

@@ -2,58 +2,102 @@
 ghost use Rattle.std.specs.Prelude.{◌≡◌, ℕ};
 ghost use Rattle.napi_c.specs.Rules.{Repeats};
 
-use c_handles::{CallerObject, ControlCall, Controller, SeatCall, status};
+use c_handles::{CallerObject, Controller, status};
 
-/// An object of a shared instance whose calls are single attempts: CHANGED says that another thread changed the instance, and
-/// that the attempt did nothing.
-pub(crate) trait Attempts {
-    /// A call.
-    type Call: Copy;
+/// A call on an object of a shared instance that is a single attempt: CHANGED says that another thread changed the instance,
+/// and that the attempt did nothing.
+pub(crate) trait Attempt {
+    /// The object.
+    type On;
 
-    // The effect of an attempt at this call.
-    ghost makes: { Self.Call → Self → ℕ → Self → Type 0 };
+    // The effect of an attempt.
+    ghost makes: { Self → Self.On → ℕ → Self.On → Type 0 };
 
     /// Makes one attempt, and returns its status.
-    fn attempt(&mut self, call: Self::Call) -> u32
-        ensures { makes call self.old result self.new };
+    fn make(&self, it: &mut Self::On) -> u32
+        ensures { makes self.now it.old result it.new };
 }
 
-impl Attempts for CallerObject {
-    ghost use Rattle.c_handles.specs.Handles.{SeatStep};
+/// `CallerObject::schedule`.
+#[derive(Drop)]
+pub(crate) struct ScheduleAttempt;
 
-    type Call = SeatCall;
+impl Attempt for ScheduleAttempt {
+    ghost use Rattle.c_handles.specs.{Handles.SeatStep, SeatCalls.CallerSchedules};
 
-    ghost makes = { SeatStep };
+    type On = CallerObject;
+
+    ghost makes = { λ _. SeatStep CallerSchedules };
 
     #[inline(always)]
-    fn attempt(&mut self, call: SeatCall) -> u32 {
-        self.step(call)
+    fn make(&self, it: &mut CallerObject) -> u32 {
+        it.schedule()
     }
 }
 
-impl Attempts for Controller {
-    ghost use Rattle.c_handles.specs.Handles.{ControlStep};
+/// `CallerObject::complete`.
+#[derive(Drop)]
+pub(crate) struct CompleteAttempt;
 
-    type Call = ControlCall;
+impl Attempt for CompleteAttempt {
+    ghost use Rattle.c_handles.specs.{Handles.SeatStep, SeatCalls.CallerCompletes};
 
-    ghost makes = { ControlStep };
+    type On = CallerObject;
 
-    fn attempt(&mut self, call: ControlCall) -> u32 {
-        self.step(call)
+    ghost makes = { λ _. SeatStep CallerCompletes };
+
+    #[inline(always)]
+    fn make(&self, it: &mut CallerObject) -> u32 {
+        it.complete()
     }
 }
 
-/// Makes a call, and repeats it while another thread interferes. It returns CHANGED only after 2^64 attempts that failed: an
-/// export has no capability to wait without end.
+/// `Controller::enable`.
+#[derive(Drop)]
+pub(crate) struct EnableAttempt {
+    /// Its argument.
+    pub(crate) threaded: bool,
+}
+
+impl Attempt for EnableAttempt {
+    ghost use Rattle.c_handles.specs.{Handles.ControlStep, SeatCalls.ControlEnables};
+
+    type On = Controller;
+
+    ghost makes = { λ a. ControlStep (ControlEnables a.threaded) };
+
+    fn make(&self, it: &mut Controller) -> u32 {
+        it.enable(self.threaded)
+    }
+}
+
+/// `Controller::try_take`.
+#[derive(Drop)]
+pub(crate) struct TakeAttempt;
+
+impl Attempt for TakeAttempt {
+    ghost use Rattle.c_handles.specs.{Handles.ControlStep, SeatCalls.ControlTakes};
+
+    type On = Controller;
+
+    ghost makes = { λ _. ControlStep ControlTakes };
+
+    fn make(&self, it: &mut Controller) -> u32 {
+        it.try_take()
+    }
+}
+
+/// Makes an attempt, and repeats it while another thread interferes. It returns CHANGED only after 2^64 attempts that failed:
+/// an export has no capability to wait without end.
 #[inline(always)]
-pub(crate) fn repeat<T: Attempts>(it: &mut T, call: T::Call) -> u32
-    ensures { Repeats (T.makes call) it.old result it.new }
+pub(crate) fn repeat<A: Attempt>(it: &mut A::On, attempt: &A) -> u32
+    ensures { Repeats (A.makes attempt.now) it.old result it.new }
 {
     for _ in 0..u64::MAX {
-        let status = it.attempt(call);
+        let status = attempt.make(it);
         if status != status::CHANGED {
             return status;
         }
     }
-    it.attempt(call)
+    attempt.make(it)
 }

@@ -1,89 +1,89 @@
 //! The calls of the controller of a shared instance.
 ghost use Rattle.std.specs.Prelude.{◌≡◌, true, false};
-ghost use Rattle.c_handles.specs.declared.power.ControlCall.TheVariants as control_call;
 ghost use Rattle.c_handles.specs.Freeing.{is_control_off};
-ghost use Rattle.c_handles.specs.Handles.{ControlDoes, ControlDoesIn, ControlMakes, ControlMakesIn, IsControllerWith, LeadsToController};
+ghost use Rattle.c_handles.specs.Handles.{ControlDoes, ControlDoesIn, ControlMakes, IsControllerWith, LeadsToController};
+ghost use Rattle.c_handles.specs.SeatCalls.{ControlEnables, ControlMarks, ControlTakes};
 ghost use Rattle.c_handles.specs.Status.{OK};
 ghost use Rattle.napi_c.specs.Rules.{ControlSteps, IsSwitched, ControlStops};
 
-use crate::attempts::repeat;
-use c_handles::{ControlCall, ControlState, Controller, FqHandle, Object, status};
-
-fn step_in(at: &mut Object, call: ControlCall) -> u32
-    ensures { ControlMakesIn call at.old result at.new }
-{
-    match at {
-        Object::Controller(control) => control.step(call),
-        _ => status::BAD_HANDLE,
-    }
-}
-
-// Makes a call on the controller of a handle.
-fn on_control(handle: &mut FqHandle, call: ControlCall) -> u32
-    ensures { ControlMakes call handle.old result handle.new }
-{
-    if !handle.is_set() {
-        return status::BAD_HANDLE;
-    }
-    step_in(handle.held.as_mut(), call)
-}
+use crate::attempts::{EnableAttempt, TakeAttempt, repeat};
+use c_handles::{Controller, FqHandle, Object, status};
+use napi_calls::ControlState;
 
 /// Like `Control::try_enable`: returns OK or CHANGED; NOT_ALLOWED if the instance isn't disabled.
 #[unsafe(no_mangle)]
 pub extern "C" fn fq_control_enable(handle: &mut FqHandle, threaded: bool) -> u32
-    ensures { ControlMakes (control_call.Enable threaded) handle.old result handle.new }
+    ensures { ControlMakes (ControlEnables threaded) handle.old result handle.new }
 {
-    on_control(handle, ControlCall::Enable(threaded))
+    if !handle.is_set() {
+        return status::BAD_HANDLE;
+    }
+    match handle.held.as_mut() {
+        Object::Controller(control) => control.enable(threaded),
+        _ => status::BAD_HANDLE,
+    }
 }
 
 /// Like `Control::mark`: returns OK; NOT_ALLOWED if the instance isn't enabled, or is marked already.
 #[unsafe(no_mangle)]
 pub extern "C" fn fq_control_mark(handle: &mut FqHandle) -> u32
-    ensures { ControlMakes control_call.Mark handle.old result handle.new }
+    ensures { ControlMakes ControlMarks handle.old result handle.new }
 {
-    on_control(handle, ControlCall::Mark)
+    if !handle.is_set() {
+        return status::BAD_HANDLE;
+    }
+    match handle.held.as_mut() {
+        Object::Controller(control) => control.mark(),
+        _ => status::BAD_HANDLE,
+    }
 }
 
 /// Like `Control::try_take`: returns TAKEN, BUSY or CHANGED; NOT_ALLOWED if no disable is pending.
 #[unsafe(no_mangle)]
 pub extern "C" fn fq_control_try_take(handle: &mut FqHandle) -> u32
-    ensures { ControlMakes control_call.TryTake handle.old result handle.new }
+    ensures { ControlMakes ControlTakes handle.old result handle.new }
 {
-    on_control(handle, ControlCall::TryTake)
+    if !handle.is_set() {
+        return status::BAD_HANDLE;
+    }
+    match handle.held.as_mut() {
+        Object::Controller(control) => control.try_take(),
+        _ => status::BAD_HANDLE,
+    }
 }
 
 fn is_off(control: &Controller) -> bool
-    ensures { result ≡ is_control_off control.now.power }
+    ensures { result ≡ is_control_off control.now.state }
 {
-    matches!(control.power, ControlState::Off(_))
+    matches!(control.state, ControlState::Off(_))
 }
 
 // Marks the instance for a disable, unless that is done already, and tries to take it.
 fn stop(control: &mut Controller) -> u32
     ensures makes { ControlStops control.old result control.new }
-    ensures off { result ≡ OK → IsSwitched false control.new.power }
+    ensures off { result ≡ OK → IsSwitched false control.new.state }
 {
     if is_off(control) {
         return status::OK;
     }
-    control.step(ControlCall::Mark);
-    match repeat(control, ControlCall::TryTake) {
+    control.mark();
+    match repeat(control, &TakeAttempt) {
         status::TAKEN => status::OK,
         other => other,
     }
 }
 
-// Enables the instance.
+// EnableAttempt the instance.
 fn start(control: &mut Controller, threaded: bool) -> u32
     ensures makes { ControlSteps true threaded control.old result control.new }
-    ensures on { result ≡ OK → IsSwitched true control.new.power }
+    ensures on { result ≡ OK → IsSwitched true control.new.state }
 {
-    repeat(control, ControlCall::Enable(threaded))
+    repeat(control, &EnableAttempt { threaded })
 }
 
 fn switch_in(at: &mut Object, on: bool, threaded: bool) -> u32
     ensures makes { ControlDoesIn (ControlSteps on threaded) at.old result at.new }
-    ensures switched { result ≡ OK → IsControllerWith (λ c. IsSwitched on c.power) at.new }
+    ensures switched { result ≡ OK → IsControllerWith (λ c. IsSwitched on c.state) at.new }
 {
     match at {
         Object::Controller(control) => {
@@ -105,7 +105,7 @@ fn switch_in(at: &mut Object, on: bool, threaded: bool) -> u32
 pub extern "C" fn fq_control_step(handle: &mut FqHandle, on: bool, threaded: bool) -> u32
     ensures makes { ControlDoes (ControlSteps on threaded) handle.old result handle.new }
     ensures switched { result ≡ OK
-        → LeadsToController (λ c. IsSwitched on c.power) handle.new.held.body }
+        → LeadsToController (λ c. IsSwitched on c.state) handle.new.held.body }
 {
     if !handle.is_set() {
         return status::BAD_HANDLE;

@@ -3,7 +3,8 @@ ghost use Rattle.std.specs.Prelude.{◌≡◌, ◌≢◌, None};
 ghost use Rattle.c_handles.specs.Freeing.{is_freeable, free_status, abandon_status, move_status};
 ghost use Rattle.c_handles.specs.Status.{OK};
 
-use c_handles::{CallerState, ControlState, FqHandle, Object, status};
+use c_handles::{FqHandle, Object, status};
+use napi_calls::{CallerState, ControlState};
 use std::alloc::Global;
 
 // Returns whether an object may be freed, because no other object depends on it.
@@ -11,8 +12,8 @@ fn is_freeable(body: &Object) -> bool
     ensures { result ≡ is_freeable body.now }
 {
     match body {
-        Object::Seat(seat) => matches!(seat.hold, CallerState::Rests(_)),
-        Object::Controller(control) => matches!(control.power, ControlState::Off(_)),
+        Object::Seat(seat) => matches!(seat.state, CallerState::Rests(_)),
+        Object::Controller(control) => matches!(control.state, ControlState::Off(_)),
         Object::List(list) => !list.is_running(),
         _ => true,
     }

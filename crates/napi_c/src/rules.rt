@@ -1,63 +1,60 @@
 //! What the kernel does with a shared instance in several steps: a request and a completion, each repeated while another thread
 //! interferes, the queueing of a granted instance, and the end of a poll.
 ghost use Rattle.std.specs.Prelude.{◌≡◌, ◌≢◌};
-ghost use Rattle.c_handles.specs.declared.hold.SeatCall.TheVariants as seat_call;
 ghost use Rattle.c_handles.specs.Endings.{LeadsToSeat};
 ghost use Rattle.c_handles.specs.Handles.{IsCallerWith, SeatDoes, SeatDoesIn, SeatStep};
+ghost use Rattle.c_handles.specs.SeatCalls.{CallerCompletes, CallerSchedules};
 ghost use Rattle.c_handles.specs.Seats.{IsGrantedCaller, IsPolling, IsResting};
 ghost use Rattle.c_handles.specs.Status.{OK};
 ghost use Rattle.napi_c.specs.Rules.{SeatCompletes, SeatEndsFull, is_full_poll, Queues, Repeats, SeatEnds, SeatQueues};
 ghost use Rattle.napi_c.specs.Serial.{NEXT_GONE};
 
-use crate::attempts::repeat;
+use crate::attempts::{CompleteAttempt, ScheduleAttempt, repeat};
 use crate::serial_end::{GONE, REPOLL, queue_of, stays_scheduled};
-use c_handles::{CallerObject, CallerState, FqHandle, Object, SeatCall, status};
-
-#[inline(always)]
-fn repeat_in(at: &mut Object, call: SeatCall) -> u32
-    ensures { SeatDoesIn (Repeats (SeatStep call)) at.old result at.new }
-{
-    match at {
-        Object::Seat(seat) => repeat(seat, call),
-        _ => status::BAD_HANDLE,
-    }
-}
+use c_handles::{CallerObject, FqHandle, Object, status};
+use napi_calls::CallerState;
 
 /// Requests a poll (`napi_schedule_prep`): like `fq_seat_schedule`, repeated while another thread interferes. Returns GRANTED,
 /// MISSED or DISABLED; NOT_ALLOWED if the caller owns the instance; CHANGED only after 2^64 attempts.
 #[unsafe(no_mangle)]
 pub extern "C" fn fq_seat_schedule_prep(handle: &mut FqHandle) -> u32
-    ensures { SeatDoes (Repeats (SeatStep seat_call.Schedule)) handle.old result handle.new }
+    ensures { SeatDoes (Repeats (SeatStep CallerSchedules)) handle.old result handle.new }
 {
     if !handle.is_set() {
         return status::BAD_HANDLE;
     }
-    repeat_in(handle.held.as_mut(), SeatCall::Schedule)
+    match handle.held.as_mut() {
+        Object::Seat(seat) => repeat(seat, &ScheduleAttempt),
+        _ => status::BAD_HANDLE,
+    }
 }
 
-/// SeatCompletes a poll (`napi_complete_done`): like `fq_seat_complete`, repeated while another thread interferes. Returns RELEASED
+/// CompleteAttempt a poll (`napi_complete_done`): like `fq_seat_complete`, repeated while another thread interferes. Returns RELEASED
 /// or AGAIN; HELD if the caller busy polls; NOT_ALLOWED if it doesn't poll; CHANGED only after 2^64 attempts.
 #[unsafe(no_mangle)]
 pub extern "C" fn fq_seat_complete_done(handle: &mut FqHandle) -> u32
-    ensures { SeatDoes (Repeats (SeatStep seat_call.Complete)) handle.old result handle.new }
+    ensures { SeatDoes (Repeats (SeatStep CallerCompletes)) handle.old result handle.new }
 {
     if !handle.is_set() {
         return status::BAD_HANDLE;
     }
-    repeat_in(handle.held.as_mut(), SeatCall::Complete)
+    match handle.held.as_mut() {
+        Object::Seat(seat) => repeat(seat, &CompleteAttempt),
+        _ => status::BAD_HANDLE,
+    }
 }
 
 // Queues an instance that the caller was granted, and returns how the poll ended for a run.
 fn queue_granted(seat: &mut CallerObject) -> u32
-    requires { IsGrantedCaller seat.old.hold }
+    requires { IsGrantedCaller seat.old.state }
     ensures queues { Queues seat.old result seat.new }
-    ensures rests { IsResting seat.new.hold }
+    ensures rests { IsResting seat.new.state }
 {
     let Some(seen) = seat.look() else {
         unreachable!()
     };
     let (kind, next) = queue_of(seen.flags);
-    seat.step(SeatCall::Hand(kind));
+    seat.hand(kind);
     next
 }
 
@@ -69,7 +66,7 @@ fn hand_in(at: &mut Object, next: &mut u32) -> u32
     let Object::Seat(seat) = at else {
         return status::BAD_HANDLE;
     };
-    if !matches!(seat.hold, CallerState::Granted(_)) {
+    if !matches!(seat.state, CallerState::Granted(_)) {
         return status::NOT_ALLOWED;
     }
     *next = queue_granted(seat);
@@ -90,14 +87,14 @@ pub extern "C" fn fq_seat_hand_again(handle: &mut FqHandle, next: &mut u32) -> u
     hand_in(handle.held.as_mut(), next)
 }
 
-// SeatCompletes the poll, and queues the instance again if a request was missed.
+// CompleteAttempt the poll, and queues the instance again if a request was missed.
 fn complete(seat: &mut CallerObject, next: &mut u32) -> u32
     requires { next.old ≡ NEXT_GONE }
     ensures makes { SeatCompletes seat.old result next.new seat.new }
-    ensures rests { result ≡ OK → IsResting seat.new.hold }
+    ensures rests { result ≡ OK → IsResting seat.new.state }
     ensures none { result ≢ OK → next.new ≡ NEXT_GONE }
 {
-    match repeat(seat, SeatCall::Complete) {
+    match repeat(seat, &CompleteAttempt) {
         status::RELEASED => status::OK,
         status::AGAIN => {
             *next = queue_granted(seat);
@@ -108,18 +105,18 @@ fn complete(seat: &mut CallerObject, next: &mut u32) -> u32
 }
 
 // Returns whether a poll returned its whole weight, and isn't a busy poll.
-fn is_full_poll(full: bool, hold: &CallerState) -> bool
-    ensures { result ≡ is_full_poll full hold.now }
+fn is_full_poll(full: bool, state: &CallerState) -> bool
+    ensures { result ≡ is_full_poll full state.now }
 {
-    full && matches!(hold, CallerState::Polls(_))
+    full && matches!(state, CallerState::Polls(_))
 }
 
 // Ends a poll that returned its whole weight, and isn't a busy poll.
 fn end_full(seat: &mut CallerObject, next: &mut u32) -> u32
-    requires polls { IsPolling seat.old.hold }
+    requires polls { IsPolling seat.old.state }
     requires gone { next.old ≡ NEXT_GONE }
     ensures makes { SeatEndsFull seat.old result next.new seat.new }
-    ensures rests { result ≡ OK → IsResting seat.new.hold }
+    ensures rests { result ≡ OK → IsResting seat.new.state }
     ensures none { result ≢ OK → next.new ≡ NEXT_GONE }
 {
     let Some(seen) = seat.look() else {
@@ -132,19 +129,19 @@ fn end_full(seat: &mut CallerObject, next: &mut u32) -> u32
         return status::HELD;
     }
     *next = REPOLL;
-    seat.step(SeatCall::Requeue)
+    seat.requeue()
 }
 
 fn end_in(at: &mut Object, full: bool, next: &mut u32) -> u32
     ensures makes { SeatDoesIn (SeatEnds full next.new) at.old result at.new }
-    ensures rests { result ≡ OK → IsCallerWith (λ s. IsResting s.hold) at.new }
+    ensures rests { result ≡ OK → IsCallerWith (λ s. IsResting s.state) at.new }
     ensures none { result ≢ OK → next.new ≡ NEXT_GONE }
 {
     *next = GONE;
     let Object::Seat(seat) = at else {
         return status::BAD_HANDLE;
     };
-    if is_full_poll(full, &seat.hold) {
+    if is_full_poll(full, &seat.state) {
         return end_full(seat, next);
     }
     complete(seat, next)
@@ -158,7 +155,7 @@ fn end_in(at: &mut Object, full: bool, next: &mut u32) -> u32
 #[unsafe(no_mangle)]
 pub extern "C" fn fq_seat_end(handle: &mut FqHandle, full: bool, next: &mut u32) -> u32
     ensures makes { SeatDoes (SeatEnds full next.new) handle.old result handle.new }
-    ensures rests { result ≡ OK → LeadsToSeat (λ s. IsResting s.hold) handle.new.held.body }
+    ensures rests { result ≡ OK → LeadsToSeat (λ s. IsResting s.state) handle.new.held.body }
     ensures none { result ≢ OK → next.new ≡ NEXT_GONE }
 {
     if !handle.is_set() {

@@ -3,40 +3,20 @@
 ghost use Rattle.std.specs.Prelude.{◌≡◌, ◌≢◌, ◌<◌, ◌≤◌, ◌⊎◌, true, false, length, take, Some, None};
 ghost use Rattle.napi_model.specs.declared.state.Kind.{Kind};
 ghost use Rattle.napi_model.specs.declared.event.Done.TheVariants as done;
-ghost use Rattle.c_handles.specs.declared.hold.SeatCall.TheVariants as seat_call;
 ghost use Rattle.c_handles.specs.Kinds.{kind_in};
 ghost use Rattle.c_handles.specs.Status.{OK, RELEASED, AGAIN, BAD_KIND, BAD_HANDLE, BAD_WEIGHT, NO_ROOM};
 ghost use Rattle.c_handles.specs.SeatCalls.{RestsWith, GrantedWith};
+ghost use Rattle.c_handles.specs.SeatCalls.{CallerSchedules, CallerHands, CallerTakes, CallerRequeues, CallerCompletes};
+ghost use Rattle.c_handles.specs.SeatCalls.{CallerBusyTakes, CallerBusyStops, CallerSetsThreaded};
 ghost use Rattle.c_handles.specs.Endings.{EndsByReply, LeadsToSeat};
 ghost use Rattle.c_handles.specs.declared.seat.CallerObject.{CallerObject};
 ghost use Rattle.c_handles.specs.declared.body.Object.TheVariants as variant;
-ghost use Rattle.c_handles.specs.Handles.{SeatMakes, SeatMakesIn, SeatGives, SeatGivesIn, SeatShows, SeatShowsIn};
+ghost use Rattle.c_handles.specs.Handles.{SeatMakes, SeatGives, SeatGivesIn, SeatShows, SeatShowsIn};
 ghost use Rattle.napi_c.specs.Objects.{is_polling_seat, is_seat, LeadsToKind, LeadsToOther};
 
-use c_handles::{FqAnswers, FqHandle, Object, SeatCall, kind_of, status};
+use c_handles::{FqAnswers, FqHandle, Object, kind_of, status};
 use napi_model::encode;
 use rx_ring::{MAX_WEIGHT, Packet};
-
-#[inline(always)]
-fn step_in(at: &mut Object, call: SeatCall) -> u32
-    ensures { SeatMakesIn call at.old result at.new }
-{
-    match at {
-        Object::Seat(seat) => seat.step(call),
-        _ => status::BAD_HANDLE,
-    }
-}
-
-// Makes a call on the caller of a handle. It is inlined into each exported function, where the call is a constant.
-#[inline(always)]
-fn on_seat(handle: &mut FqHandle, call: SeatCall) -> u32
-    ensures { SeatMakes call handle.old result handle.new }
-{
-    if !handle.is_set() {
-        return status::BAD_HANDLE;
-    }
-    step_in(handle.held.as_mut(), call)
-}
 
 fn look_in(at: &mut Object, word: &mut u64) -> u32
     ensures shows { SeatShowsIn word.old word.new at.old result at.new }
@@ -69,82 +49,130 @@ pub extern "C" fn fq_seat_look(handle: &mut FqHandle, word: &mut u64) -> u32
 /// Like `Caller::try_schedule`: returns GRANTED, MISSED, DISABLED or CHANGED; NOT_ALLOWED if the caller owns the instance.
 #[unsafe(no_mangle)]
 pub extern "C" fn fq_seat_schedule(handle: &mut FqHandle) -> u32
-    ensures { SeatMakes seat_call.Schedule handle.old result handle.new }
+    ensures { SeatMakes CallerSchedules handle.old result handle.new }
 {
-    on_seat(handle, SeatCall::Schedule)
+    if !handle.is_set() {
+        return status::BAD_HANDLE;
+    }
+    match handle.held.as_mut() {
+        Object::Seat(seat) => seat.schedule(),
+        _ => status::BAD_HANDLE,
+    }
 }
 
 /// Like `Granted::hand`: returns OK; BAD_KIND; NOT_ALLOWED if the caller wasn't granted the instance.
 #[unsafe(no_mangle)]
 pub extern "C" fn fq_seat_hand(handle: &mut FqHandle, kind: u32) -> u32
     ensures made { (k : Kind) → kind_in kind ≡ Some k
-        → SeatMakes (seat_call.Hand k) handle.old result handle.new }
+        → SeatMakes (CallerHands k) handle.old result handle.new }
     ensures bad { kind_in kind ≡ None → (result ≡ BAD_KIND) × (handle.new ≡ handle.old) }
 {
     let Some(kind) = kind_of(kind) else {
         return status::BAD_KIND;
     };
-    on_seat(handle, SeatCall::Hand(kind))
+    if !handle.is_set() {
+        return status::BAD_HANDLE;
+    }
+    match handle.held.as_mut() {
+        Object::Seat(seat) => seat.hand(kind),
+        _ => status::BAD_HANDLE,
+    }
 }
 
 /// Like `Caller::take`: returns TAKEN or NOT_THERE; BAD_KIND; NOT_ALLOWED if the caller owns the instance.
 #[unsafe(no_mangle)]
 pub extern "C" fn fq_seat_take(handle: &mut FqHandle, kind: u32) -> u32
     ensures made { (k : Kind) → kind_in kind ≡ Some k
-        → SeatMakes (seat_call.Take k) handle.old result handle.new }
+        → SeatMakes (CallerTakes k) handle.old result handle.new }
     ensures bad { kind_in kind ≡ None → (result ≡ BAD_KIND) × (handle.new ≡ handle.old) }
 {
     let Some(kind) = kind_of(kind) else {
         return status::BAD_KIND;
     };
-    on_seat(handle, SeatCall::Take(kind))
+    if !handle.is_set() {
+        return status::BAD_HANDLE;
+    }
+    match handle.held.as_mut() {
+        Object::Seat(seat) => seat.take(kind),
+        _ => status::BAD_HANDLE,
+    }
 }
 
 /// Like `Polling::requeue`: returns OK; NOT_ALLOWED if the caller doesn't poll.
 #[unsafe(no_mangle)]
 pub extern "C" fn fq_seat_requeue(handle: &mut FqHandle) -> u32
-    ensures { SeatMakes seat_call.Requeue handle.old result handle.new }
+    ensures { SeatMakes CallerRequeues handle.old result handle.new }
 {
-    on_seat(handle, SeatCall::Requeue)
+    if !handle.is_set() {
+        return status::BAD_HANDLE;
+    }
+    match handle.held.as_mut() {
+        Object::Seat(seat) => seat.requeue(),
+        _ => status::BAD_HANDLE,
+    }
 }
 
 /// Like `Polling::try_complete`: returns RELEASED, AGAIN or CHANGED; HELD if the caller busy polls (`Busy::complete_held`);
 /// NOT_ALLOWED if it doesn't poll.
 #[unsafe(no_mangle)]
 pub extern "C" fn fq_seat_complete(handle: &mut FqHandle) -> u32
-    ensures makes { SeatMakes seat_call.Complete handle.old result handle.new }
+    ensures makes { SeatMakes CallerCompletes handle.old result handle.new }
     ensures released { result ≡ RELEASED
         → LeadsToSeat
-        (λ s. RestsWith (EndsByReply done.Released false) s.hold) handle.new.held.body }
+        (λ s. RestsWith (EndsByReply done.Released false) s.state) handle.new.held.body }
     ensures again { result ≡ AGAIN
         → LeadsToSeat
-        (λ s. GrantedWith (EndsByReply done.Again true) s.hold) handle.new.held.body }
+        (λ s. GrantedWith (EndsByReply done.Again true) s.state) handle.new.held.body }
 {
-    on_seat(handle, SeatCall::Complete)
+    if !handle.is_set() {
+        return status::BAD_HANDLE;
+    }
+    match handle.held.as_mut() {
+        Object::Seat(seat) => seat.complete(),
+        _ => status::BAD_HANDLE,
+    }
 }
 
 /// Like `Caller::try_busy`: returns TAKEN, BUSY or CHANGED; NOT_ALLOWED if the caller owns the instance.
 #[unsafe(no_mangle)]
 pub extern "C" fn fq_seat_busy_take(handle: &mut FqHandle) -> u32
-    ensures { SeatMakes seat_call.BusyTake handle.old result handle.new }
+    ensures { SeatMakes CallerBusyTakes handle.old result handle.new }
 {
-    on_seat(handle, SeatCall::BusyTake)
+    if !handle.is_set() {
+        return status::BAD_HANDLE;
+    }
+    match handle.held.as_mut() {
+        Object::Seat(seat) => seat.busy_take(),
+        _ => status::BAD_HANDLE,
+    }
 }
 
 /// Like `Busy::try_stop`: returns OK, after which the caller polls once more, or CHANGED; NOT_ALLOWED if it doesn't busy poll.
 #[unsafe(no_mangle)]
 pub extern "C" fn fq_seat_busy_stop(handle: &mut FqHandle) -> u32
-    ensures { SeatMakes seat_call.BusyStop handle.old result handle.new }
+    ensures { SeatMakes CallerBusyStops handle.old result handle.new }
 {
-    on_seat(handle, SeatCall::BusyStop)
+    if !handle.is_set() {
+        return status::BAD_HANDLE;
+    }
+    match handle.held.as_mut() {
+        Object::Seat(seat) => seat.busy_stop(),
+        _ => status::BAD_HANDLE,
+    }
 }
 
 /// Like `Caller::set_threaded`: returns OK; NOT_ALLOWED if the caller owns the instance.
 #[unsafe(no_mangle)]
 pub extern "C" fn fq_seat_set_threaded(handle: &mut FqHandle, threaded: bool) -> u32
-    ensures { SeatMakes (seat_call.SetThreaded threaded) handle.old result handle.new }
+    ensures { SeatMakes (CallerSetsThreaded threaded) handle.old result handle.new }
 {
-    on_seat(handle, SeatCall::SetThreaded(threaded))
+    if !handle.is_set() {
+        return status::BAD_HANDLE;
+    }
+    match handle.held.as_mut() {
+        Object::Seat(seat) => seat.set_threaded(threaded),
+        _ => status::BAD_HANDLE,
+    }
 }
 
 fn poll_in(at: &mut Object, weight: usize, out: &mut [Packet], count: &mut usize) -> u32

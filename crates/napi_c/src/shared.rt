@@ -13,10 +13,9 @@ ghost use Rattle.napi_c.specs.Shared.{AreFree, AreFresh, AreOfOne, AreUnthreaded
 ghost use Rattle.c_handles.specs.Status.{OK, IN_USE, BAD_COUNT, BAD_HANDLE, OUT_OF_MEMORY};
 
 use c_handles::{
-    CallerObject, CallerState, ControlState, Controller, FqAnswers, FqHandle, Object, Ring,
-    RingInput, Shared, status,
+    CallerObject, Controller, FqAnswers, FqHandle, Object, Ring, RingInput, Shared, status,
 };
-use napi_calls::{Caller, Control, Napi, NewBack, Off, close};
+use napi_calls::{Caller, CallerState, Control, ControlState, Napi, NewBack, Off, close};
 use rx_ring::{names_tell_rings, ring};
 use std::alloc::Global;
 use std::mem;
@@ -129,7 +128,7 @@ fn give_seat(
     };
     let seat = CallerObject {
         napi,
-        hold: CallerState::Rests(caller),
+        state: CallerState::Rests(caller),
         answers: FqAnswers::none(),
     };
     fill(alloc, handle, Object::Seat(seat))
@@ -178,7 +177,7 @@ fn give(alloc: Global, opened: Opened, control: &mut FqHandle, seats: &mut [FqHa
     let given = give_seats(alloc, &napi, callers, seats);
     let controller = Controller {
         napi,
-        power: ControlState::Off(off),
+        state: ControlState::Off(off),
     };
     if fill(alloc, control, Object::Controller(controller)) && given {
         return status::OK;

@@ -8,7 +8,8 @@ ghost use Rattle.text_io.specs.declared.settings.ReplaySettings.{ReplaySettings}
 ghost use Rattle.napi_series.specs.Series.{device_fields, gave, is_absent, is_poll_of, list_fields, poll_fields, polls_by, queue_fields, row_fields, row_gave, run_fields, run_gave, word_field, work_by};
 
 use device_bench::DeviceCounts;
-use device_rows::{Row, TABLE_LEN};
+use device_places::TABLE_LEN;
+use device_rows::Row;
 use poll_runs::Next;
 use replay_rows::{PollRecord, RunPoll, SerialReplay, add_numbers, state_word};
 use std::alloc::AllocError;

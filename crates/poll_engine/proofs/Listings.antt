@@ -4,8 +4,8 @@ use Rattle.std.specs.Prelude.{Option, Some, None, MatchOption, flat_map}
 use Rattle.napi_model.specs.{declared.event.Event.Event, declared.event.Operation.Operation}
 use Rattle.{napi_calls.specs.{Seats.{pass_number, own_list}, Made.{Lost, Made, events, looks}}, napi_word.specs.declared.table.Pass.Pass}
 use Rattle.poll_engine.specs.{Hands.{Lists, ThreadWakes, listings, thread_wakes, thread_wakes_after}, SharedLists.pushed_by}
-use Rattle.poll_engine.specs.{declared.signals.Waker.Waker, Trails.wakes_after, declared.worker.InterruptHandler.InterruptHandler}
-use Rattle.poll_engine.specs.declared.worker.Outbox.{Outbox}
+use Rattle.poll_engine.specs.{declared.setup.signals.Waker.Waker, Trails.wakes_after, declared.worker.InterruptHandler.InterruptHandler}
+use Rattle.poll_engine.specs.declared.outbox.Outbox.{Outbox}
 use Rattle.napi_model.specs.declared.event.Call.TheVariants as call
 
 listings-append : (number : ℕ) (es fs : List Event) → listings number (es ++ fs) ≡ listings number es ++ listings number fs

@@ -7,7 +7,7 @@ use Rattle.{poll_engine.proofs.{ListFacts.each_set, EndFacts.not_other}, napi_ca
 use Rattle.poll_engine.specs.{HandleBenches.HasOneMore, declared.handle.PollHandle.PollHandle, declared.poller.Poller.Poller}
 use Rattle.poll_engine.specs.{declared.list_poller.ListPoller.ListPoller, Spreads.{AreEndsOf, ArePollers, IsEndOf, IsPoller, own_seats}}
 use Rattle.poll_engine.specs.{SharedLists.IsNewList, declared.list_in.ListIn.ListIn, declared.shared.SharedList.SharedList, Tasks.IsAt}
-use Rattle.poll_engine.specs.{declared.signals.Waker.Waker, declared.context.RunContext.RunContext, Deals.{is_own, poller_by}}
+use Rattle.poll_engine.specs.{declared.setup.signals.Waker.Waker, declared.setup.context.RunContext.RunContext, Deals.{is_own, poller_by}}
 
 -- a poller among those of a run
 module _ {R G : Type 0} (context : RunContext R G) (wakers : List Waker) (count : ℕ) (sat : List (DropBomb R PollHandle))

@@ -9,11 +9,11 @@ use Rattle.poll_engine.specs.Runs.{HasRun, Ledger, Whose, WorksBy, IsEnded, blan
 use Rattle.poll_engine.specs.{Deals.{is_dealt, is_own, poller_by}, Hands.listings, Ends.{IsFinishOf, IsKeptFinishOf}}
 use Rattle.poll_engine.specs.{declared.station.Station.Station, declared.station.Finished.Finished}
 use Rattle.poll_engine.specs.{declared.worker.InterruptWorker.InterruptWorker, declared.worker.InterruptHandler.InterruptHandler}
-use Rattle.poll_engine.specs.{declared.worker.WorkerHandles.WorkerHandles, declared.opening.Loose.Loose, declared.opening.Placed.Placed}
+use Rattle.poll_engine.specs.declared.{worker.WorkerHandles.WorkerHandles, setup.opening.{Loose.Loose, Placed.Placed}}
 use Rattle.poll_engine.specs.{declared.acts.Act.Act, Works.{IsDoneBy, IsWorked, ledger_of, whose}, Handles.{AreAtRest, is_on, pass_of}}
 use Rattle.poll_engine.specs.{Opens.{IsHome, IsInputOf, IsKeptLoose, IsKeptPartOf, IsKeptSideOf, IsLoose}, declared.list_in.ListIn.ListIn}
-use Rattle.poll_engine.specs.{declared.shared.SharedList.SharedList, Tasks.{EachAt, IsAt}, declared.signals.Waker.Waker}
-use Rattle.poll_engine.specs.{declared.context.RunContext.RunContext, declared.context.PollLimits.PollLimits}
+use Rattle.poll_engine.specs.{declared.shared.SharedList.SharedList, Tasks.{EachAt, IsAt}, declared.setup.signals.Waker.Waker}
+use Rattle.poll_engine.specs.{declared.setup.context.RunContext.RunContext, declared.setup.context.PollLimits.PollLimits}
 use Rattle.poll_engine.specs.{SeatKeeping.{AreSameSeats, IsSameSeat}, Turns.{TurnsAlone, TurnsByRun, has_no_seat, has_no_thread}}
 use Rattle.poll_engine.specs.{declared.handle.PollHandle.PollHandle, declared.poller.Poller.Poller}
 use Rattle.poll_engine.specs.{declared.list_poller.ListPoller.ListPoller, declared.thread_poller.ThreadPoller.ThreadPoller}

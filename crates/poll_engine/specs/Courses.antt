@@ -1,12 +1,12 @@
 -- Which poller polled which station in a run, and with which limits.
-use Rattle.poll_engine.specs.{Asks.IsAsked, Tasks.{EachAt, IsAt}, declared.context.PollLimits.PollLimits}
-use Rattle.poll_engine.specs.{declared.context.RunContext.RunContext, Finishes.IsWorkedOf, Outcomes.AreLeftBy}
+use Rattle.poll_engine.specs.{Asks.IsAsked, Tasks.{EachAt, IsAt}, declared.setup.context.PollLimits.PollLimits}
+use Rattle.poll_engine.specs.{declared.setup.context.RunContext.RunContext, Finishes.IsWorkedOf, Outcomes.AreLeftBy}
 use Rattle.poll_engine.specs.{Spreads.{IsEndOf, IsKeptSeatFor}, declared.handle.PollHandle.PollHandle, Gives.{IsPolledAlone, IsPolledBy}}
 use Rattle.poll_engine.specs.{declared.poller.Poller.Poller, declared.list_poller.ListPoller.ListPoller}
 use Rattle.poll_engine.specs.{declared.thread_poller.ThreadPoller.ThreadPoller, declared.worker.InterruptWorker.InterruptWorker}
 use Rattle.poll_engine.specs.{SharedLists.{IsInOf, IsNewList, pushed_by}, declared.list_in.ListIn.ListIn}
 use Rattle.poll_engine.specs.{declared.shared.SharedList.SharedList, Handles.IsUnused, Hands.listings}
-use Rattle.poll_engine.specs.{Deals.{is_dealt, is_own, poller_by}, declared.opening.Loose.Loose, declared.acts.Act.Act}
+use Rattle.poll_engine.specs.{Deals.{is_dealt, is_own, poller_by}, declared.setup.opening.Loose.Loose, declared.acts.Act.Act}
 use Rattle.poll_engine.specs.{declared.station.Finished.Finished, declared.station.Station.Station}
 use Rattle.poll_engine.specs.Runs.{HasRun, poller_number, thread_number}
 use Rattle.std.specs.Prelude.{◌≡◌, ◌≢◌, ℕ, ◌<◌, Bool, List, [], ◌∷◌, Some, None, filter, is_some, length, map, MatchBool, vec_items}

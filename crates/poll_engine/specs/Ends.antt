@@ -1,7 +1,7 @@
 -- The end of a station's run.
 use Rattle.std.specs.Prelude.{◌≡◌, ◌+◌, ◌<◌, ◌^◌, length}
 use Rattle.{rx_ring.specs.{Ends.put_list, ReceiveRing.{bytes_of, capped}}, napi_calls.specs.declared.kept.DropBomb.DropBomb}
-use Rattle.poll_engine.specs.{declared.opening.Loose.Loose, declared.station.Finished.Finished, Closings.IsCallersOf, Runs.IsEnded}
+use Rattle.poll_engine.specs.{declared.setup.opening.Loose.Loose, declared.station.Finished.Finished, Closings.IsCallersOf, Runs.IsEnded}
 
 module _ {D : Type 0} where
   -- the totals are those of the station's ring, and the instance was closed with its callers

@@ -1,6 +1,6 @@
 -- What holds after a finished run.
 use Rattle.std.specs.Prelude.{◌≡◌, ℕ, ◌+◌, ◌≤◌, Bool, length, List}
-use Rattle.poll_engine.specs.{Asks.WasLet, Trails.questions, declared.acts.Act.Act, declared.opening.Loose.Loose}
+use Rattle.poll_engine.specs.{Asks.WasLet, Trails.questions, declared.acts.Act.Act, declared.setup.opening.Loose.Loose}
 use Rattle.poll_engine.specs.{declared.worker.InterruptWorker.InterruptWorker, declared.station.Finished.Finished}
 use Rattle.poll_engine.specs.{declared.station.Station.Station, Acts.{after_acts, arrivals}, Questions.all_questions, Runs.HasRun}
 use Rattle.poll_engine.specs.{Works.IsDoneBy, Deals.poller_by, declared.shared.SharedList.SharedList, Spreads.IsEndOf}

@@ -1,6 +1,6 @@
 -- What the thread of a poller, and the thread of an instance, return.
 use Rattle.poll_engine.specs.{declared.shared.SharedList.SharedList, Asks.IsAsked, Stops.IsStop, Trails.questions}
-use Rattle.poll_engine.specs.{declared.context.PollLimits.PollLimits, declared.list_in.ListIn.ListIn, declared.poller.Poller.Poller}
+use Rattle.poll_engine.specs.{declared.setup.context.PollLimits.PollLimits, declared.list_in.ListIn.ListIn, declared.poller.Poller.Poller}
 use Rattle.poll_engine.specs.{declared.handle.PollHandle.PollHandle, declared.list_poller.ListPoller.ListPoller}
 use Rattle.poll_engine.specs.{declared.thread_poller.ThreadPoller.ThreadPoller, Turns.{TurnsAlone, TurnsByRun}, Serving.IsServed}
 use Rattle.napi_calls.specs.{declared.kept.DropBomb.DropBomb, declared.types.Caller.Caller}

@@ -2,9 +2,9 @@
 use Rattle.std.specs.Prelude.{◌≡◌, ℕ, Bool, true, false, List, [], ◌∷◌, ◌++◌, MatchOption, if◌then◌else◌}
 use Rattle.{napi_model.specs.{declared.event.Event.Event, declared.event.Operation.Operation}, napi_word.specs.declared.table.Pass.Pass}
 use Rattle.napi_calls.specs.{Seats.own_list, declared.types.Caller.Caller}
-use Rattle.poll_engine.specs.{declared.list_in.ListIn.ListIn, SharedLists.pushed_by, Trails.{signals_with, wakes_after}}
-use Rattle.poll_engine.specs.{declared.signals.Waker.Waker, declared.trail.Trail.Trail, declared.trail.Signal.Signal}
-use Rattle.poll_engine.specs.{declared.worker.InterruptHandler.InterruptHandler, declared.worker.Outbox.Outbox}
+use Rattle.poll_engine.specs.{declared.list_in.ListIn.ListIn, SharedLists.pushed_by, Trails.{signals, signals_with, wakes_after}}
+use Rattle.poll_engine.specs.{declared.setup.signals.Waker.Waker, declared.setup.trail.Trail.Trail, declared.setup.trail.Signal.Signal}
+use Rattle.poll_engine.specs.declared.{worker.{InterruptHandler.InterruptHandler, WorkerHandles.WorkerHandles}, outbox.Outbox.Outbox}
 use Rattle.napi_model.specs.declared.state.Kind.TheVariants as kind
 use Rattle.napi_model.specs.declared.event.Operation.TheVariants as operation
 use Rattle.poll_engine.specs.SharedLists as list
@@ -18,6 +18,13 @@ is_listing _ = false
 abbrev pub is_threading : Operation → Bool
 is_threading (operation.Hand kind.Thread) = true
 is_threading _ = false
+
+-- the caller's last event queued its instance on the list
+pub record HasListed (p : Pass) : Type 0 where
+  pub earlier : List Event
+  pub event : Event
+  pub last : own_list p ≡ earlier ++ event ∷ []
+  pub listing : is_listing event.operation ≡ true
 
 -- what is pushed for these events: the instance's number, once for each time that it was queued on the list
 abbrev pub listings : ℕ → List Event → List ℕ
@@ -59,10 +66,8 @@ module _ {R D : Type 0} where
         (thread_wakes after.thread_wakes ≡ thread_wakes before.thread_wakes)
         (λ w. thread_wakes after.thread_wakes ≡ thread_wakes before.thread_wakes ++ thread_wakes_after w.now (own_list p) did)
 
-  -- The same until the caller's last event; then the thread's queue was closed.
-  pub record ThreadWakesAndClose (handler : InterruptHandler R) (p : Pass) (caller : Caller) (before after : Outbox R D) : Type 0 where
-    pub last : Outbox R D
-    pub wakes : ThreadWakes handler p caller.pass before last
-    pub closed : MatchOption handler.thread
-        (thread_wakes after.thread_wakes ≡ thread_wakes last.thread_wakes)
-        (λ w. thread_wakes after.thread_wakes ≡ thread_wakes last.thread_wakes ++ (w.now, true, own_list caller.pass) ∷ [])
+-- the queue of the instance's thread was closed once, with the worker's handles as these are
+abbrev pub ClosesOnce : {R : Type 0} → InterruptHandler R → WorkerHandles → (before after : Trail (Signal WorkerHandles)) → Type 0
+ClosesOnce handler handles before after = MatchOption handler.thread
+    (signals after ≡ signals before)
+    (λ w. signals after ≡ signals before ++ (w.now, true, handles) ∷ [])

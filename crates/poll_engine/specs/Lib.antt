@@ -38,6 +38,7 @@ pub mod Calls
 pub mod Hands
 pub mod Questions
 pub mod Closings
+pub mod QueueCloses
 pub mod Runs
 pub mod SeatKeeping
 pub mod Polled

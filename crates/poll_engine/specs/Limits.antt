@@ -1,6 +1,6 @@
 -- The numbers of a run.
 use Rattle.std.specs.Prelude.{◌≤◌}
-use Rattle.poll_engine.specs.declared.context.PollLimits.{PollLimits}
+use Rattle.poll_engine.specs.declared.setup.context.PollLimits.{PollLimits}
 
 -- the numbers of a run are in their ranges
 pub record IsLawful (limits : PollLimits) : Type 0 where

@@ -1,6 +1,6 @@
 -- The instances of stations.
 use Rattle.poll_engine.specs.{Runs.{controller_number, poller_number, thread_number}, declared.station.Station.Station}
-use Rattle.poll_engine.specs.{declared.opening.Placed.Placed, declared.opening.Loose.Loose}
+use Rattle.poll_engine.specs.{declared.setup.opening.Placed.Placed, declared.setup.opening.Loose.Loose}
 use Rattle.poll_engine.specs.{Handles.{AreAtRest, AreUnused, IsUnused, pass_of}, Trails.questions, Wakers.Wakes}
 use Rattle.std.specs.Prelude.{◌≡◌, ◌≤◌, [], vec_len, vec_capacity}
 use Rattle.napi_calls.specs.{declared.types.Napi.Napi, declared.kept.DropBomb.DropBomb, Seats.pass_number}

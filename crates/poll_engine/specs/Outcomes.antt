@@ -1,6 +1,6 @@
 -- What the threads of a run hold of the instances. (Names with "seat" are about the handles of pollers.)
 use Rattle.std.specs.{Prelude.{◌≡◌, ℕ, List, IsSome, Some, filter, length, map, vec_items}, List.{AllByRecursion, AllZip}}
-use Rattle.poll_engine.specs.{Tasks.EachAt, Deals.is_own, declared.opening.Loose.Loose, declared.worker.InterruptWorker.InterruptWorker}
+use Rattle.poll_engine.specs.{Tasks.EachAt, Deals.is_own, declared.{setup.opening.Loose.Loose, worker.InterruptWorker.InterruptWorker}}
 use Rattle.poll_engine.specs.{declared.handle.PollHandle.PollHandle, declared.list_poller.ListPoller.ListPoller}
 use Rattle.poll_engine.specs.{declared.poller.Poller.Poller, declared.thread_poller.ThreadPoller.ThreadPoller}
 use Rattle.napi_calls.specs.{declared.kept.DropBomb.DropBomb, Instance.IsSeatOf}

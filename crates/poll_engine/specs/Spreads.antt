@@ -2,8 +2,8 @@
 use Rattle.std.specs.{Prelude.{◌≡◌, ℕ, ◌≤◌, List, [], IfSome, IsSome, Some, filter, is_some, length, vec_items, vec_capacity}, Global.Vec}
 use Rattle.{std.specs.List.All, poll_engine.specs.{SharedLists.{IsInOf, IsNewList, pushed_by}, declared.list_in.ListIn.ListIn}}
 use Rattle.poll_engine.specs.{declared.shared.SharedList.SharedList, Deals.{is_own, poller_by}, Tasks.{EachAt, IsAt}, Wakers.Wakes}
-use Rattle.poll_engine.specs.{declared.context.RunContext.RunContext, declared.signals.Waker.Waker, declared.opening.Placed.Placed}
-use Rattle.poll_engine.specs.{declared.opening.Loose.Loose, declared.worker.InterruptWorker.InterruptWorker}
+use Rattle.poll_engine.specs.declared.setup.{context.RunContext.RunContext, signals.Waker.Waker, opening.Placed.Placed}
+use Rattle.poll_engine.specs.{declared.setup.opening.Loose.Loose, declared.worker.InterruptWorker.InterruptWorker}
 use Rattle.poll_engine.specs.{declared.handle.PollHandle.PollHandle, declared.poller.Poller.Poller}
 use Rattle.poll_engine.specs.{declared.list_poller.ListPoller.ListPoller, declared.thread_poller.ThreadPoller.ThreadPoller}
 use Rattle.poll_engine.specs.Gives.{poller_name, thread_name}

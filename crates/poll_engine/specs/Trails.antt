@@ -1,7 +1,7 @@
 -- What a thread did that its results don't show: the questions to its gate, and the uses of its wakers, in order.
 use Rattle.std.specs.Prelude.{ℕ, Bool, false, List, [], ◌∷◌, ◌++◌, map}
-use Rattle.poll_engine.specs.{declared.signals.Waker.Waker, declared.trail.Trail.Trail, declared.trail.Asked.Asked}
-use Rattle.poll_engine.specs.declared.trail.Signal.{Signal}
+use Rattle.poll_engine.specs.{declared.setup.signals.Waker.Waker, declared.setup.trail.Trail.Trail, declared.setup.trail.Asked.Asked}
+use Rattle.poll_engine.specs.declared.setup.trail.Signal.{Signal}
 
 -- for each question: the thread's number, the act's number, and the thread's state
 abbrev pub questions : {A : Type 0} → Trail (Asked A) → List (ℕ × ℕ × A)

@@ -2,7 +2,8 @@
 use Rattle.std.specs.{Prelude.{◌≡◌, false, Bool, true, Option, List, [], ◌∷◌, ◌++◌, MatchOption, if◌then◌else◌}, Borrow.Bor}
 use Rattle.napi_calls.specs.declared.types.Caller.{Caller}
 use Rattle.poll_runs.specs.{declared.bench.Next.Next, declared.bench.Next.TheVariants.Again}
-use Rattle.poll_engine.specs.{Trails.signals, declared.signals.Waker.Waker, declared.trail.Trail.Trail, declared.trail.Signal.Signal}
+use Rattle.poll_engine.specs.{Trails.signals, declared.setup.signals.Waker.Waker}
+use Rattle.poll_engine.specs.declared.setup.trail.{Trail.Trail, Signal.Signal}
 use Rattle.napi_model.specs.declared.state.Kind.TheVariants as kind
 
 -- a poll from the list queued the instance for its own thread

@@ -2,7 +2,7 @@
 use Rattle.std.specs.Prelude.{◌≡◌, ℕ, ◌+◌, ◌≤◌, ◌++◌, Bool, None, IfSome, is_some, length}
 use Rattle.poll_engine.specs.{Asks.WasLet, Stops.IsStop, Trails.questions, declared.acts.Act.Act}
 use Rattle.poll_engine.specs.{declared.worker.WorkerHandles.WorkerHandles, declared.worker.InterruptWorker.InterruptWorker}
-use Rattle.poll_engine.specs.{Acts.{after_acts, arrivals}, Hands.{ThreadWakesAndClose, Lists}, Questions.all_questions}
+use Rattle.poll_engine.specs.{Acts.{after_acts, arrivals}, Hands.{ClosesOnce, Lists, ThreadWakes}, Questions.all_questions}
 use Rattle.poll_engine.specs.{Runs.{Ledger, Whose, WorksBy}, Handles.{AreAtRest, AreSameHandles, is_on, pass_of}}
 use Rattle.rx_ring.specs.{declared.ends.RxIn.RxIn, Ends.{SameIn, capacity_of, put_list}}
 use Rattle.napi_calls.specs.{declared.types.Napi.Napi, Seats.{pass_number, own_list}}
@@ -40,8 +40,10 @@ module _ {R D G : Type 0} (acts : D → ℕ) (answer : D → ℕ → Act) (after
     -- it pushed the station's number once for each time that it queued the instance on the list, and nothing else; and it woke the
     -- poller after each push
     pub lists : Lists before.handler before.handles.value.caller.pass done.handles.value.caller.pass before.out done.out
-    -- it woke the instance's thread after each time that it queued the instance for it, and closed the thread's queue at its end
-    pub wakes : ThreadWakesAndClose before.handler before.handles.value.caller.pass done.handles.value.caller before.out done.out
+    -- it woke the instance's thread after each time that it queued the instance for it
+    pub wakes : ThreadWakes before.handler before.handles.value.caller.pass done.handles.value.caller.pass before.out done.out
+    -- it closed the thread's queue once, when it had disabled the instance: no thread ends while it could still be handed the instance
+    pub closes : ClosesOnce before.handler done.handles.value before.closes done.closes
     pub let_go : done.stop ≡ None → WasLet answers number (acts before.device)
     -- it asked the gate once before each act
     pub asked : done.stop ≡ None

@@ -1,14 +1,16 @@
 //! The threads of a run.
 
-ghost use Rattle.std.specs.Prelude.{◌≡◌, IfOk, vec_len};
+ghost use Rattle.std.specs.Prelude.{◌≡◌, ◌++◌, true, IfOk, map, vec_len};
 ghost use Rattle.std.specs.List.{AllZip};
+ghost use Rattle.poll_engine.specs.QueueCloses.{ClosesInTime};
 ghost use Rattle.poll_engine.specs.Tasks.{HasRoom};
+ghost use Rattle.poll_engine.specs.Trails.{signals};
 
-use crate::context::RunContext;
 use crate::gate::Gate;
-use crate::signals::Waker;
+use crate::setup::context::RunContext;
+use crate::setup::signals::Waker;
+use crate::setup::trail::{Signal, Trail};
 use crate::tasks::{Spawned, Task, join_all, spawn_all};
-use crate::trail::Trail;
 use std::alloc::{AllocError, Global};
 use std::sync::Wait;
 use std::sync::atomic::Ordering;
@@ -51,14 +53,29 @@ impl<P: Task + Drop, W: Task + Drop, S: Task + Drop> Tasks<P, W, S> {
     }
 }
 
+// Closes the queues of the pollers. The closes and the tasks at that time are added to the trace.
+fn close_all<P: Task + Drop, W: Task + Drop, S: Task + Drop>(
+    wakers: &[Waker],
+    tasks: &Tasks<P, W, S>,
+    closes: &mut Trail<Signal<Tasks<P, W, S>>>,
+)
+    ensures { signals closes.new ≡ signals closes.old
+        ++ map (λ waker. (waker, true, tasks.now)) wakers.now }
+{
+    for waker in wakers {
+        waker.close(tasks, closes);
+    }
+}
+
 /// Runs the threads of a run. All pollers and thread pollers are started before the workers: if one of them can't be started,
 /// no worker makes an act, so no worker waits for a poll. After all workers have ended, the wakers of the pollers are closed,
-/// and the pollers end. Sets the flags of threads that couldn't be started.
+/// and the pollers end. Sets the flags of threads that couldn't be started. The closes are added to the trace.
 pub fn drive<R, P, W, S, G: Gate>(
     context: &RunContext<R, G>,
     tasks: Tasks<P, W, S>,
     wakers: &[Waker],
-) -> Tasks<P, W, S>
+    closes: Trail<Signal<Tasks<P, W, S>>>,
+) -> (Tasks<P, W, S>, Trail<Signal<Tasks<P, W, S>>>)
 where
     R: Threads + Wait + Sync,
     P: Task + Drop + Send,
@@ -67,50 +84,51 @@ where
     requires pollers { HasRoom (vec_len tasks.pollers) tasks.polling }
     requires workers { HasRoom (vec_len tasks.workers) tasks.working }
     requires threads { HasRoom (vec_len tasks.threads) tasks.siding }
-    ensures pollers { AllZip P.gives tasks.pollers.items result.pollers.items }
-    ensures workers { AllZip W.gives tasks.workers.items result.workers.items }
-    ensures threads { AllZip S.gives tasks.threads.items result.threads.items }
+    ensures pollers { AllZip P.gives tasks.pollers.items result.0.pollers.items }
+    ensures workers { AllZip W.gives tasks.workers.items result.0.workers.items }
+    ensures threads { AllZip S.gives tasks.threads.items result.0.threads.items }
+    ensures closes { ClosesInTime wakers.now closes result.0 result.1 }
 {
     thread::scope(
         thread::scope_env(),
         &context.rt,
-        |scope| -> Tasks<P, W, S>
+        |scope| -> (Tasks<P, W, S>, Trail<Signal<Tasks<P, W, S>>>)
             requires pollers { HasRoom (vec_len tasks.pollers) tasks.polling }
             requires workers { HasRoom (vec_len tasks.workers) tasks.working }
             requires threads { HasRoom (vec_len tasks.threads) tasks.siding }
-            ensures pollers { AllZip P.gives tasks.pollers.items result.pollers.items }
-            ensures workers { AllZip W.gives tasks.workers.items result.workers.items }
-            ensures threads { AllZip S.gives tasks.threads.items result.threads.items }
+            ensures pollers { AllZip P.gives tasks.pollers.items result.0.pollers.items }
+            ensures workers { AllZip W.gives tasks.workers.items result.0.workers.items }
+            ensures threads { AllZip S.gives tasks.threads.items result.0.threads.items }
+            ensures closes { ClosesInTime wakers.entry.now closes result.0 result.1 }
         {
-            let Tasks {
-                mut pollers,
-                mut workers,
-                mut threads,
-                mut polling,
-                mut working,
-                mut siding,
-            } = tasks;
-            spawn_all(scope, &mut threads, &context.unpolled, &mut siding);
-            spawn_all(scope, &mut pollers, &context.unpolled, &mut polling);
+            let mut tasks = tasks;
+            let mut closes = closes;
+            spawn_all(
+                scope,
+                &mut tasks.threads,
+                &context.unpolled,
+                &mut tasks.siding,
+            );
+            spawn_all(
+                scope,
+                &mut tasks.pollers,
+                &context.unpolled,
+                &mut tasks.polling,
+            );
             if context.is_unpolled() {
                 context.refused.store(1, Ordering::SeqCst);
             }
-            spawn_all(scope, &mut workers, &context.refused, &mut working);
-            join_all(&context.rt, &mut working, &mut workers);
-            let mut closed = Trail::new();
-            for waker in wakers {
-                waker.close(&workers, &mut closed);
-            }
-            join_all(&context.rt, &mut polling, &mut pollers);
-            join_all(&context.rt, &mut siding, &mut threads);
-            Tasks {
-                pollers,
-                workers,
-                threads,
-                polling,
-                working,
-                siding,
-            }
+            spawn_all(
+                scope,
+                &mut tasks.workers,
+                &context.refused,
+                &mut tasks.working,
+            );
+            join_all(&context.rt, &mut tasks.working, &mut tasks.workers);
+            close_all(wakers, &tasks, &mut closes);
+            join_all(&context.rt, &mut tasks.polling, &mut tasks.pollers);
+            join_all(&context.rt, &mut tasks.siding, &mut tasks.threads);
+            (tasks, closes)
         },
     )
 }

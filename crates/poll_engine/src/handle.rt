@@ -5,8 +5,8 @@ ghost use Rattle.std.specs.Option.{ForSome};
 ghost use Rattle.napi_calls.specs.Instance.{IsSeatOf};
 ghost use Rattle.poll_runs.specs.Ranges.{IsMost, IsWeight};
 
-use crate::signals::Waker;
-use crate::trail::{Signal, Trail};
+use crate::setup::signals::Waker;
+use crate::setup::trail::{Signal, Trail};
 use napi_calls::{Caller, Napi};
 use napi_model::Kind;
 use poll_runs::{Next, Once, ThreadReport};

@@ -9,7 +9,6 @@
 
 mod act_list;
 mod acts;
-mod context;
 mod dealing;
 mod driving;
 mod fault;
@@ -22,18 +21,15 @@ mod list_in;
 mod list_poller;
 mod list_rule;
 mod numbers;
-mod opening;
+mod outbox;
 mod poller;
-mod pollers;
 mod pops;
 mod run;
+mod setup;
 mod shared;
-mod signals;
-mod spreading;
 mod station;
 mod tasks;
 mod thread_poller;
-mod trail;
 mod worker;
 
 pub use act_list::ActList;
@@ -51,6 +47,6 @@ pub use poll_runs::{
 };
 pub use poll_shared::{busy_instance, poll_instance, poll_instance_by_thread};
 pub use run::run_workers;
+pub use setup::trail::{Asked, Trail};
 pub use shared::SharedList;
 pub use station::{Closed, Finished, Station};
-pub use trail::{Asked, Trail};

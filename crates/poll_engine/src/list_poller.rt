@@ -3,12 +3,12 @@
 ghost use Rattle.std.specs.Prelude.{◌≡◌, ◌==◌, ◌<◌, position, vec_capacity, vec_len};
 ghost use Rattle.poll_engine.specs.Limits.{IsLawful};
 
-use crate::context::PollLimits;
 use crate::gate::Gate;
 use crate::handle::PollHandle;
 use crate::poller::{Poller, Serves};
+use crate::setup::context::PollLimits;
+use crate::setup::trail::{Signal, Trail};
 use crate::shared::SharedList;
-use crate::trail::{Signal, Trail};
 use napi_calls::{Caller, DropBomb};
 use poll_runs::{Bench, BusyReport, Next, Once, RunReport, ThreadReport, run_softirq};
 use rx_ring::Batch;
@@ -75,11 +75,12 @@ pub struct ListPoller<'n, R: Wait + Drop> {
 impl<'n, R: Wait + Drop> ListPoller<'n, R> {
     ghost use Rattle.poll_engine.specs.Turns.{RunsOnce};
 
-    /// Returns a poller with this list and these handles.
+    /// Returns a poller with this list, these handles and this trace.
     pub fn new(
         rt: R,
         list: SharedList<R>,
         seats: Vec<DropBomb<R, PollHandle<'n>>>,
+        wakes: Trail<Signal<Option<Caller>>>,
         limits: PollLimits,
     ) -> Self
         requires { IsLawful limits }
@@ -93,7 +94,7 @@ impl<'n, R: Wait + Drop> ListPoller<'n, R> {
                 rt,
                 seats,
                 batch: Batch::new(),
-                wakes: Trail::new(),
+                wakes,
             },
             limits,
         }

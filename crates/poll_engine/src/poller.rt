@@ -2,12 +2,12 @@
 
 ghost use Rattle.poll_engine.specs.Serving.{IsServed};
 
-use crate::context::RunContext;
 use crate::fault::WorkFault;
 use crate::gate::Gate;
-use crate::signals::{IdleWait, Waker};
+use crate::setup::context::RunContext;
+use crate::setup::signals::{IdleWait, Waker};
+use crate::setup::trail::{Asked, Trail};
 use crate::tasks::Task;
-use crate::trail::{Asked, Trail};
 use std::sync::Wait;
 
 /// What a poller polls: the instances on a list, or the one instance whose thread it is.

@@ -16,15 +16,15 @@ ghost use Rattle.poll_engine.specs.Stops.{IsStop};
 ghost use Rattle.poll_engine.specs.Wakers.{Wakes};
 
 use crate::acts::Device;
-use crate::context::{PollLimits, RunContext};
 use crate::driving::{Tasks, drive};
 use crate::fault::WorkFault;
 use crate::gate::Gate;
 use crate::gathering::gather;
-use crate::opening::{Loose, Placed, end_all, open_all};
-use crate::pollers::{RunTasks, pollers_of, wakers_of};
-use crate::signals::{IdleWait, Waker};
-use crate::spreading::spread;
+use crate::setup::context::{PollLimits, RunContext};
+use crate::setup::opening::{Loose, Placed, end_all, open_all};
+use crate::setup::pollers::{RunTasks, closes_of, pollers_of, wakers_of};
+use crate::setup::signals::{IdleWait, Waker};
+use crate::setup::spreading::spread;
 use crate::station::{Finished, Station};
 use crate::tasks::first_stop;
 use napi_calls::DropBomb;
@@ -81,7 +81,8 @@ where
     let room = Vec::with_capacity(alloc, count)?;
     let parts = mem::replace(loose, room);
     let tasks = spread(context, wakers, placed, parts, ends, tasks);
-    let tasks = drive(context, tasks, wakers);
+    let closes = closes_of(&tasks);
+    let (tasks, _closes) = drive(context, tasks, wakers, closes);
     let ended = stop_of_run(&tasks);
     gather(context.rt, tasks, loose);
     ended

@@ -4,7 +4,7 @@ ghost use Rattle.std.specs.Prelude.{[], ◌∷◌};
 ghost use Rattle.rx_ring.specs.declared.ends.RxCtx.{RxCtx};
 ghost use Rattle.napi_calls.specs.Closed.{IsClosed};
 
-use crate::trail::{Asked, Trail};
+use crate::setup::trail::{Asked, Trail};
 use napi_calls::{Caller, Control, Napi, Off};
 use rx_ring::Totals;
 use std::snapshot::Snapshot;

@@ -4,8 +4,8 @@ ghost use Rattle.std.specs.Prelude.{◌≤◌, ◌≡◌, List, None, IfErr, IfS
 ghost use Rattle.std.specs.List.{All, AllZip};
 ghost use Rattle.poll_engine.specs.Tasks.{HasRoom, IsSpawned};
 
-use crate::context::SpawnFailure;
 use crate::fault::WorkFault;
+use crate::setup::context::SpawnFailure;
 use std::snapshot::Snapshot;
 use std::sync::atomic::{AtomicIn, Ordering};
 use std::thread::{Promise, PromisedHandle, Scope, Threads};

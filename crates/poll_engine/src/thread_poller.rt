@@ -6,12 +6,12 @@ ghost use Rattle.poll_engine.specs.Limits.{IsLawful};
 ghost use Rattle.poll_engine.specs.Trails.{signals_with, wakes_after};
 ghost use Rattle.poll_engine.specs.Polled.{handed_on};
 
-use crate::context::PollLimits;
 use crate::handle::PollHandle;
 use crate::list_in::ListIn;
 use crate::poller::Serves;
-use crate::signals::Waker;
-use crate::trail::{Signal, Trail};
+use crate::setup::context::PollLimits;
+use crate::setup::signals::Waker;
+use crate::setup::trail::{Signal, Trail};
 use napi_calls::DropBomb;
 use napi_model::Kind;
 use poll_runs::Next;
@@ -36,6 +36,34 @@ pub struct ThreadPoller<'p, 'n, R: Wait + Drop> {
     /// The packets of the last poll.
     pub batch: Batch,
     ghost lawful: { IsLawful limits },
+}
+
+impl<'p, 'n, R: Wait + Drop> ThreadPoller<'p, 'n, R> {
+    /// Returns the thread of the handle's instance, with this end of the list and the waker of the list's poller.
+    pub fn new(
+        rt: R,
+        seat: DropBomb<R, PollHandle<'n>>,
+        list: ListIn<R>,
+        poller: &'p Waker,
+        wakes: Trail<Signal<ListIn<R>>>,
+        limits: PollLimits,
+    ) -> Self
+        requires { IsLawful limits }
+        ensures seat { result.seat ≡ seat.entry }
+        ensures list { result.list ≡ list }
+        ensures poller { result.poller.now ≡ poller.now }
+        ensures limits { result.limits ≡ limits }
+    {
+        ThreadPoller {
+            rt,
+            seat,
+            list,
+            poller,
+            wakes,
+            limits,
+            batch: Batch::new(),
+        }
+    }
 }
 
 // Pushes an instance on the list, if it was queued there after its thread's last poll, and wakes the poller of the list.

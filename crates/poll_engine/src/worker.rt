@@ -13,13 +13,13 @@ ghost use Rattle.poll_engine.specs.Stops.{IsStop};
 ghost use Rattle.poll_engine.specs.Trails.{questions};
 
 use crate::acts::{Act, Device};
-use crate::context::RunContext;
 use crate::fault::WorkFault;
 use crate::gate::Gate;
-use crate::list_in::ListIn;
-use crate::signals::Waker;
+use crate::outbox::Outbox;
+use crate::setup::context::RunContext;
+use crate::setup::signals::Waker;
+use crate::setup::trail::{Asked, Signal, Trail};
 use crate::tasks::Task;
-use crate::trail::{Asked, Signal, Trail};
 use napi_calls::{Between, Caller, Control, DropBomb, Granted, Napi, Off, On, Sched};
 use napi_model::Kind;
 use rx_ring::{Packet, RxIn};
@@ -52,37 +52,6 @@ pub struct WorkerHandles {
     pub(crate) threaded: bool,
 }
 
-/// What goes out of a worker: pushes on its poller's list, questions to the gate, and wake-ups. The last three only proofs read.
-#[derive(Drop)]
-pub struct Outbox<R, D> {
-    /// Its end of the list of its poller, for pushes.
-    pub list: ListIn<R>,
-    /// Its questions to the gate, each with the device at that time.
-    pub asked: Trail<Asked<D>>,
-    /// Its wake-ups of the list's poller, each with the list at that time.
-    pub list_wakes: Trail<Signal<ListIn<R>>>,
-    /// Its wake-ups of the instance's thread, each with the caller at that time.
-    pub thread_wakes: Trail<Signal<Caller>>,
-}
-
-impl<R, D> Outbox<R, D> {
-    ghost use Rattle.poll_engine.specs.Trails.{signals};
-
-    /// Returns the outbox of a worker that has asked these questions, and has woken no thread yet.
-    pub fn new(list: ListIn<R>, asked: Trail<Asked<D>>) -> Outbox<R, D>
-        ensures list { result.list ≡ list }
-        ensures asked { result.asked ≡ asked }
-        ensures wakes { (signals result.list_wakes ≡ []) × (signals result.thread_wakes ≡ []) }
-    {
-        Outbox {
-            list,
-            asked,
-            list_wakes: Trail::new(),
-            thread_wakes: Trail::new(),
-        }
-    }
-}
-
 /// Where the interrupts of a worker go: the instance and the wakers.
 #[derive(Drop)]
 pub struct InterruptHandler<'p, 'n, R> {
@@ -109,8 +78,7 @@ impl<'p, 'n, R: Wait> InterruptHandler<'p, 'n, R> {
         ensures asked { out.new.asked ≡ out.old.asked }
     {
         let caller = granted.hand(self.napi, Kind::List);
-        out.list.push(self.number);
-        self.poller.wake(&out.list, &mut out.list_wakes);
+        out.queue(self.number, self.poller, &caller);
         caller
     }
 
@@ -314,6 +282,8 @@ pub struct InterruptWorker<'t, 'p, 'n, R: Wait + Drop, D, G: Gate> {
     pub handler: InterruptHandler<'p, 'n, R>,
     /// What goes out of it.
     pub out: Outbox<R, D>,
+    /// The close of its instance's thread, with its handles at that time. Only proofs read it.
+    pub closes: Trail<Signal<WorkerHandles>>,
     /// The device.
     pub device: D,
     /// The input of the device's receive ring.
@@ -348,6 +318,7 @@ impl<'t, 'p, 'n, R: Wait + Copy + Drop, D: Device + Drop, G: Gate> Task
             context,
             handler,
             mut out,
+            mut closes,
             mut device,
             mut rx,
             handles,
@@ -364,12 +335,13 @@ impl<'t, 'p, 'n, R: Wait + Copy + Drop, D: Device + Drop, G: Gate> Task
         );
         handles.control = handler.turn_off(handles.control);
         if let Some(waker) = handler.thread {
-            waker.close(&handles.caller, &mut out.thread_wakes);
+            waker.close(&handles, &mut closes);
         }
         InterruptWorker {
             context,
             handler,
             out,
+            closes,
             device,
             rx,
             handles: DropBomb::new(context.rt, handles),

@@ -8,7 +8,8 @@ use Rattle.napi_calls.specs.{Made.Made, Packets.{GivesBack, HoldsOn, IsFresh, ow
 use Rattle.napi_calls.{specs.declared.types.Caller.Caller, proofs.Dealing.{delivers_back, polled_none}}
 use Rattle.poll_runs.specs.{Plan.{Action, Does, Plan, gave, given, made, operations}, Polling.{HasLast, gives}}
 use Rattle.poll_runs.specs.declared.bench.Next.{Next, TheVariants.Absent}
-use Rattle.poll_shared.specs.declared.seat.{HandleState.{HandleState, TheVariants.{Gone, Rests}}, SharedHandle.SharedHandle}
+use Rattle.napi_calls.specs.declared.state.CallerState.{CallerState, TheVariants.{Gone, Rests}}
+use Rattle.poll_shared.specs.declared.seat.SharedHandle.{SharedHandle}
 use Rattle.poll_shared.specs.{Seat.{GivesEach, MadeBy, SeatDid, handle_ctx, packets_by, handle_pass}, Tries.{PlanMakes, Tries}}
 use Rattle.poll_shared.proofs.TriesFacts.{IsMade, begun, given-none, operations-made}
 
@@ -59,10 +60,10 @@ gives-none (o ∷ os) x y some = gives-any o os x y
 
 module _ {R : Type 0} where
   -- the handle after a call, whose caller was taken out for the call and put back
-  abbrev pub Back : SharedHandle R → HandleState → SharedHandle R → HandleState → SharedHandle R → Type 0
-  Back s before gone after t = (s.hold ≡ before) × (gone ≡ record s { hold = Gone }) × (t ≡ record gone { hold = after })
+  abbrev pub Back : SharedHandle R → CallerState → SharedHandle R → CallerState → SharedHandle R → Type 0
+  Back s before gone after t = (s.state ≡ before) × (gone ≡ record s { state = Gone }) × (t ≡ record gone { state = after })
 
-  pub seat_did : (s : SharedHandle R) (before : HandleState) (gone : SharedHandle R) (after : HandleState) (t : SharedHandle R)
+  pub seat_did : (s : SharedHandle R) (before : CallerState) (gone : SharedHandle R) (after : CallerState) (t : SharedHandle R)
       (deeds : List (Action Packet))
       → Back s before gone after t → MadeBy (operations deeds) (handle_pass before) (handle_pass after)
       → packets_by after ≡ packets_by before ++ given deeds → GivesEach (handle_ctx before) deeds (handle_ctx after) → SeatDid s deeds t
@@ -70,8 +71,8 @@ module _ {R : Type 0} where
       rw (b.2, b.1) (record { thread = refl; made = rw b.0 m; gave = rw b.0 g; each = rw b.0 e })
 
   -- a call that makes operations and polls nothing
-  pub seat_does : {A : Type 0} (plan : Plan Packet A) (s : SharedHandle R) (before : HandleState) (gone : SharedHandle R)
-      (after : HandleState) (t : SharedHandle R) (p q : Pass)
+  pub seat_does : {A : Type 0} (plan : Plan Packet A) (s : SharedHandle R) (before : CallerState) (gone : SharedHandle R)
+      (after : CallerState) (t : SharedHandle R) (p q : Pass)
       (os : List Operation) (a : A) → Back s before gone after t → handle_pass before ≡ Some p → handle_pass after ≡ Some q → IsMade plan
       → Made p os q → PlanMakes plan os a → packets_by after ≡ packets_by before ++ [] → Does Tries SeatDid plan s a t
   seat_does plan s before gone after t p q os a b was is first m f none =
@@ -83,7 +84,7 @@ module _ {R : Type 0} where
       )
 
   -- a poll, which makes no operations
-  pub seat_gives : (s : SharedHandle R) (before : HandleState) (gone : SharedHandle R) (after : HandleState) (t : SharedHandle R)
+  pub seat_gives : (s : SharedHandle R) (before : CallerState) (gone : SharedHandle R) (after : CallerState) (t : SharedHandle R)
       (x y : RxCtx) (weight : ℕ)
       (packets : List Packet) → Back s before gone after t → handle_pass after ≡ handle_pass before → handle_ctx before ≡ Some x
       → handle_ctx after ≡ Some y → GivesNext weight x y packets → packets_by after ≡ packets_by before ++ packets
@@ -96,7 +97,7 @@ module _ {R : Type 0} where
 
   -- what was done from one state of the caller to the next: the operations made, and the packets delivered
   pub rises : {A : Type 0} (plan : Plan Packet A) (s t : SharedHandle R) (b c : Caller) (a : A) → IsMade plan
-      → (d : Does Tries SeatDid plan s a t) → s.hold ≡ Rests b → t.hold ≡ Rests c
+      → (d : Does Tries SeatDid plan s a t) → s.state ≡ Rests b → t.state ≡ Rests c
       → Made b.pass (operations d.0) c.pass × Delivers b.pass (given d.0) c.pass
   rises plan s t b c a first d was is = (
     made-of (operations d.0) b.pass c.pass (begun plan d.0 a first d.2) (rw (was, is) at d.1.made),

@@ -4,26 +4,28 @@ use Rattle.rx_ring.specs.{Ends.GivesNext, declared.{ends.RxCtx.RxCtx, packet.Pac
 use Rattle.{napi_model.specs.declared.event.Operation.Operation, napi_word.specs.{declared.table.Pass.Pass, Knowledge.packets_of}}
 use Rattle.napi_calls.specs.{declared.types.Napi.Napi, Instance.IsSeatOf, Made.Made, Packets.{own_delivered, polled}}
 use Rattle.{poll_runs.specs.Plan.{Action, gave, given, made, operations}}
-use Rattle.{poll_shared.specs.declared.seat.{HandleState.HandleState, SharedHandle.SharedHandle}}
-use Rattle.poll_shared.specs.declared.seat.HandleState.TheVariants.{Rests, Polls, PollsBusily, Gone}
+use Rattle.poll_shared.specs.declared.seat.SharedHandle.{SharedHandle}
+use Rattle.napi_calls.specs.declared.state.CallerState.{CallerState, TheVariants.{Rests, Granted, Polls, Busy, Gone}}
 
-abbrev pub handle_pass : HandleState → Option Pass
+abbrev pub handle_pass : CallerState → Option Pass
 handle_pass (Rests c) = Some c.pass
+handle_pass (Granted g) = Some g.pass
 handle_pass (Polls w) = Some w.pass
-handle_pass (PollsBusily b) = Some b.pass
+handle_pass (Busy b) = Some b.pass
 handle_pass Gone = None
 
-abbrev pub handle_ctx : HandleState → Option RxCtx
+abbrev pub handle_ctx : CallerState → Option RxCtx
 handle_ctx (Polls w) = Some w.ctx
-handle_ctx (PollsBusily b) = Some b.ctx
+handle_ctx (Busy b) = Some b.ctx
 handle_ctx _ = None
 
 -- the packets that the caller has polled so far: those that it delivered, and then those that it polled since it took the
 -- context
-abbrev pub packets_by : HandleState → List Packet
+abbrev pub packets_by : CallerState → List Packet
 packets_by (Rests c) = packets_of (own_delivered c.pass)
+packets_by (Granted g) = packets_of (own_delivered g.pass)
 packets_by (Polls w) = packets_of (own_delivered w.pass) ++ polled w.pass w.ctx
-packets_by (PollsBusily b) = packets_of (own_delivered b.pass) ++ polled b.pass b.ctx
+packets_by (Busy b) = packets_of (own_delivered b.pass) ++ polled b.pass b.ctx
 packets_by Gone = []
 
 -- these operations lead from the first pass to the second
@@ -41,31 +43,31 @@ GivesEach (Some x) (gave weight packets ∷ deeds) y =
     (next : RxCtx) × GivesNext weight x next packets × GivesEach (Some next) deeds y
 GivesEach None (gave weight packets ∷ deeds) y = ⊥
 
-abbrev pub IsRest : Napi → HandleState → Type 0
+abbrev pub IsRest : Napi → CallerState → Type 0
 IsRest napi (Rests c) = IsSeatOf napi c.pass
 IsRest napi _ = ⊥
 
-abbrev pub IsInHand : Napi → HandleState → Type 0
+abbrev pub IsInHand : Napi → CallerState → Type 0
 IsInHand napi (Polls w) = IsSeatOf napi w.pass
 IsInHand napi _ = ⊥
 
-abbrev pub IsInBusyHand : Napi → HandleState → Type 0
-IsInBusyHand napi (PollsBusily b) = IsSeatOf napi b.pass
+abbrev pub IsInBusyHand : Napi → CallerState → Type 0
+IsInBusyHand napi (Busy b) = IsSeatOf napi b.pass
 IsInBusyHand napi _ = ⊥
 
 module _ {R : Type 0} where
   abbrev pub seat_rests : SharedHandle R → Type 0
-  seat_rests s = IsRest s.napi.now s.hold
+  seat_rests s = IsRest s.napi.now s.state
 
   abbrev pub seat_in_hand : SharedHandle R → Type 0
-  seat_in_hand s = IsInHand s.napi.now s.hold
+  seat_in_hand s = IsInHand s.napi.now s.state
 
   abbrev pub seat_in_busy : SharedHandle R → Type 0
-  seat_in_busy s = IsInBusyHand s.napi.now s.hold
+  seat_in_busy s = IsInBusyHand s.napi.now s.state
 
   -- these actions were taken by this handle: it made the operations, and polled the packets
   pub record SeatDid (s : SharedHandle R) (deeds : List (Action Packet)) (t : SharedHandle R) : Type 0 where
     pub thread : t.thread ≡ s.thread
-    pub made : MadeBy (operations deeds) (handle_pass s.hold) (handle_pass t.hold)
-    pub gave : packets_by t.hold ≡ packets_by s.hold ++ given deeds
-    pub each : GivesEach (handle_ctx s.hold) deeds (handle_ctx t.hold)
+    pub made : MadeBy (operations deeds) (handle_pass s.state) (handle_pass t.state)
+    pub gave : packets_by t.state ≡ packets_by s.state ++ given deeds
+    pub each : GivesEach (handle_ctx s.state) deeds (handle_ctx t.state)

@@ -36,17 +36,18 @@ given-append (gave weight packets ∷ first) second =
 
 module _ {R : Type 0} where
   pub seat_nothing : (it : SharedHandle R) → SeatDid it [] it
-  seat_nothing it = record { thread = refl; made = refl; gave = sym (append-nil (packets_by it.hold)); each = refl }
+  seat_nothing it = record { thread = refl; made = refl; gave = sym (append-nil (packets_by it.state)); each = refl }
 
   pub seat_joins : (a b c : SharedHandle R) (first second : List (Action Packet)) → SeatDid a first b → SeatDid b second c
       → SeatDid a (first ++ second) c
   seat_joins a b c first second m n = record {
     thread = n.thread ∙ m.thread;
     made =
-        subst (λ (os : List Operation). MadeBy os (handle_pass a.hold) (handle_pass c.hold)) (sym (operations-append first second))
-        (MadeBy-append (operations first) (operations second) (handle_pass a.hold) (handle_pass b.hold) (handle_pass c.hold) m.made n.made);
+        subst (λ (os : List Operation). MadeBy os (handle_pass a.state) (handle_pass c.state)) (sym (operations-append first second))
+        (MadeBy-append (operations first) (operations second) (handle_pass a.state) (handle_pass b.state) (handle_pass c.state) m.made
+        n.made);
     gave = n.gave ∙ ap (λ (l : List Packet). l ++ given second) m.gave
-        ∙ append_assoc (packets_by a.hold) (given first) (given second)
-        ∙ ap (λ (l : List Packet). packets_by a.hold ++ l) (sym (given-append first second));
-    each = GivesEach-append first second (handle_ctx a.hold) (handle_ctx b.hold) (handle_ctx c.hold) m.each n.each;
+        ∙ append_assoc (packets_by a.state) (given first) (given second)
+        ∙ ap (λ (l : List Packet). packets_by a.state ++ l) (sym (given-append first second));
+    each = GivesEach-append first second (handle_ctx a.state) (handle_ctx b.state) (handle_ctx c.state) m.each n.each;
   }

@@ -9,27 +9,19 @@ ghost use Rattle.napi_calls.specs.Packets.{Quiet, polled};
 ghost use Rattle.poll_runs.specs.Polling.{completed, handed, kind_for, next_of};
 ghost use Rattle.poll_shared.specs.Tries.{PlanMakes};
 
-use napi_calls::{Busy, Caller, Completed, Granted, Napi, Polling};
+use napi_calls::{Busy, Caller, CallerState, Completed, Granted, Napi, Polling};
 use napi_model::{Flags, Kind};
 use poll_runs::{BusyInstance, Instance};
 use rx_ring::{Batch, Packet, batch_bytes};
 use std::mem;
 use std::sync::Wait;
 
-/// The state of a handle's caller. It is `Gone` only during a call.
-pub(crate) enum HandleState {
-    Rests(Caller),
-    Polls(Polling),
-    PollsBusily(Busy),
-    Gone,
-}
-
 /// A handle by which a caller polls, as an [`Instance`]. It is linear: [`rise`](SharedHandle::rise) returns the caller.
 pub(crate) struct SharedHandle<'a, R> {
     pub(crate) rt: &'a R,
     pub(crate) napi: &'a Napi,
     pub(crate) thread: bool,
-    pub(crate) hold: HandleState,
+    pub(crate) state: CallerState,
 }
 
 // Returns the instance's own thread if THREADED is set, otherwise the list.
@@ -84,21 +76,21 @@ pub fn complete<R: Wait>(
 impl<'a, R: Wait> SharedHandle<'a, R> {
     ghost use Rattle.std.specs.Prelude.{◌≡◌};
     ghost use Rattle.poll_shared.specs.Seat.{seat_in_busy, seat_in_hand, seat_rests};
-    ghost use Rattle.poll_shared.specs.declared.seat.HandleState.TheVariants.{Rests, Polls, PollsBusily, Gone};
+    ghost use Rattle.napi_calls.specs.declared.state.CallerState.TheVariants as variant;
 
     /// Ends the handle, and returns its caller, which doesn't poll any more.
     pub(crate) fn rise(self) -> Caller
         requires { seat_rests self }
-        ensures { self.entry.hold ≡ Rests result }
+        ensures { self.entry.state ≡ variant.Rests result }
     {
         let SharedHandle {
             rt: _,
             napi: _,
             thread: _,
-            hold,
+            state,
         } = self;
-        match hold {
-            HandleState::Rests(caller) => caller,
+        match state {
+            CallerState::Rests(caller) => caller,
             _ => unreachable!(),
         }
     }
@@ -106,11 +98,11 @@ impl<'a, R: Wait> SharedHandle<'a, R> {
     // Takes the caller out of the handle, for a call.
     fn caller(&mut self) -> Caller
         requires { seat_rests self.old }
-        ensures was { self.old.hold ≡ Rests result }
-        ensures gone { self.new ≡ record self.old { hold = Gone } }
+        ensures was { self.old.state ≡ variant.Rests result }
+        ensures gone { self.new ≡ record self.old { state = variant.Gone } }
     {
-        match mem::replace(&mut self.hold, HandleState::Gone) {
-            HandleState::Rests(caller) => caller,
+        match mem::replace(&mut self.state, CallerState::Gone) {
+            CallerState::Rests(caller) => caller,
             _ => unreachable!(),
         }
     }
@@ -118,11 +110,11 @@ impl<'a, R: Wait> SharedHandle<'a, R> {
     // Takes the poller out of the handle, for a call.
     fn polling(&mut self) -> Polling
         requires { seat_in_hand self.old }
-        ensures was { self.old.hold ≡ Polls result }
-        ensures gone { self.new ≡ record self.old { hold = Gone } }
+        ensures was { self.old.state ≡ variant.Polls result }
+        ensures gone { self.new ≡ record self.old { state = variant.Gone } }
     {
-        match mem::replace(&mut self.hold, HandleState::Gone) {
-            HandleState::Polls(polling) => polling,
+        match mem::replace(&mut self.state, CallerState::Gone) {
+            CallerState::Polls(polling) => polling,
             _ => unreachable!(),
         }
     }
@@ -130,24 +122,21 @@ impl<'a, R: Wait> SharedHandle<'a, R> {
     // Takes the busy poller out of the handle, for a call.
     fn busy(&mut self) -> Busy
         requires { seat_in_busy self.old }
-        ensures was { self.old.hold ≡ PollsBusily result }
-        ensures gone { self.new ≡ record self.old { hold = Gone } }
+        ensures was { self.old.state ≡ variant.Busy result }
+        ensures gone { self.new ≡ record self.old { state = variant.Gone } }
     {
-        match mem::replace(&mut self.hold, HandleState::Gone) {
-            HandleState::PollsBusily(busy) => busy,
+        match mem::replace(&mut self.state, CallerState::Gone) {
+            CallerState::Busy(busy) => busy,
             _ => unreachable!(),
         }
     }
 
     // Puts the result of a call back into the handle.
-    fn put(&mut self, hold: HandleState)
-        requires { self.old.hold ≡ Gone }
-        ensures { self.new ≡ record self.old { hold = hold } }
+    fn put(&mut self, state: CallerState)
+        requires { self.old.state ≡ variant.Gone }
+        ensures { self.new ≡ record self.old { state = state } }
     {
-        match mem::replace(&mut self.hold, hold) {
-            HandleState::Gone => {}
-            _ => unreachable!(),
-        }
+        self.state.put(state);
     }
 }
 
@@ -175,11 +164,11 @@ impl<'a, R: Wait> Instance for SharedHandle<'a, R> {
     fn take(&mut self, kind: Kind) -> bool {
         match self.caller().take(self.napi, kind) {
             Ok(polling) => {
-                self.put(HandleState::Polls(polling));
+                self.put(CallerState::Polls(polling));
                 true
             }
             Err(caller) => {
-                self.put(HandleState::Rests(caller));
+                self.put(CallerState::Rests(caller));
                 false
             }
         }
@@ -188,26 +177,26 @@ impl<'a, R: Wait> Instance for SharedHandle<'a, R> {
     fn poll(&mut self, weight: u32, batch: &mut Batch) -> u32 {
         let mut polling = self.polling();
         let work = polling.poll(weight as usize, batch);
-        self.put(HandleState::Polls(polling));
+        self.put(CallerState::Polls(polling));
         work as u32
     }
 
     fn is_disabling(&mut self) -> bool {
         let mut polling = self.polling();
         let seen = polling.look(self.napi);
-        self.put(HandleState::Polls(polling));
+        self.put(CallerState::Polls(polling));
         seen.flags.disable
     }
 
     fn requeue(&mut self) {
         let caller = self.polling().requeue(self.napi);
-        self.put(HandleState::Rests(caller));
+        self.put(CallerState::Rests(caller));
     }
 
     fn complete(&mut self) -> Option<Kind> {
         let polling = self.polling();
         let (caller, again) = complete(self.rt, self.napi, polling, self.thread);
-        self.put(HandleState::Rests(caller));
+        self.put(CallerState::Rests(caller));
         again
     }
 
@@ -229,11 +218,11 @@ impl<'a, R: Wait> BusyInstance for SharedHandle<'a, R> {
     fn busy_take(&mut self) -> bool {
         match self.caller().busy(self.rt, self.napi) {
             Ok(busy) => {
-                self.put(HandleState::PollsBusily(busy));
+                self.put(CallerState::Busy(busy));
                 true
             }
             Err(caller) => {
-                self.put(HandleState::Rests(caller));
+                self.put(CallerState::Rests(caller));
                 false
             }
         }
@@ -242,19 +231,19 @@ impl<'a, R: Wait> BusyInstance for SharedHandle<'a, R> {
     fn busy_poll(&mut self, weight: u32, batch: &mut Batch) -> u32 {
         let mut busy = self.busy();
         let work = busy.poll(weight as usize, batch);
-        self.put(HandleState::PollsBusily(busy));
+        self.put(CallerState::Busy(busy));
         work as u32
     }
 
     fn hold(&mut self) {
         let mut busy = self.busy();
         busy.complete_held(self.napi);
-        self.put(HandleState::PollsBusily(busy));
+        self.put(CallerState::Busy(busy));
     }
 
     fn stop(&mut self) {
         let polling = self.busy().stop(self.rt, self.napi);
-        self.put(HandleState::Polls(polling));
+        self.put(CallerState::Polls(polling));
     }
 
     fn bytes_of(batch: &Batch) -> u64 {

@@ -15,8 +15,8 @@ ghost use Rattle.napi_calls.specs.Made.{Made};
 ghost use Rattle.napi_calls.specs.Seats.{SameSeat};
 ghost use Rattle.poll_shared.specs.Tries.{Tries};
 
-use crate::seat::{HandleState, SharedHandle};
-use napi_calls::{Caller, Napi};
+use crate::seat::SharedHandle;
+use napi_calls::{Caller, CallerState, Napi};
 use poll_runs::{BusyReport, Next, Once, ThreadReport, poll_busy_of, poll_once_of, poll_thread_of};
 use rx_ring::Batch;
 use std::sync::Wait;
@@ -53,7 +53,7 @@ pub fn poll_instance<R: Wait>(
         rt,
         napi,
         thread,
-        hold: HandleState::Rests(caller),
+        state: CallerState::Rests(caller),
     };
     let once = poll_once_of(&mut seat, weight, batch);
     (seat.rise(), once)
@@ -89,7 +89,7 @@ pub fn poll_instance_by_thread<R: Wait>(
         rt,
         napi,
         thread: true,
-        hold: HandleState::Rests(caller),
+        state: CallerState::Rests(caller),
     };
     let report = poll_thread_of(&mut seat, weight, most, batch);
     (seat.rise(), report)
@@ -126,7 +126,7 @@ pub fn busy_instance<R: Wait>(
         rt,
         napi,
         thread: true,
-        hold: HandleState::Rests(caller),
+        state: CallerState::Rests(caller),
     };
     let report = poll_busy_of(&mut seat, rounds, weight, batch);
     (seat.rise(), report)

@@ -1,5 +1,5 @@
 -- What a replay in shared mode did, besides its report.
-use Rattle.{std.specs.Prelude.{ℕ, List, Option}, device_rows.specs.Places.DeviceTable}
+use Rattle.{std.specs.Prelude.{ℕ, List, Option}, device_places.specs.Places.DeviceTable}
 use Rattle.device_bench.specs.{Bench.BenchDevices, Ending.AllEnded}
 use Rattle.{device_shared.specs.{Ending.IsSideClosed, declared.closed_side.ClosedSide.ClosedSide}, replay_rows.specs.Answer.Plays}
 use Rattle.text_io.specs.declared.settings.ReplaySettings.{ReplaySettings}

@@ -5,7 +5,8 @@ ghost use Rattle.device_rows.specs.declared.row.Row.{Row};
 ghost use Rattle.replay.specs.Dealing.{AreScripts, lists};
 ghost use Rattle.replay.specs.Script.{is_act_of, is_open, openings_of, opens};
 
-use device_rows::{Row, RowEvent, TABLE_LEN};
+use device_places::TABLE_LEN;
+use device_rows::{Row, RowEvent};
 use std::alloc::{AllocError, Global};
 use std::mem;
 

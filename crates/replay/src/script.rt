@@ -1,7 +1,7 @@
 //! A device whose acts are its rows of a trace.
 
 ghost use Rattle.std.specs.Prelude.{◌≡◌, ◌≤◌, ◌<◌, ◌+◌, ◌^◌, ℕ, List, [], ◌∷◌, Some, IfOk, OnOk, IsSome, filter, length, take};
-ghost use Rattle.device_rows.specs.Range.{IsWithin};
+ghost use Rattle.device_places.specs.Range.{IsWithin};
 ghost use Rattle.device_bench.specs.Transmit.{ShowsTransmit, TransmitView, tx_counts};
 ghost use Rattle.replay.specs.Script.{act_of, has_thread, is_rx, makes_threaded, opening_of, rx_of, script_of, transmit_by};
 ghost use Rattle.replay.specs.ScriptShown.{side_of};

@@ -3,7 +3,7 @@
 ghost use Rattle.std.specs.Prelude.{◌≡◌, ◌≢◌, ◌≤◌, ◌⊎◌, ◌+◌, ◌++◌, ◌∷◌, ℕ, [], List, None, Some, filter, IfErr, IfOk, IsSome, IsTrue, OnOk, length, vec_items};
 ghost use Rattle.std.specs.List.{All, AllZip};
 ghost use Rattle.std.specs.Borrow.{Bor};
-ghost use Rattle.device_rows.specs.Range.{IsWithin};
+ghost use Rattle.device_places.specs.Range.{IsWithin};
 ghost use Rattle.device_rows.specs.Trace.{AcceptedAfter};
 ghost use Rattle.device_rows.specs.declared.row.Row.{Row};
 ghost use Rattle.poll_engine.specs.Asks.{IsAsked};
@@ -20,7 +20,8 @@ ghost use Rattle.replay.specs.ThreadsReport.{is_opened, opened_devices};
 
 use crate::dealing::{openings_of, scripts_of, take_script};
 use crate::script::{ScriptDevice, opening_of};
-use device_rows::{Row, TABLE_LEN};
+use device_places::TABLE_LEN;
+use device_rows::Row;
 use poll_engine::{Finished, Gate, Station, WorkFault, run_workers};
 use std::alloc::{AllocError, Global};
 use std::sync::Wait;

@@ -1,12 +1,12 @@
 -- How one more row advances a replay.
 use Rattle.std.proofs.Common.{◌≡◌, ◌∙◌, ℕ, zero, suc, ◌+◌, ◌<◌, Bool, true, false, Ok, Err, inl, inr, List, [], ◌∷◌, ◌++◌, length}
 use Rattle.std.proofs.{Common.{append_assoc, take, drop, get_or, ap, refl, sym, arith}, lemmas.List.{length-take, take_more}}
-use Rattle.std.specs.Prelude.{◌⊎◌, IfErr, Result, if◌then◌else◌}
+use Rattle.std.specs.Prelude.{Result, if◌then◌else◌}
 use Rattle.{device_bench.specs.Transmits.Transmits, device_rows.specs.declared.row.Row.Row}
 use Rattle.replay_rows.specs.{Replay.{after_row, after_rows, is_early, start, after_all_rows}, Report.{report_of, serial_report}}
-use Rattle.replay_rows.specs.{Transmits.{after_transmit, after_transmits, transmits_of}, ReplayState.ReplayState}
+use Rattle.replay_rows.specs.{Refused.IsSerialFault, Transmits.{after_transmit, after_transmits, transmits_of}, ReplayState.ReplayState}
 use Rattle.text_io.specs.{declared.fault.ReplayFault.ReplayFault, declared.fault.ReplayFault.TheVariants.{OutputFailed, Pending}}
-use Rattle.text_io.specs.{Outside.IsReplayOutOfMemory, declared.settings.ReplaySettings.ReplaySettings}
+use Rattle.text_io.specs.declared.settings.ReplaySettings.{ReplaySettings}
 
 -- the state after the remaining rows, if those before them were processed
 then_rows : ReplaySettings → ℕ → List Row → Result ReplayState ReplayFault → Result ReplayState ReplayFault
@@ -99,14 +99,10 @@ report_written s version rows e = by (after_all_rows s rows) refl e
         let failed : fault ≡ OutputFailed = cc e in
         cc (sym early.1 ∙ failed)
 
-pub unwritten : {A : Type 0} (s : ReplaySettings) (version : ℕ) (rows : List Row) (r : Result A ReplayFault)
-    → IfErr r (λ fault. IsReplayOutOfMemory fault ⊎ (serial_report s version rows ≡ Err fault))
-    → IfErr r (λ fault. fault ≡ OutputFailed → ⊥)
-unwritten s version rows (Ok a) h = tt
-unwritten s version rows (Err fault) h = λ failed. elim h [
-  | inl memory ↦ cc (sym memory.0 ∙ failed)
-  | inr early ↦ report_written s version rows (early ∙ ap Err failed)
-]
+-- the error of rows isn't that of a failed output
+pub unwritten : (s : ReplaySettings) (rows : List Row) (fault : ReplayFault) → IsSerialFault s rows fault → fault ≡ OutputFailed → ⊥
+unwritten s rows fault (inl memory) = λ failed. cc (sym memory.0 ∙ failed)
+unwritten s rows fault (inr early) = λ failed. report_written s 1 rows (early 1 ∙ ap Err failed)
 
 -- four parts of a text, concatenated in any grouping
 pub four-parts : (a b c d : List ℕ) → ((a ++ b) ++ c) ++ d ≡ a ++ (b ++ (c ++ d))

@@ -2,7 +2,7 @@
 use Rattle.std.proofs.Common.{◌≡◌, ◌∙◌, ◌+◌, ◌<◌, ℕ, suc, List, [], ◌∷◌, ◌++◌, Ok, append_assoc, length, take, get_or, ap, arith, refl}
 use Rattle.std.proofs.{Common.sym, lemmas.List.map-append}
 use Rattle.device_bench.specs.{Bench.{BenchDevices, counts_at, polled_at}, Transmits.{Transmits, tx_counts_of}}
-use Rattle.{device_rows.specs.{Places.at, declared.row.Row.Row}, device_rows.proofs.Accepted.get-at, poll_runs.specs.Polls.Poll}
+use Rattle.{device_places.specs.Places.at, device_rows.{specs.declared.row.Row.Row, proofs.Accepted.get-at}, poll_runs.specs.Polls.Poll}
 use Rattle.replay_rows.specs.{RunLog.{list_before, logged, polls_in, polls_of_row, row_list, row_polls}, Replay.after_all_rows}
 use Rattle.replay_rows.specs.{ReplayState.ReplayState, Transmits.transmits_of, declared.run_log.RunPoll.RunPoll}
 use Rattle.text_io.specs.declared.settings.ReplaySettings.{ReplaySettings}

@@ -1,7 +1,8 @@
 -- The state of a replay after its first n rows, none of which had an error, and what it shows.
 use Rattle.std.specs.Prelude.{◌≡◌, ℕ, Bool, List, [], Option, None, Result, Ok, Err, take}
 use Rattle.device_bench.specs.{Transmits.{Transmits, is_used}, DeviceBench.{ShowsTransmits, devices_of}}
-use Rattle.{device_bench.specs.declared.counts.DeviceCounts.DeviceCounts, device_rows.specs.{Places.at, declared.row.Row.Row}}
+use Rattle.{device_bench.specs.declared.counts.DeviceCounts.DeviceCounts, device_places.specs.Places.at}
+use Rattle.device_rows.specs.declared.row.Row.{Row}
 use Rattle.replay_rows.specs.{Played.replay_state, Replay.after_all_rows, Report.{reported_counts, last_poll_by}, Transmits.transmits_of}
 use Rattle.replay_rows.specs.{RunLog.{list_before, polls_of_row}, ReplayState.ReplayState, declared.line.PollRecord.PollRecord}
 use Rattle.replay_rows.specs.declared.serial_replay.SerialReplay.{SerialReplay}

@@ -3,7 +3,7 @@ use Rattle.std.specs.Prelude.{ℕ, ◌+◌, ◌==◌, Bool, false, if◌then◌e
 use Rattle.device_bench.specs.Bench.{all_settled, after_arrival, busily_polled_at, busy_report_of, handed_by, thread_polls_of}
 use Rattle.device_bench.specs.{Device.{after_disable, after_enable, after_threaded, new_device, polled_by_thread}, Kept.is_pending_at}
 use Rattle.device_bench.specs.Waiting.{is_left_to_list, is_listed}
-use Rattle.device_rows.specs.{Places.{added, at, changed, empty}, declared.event.RowEvent.RowEvent}
+use Rattle.{device_places.specs.Places.{added, at, changed, empty}, device_rows.specs.declared.event.RowEvent.RowEvent}
 use Rattle.device_rows.specs.declared.event.RowEvent.TheVariants.{Opened, Rx, Tx, Finish, Softirq, Kthread, Disable, Enable, Threaded}
 use Rattle.device_rows.specs.{declared.event.RowEvent.TheVariants.Busy, declared.row.Row.Row}
 use Rattle.poll_runs.specs.{Function.run_report, Thread.last_next, declared.bench.Once.Once, declared.bench.ThreadReport.ThreadReport}

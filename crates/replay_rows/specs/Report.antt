@@ -7,7 +7,7 @@ use Rattle.std.specs.Prelude.{Err, codes, decimal, flat_map, if◌then◌else◌
 use Rattle.device_bench.specs.{Transmits.{Transmits, is_used, tx_counts_of}, Bench.{attached, counts_at}}
 use Rattle.device_bench.specs.{declared.counts.DeviceCounts.DeviceCounts, declared.counts.DeviceState.DeviceState}
 use Rattle.device_bench.specs.declared.counts.DeviceState.TheVariants.{On, Off, Pending}
-use Rattle.device_rows.specs.{Places.at, declared.row.Row.Row}
+use Rattle.{device_places.specs.Places.at, device_rows.specs.declared.row.Row.Row}
 use Rattle.text_io.specs.{declared.fault.ReplayFault.ReplayFault, Lines.{with_newline, flag, words}}
 use Rattle.{text_io.specs.declared.settings.ReplaySettings.ReplaySettings, poll_runs.specs.declared.run.RunReport.RunReport}
 

@@ -1,7 +1,7 @@
 -- The polls of a run, each with its device after it.
 use Rattle.std.specs.Prelude.{ℕ, zero, suc, List, [], ◌∷◌, map, slice_get, take, Option, Some, Result, Ok, if◌then◌else◌}
 use Rattle.device_bench.specs.{Bench.{BenchDevices, counts_at, polled_at}, Transmits.{Transmits, tx_counts_of}}
-use Rattle.{device_rows.specs.{Places.at, declared.row.Row.Row}, poll_runs.specs.Polls.Poll}
+use Rattle.{device_places.specs.Places.at, device_rows.specs.declared.row.Row.Row, poll_runs.specs.Polls.Poll}
 use Rattle.replay_rows.specs.{Replay.after_all_rows, ReplayState.ReplayState, Run.replay_run, Softirq.is_softirq, Transmits.transmits_of}
 use Rattle.replay_rows.specs.declared.run_log.RunPoll.{RunPoll}
 use Rattle.text_io.specs.{declared.fault.ReplayFault.ReplayFault, declared.settings.ReplaySettings.ReplaySettings}

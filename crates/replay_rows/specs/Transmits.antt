@@ -1,7 +1,7 @@
 -- The transmit sides of all devices, computed from the open, tx and done rows. Polls don't affect them.
 use Rattle.std.specs.Prelude.{List, [], ◌∷◌}
 use Rattle.device_bench.specs.{Transmits.Transmits, Transmit.{after_finish, after_tx, opened_transmit}}
-use Rattle.device_rows.specs.{Places.{added, changed, empty}, declared.event.RowEvent.RowEvent}
+use Rattle.{device_places.specs.Places.{added, changed, empty}, device_rows.specs.declared.event.RowEvent.RowEvent}
 use Rattle.device_rows.specs.{declared.event.RowEvent.TheVariants.{Opened, Tx, Finish}, declared.row.Row.Row}
 
 -- the effect of a row, by its event

@@ -8,7 +8,7 @@ ghost use Rattle.text_io.specs.Outside.{IsReplayOutOfMemory};
 
 use crate::replay::{Replay, room_for_lines};
 use crate::softirq::is_softirq;
-use device_bench::SerialBench;
+use device_bench::{ReplayBench, SerialBench};
 use device_rows::{MOST_ROWS, Row, TraceFault};
 use std::alloc::{AllocError, Global};
 use text_io::{ReplayFault, ReplaySettings};
@@ -63,7 +63,8 @@ impl Raising {
             return Err(ReplayFault::Trace(TraceFault::TooManyRows));
         }
         let number = self.rows.len() as u32 + 1;
-        self.replay.play(alloc, settings, number, row)?;
+        self.replay.play_event(alloc, settings, number, row)?;
+        self.replay.bench.settle();
         self.rows.push_reserved(*row);
         Ok(())
     }

@@ -43,7 +43,7 @@ pub(crate) fn room_for_lines(alloc: Global, rows: &[Row]) -> Result<Vec<PollReco
 impl<B: ReplayBench> Replay<B> {
     ghost use Rattle.std.specs.Prelude.{◌≡◌, ℕ, ◌+◌, ◌++◌, [], ◌∷◌, true, false, Ok, OnOk, IfErr};
     ghost use Rattle.device_bench.specs.Transmits.{Changes, KeepsTransmits, Transmits};
-    ghost use Rattle.device_rows.specs.Places.{empty};
+    ghost use Rattle.device_places.specs.Places.{empty};
     ghost use Rattle.device_rows.specs.Row.{device_fits, value_fits};
     ghost use Rattle.device_rows.specs.Trace.{AcceptedAfter};
     ghost use Rattle.device_bench.specs.Waiting.{one_when, is_left_to_list};
@@ -187,8 +187,8 @@ impl<B: ReplayBench> Replay<B> {
         Ok(())
     }
 
-    // Processes the row's event.
-    fn play_event(
+    /// Processes the row's event. After each row the caller tries each pending disable once, by `settle`.
+    pub(crate) fn play_event(
         &mut self,
         alloc: Global,
         settings: &ReplaySettings,
@@ -228,33 +228,7 @@ impl<B: ReplayBench> Replay<B> {
         Ok(())
     }
 
-    /// Processes one row, and then tries each pending disable once.
-    pub(crate) fn play(
-        &mut self,
-        alloc: Global,
-        settings: &ReplaySettings,
-        number: u32,
-        row: &Row,
-    ) -> Result<(), ReplayFault>
-        requires device { device_fits row.now.event row.now.device ≡ true }
-        requires value { value_fits row.now.event row.now.value ≡ true }
-        ensures on_time { OnOk result
-            (is_early row.now.event row.now.device (replay_state B.devices self.old) ≡ false) }
-        ensures state { OnOk result (replay_state B.devices self.new
-            ≡ after_row settings.now number row.now (replay_state B.devices self.old)) }
-        ensures fault { IfErr result
-            (IsRefusedAt number row.now (replay_state B.devices self.old)) }
-        ensures transmits { OnOk result
-            (Changes B.shows (after_transmit row.now) self.old.bench self.new.bench) }
-        ensures lines { OnOk result
-            (length self.new.lines.items ≤ length self.old.lines.items + 1) }
-    {
-        self.play_event(alloc, settings, number, row)?;
-        self.bench.settle();
-        Ok(())
-    }
-
-    /// Like [`play`](Replay::play), and logs the polls of a softirq row.
+    /// Processes one row, tries each pending disable once, and logs the polls of a softirq row.
     pub(crate) fn play_logged(
         &mut self,
         alloc: Global,
@@ -281,14 +255,17 @@ impl<B: ReplayBench> Replay<B> {
     {
         log.clear();
         if !is_softirq(row.event) {
-            return self.play(alloc, settings, number, row);
+            self.play_event(alloc, settings, number, row)?;
+            self.bench.settle();
+            return Ok(());
         }
         self.run_with(settings, number, log)?;
         self.bench.settle();
         Ok(())
     }
 
-    /// Processes the rows of a trace in order, up to the first error, on a bench that has no devices yet.
+    /// Processes the rows of a trace in order, up to the first error, on a bench that has no devices yet. After each row it
+    /// tries each pending disable once.
     pub(crate) fn play_rows(
         &mut self,
         alloc: Global,
@@ -307,7 +284,8 @@ impl<B: ReplayBench> Replay<B> {
         ensures fault { IfErr result (IsSerialFault settings.now rows.now) }
     {
         for (i, row) in rows.iter().enumerate() {
-            self.play(alloc, settings, i as u32 + 1, row)?;
+            self.play_event(alloc, settings, i as u32 + 1, row)?;
+            self.bench.settle();
         }
         Ok(())
     }

@@ -1,23 +1,17 @@
-//! The report: the rows are processed, and the state after them is written as text, in all modes that process rows.
+//! The text of the report, for all modes that process rows.
 
-ghost use Rattle.std.specs.Prelude.{◌≡◌, ◌≢◌, ◌⊎◌, ◌+◌, ◌^◌, ◌<◌, ◌≤◌, ◌++◌, [], Ok, Err, Some, IfErr, IfOk, OnOk, flat_map, length, string_bytes};
-ghost use Rattle.device_rows.specs.Places.{empty};
-ghost use Rattle.device_rows.specs.Trace.{AcceptedAfter};
-ghost use Rattle.replay_rows.specs.Answer.{LeavesDevices};
-ghost use Rattle.replay_rows.specs.Report.{device_line, device_lines, held_part, list_line, napi_line, of_run, poll_line, serial_report, spaced, state_word, total_line, run_totals};
+ghost use Rattle.std.specs.Prelude.{◌≡◌, ◌+◌, ◌^◌, ◌<◌, ◌≤◌, ◌++◌, Some, OnOk, flat_map, length, string_bytes};
+ghost use Rattle.replay_rows.specs.Report.{device_line, device_lines, held_part, list_line, napi_line, of_run, poll_line, spaced, state_word, total_line, run_totals};
 ghost use Rattle.text_io.specs.Lines.{with_newline, flag};
-ghost use Rattle.text_io.specs.Outside.{IsReplayOutOfMemory};
-ghost use Rattle.text_io.specs.declared.fault.ReplayFault.TheVariants.{OutputFailed};
 
 use crate::line::PollRecord;
-use crate::replay::{Replay, room_for_lines};
+use crate::replay::Replay;
 use crate::transmit_line::add_transmit;
 use device_bench::{DeviceCounts, DeviceState, ReplayBench};
-use device_rows::{Row, TABLE_LEN};
+use device_places::TABLE_LEN;
 use poll_runs::PollList;
 use std::alloc::{AllocError, Global};
 use std::fmt;
-use text_io::{ReplayFault, ReplaySettings};
 
 // Appends the line of each row that polled.
 fn add_lines(text: &mut String, lines: &[PollRecord]) -> Result<(), AllocError>
@@ -260,7 +254,6 @@ impl<B: ReplayBench> Replay<B> {
     ghost use Rattle.std.specs.Prelude.{◌≡◌, ◌++◌, IfOk, OnOk, string_bytes};
     ghost use Rattle.device_bench.specs.Transmits.{Transmits};
     ghost use Rattle.replay_rows.specs.Played.{replay_state};
-    ghost use Rattle.replay_rows.specs.Replay.{start};
     ghost use Rattle.replay_rows.specs.Report.{lines_below, lines_of, serial_text};
 
     // Appends the lines of each device, by increasing number.
@@ -278,9 +271,9 @@ impl<B: ReplayBench> Replay<B> {
         Ok(())
     }
 
-    // Returns the text of the report, for a trace of this version.
+    /// Returns the text of the report, for a trace of this version.
     #[tactic(auto, unfolding(crate::specs::Report::text_by))]
-    fn report(&self, alloc: Global, version: u32) -> Result<String, AllocError>
+    pub(crate) fn report(&self, alloc: Global, version: u32) -> Result<String, AllocError>
         requires { length self.now.lines.items ≤ 100000 }
         ensures { (all : Transmits) → B.shows self.now.bench all → IfOk result
             (λ text. string_bytes text ≡ serial_text version (replay_state B.devices self.now)
@@ -294,64 +287,4 @@ impl<B: ReplayBench> Replay<B> {
         add_totals(&mut text, &totals)?;
         Ok(text)
     }
-
-    /// Processes the rows of a trace on a bench that has no devices yet, and returns the text of their report, for a trace of
-    /// this version.
-    ///
-    /// Fails if an allocation fails, or if an enable row meets a disable that is still pending.
-    fn report_rows(
-        &mut self,
-        alloc: Global,
-        settings: &ReplaySettings,
-        version: u32,
-        rows: &[Row],
-    ) -> Result<String, ReplayFault>
-        requires accepted { AcceptedAfter [] rows.now }
-        requires count { length rows.now ≤ 100000 }
-        requires start { replay_state B.devices self.old ≡ start }
-        requires transmits { B.shows self.old.bench empty }
-        ensures report { IfOk result
-            (λ text. serial_report settings.now version rows.now ≡ Ok (string_bytes text)) }
-        ensures fault { IfErr result (λ fault. IsReplayOutOfMemory fault
-            ⊎ (serial_report settings.now version rows.now ≡ Err fault)) }
-        ensures played { IfOk result
-            (λ text. LeavesDevices settings.now rows.now (B.devices self.new.bench)) }
-    {
-        self.lines = room_for_lines(alloc, rows)?;
-        self.play_rows(alloc, settings, rows)?;
-        Ok(self.report(alloc, version)?)
-    }
-}
-
-/// Processes the rows of a trace on a bench that has no devices yet. Returns the bench, and the text of the rows' report, for a
-/// trace of this version.
-///
-/// Fails if an allocation fails, or if an enable row meets a disable that is still pending.
-pub(crate) fn report_on<B: ReplayBench>(
-    alloc: Global,
-    bench: B,
-    settings: &ReplaySettings,
-    version: u32,
-    rows: &[Row],
-) -> (B, Result<String, ReplayFault>)
-    requires accepted { AcceptedAfter [] rows.now }
-    requires count { length rows.now ≤ 100000 }
-    requires devices { B.devices bench ≡ empty }
-    requires transmits { B.shows bench empty }
-    ensures report { IfOk result.1
-        (λ text. serial_report settings.now version rows.now ≡ Ok (string_bytes text)) }
-    ensures fault { IfErr result.1 (λ fault. IsReplayOutOfMemory fault
-        ⊎ (serial_report settings.now version rows.now ≡ Err fault)) }
-    ensures unwritten { IfErr result.1 (λ fault. fault ≢ OutputFailed) }
-    ensures played { IfOk result.1
-        (λ text. LeavesDevices settings.now rows.now (B.devices result.0)) }
-{
-    let mut replay = Replay::new(bench, Vec::new(alloc));
-    let text = replay.report_rows(alloc, settings, version, rows);
-    let Replay {
-        bench,
-        list: _,
-        lines: _,
-    } = replay;
-    (bench, text)
 }

@@ -2,7 +2,7 @@
 
 ghost use Rattle.std.specs.Prelude.{◌≡◌, ◌≤◌, ◌+◌, [], IfOk, OnOk, length, vec_capacity, vec_len};
 ghost use Rattle.device_bench.specs.Bench.{counts_at};
-ghost use Rattle.device_rows.specs.Places.{at};
+ghost use Rattle.device_places.specs.Places.{at};
 ghost use Rattle.device_bench.specs.Transmits.{Transmits, tx_counts_of};
 ghost use Rattle.poll_runs.specs.Laws.{IsPlainRun};
 ghost use Rattle.poll_runs.specs.Polls.{At, Chain};

@@ -5,7 +5,7 @@ ghost use Rattle.text_io.specs.Outside.{IsOutside};
 ghost use Rattle.text_io.specs.Written.{IsFaultBy, LeavesText, Writes};
 ghost use Rattle.replay_rows.specs.Answer.{replay_of};
 
-use crate::whole::replay_on;
+use crate::replay::Replay;
 use device_bench::SerialBench;
 use std::alloc::Global;
 use std::io::{Read, Write};
@@ -33,7 +33,6 @@ pub fn replay_serial<R: Read + Drop, W: Write>(
     ensures output { IfErr result (LeavesText (λ bytes text. replay_of settings.now bytes ≡ Ok text)
         (R.remaining reader) (W.contents writer.old) (W.contents writer.new)) }
 {
-    let bench = SerialBench::new(alloc)?;
-    let (_, replayed) = replay_on(alloc, bench, reader, writer, settings);
-    replayed
+    let mut replay = Replay::new(SerialBench::new(alloc)?, Vec::new(alloc));
+    replay.write_report(alloc, reader, writer, settings)
 }

@@ -15,6 +15,9 @@ const FLOWS: &str =
 // Packets that arrive while the card's timer runs.
 const COALESCED: &str = "moment,device,bytes\n0,1,100\n3000,1,100\n4000,1,100\n9000,1,100\n";
 
+// A packet that arrives while the NAPI timer of its queue is set.
+const UNMASKED: &str = "moment,device,bytes\n0,1,60\n9500,1,60\n";
+
 const APART: [&str; 2] = ["--apart=1", "--app-wake=3000"];
 
 const REPORT: &str =
@@ -47,6 +50,13 @@ const COALESCED_REPORT: &str =
 processor 0 interrupts 1 timers 0 runs 1 polls 1 work 4 squeezed 0 late 0 refused 0 used 4 mean 83000 wait50 68992 wait90 122880 wait99 122880 wait999 122880 most 123000
 time 0 end 132000 interrupt 4000 poll 5000 use 120000 idle 3000
 total devices 1 arrived 4 dropped 0 polled 4 refused 0 used 4
+";
+
+const HEEDLESS: &str =
+    "device 1 arrived 2 dropped 0 polled 2 interrupts 2 polls 4 mean 8000 wait50 6000 wait90 10000 wait99 10000 wait999 10000 most 10000
+processor 0 interrupts 2 timers 3 runs 4 polls 4 work 2 squeezed 0 late 0 refused 0 used 2 mean 10000 wait50 8000 wait90 12000 wait99 12000 wait999 12000 most 12000
+time 0 end 39500 interrupt 20000 poll 6000 use 4000 idle 9500
+total devices 1 arrived 2 dropped 0 polled 2 refused 0 used 2
 ";
 
 // The report as tests/machine_model.py computes it.
@@ -82,7 +92,7 @@ fn machine_of(alloc: Global, words: &[&str]) -> Result<MachineSettings, Fail> {
 
 #[test]
 fn worked_runs_are_reported(rt: HostRuntime) -> Result<(), Fail> {
-    let cases: [(&[&str], &str, &str); 6] = [
+    let cases: [(&[&str], &str, &str); 7] = [
         (&APART, ARRIVALS, REPORT),
         (
             &["--defer-hard-irqs=2", "--gro-flush-timeout=20000"],
@@ -101,6 +111,15 @@ fn worked_runs_are_reported(rt: HostRuntime) -> Result<(), Fail> {
             SMALL_SOCKET,
         ),
         (&["--queues=2", "--processors=2"], FLOWS, FLOWS_REPORT),
+        (
+            &[
+                "--heedless=1",
+                "--defer-hard-irqs=2",
+                "--gro-flush-timeout=5000",
+            ],
+            UNMASKED,
+            HEEDLESS,
+        ),
     ];
     for (words, arrivals, expected) in cases {
         let settings = machine_of(rt.alloc(), words)?;

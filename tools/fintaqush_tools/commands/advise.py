@@ -5,17 +5,21 @@
     sudo fintaqush advise mine.rec --goal p99 --verify
 
 It estimates the costs from the recording (fintaqush costs), replays the recorded settings in napi_machine and compares the result with what
-was recorded. The fit is good, fair or poor; it is unknown if the goal is a wait and no wait could be measured. If it is poor or unknown, there
-is no advice. Otherwise it tries other settings: threaded NAPI,
-napi_defer_hard_irqs with gro_flush_timeout, interrupt coalescing, sizes of rings and backlogs, and the program on another processor. It prints
-the best settings for the goal, their results if all costs were 20 % lower or higher, the commands that set them, and what isn't modelled.
+was recorded, for each processor that polled. The fit is good, fair or poor; it is unknown if the goal is a wait and no wait could be measured.
+If it is poor or unknown, there is no advice. Otherwise it tries other settings: threaded NAPI, napi_defer_hard_irqs with gro_flush_timeout,
+interrupt coalescing, sizes of rings and backlogs, and the program on an idle processor. Of settings that are equally good it advises the one
+with the fewest changes. It prints the best settings for the goal, their results if all costs were 20 % lower or higher, the commands that set
+them, and what isn't modelled.
 
 Goals: the 99th or 50th percentile of the wait, the kernel's processor time, or drops. A wait lasts from a packet's arrival until the program
 has used it, or until its delivery if the program isn't recorded. Only settings with at most --max-drops drops (as many as now) and with a
 99th percentile below --p99-below are considered.
 
---verify needs root. It applies the advised settings on this machine, records again during traffic, prints predicted and measured values, and
-restores the old settings. At a network card arrivals are inferred from polls; --arrivals names a file of better ones (fintaqush from-pcap --arrivals).
+At a network card arrivals are inferred from polls. --capture names a capture that was made meanwhile (tcpdump -j adapter), of which the packets
+to the device that came during the recording are the arrivals.
+
+--verify needs root. It applies the advised settings on this machine, records again during traffic, prints predicted and measured values and
+a verdict, and restores the old settings. The exit status is 1 if the goal's value should have become lower and didn't.
 """
 
 from __future__ import annotations
@@ -24,42 +28,29 @@ import json
 import os
 import tempfile
 from collections.abc import Iterator, Mapping, Sequence
-from concurrent.futures import ThreadPoolExecutor
+from dataclasses import asdict, dataclass
 from pathlib import Path
 from typing import Any, Optional
 
-from fintaqush_tools import predicting
+from fintaqush_tools import blame, predicting
 from fintaqush_tools.advice import NOT_MODELLED, Change, Machine, candidates, options_of, unmodelled_in
+from fintaqush_tools.choosing import GOALS, Choice, Options, Predictions, Values, settings_of
 from fintaqush_tools.commands import costs, record
 from fintaqush_tools.errors import Refusal, unfinished, unlink, why
 from fintaqush_tools.files import WholeFile, check_regular, check_target
-from fintaqush_tools.machine import COSTS, identifier, option_words, with_costs
+from fintaqush_tools.machine import COSTS, identifier, option_words
 from fintaqush_tools.options import Parser, Words, add_program, number, parser_of, require_end
 from fintaqush_tools.pictures import ENDS, Curve, Picture, check_library, picture_bytes
 from fintaqush_tools.predicting import Compared
 from fintaqush_tools.processes import program
-from fintaqush_tools.progress import Progress, say
-from fintaqush_tools.receiving import Receiving
-from fintaqush_tools.recording import check_lost, events_in, head_of
+from fintaqush_tools.progress import say
+from fintaqush_tools.recorded import Recording, arrivals_in
+from fintaqush_tools.recording import BACKLOG
 from fintaqush_tools.texts import aligned, as_rows, shown
-from fintaqush_tools.timeline import BACKLOG
 
-Options = dict[str, int]
-Values = dict[str, Any]
-
-BAND = (80, 120)  # % of the costs
-NOTABLE = 0.03  # relative difference below which two settings are equally good
-DISTURBED = 0.02  # share of the processor's time that other tasks may take
-ALONE = 0.95  # least share of the polls that one processor makes
 FEWEST = 1000  # packets
 SHOWN = 8  # settings in the table
 FORMAT = 1  # version of the object that --json prints
-GOALS = {
-    "p99": "the 99th percentile of waits",
-    "p50": "the median wait",
-    "cpu": "the kernel's processor time",
-    "drops": "drops",
-}
 NAMES = {"defer-hard-irqs": "napi_defer_hard_irqs", "gro-flush-timeout": "gro_flush_timeout", "rx-nsecs": "rx-usecs"}
 TOLD = {
     "dropped": "dropped",
@@ -70,166 +61,9 @@ TOLD = {
     "delivered_p99": "wait to delivery, p99, us",
     "used_p50": "wait to the end of use, p50, us",
     "used_p99": "wait to the end of use, p99, us",
+    "poll_percent": "polls, % of the time",
 }
 UNKNOWN = "no wait was measured, because which packet was in which poll isn't known"
-
-
-# ---- what was recorded
-
-
-class Recording:
-    """A recording made by fintaqush record, read for one device."""
-
-    def __init__(self, path: str, words: Words) -> None:
-        self.path, self.head = path, head_of(path)
-        if not self.head:
-            raise Refusal("not a file of fintaqush record, which includes the settings")
-        self.device, sender = self.chosen(words.device)
-        self.polled = BACKLOG if self.head["polled"] == BACKLOG else self.device
-        self.seen = Receiving({self.polled}, {sender} - {""}, () if sender else {self.device})
-        lost: list[str] = []
-        for event in events_in(path, lost):
-            self.seen.add(event)
-        check_lost(lost)
-        self.by = self.seen.settle()
-        self.check()
-
-    def chosen(self, named: str | None) -> tuple[str, str]:
-        """Returns the device to examine, and the other end of its veth pair."""
-        devices, senders = self.head.get("device", "").split(), self.head.get("sender", "").split()
-        polled = [name for name in self.head.get("polled", "").split() if name in devices] or devices
-        if not self.head.get("polled"):
-            raise Refusal(f"it has no polls of {shown(', '.join(devices))}: record while packets arrive")
-        if named and named not in devices:
-            raise Refusal(f"--device {shown(named)}: it has {shown(', '.join(devices))}")
-        if not named and len(polled) > 1:
-            raise Refusal(f"it has several devices: name one with --device: {shown(', '.join(polled))}")
-        device = named or polled[0]
-        return device, dict(zip(devices, senders)).get(device, "")
-
-    def check(self) -> None:
-        """Fails if the recording can't be predicted."""
-        seen = self.seen
-        if not seen.ended and "napi/napi_poll" in self.head.get("missing", "").split():
-            raise Refusal("the kernel that recorded it has no event napi/napi_poll, so no poll is in it")
-        if not seen.ended:
-            raise Refusal(f"it has no polls of {shown(self.polled)}: record while packets arrive")
-        if seen.on.count(seen.processor) < ALONE * len(seen.on):
-            raise Refusal(
-                f"{shown(self.polled)} is polled on processors {', '.join(map(str, sorted(seen.processors)))}, and which packet goes to "
-                "which isn't recorded: pin its interrupt, its thread or RPS to one processor, and record again"
-            )
-
-    def disturbing(self, processor: int | None = None) -> dict[str, float]:
-        """Returns other tasks that ran on the processor, each with its share of the time, if together their share is notable."""
-        pids = {int(each) for each in self.head.get("program.pids", "").split()}
-        others = self.seen.other_tasks(pids, processor)
-        return others if sum(others.values()) > DISTURBED else {}
-
-
-def arrivals_in(recording: Recording, words: Words) -> tuple[str, str]:
-    """Returns all arrivals of a recording, and a first part of them, with which settings are tried."""
-    if words.arrivals:
-        text = Path(words.arrivals).read_text(encoding="ascii", errors="replace")
-    elif len(recording.seen.sent):
-        text = predicting.arrivals_at(recording.seen)
-    else:
-        raise Refusal(
-            "no arrival is in it: a veth pair's are what its other end sends (fintaqush record --sender), a card's what polls take "
-            "(napi_gro_receive_entry); or name a file of arrivals by --arrivals (fintaqush from-pcap CAPTURE NAME --arrivals)"
-        )
-    lines = text.splitlines(True)
-    return text, "".join(lines[: words.packets + 1])
-
-
-# ---- predictions
-
-
-def numeric(value: Any) -> float:
-    """Converts a value of the machine's report to a number; shares are texts there."""
-    return float(value) if isinstance(value, str) else int(value)
-
-
-class Predictions:
-    """Runs napi_machine for several settings at once."""
-
-    def __init__(self, made: str, costs: dict[str, int], arrivals: str) -> None:
-        self.made, self.costs, self.arrivals = made, costs, arrivals.encode()
-
-    def of(self, options: Options, percent: int = 100) -> Values:
-        values = predicting.predicted(self.made, self.arrivals, with_costs({**self.costs, **options}, percent))
-        return {
-            **{name: numeric(value) for name, value in values.items()},
-            "kernel_percent": float(values["interrupt_percent"]) + float(values["poll_percent"]),
-            "program_percent": float(values["use_percent"]),
-            "lost": values["dropped"] + values["refused"],
-        }
-
-    def of_all(self, tried: Sequence[Options]) -> list[Values]:
-        """Returns the results of each setting."""
-        pool = ThreadPoolExecutor(os.cpu_count())
-        values: list[Values] = []
-        try:
-            with Progress(f"predicting {len(tried)} settings", lambda: len(values) / len(tried)):
-                for each in pool.map(self.of, tried):
-                    values.append(each)
-        finally:
-            pool.shutdown(cancel_futures=True)
-        return values
-
-
-class Choice:
-    """The best setting for a goal."""
-
-    best: Optional[tuple[Options, Values]]
-
-    def __init__(self, words: Words, end: str, predictions: Predictions, tried: Sequence[Options]) -> None:
-        self.goal, self.end, self.predictions = words.goal, end, predictions
-        self.tried = list(zip(tried, predictions.of_all(tried)))
-        self.now, today = self.tried[0]
-        self.most = today["lost"] if words.max_drops is None else words.max_drops
-        self.below = None if words.p99_below is None else words.p99_below * 1000
-        self.order = sorted(self.tried, key=lambda pair: self.key(pair[1]))
-        allowed = [pair for pair in self.order if self.is_allowed(pair[1])]
-        self.best, self.is_safe = next(
-            ((pair, True) for pair in allowed if all(map(self.is_allowed, self.band_of(pair[0])))),
-            ((allowed[0], False) if allowed else (None, False)),
-        )
-        if self.best and self.is_allowed(today) and self.is_alike(self.key(today), self.key(self.best[1])):
-            self.best = self.tried[0]
-
-    def key(self, values: Values) -> tuple[float, ...]:
-        """The sort key of a setting: the best one comes first."""
-        cpu, p99 = round(values["kernel_percent"], 1), values[f"{self.end}_p99"]
-        return {
-            "p99": (p99, cpu),
-            "p50": (values[f"{self.end}_p50"], cpu),
-            "cpu": (cpu, p99),
-            "drops": (values["lost"], p99, cpu),
-        }[self.goal]
-
-    @staticmethod
-    def is_alike(one: Sequence[float], other: Sequence[float]) -> bool:
-        return abs(one[0] - other[0]) <= NOTABLE * max(one[0], other[0], 1e-9) and (
-            one[0] != 0 or one[1] <= other[1] * (1 + NOTABLE)
-        )
-
-    def is_allowed(self, values: Values) -> bool:
-        return (self.goal == "drops" or values["lost"] <= self.most) and (
-            self.below is None or values[f"{self.end}_p99"] <= self.below
-        )
-
-    def band_of(self, options: Options) -> list[Values]:
-        """Returns the results with all costs 20 % lower and higher."""
-        return [self.predictions.of(options, percent) for percent in BAND]
-
-    def warnings(self, best: Options, band: Sequence[Values], today: Sequence[Values]) -> Iterator[str]:
-        """Yields warnings about the best setting."""
-        if not self.is_safe:
-            yield "with costs 20 % lower or higher it exceeds the limits"
-        for percent, values, old in zip(BAND, band, today):
-            if best != self.now and self.key(old) < self.key(values):
-                yield f"with costs 20 % {'lower' if percent < 100 else 'higher'} today's setting is better"
 
 
 # ---- what is printed
@@ -254,6 +88,11 @@ def named(options: Options, varied: Sequence[str]) -> str:
     return ", ".join(parts)
 
 
+def several(settings: Sequence[Options], varied: Sequence[str]) -> str:
+    """Describes the first of several settings with equal results, and how many others there are."""
+    return named(settings[0], varied) + (f"; {len(settings) - 1} more" if len(settings) > 1 else "")
+
+
 def varied_in(tried: Sequence[Options]) -> list[str]:
     """Returns the options that have several values, except for a timer without deferral."""
     return [
@@ -265,6 +104,12 @@ def varied_in(tried: Sequence[Options]) -> list[str]:
 
 def us(value: float) -> str:
     return f"{value / 1000:.1f}"
+
+
+def told_value(name: str, value: float) -> str:
+    """Returns a measured or predicted value in its unit."""
+    unit, _ = predicting.MEASURED[name]
+    return us(value) if unit == "us" else f"{value:.1f}" if unit == "%" else str(value)
 
 
 def columns_of(values: Values, end: str) -> list[str]:
@@ -290,10 +135,8 @@ def table(rows: Sequence[list[str]], first: str) -> list[str]:
 def check_lines(rows: Sequence[Compared], packets: float) -> Iterator[str]:
     """Yields the lines that compare the recorded settings with their prediction. A difference of few is a number, with what it was divided by."""
     for name, measured, value, error in rows:
-        _, by = predicting.MEASURED[name]
-        told, base = [us(each) if by > 1 else str(each) for each in (measured, value)], predicting.base_of(
-            name, measured, packets
-        )
+        told = [told_value(name, each) for each in (measured, value)]
+        base = predicting.base_of(name, measured, packets)
         difference = (
             f"{error:+8.1f} %"
             if base == max(1, measured) or value == measured
@@ -322,7 +165,9 @@ class Advice:
     notes: list[str]
     choice: Optional[Choice]
     changes: list[Change]
+    others: dict[int, dict[str, float]]
     others_apart: dict[str, float]
+    blame: list[str]
     check: list[Compared]
 
     def __init__(self, words: Words) -> None:
@@ -330,27 +175,76 @@ class Advice:
         self.recording = Recording(words.recording, words)
         recording, head = self.recording, self.recording.head
         has_one = recording.polled == BACKLOG or len(head["device"].split()) == 1
-        self.told = costs.object_in(words.recording, [] if has_one else [recording.device])
+        times = costs.timeline_for(head, [] if has_one else [recording.device])
+        recording.read(times)
+        self.told = costs.object_after(times, head)
         self.costs = self.settled({name.replace("_", "-"): cost["value"] for name, cost in self.told["costs"].items()})
-        self.options = options_of(head, recording.device, self.told["apart"])
-        self.end = "used" if self.costs["use"] else "delivered"
+        self.processors = recording.layout.processors
+        self.options = options_of(head, recording.device, self.told["apart"], len(self.processors))
+        self.end = self.chosen_end()
         whole, first = arrivals_in(recording, words)
-        made = program("napi_machine", words.program)
-        self.measured = predicting.measured_of(recording.seen, head, packet=self.costs["packet"])
-        if self.end == "used" and "used_p99" not in self.measured:
-            self.end = "delivered"
-            self.notes.append("which read had which packet isn't known, so waits are those to delivery")
-        self.check = self.compared(self.measured, Predictions(made, self.costs, whole).of(self.options))
-        self.grade = predicting.grade_of(self.check) if self.is_measured() else "unknown"
-        self.machine = Machine(head, recording.device, recording.seen.processor)
-        self.others, self.others_apart = recording.disturbing(), {}
-        if self.told["apart"]:
-            self.reads_on = max(self.told["reads_on"], key=lambda each: int(each["reads"]))["processor"]
-            self.others_apart = recording.disturbing(self.reads_on)
+        made, majors = program("napi_machine", words.program), recording.layout.major()
+        self.compare(Predictions(made, self.costs, whole, majors))
+        self.machine = Machine(head, recording.device, recording.seen.processor, recording.seen.tasks.idle())
+        self.note_tasks()
         self.note_recording()
-        self.predictions, self.choice = Predictions(made, self.costs, first), None
+        self.predictions, self.choice = Predictions(made, self.costs, first, majors), None
         if self.grade in ("good", "fair"):
             self.choose(len(first.splitlines()) - 1)
+
+    def chosen_end(self) -> str:
+        """Returns where waits end, used or delivered. With several processors they end with the delivery, because the machine has a program on
+        each of them, and the recorded one reads the packets of all."""
+        self.measured = self.measured_in(self.recording)
+        if not self.costs["use"]:
+            return "delivered"
+        why_not = (
+            f"{len(self.processors)} processors poll"
+            if len(self.processors) > 1
+            else "which read had which packet isn't known" * ("used_p99" not in self.measured)
+        )
+        if not why_not:
+            return "used"
+        self.notes.append(f"{why_not}, so waits are those to delivery")
+        if len(self.processors) > 1:
+            self.costs["use"] = 0
+        return "delivered"
+
+    def measured_in(self, recording: Recording) -> dict[str, float]:
+        """Returns what a recording measured."""
+        return predicting.measured_of(
+            recording.seen, recording.head, packet=self.costs["packet"], layout=recording.layout
+        )
+
+    def compare(self, predictions: Predictions) -> None:
+        """Compares the recorded setting with its prediction, also for each processor, and grades the fit by the worst one."""
+        recording, words = self.recording, self.words
+        self.check = self.compared(self.measured, predictions.of(self.options))
+        self.check_on: dict[int, list[Compared]] = {}
+        self.judged = predicting.judged_for(words.goal, self.end, words.p99_below is not None)
+        self.measured_on = predicting.measured_on(
+            recording.seen, recording.head, self.costs["packet"], recording.layout
+        )
+        if len(self.processors) > 1:
+            for (processor, measured), values in zip(self.measured_on.items(), predictions.on(self.options)):
+                self.check_on[processor] = self.compared(measured, values)
+        grades = [predicting.grade_of(self.check, self.judged)]
+        grades += [
+            predicting.grade_of(rows, self.judged)
+            for processor, rows in self.check_on.items()
+            if self.measured_on[processor]["sent"] >= FEWEST
+        ]
+        self.grade = max(grades, key=("good", "fair", "poor").index) if self.is_measured() else "unknown"
+
+    def note_tasks(self) -> None:
+        """Finds the tasks that disturbed the processors that poll, and that on which the program reads."""
+        recording = self.recording
+        self.others = {processor: recording.disturbing(processor) for processor in recording.layout.processors}
+        self.others_apart = {}
+        self.blame = list(blame.lines_of(recording.seen, recording.layout, recording.program_pids()))
+        if self.told["apart"]:
+            self.reads_on = max(self.told["reads_on"], key=lambda each: int(each["reads"]))["processor"]
+            self.others_apart = recording.disturbing(self.reads_on) if self.reads_on not in self.others else {}
 
     def compared(self, measured: Mapping[str, float], values: Values) -> list[Compared]:
         """Returns the measured values with the predicted ones, without those of use if it is unknown."""
@@ -361,10 +255,15 @@ class Advice:
         """Notes what the recording lacks."""
         recording, words = self.recording, self.words
         self.notes += [f"{each}, which isn't modelled" for each in unmodelled_in(recording.head, recording.device)]
-        if recording.by and not words.arrivals:
+        if recording.by and not words.capture:
             self.notes.append(
                 f"arrivals are when polls took the packets ({recording.by}), so waits in the card's ring before the interrupt aren't in these values; "
-                "--arrivals uses those of a capture with the card's timestamps"
+                "--capture takes those of a capture with the card's timestamps"
+            )
+        if moving := len(recording.layout.moving()):
+            self.notes.append(
+                f"{moving} instance{' was' if moving == 1 else 's were'} polled by several processors, each of which counts by itself: interrupts "
+                "were moved, or senders of a veth pair"
             )
         if self.measured["sent"] < FEWEST:
             self.notes.append(
@@ -386,17 +285,18 @@ class Advice:
                     else ""
                 )
                 self.notes.append(f"the cost of {what} is unknown and counts as 0{needs}")
-        return {name: costs.get(name, costs.get("wake", 0) if name == "app-wake" else 0) for name in COSTS}
+        known = {name: costs.get(name, costs.get("wake", 0) if name == "app-wake" else 0) for name in COSTS}
+        return {**known, "timer": costs.get("timer", known["interrupt"])}
 
     def choose(self, packets: int) -> None:
         """Tries all settings."""
-        has_program = bool(self.costs["use"]) and self.machine.other_processor() is not None
+        has_program = self.end == "used" and self.machine.other_processor() is not None
         tried = candidates(self.recording.head, self.recording.device, self.options, has_program)
         self.varied, self.packets = varied_in(tried), packets
         self.choice = Choice(self.words, self.end, self.predictions, tried)
         if self.choice.best:
             self.best, self.values = self.choice.best
-            self.band, self.today = self.choice.band_of(self.best), self.choice.band_of(self.options)
+            self.band, self.today = self.predictions.band_of(self.best), self.predictions.band_of(self.options)
             self.notes += self.choice.warnings(self.best, self.band, self.today)
             self.changes = self.machine.changes(self.best, self.options)
             self.notes += self.machine.notes_on(self.changes)
@@ -410,18 +310,23 @@ class Advice:
         by = "a NAPI thread" if seen.is_by_thread else "softirqs"
         yield (
             f"recorded: {len(seen.sent)} packets to {shown(self.recording.device)}, {seen.dropped} dropped; {len(seen.ended)} polls of "
-            f"{shown(self.recording.polled)} by {by} on processor {seen.processor}; Linux {shown(head.get('kernel', '?'))}"
+            f"{shown(self.recording.polled)} by {by} on processor {', '.join(map(str, self.processors))}; Linux {shown(head.get('kernel', '?'))}"
         )
         yield "costs:"
         yield from (f"  {shown(line)}" for line in self.told["text"])
         yield f"{'the recorded setting':36} {'measured':>12} {'predicted':>12}"
         yield from check_lines(self.check, self.measured["sent"])
-        yield f"the fit is {self.grade}" + {
+        if self.check_on:
+            yield from self.processor_lines()
+        yield f"the fit for {GOALS[self.words.goal]} is {self.grade}" + {
             "fair": ": trust differences between settings more than values",
             "unknown": f": {UNKNOWN}",
+            "poor": f": {self.worst()}",
         }.get(self.grade, "")
-        if self.others:
-            yield self.disturbed(self.others, f"processor {seen.processor}")
+        for processor, others in self.others.items():
+            if others:
+                yield self.disturbed(others, f"processor {processor}")
+        yield from self.blame
         if self.others_apart:
             yield self.disturbed(self.others_apart, f"processor {self.reads_on}, on which the program reads,")
         if self.choice:
@@ -431,6 +336,42 @@ class Advice:
         if not self.options.get("threaded"):
             yield "net.core.netdev_budget isn't tried: in the model, with one queue on a processor, it changes no latency, only how many runs are squeezed"
 
+    def worst(self) -> str:
+        """Describes the value that is predicted worst."""
+        rows = {
+            f" on processor {processor}": rows
+            for processor, rows in self.check_on.items()
+            if self.measured_on[processor]["sent"] >= FEWEST
+        }
+        worst = [(where, predicting.worst_of(some, self.judged)) for where, some in {"": self.check, **rows}.items()]
+        found = [(row, where) for where, row in worst if row]
+        if not found:
+            return "nothing was measured"
+        row, where = max(found, key=lambda each: abs(each[0][3]))
+        return f"{TOLD[row[0]]}{where}: {row[3]:+.0f} %"
+
+    def processor_lines(self) -> Iterator[str]:
+        """Yields a table of what was measured and predicted on each processor, and which one limits."""
+        shares = self.recording.layout.shares()
+        heading = ["processor", "packets", "polls", "predicted", "p50 us", "predicted", "p99 us", "predicted"]
+        lines = [heading]
+        for processor, rows in self.check_on.items():
+            values = {name: (told_value(name, measured), told_value(name, value)) for name, measured, value, _ in rows}
+            names = ("polls", "delivered_p50", "delivered_p99")
+            cells = [each for name in names for each in values.get(name, ("-", "-"))]
+            lines.append([str(processor), f"{100 * shares[processor]:.0f} %", *cells])
+        yield from (f"  {line}" for line in aligned(lines, 0))
+        waits = {
+            each: values["delivered_p99"] for each, values in self.measured_on.items() if "delivered_p99" in values
+        }
+        if len(waits) > 1:
+            most = max(waits, key=lambda each: waits[each])
+            rest = max(wait for each, wait in waits.items() if each != most)
+            yield (
+                f"processor {most} limits: it has {100 * shares[most]:.0f} % of the packets and a 99th percentile of {us(waits[most])} us; "
+                f"the others have up to {us(rest)} us"
+            )
+
     @staticmethod
     def disturbed(others: Mapping[str, float], where: str) -> str:
         """Describes which other tasks ran on a processor."""
@@ -439,10 +380,11 @@ class Advice:
 
     def advice_lines(self, choice: Choice) -> Iterator[str]:
         yield f"{len(choice.tried)} settings on {self.packets} packets, the best for {GOALS[choice.goal]} first:"
-        yield from table(
-            [[named(options, self.varied), *columns_of(values, self.end)] for options, values in choice.order[:SHOWN]],
-            "setting",
-        )
+        alike: dict[tuple[str, ...], list[Options]] = {}
+        for options, values in choice.order:
+            alike.setdefault(tuple(columns_of(values, self.end)), []).append(options)
+        rows = [[several(each, self.varied), *cells] for cells, each in list(alike.items())[:SHOWN]]
+        yield from table(rows, "setting")
         if not choice.best:
             yield "no setting keeps to the limits"
             return
@@ -467,13 +409,21 @@ class Advice:
 
     def object(self) -> dict[str, Any]:
         seen = self.recording.seen
-        options = {**self.costs, **self.options}
+        options = settings_of(self.costs, self.options)
         told = {
             "version": FORMAT,
             "recording": str(self.recording.path),
             "device": self.recording.device,
             "polled": self.recording.polled,
             "processor": seen.processor,
+            "processors": [
+                {
+                    "processor": each,
+                    "share": round(share, 5),
+                    "check": objects_in(self.check_on.get(each, []), self.measured_on[each]["sent"]),
+                }
+                for each, share in self.recording.layout.shares().items()
+            ],
             "threaded": int(seen.is_by_thread),
             "packets": len(seen.sent),
             "kernel": self.recording.head.get("kernel"),
@@ -483,7 +433,8 @@ class Advice:
             "goal": self.words.goal,
             "check": objects_in(self.check, self.measured["sent"]),
             "fit": self.grade,
-            "other_tasks": as_rows("task", "share", self.others),
+            "other_tasks": as_rows("task", "share", self.others[seen.processor]),
+            "blame": self.blame,
             "other_tasks_of_program": as_rows("task", "share", self.others_apart),
             "notes": self.notes,
             "not_modelled": list(NOT_MODELLED),
@@ -492,21 +443,20 @@ class Advice:
             "set": [],
             "tried": [],
         }
-        if self.choice:
-            told.update(
-                now=self.choice.tried[0][1],
-                tried=[{"options": as_keys(options), "values": values} for options, values in self.choice.order],
-            )
-        if self.choice and self.choice.best:
-            told.update(
-                advised={
-                    "options": as_keys(self.best),
-                    "values": self.values,
-                    "costs_80": self.band[0],
-                    "costs_120": self.band[1],
-                },
-                set=[self.machine.line_of(change) for change in self.changes],
-            )
+        return {**told, **(self.object_of_choice(self.choice) if self.choice else {})}
+
+    def object_of_choice(self, choice: Choice) -> dict[str, Any]:
+        """Returns what was tried and advised."""
+        tried = [{"options": as_keys(options), "values": values} for options, values in choice.order]
+        told: dict[str, Any] = {"now": choice.tried[0][1], "tried": tried}
+        if choice.best:
+            told["advised"] = {
+                "options": as_keys(self.best),
+                "values": self.values,
+                "costs_80": self.band[0],
+                "costs_120": self.band[1],
+            }
+            told["set"] = [self.machine.line_of(change) for change in self.changes]
         return told
 
 
@@ -566,7 +516,7 @@ def record_again(advice: Advice) -> Recording:
         words = record.parser().parse_args(given)
         record.recorded_by(words, lambda _: None)
         record.check_whole(words)
-        return Recording(path, advice.words)
+        return Recording(path, advice.words).read()
     except (Refusal, OSError) as error:
         raise Refusal(f"recording again failed: {why(error)}") from None
     finally:
@@ -582,8 +532,10 @@ def verified(advice: Advice) -> tuple[list[Compared], float]:
     with advice.machine.with_changes(advice.changes):
         again = record_again(advice)
     arrivals, _ = arrivals_in(again, advice.words)
-    measured = predicting.measured_of(again.seen, again.head, packet=advice.costs["packet"])
-    values = Predictions(advice.predictions.made, advice.costs, arrivals).of(advice.best)
+    measured = advice.measured_in(again)
+    values = Predictions(advice.predictions.made, advice.costs, arrivals, again.layout.major()).of(
+        {**advice.best, "processors": len(again.layout.processors)}
+    )
     return [
         row for row in predicting.compared(measured, values) if advice.end == "used" or not row[0].startswith("used")
     ], measured["sent"]
@@ -607,7 +559,9 @@ def parser() -> Parser:
     )
     parser.add_argument("--device", metavar="NAME", help="one of several recorded devices")
     parser.add_argument(
-        "--arrivals", metavar="FILE", help="arrivals from from-pcap; a recording of a veth pair includes its arrivals"
+        "--capture",
+        metavar="FILE",
+        help="a capture that was made at the card during the recording, whose packets are the arrivals",
     )
     parser.add_argument(
         "--packets",
@@ -625,22 +579,58 @@ def parser() -> Parser:
     return parser
 
 
-def print_verified(advice: Advice) -> None:
-    """Verifies the advice, if that is asked for, and prints the result; as JSON with the advice."""
+@dataclass
+class Verdict:
+    """The value that the goal is about: before, with the advised settings, and as predicted for them; None if it wasn't measured."""
+
+    name: str
+    before: Optional[float]
+    measured: Optional[float]
+    predicted: Optional[float]
+
+    def is_better(self) -> bool:
+        return self.before is not None and self.measured is not None and self.measured < self.before
+
+    def text(self) -> str:
+        if self.before is None or self.measured is None or self.predicted is None:
+            return f"the advice isn't verified: {TOLD[self.name]} wasn't measured"
+        before, measured, expected = (
+            told_value(self.name, each) for each in (self.before, self.measured, self.predicted)
+        )
+        change = 100 * (self.measured - self.before) / max(1, self.before)
+        return f"{TOLD[self.name]}: {before} before, {measured} with the advised settings ({change:+.0f} %), {expected} predicted"
+
+
+def verdict_of(advice: Advice, rows: Sequence[Compared]) -> Verdict:
+    name = predicting.name_of(advice.words.goal, advice.end)
+    _, measured, expected, _ = next((row for row in rows if row[0] == name), (name, None, None, None))
+    return Verdict(name, advice.measured.get(name), measured, expected)
+
+
+def print_verified(advice: Advice) -> bool:
+    """Verifies the advice, if that is asked for, and prints the result; as JSON with the advice. Returns false if it should have made the goal's
+    value lower, and didn't. Within limits that the recorded setting exceeds, the value may have to rise."""
     is_verified = advice.words.verify and advice.choice and advice.choice.best and advice.changes
     rows, packets = verified(advice) if is_verified else (None, 0)
+    verdict = None if rows is None else verdict_of(advice, rows)
     if advice.words.json:
-        print(json.dumps({**advice.object(), "verified": rows and objects_in(rows, packets)}))
-    elif rows:
-        print(f"{'the advised setting':36} {'measured':>12} {'predicted':>12}", *check_lines(rows, packets), sep="\n")
+        told = {"verified": rows and objects_in(rows, packets), "verdict": verdict and asdict(verdict)}
+        print(json.dumps({**advice.object(), **told}))
+    elif rows and verdict:
+        heading = f"{'the advised setting':36} {'measured':>12} {'predicted':>12}"
+        print(heading, *check_lines(rows, packets), verdict.text(), sep="\n")
+    choice = advice.choice
+    is_promised = choice and choice.best and choice.value(choice.best[1]) < choice.value(choice.tried[0][1])
+    return not verdict or not is_promised or verdict.is_better()
 
 
 def main(given: Sequence[str]) -> int:
     options = parser()
     words = options.parse_args(given)
     require_end(options, "--plot", words.plot, ENDS)
-    for path in (words.recording, words.arrivals or words.recording):
-        check_regular(path, "it is read more than once, so it has to be a regular file")
+    check_regular(words.recording, "it is read more than once, so it has to be a regular file")
+    if words.capture and words.verify:
+        options.error("--verify records again, which a capture of before doesn't fit")
     if words.plot:
         check_target(words.plot)
         check_library(words.plot)
@@ -650,13 +640,15 @@ def main(given: Sequence[str]) -> int:
         raise Refusal(f"{shown(words.recording)}: {error}") from None
     if not words.json:
         print("\n".join(advice.lines()), flush=True)
-    print_verified(advice)
+    holds = print_verified(advice)
     if words.plot and advice.choice:
         draw(advice, advice.choice, words.plot)
     if advice.grade == "poor":
         raise Refusal(
-            f"{shown(words.recording)}: the prediction of the recorded setting is poor, so there is no advice"
+            f"{shown(words.recording)}: the prediction of the recorded setting is poor ({advice.worst()}), so there is no advice for this goal"
         )
+    if not holds:
+        raise Refusal("the advised settings weren't better than those of before, which are set again")
     if advice.grade == "unknown":
         raise Refusal(
             f"{shown(words.recording)}: {UNKNOWN}, so there is no advice for this goal; --goal cpu and --goal drops need no wait"

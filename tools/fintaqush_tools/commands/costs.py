@@ -9,40 +9,49 @@ softirq_exit and napi_poll, and optionally the other events of fintaqush record.
 
 A poll's time begins with the softirq or thread, or with the end of the poll before it, and excludes interrupts. The tool fits a straight line
 to poll time against packets per poll: the intercept is the cost of a poll, the slope the cost of a packet. Polls far off the line are left
-out and counted. If the line explains none of the variation, or all polls took the same number of packets, the tool fails and prints what to
-record. --device names the devices whose polls count. Without it, and in recordings of other tools, a processor's backlog counts only if no
-device polls. Interrupts of other cards, as a disk's, don't count if fintaqush record knows the device's own interrupts.
+out and counted. One line is fitted for all processors; a line says if the polls of one differ from it. If all polls took the same number of
+packets, only their sum is known: poll and packet get the half each, with an interval from 0 to the sum. If the line explains none of the
+variation, the tool fails and prints what to record. Instances that took no packet, which are those of transmit queues, are left out.
 
-The other costs are medians. interrupt: of the handlers that polls follow, including interrupts between processors and NAPI's timer, or of
---irq. wake: on an idle processor, from a packet or an expired timer to the first poll, without the handler. use: from one read of the
-program to the next, if the second packet was there at the first read. app-wake: from the end of a poll that delivered one packet to its
-read by a program that slept on another processor, without the read itself.
+--device names the devices whose polls, pairs and interrupts count. Without it, and in recordings of other tools, a processor's backlog counts
+only if no device polls. Interrupts of other cards, as a disk's, don't count if fintaqush record knows the device's own interrupts.
+
+The other costs are medians. interrupt: of the handlers that polls follow, including interrupts between processors, or of --irq. timer: of
+those of NAPI's timer, which take longer; napi_machine has one cost for both. wake: on an idle processor, from a packet or an expired timer
+to the first poll, without the handler. use: from one read of the program to the next, if the second packet was there at the first read.
+app-wake: from the end of a poll that delivered one packet to its read by a program that slept on another processor, without the read
+itself.
 """
 
 from __future__ import annotations
 
 import json
 from collections.abc import Iterator, Mapping, Sequence
+from statistics import median
 from typing import Any
 
 from fintaqush_tools.errors import Refusal
 from fintaqush_tools.files import check_input
-from fintaqush_tools.fits import FEWEST, Cost, cost_line, cost_of
+from fintaqush_tools.fits import FEWEST, Cost, Line, cost_line, cost_of, halves_of, shift_of
+from fintaqush_tools.machine import COSTS
 from fintaqush_tools.options import Parser, Words, parser_of
 from fintaqush_tools.progress import say
-from fintaqush_tools.recording import Head, check_lost, events_in
+from fintaqush_tools.instances import Routes
+from fintaqush_tools.recording import BACKLOG, Head, check_lost, events_in
 from fintaqush_tools.texts import as_rows, shown
-from fintaqush_tools.timeline import Timeline
+from fintaqush_tools.timeline import TIMER, Timeline
 
 Told = tuple[dict[str, Cost], list[str]]  # costs by their names, and lines about them
 
 RARE = 0.01  # of the handlers
+UNEVEN = 0.1  # share of the polls' time on a processor by which they may differ from the line
 MATCHED = 0.95  # least share of the packets that must be found at both ends
 WEAK = (
     "the packet's cost can't be distinguished from 0: record more varied traffic, on a processor that does nothing else"
 )
 FORMAT = 1  # version of the object that --json prints
-ORDER = ("interrupt", "poll", "packet", "wake", "use", "app-wake")
+ORDER = ("interrupt", "timer", "poll", "packet", "wake", "use", "app-wake")
+SLOW = 100_000  # ns: a wake-up that takes longer waits for the scheduler, if another task had the processor
 
 
 def told_half(cost: Cost) -> str:
@@ -61,8 +70,8 @@ def polls_of(times: Timeline, head: Head) -> Told:
         raise Refusal(
             f"{len(times.polls)} polls{of} in complete softirqs or threads, but {FEWEST} are needed: {lacking}"
         )
-    if len({work for work, _ in times.polls}) < 2:
-        raise Refusal(alike(times))
+    if times.is_even():
+        return alike(times)
     by = "threads" if 2 * times.by_threads > len(times.polls) else "softirqs"
     line = cost_line(times.polls, 1000 if times.is_coarse else 1, by)
     told = (
@@ -70,23 +79,34 @@ def polls_of(times: Timeline, head: Head) -> Told:
         f"packets by {by}, of which {line.polls - len(line.kept)} lie far off and are left out; the line explains "
         f"{100 * (line.poll.explained or 0):.0f} % of the others' variation, and half of them are within {100 * line.off:.0f} % of it"
     )
-    return {"poll": line.poll, "packet": line.packet}, [told] + [WEAK] * (line.packet.low <= 0)
+    return {"poll": line.poll, "packet": line.packet}, [told, *uneven(times, line)] + [WEAK] * (line.packet.low <= 0)
 
 
-def alike(times: Timeline) -> str:
-    """Returns the reason why no cost can be computed if all polls took the same number of packets, and what to record."""
-    count, whole = times.polls[0][0], cost_of([took for _, took in times.polls], "polls")
-    together = whole.interval() if whole else "unknown"
-    took = "one packet" if count == 1 else f"{count} packets"
-    return (
-        f"each of {len(times.polls)} polls took {took}, so the cost of a poll can't be separated from that of a packet; together they are {together}: record "
-        "traffic of which some polls take several packets, as bursts (with sendmmsg or UDP_SEGMENT), a higher load, or for the time of the recording "
-        "napi_defer_hard_irqs 2 with a gro_flush_timeout of 100000 or ethtool -C rx-usecs 100"
-    )
+def uneven(times: Timeline, line: Line) -> Iterator[str]:
+    """Yields a line for each processor whose polls take longer or shorter than those of all processors by more than chance."""
+    middle, _ = shift_of(times.polls, line.poll.value, line.packet.value)
+    for cpu, count in sorted(times.where.items()):
+        own = [poll for poll, place in zip(times.polls, times.places) if place == cpu]
+        shift, chance = shift_of(own, line.poll.value + middle, line.packet.value)
+        if count >= FEWEST and abs(shift) > chance and abs(shift) > UNEVEN * median(took for _, took in own):
+            yield f"on processor {cpu} {count} polls take {abs(shift):.0f} ns {'more' if shift > 0 else 'less'} than polls of as many packets on all"
+
+
+def alike(times: Timeline) -> Told:
+    """Returns the costs if all polls took the same number of packets."""
+    count = times.polls[0][0]
+    if not count:
+        raise Refusal(f"none of {len(times.polls)} polls took a packet: record while packets come")
+    whole, poll, packet = halves_of([took for _, took in times.polls], count, "polls of one size")
+    return {"poll": poll, "packet": packet}, [
+        f"poll {poll.interval()}, packet {packet.interval()}: each of {len(times.polls)} polls took {count} packet{'s' * (count > 1)}, so only what they "
+        f"cost together is known, {whole.interval()}; half of that counts for the poll. Traffic of which some polls take several packets separates "
+        "them: bursts, a higher load, or while recording napi_defer_hard_irqs 2 with a gro_flush_timeout of 100000, or ethtool -C rx-usecs 100"
+    ]
 
 
 def interrupts_of(times: Timeline) -> Told:
-    """Returns the cost of an interrupt."""
+    """Returns the costs of an interrupt and of an expired NAPI timer, which takes longer."""
     count = sum(map(len, times.handlers.values()))
     if times.has_handlers and not times.irq and times.without > count:
         cost = cost_of([0] * times.without, "no handler")
@@ -95,15 +115,24 @@ def interrupts_of(times: Timeline) -> Told:
         ]
     # The others came by chance.
     kinds = {name: took for name, took in times.handlers.items() if len(took) > RARE * count}
-    names = ", ".join(
-        f"{shown(name)} ({len(took)})" for name, took in sorted(kinds.items(), key=lambda each: -len(each[1]))
-    )
-    cost = cost_of([each for took in kinds.values() for each in took], f"handlers of {names}")
-    if not cost:
-        return {}, [
+    timers = {name: took for name, took in kinds.items() if name == TIMER}
+    costs, told = {}, []
+    for name, some in (("interrupt", {name: took for name, took in kinds.items() if name != TIMER}), ("timer", timers)):
+        names = ", ".join(
+            f"{shown(each)} ({len(took)})" for each, took in sorted(some.items(), key=lambda pair: -len(pair[1]))
+        )
+        cost = cost_of([each for took in some.values() for each in took], f"handlers of {names}")
+        if cost:
+            costs[name] = cost
+            told.append(f"{name} {cost.interval()}: {cost.count} handlers of {names}, {told_half(cost)}")
+    if "interrupt" not in costs and "timer" in costs:
+        costs["interrupt"] = costs["timer"]
+        told.append("interrupt: not known, so that of a timer counts: nearly all polls are by NAPI's timer")
+    elif not costs:
+        told = [
             f"interrupt: not known, of {count} handlers: record irq/irq_handler_entry and irq/irq_handler_exit, and irq_vectors"
         ]
-    return {"interrupt": cost}, [f"interrupt {cost.interval()}: {cost.count} handlers of {names}, {told_half(cost)}"]
+    return costs, told
 
 
 def wakes_of(times: Timeline) -> Told:
@@ -122,6 +151,11 @@ def wakes_of(times: Timeline) -> Told:
     cost = cost_of([each for took in kinds.values() for each in took], "idle processor")
     if not cost:
         return {}, [f"wake: not known: {idle} times the processor slept when a packet came or a timer expired"]
+    if 2 * busy > idle + busy and cost.value > SLOW:
+        return {}, [
+            f"wake: not known: of {idle + busy} wake-ups {busy} waited for another task that had the processor, half of them for {cost.value / 1000:.0f} us "
+            "or more, which the scheduler decides: record on a processor that does nothing else"
+        ]
     known = [(name, len(took), cost_of(took, name)) for name, took in kinds.items()]
     parts = [f"{count} by {name}, " + told_half(part) for name, count, part in known if part]
     processor = times.processor()
@@ -183,13 +217,16 @@ def estimated(times: Timeline, head: Head) -> Told:
 
 
 def options_of(costs: Mapping[str, Cost]) -> str:
-    return " ".join(f"--{name} {cost.value:.0f}" for name, cost in costs.items())
+    """Returns the options of napi_machine, which has one cost for interrupts and timers."""
+    return " ".join(f"--{name} {cost.value:.0f}" for name, cost in costs.items() if name in COSTS)
 
 
 def notes_on(times: Timeline) -> Iterator[str]:
     """Yields further notes on the recording."""
     if len(times.devices) > 1:
         yield f"polls of several devices are combined: {shown(', '.join(times.devices))}; --device takes those of one"
+    for name, count in times.transmit.items():
+        yield f"{count} polls of transmit instances of {shown(name)}, which took no packet, are left out"
     for name, count in times.left_out.items():
         yield f"{count} polls of a processor's backlog, {name}, are left out, because devices poll; --device '{name}' takes only these"
     if times.by_threads and 2 * times.by_threads <= len(times.polls):
@@ -214,6 +251,7 @@ def object_of(times: Timeline, costs: Mapping[str, Cost], told: list[str]) -> di
         "processor": processor,
         "threaded": int(2 * times.by_threads > len(times.polls)),
         "apart": int(is_apart(times)),
+        "is_separated": int(not times.is_even()),
         "reads": times.reads.count,
         "reads_on": as_rows("processor", "reads", times.reads.on),
         "sent_on": as_rows("processor", "packets", times.sent_on),
@@ -242,12 +280,14 @@ def pairs_of(words: Words, head: Head) -> list[list[str]]:
     for pair in pairs:
         if len(pair) != 2 or not all(pair):
             raise Refusal(f"--pair {shown(':'.join(pair))}: not of the form A:B")
-    return pairs
+    own = set(words.device or ()) - {BACKLOG}
+    return [pair for pair in pairs if words.pair or not own or pair[1] in own]
 
 
 def timeline_of(words: Words, head: Head) -> Timeline:
     polled = words.device or head.get("polled", "").split()
-    return Timeline(pairs_of(words, head), polled, words.irq, interrupts_in(head, polled))
+    routes = Routes(head, dict(pairs_of(words, head)))
+    return Timeline(routes, polled, words.irq, interrupts_in(head, polled))
 
 
 def times_in(words: Words) -> tuple[Timeline, Head]:
@@ -262,9 +302,19 @@ def times_in(words: Words) -> tuple[Timeline, Head]:
     return (times or Timeline()).settle(), head
 
 
+def timeline_for(head: Head, devices: Sequence[str]) -> Timeline:
+    """Returns a timeline to which the events of a recording can be added, for the polls of these devices, or of all."""
+    return timeline_of(Words(device=list(devices), pair=None, irq=None), head)
+
+
+def object_after(times: Timeline, head: Head) -> dict[str, Any]:
+    """Returns the costs of a timeline that has all events, and what is known about them."""
+    return object_of(times, *estimated(times.settle(), head))
+
+
 def object_in(recording: str, devices: Sequence[str]) -> dict[str, Any]:
     """Returns the costs of a recording and what is known about them, of the polls of these devices, or of all."""
-    times, head = times_in(Words(recording=recording, device=devices, pair=None, irq=None))
+    times, head = times_in(Words(recording=recording, device=list(devices), pair=None, irq=None))
     return object_of(times, *estimated(times, head))
 
 

@@ -3,7 +3,8 @@ ns, any number of packets and no runs.
 
 The recording is a file of fintaqush record, or the text of ftrace, of `trace-cmd report` or of `perf script`, with the events net_dev_xmit,
 napi_poll and softirq_entry; for arrivals the first of them is enough. Arrivals include the packets that a full ring or backlog dropped
-(rc=1); a recording with lost events is rejected. Without a veth pair, as for a network card, packets are those that polls take
+(rc=1); a recording with lost events is rejected. A packet that was sent by the processor which polls it arrives when the next softirq begins
+there, because the sender has the processor until then. Without a veth pair, as for a network card, packets are those that polls take
 (napi_gro_receive_entry), or else those that the stack receives (netif_receive_skb). --flows adds the hash of each packet's flow, which
 only napi_gro_receive_entry has.
 Three files are written:
@@ -22,7 +23,7 @@ import bisect
 import math
 import re
 from collections import Counter, defaultdict, deque
-from collections.abc import Iterable, Iterator, Mapping, Sequence
+from collections.abc import Iterable, Iterator, Mapping, MutableSequence, Sequence
 from dataclasses import dataclass
 from itertools import chain
 from typing import Optional, Union
@@ -65,8 +66,8 @@ class Polling:
 
 def names_of(events: Sequence[Event]) -> set[str]:
     """Returns the names of all devices that send or are polled."""
-    kinds = {"net_dev_xmit": SENT, "napi_poll": POLLED}
-    return {event.parts(kinds[event.name])[0] for event in events if event.name in kinds}
+    senders = {event.parts(SENT)[0] for event in events if event.name == "net_dev_xmit"}
+    return senders | {event.parts(POLLED)[1] for event in events if event.name == "napi_poll"}
 
 
 def received_in(events: Sequence[Event]) -> Counts:
@@ -143,7 +144,7 @@ def group_polls(events: Sequence[Event]) -> tuple[list[Polling], Counter[str]]:
             under_way.pop(event.cpu, None)
             began[event.cpu] = place if event.name == "softirq_entry" else None
         elif event.name == "napi_poll":
-            device, work, budget = event.parts(POLLED)
+            _, device, work, budget = event.parts(POLLED)
             by_thread = is_by_thread(event)
             who: Union[int, str] = event.task if by_thread else event.cpu
             first = place if by_thread else began.get(event.cpu)
@@ -257,7 +258,7 @@ class Trace:
 
     def why_none(self, events: Sequence[Event]) -> str:
         """Returns the reason why no row polls."""
-        polled = Counter(event.parts(POLLED)[0] for event in events if event.name == "napi_poll")
+        polled = Counter(event.parts(POLLED)[1] for event in events if event.name == "napi_poll")
         own = [name for name in polled if name in self.devices]
         if self.left_out and self.pollings and own:
             return "nothing polls in these rows: take others by --rows"
@@ -407,6 +408,44 @@ def told_of(what: str, counter: Mapping[str, int]) -> list[str]:
     return [f"no row: {what}: {name}, {count}" for name, count in sorted(counter.items())]
 
 
+class SameProcessor:
+    """Packets that the processor sent which polls them. It has the sender until its next softirq begins, so they arrive then."""
+
+    waiting: defaultdict[tuple[int, str], list[int]]
+    entered: dict[int, int]
+
+    def __init__(self, words: Words) -> None:
+        self.pairs, self.peers = words.pair or words.pairs, dict[str, str]()
+        self.waiting = defaultdict(list)  # by processor and receiver, the indices of packets that it hasn't polled yet
+        self.entered = {}  # for each processor, when its softirq began
+
+    def peer_of(self, sender: str) -> str:
+        """Returns the other end of a sender's pair, or an empty text."""
+        if sender not in self.peers:
+            ends = [both for pair in self.pairs for both in ends_of(pair, [sender])]
+            others = {**dict(ends), **{second: first for first, second in ends}}
+            self.peers[sender] = others.get(sender, "")
+        return self.peers[sender]
+
+    def send(self, event: Event, sender: str, place: int) -> None:
+        """Stores the index of a packet that was just sent."""
+        self.waiting[event.cpu, self.peer_of(sender)].append(place)
+
+    def look(self, event: Event, times: MutableSequence[int]) -> None:
+        """Handles a softirq's beginning or end; a poll moves the packets that waited for it when the softirq began."""
+        if event.name in ("softirq_entry", "softirq_exit") and int(event.parts(SOFTIRQ)[0]) == NET_RX:
+            self.entered.pop(event.cpu, None)
+            if event.name == "softirq_entry":
+                self.entered[event.cpu] = event.time
+        elif event.name == "napi_poll":
+            _, device, work, _ = event.parts(POLLED)
+            entered = 0 if is_by_thread(event) else self.entered.get(event.cpu, 0)
+            for cpu, peer in [key for key in self.waiting if int(work) and key[1] == device]:
+                for place in self.waiting.pop((cpu, peer)):
+                    if cpu == event.cpu:
+                        times[place] = max(times[place], entered)
+
+
 class Arriving:
     """The packets of a recording, by the kind of event."""
 
@@ -416,7 +455,7 @@ class Arriving:
     def __init__(self, events: Iterable[Event], words: Words) -> None:
         self.words, self.count = words, 0
         self.packets = {kind: Packets() for kind in dict.fromkeys(KINDS.values())}
-        self.unsent, self.dropped, begins = Counter(), Counter(), PollBegins()
+        self.unsent, self.dropped, begins, self.same = Counter(), Counter(), PollBegins(), SameProcessor(words)
         for event in events:
             self.count += 1
             kind = KINDS.get(event.name)
@@ -424,6 +463,7 @@ class Arriving:
                 self.add_sent(event)
             elif kind is None:
                 begins.look(event)
+                self.same.look(event, self.packets[BY_PAIR].times)
             else:
                 name, size, flow = packet_of(event)
                 self.packets[kind].add(begins.of(event), (name, flow if words.flows else 0), size)
@@ -433,6 +473,7 @@ class Arriving:
         name, size, code = event.parts(SENT)
         if code in SENT_CODES or code in DROPPED_CODES:
             self.packets[BY_PAIR].add(event.time, (name, 0), size_in(event, int(size)))
+            self.same.send(event, name, len(self.packets[BY_PAIR].times) - 1)
             self.dropped[name] += code in DROPPED_CODES
         else:
             self.unsent[f"{name}, rc={code}"] += 1

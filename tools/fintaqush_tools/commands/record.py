@@ -10,10 +10,11 @@ It records polls, the NET_RX softirq, interrupts, task switches, NAPI's timers a
 automatically or named by --sender. For any other device it records the packets that polls take (napi_gro_receive_entry, netif_receive_skb). The
 kernel has no event for their arrival at the card, so waits before the interrupt are unknown; a capture with the card's timestamps has them.
 
-The head of FILE has a `key value` line for each setting and counter; after a line `trace` follows the text of the trace
-(docs/FORMATS.md). Recording stops early if a buffer is nearly full: the file has what was recorded, the last line says which --buffer holds
-the whole time, and the exit status is 1. If the kernel loses events nevertheless, no file is written. All changes in the kernel are undone,
-also after Ctrl-C, which leaves no file.
+The head of FILE has a `key value` line for each setting, counter and NAPI instance; after a line `trace` follows the text of the trace
+(docs/FORMATS.md). The buffers are emptied while it records, so a recording may have any length; the last line says how much processor time
+that took. If a buffer is nearly full nevertheless, recording stops early: the file has what was recorded, the last line says which --buffer
+holds the whole time, and the exit status is 1. If the kernel loses events, no file is written. All changes in the kernel are undone, also
+after Ctrl-C, which leaves no file.
 """
 
 from __future__ import annotations
@@ -29,17 +30,23 @@ from typing import IO, Any
 from fintaqush_tools import observed
 from fintaqush_tools.errors import Refusal, unfinished, unlink
 from fintaqush_tools.files import WholeFile, check_target
+from fintaqush_tools.instances import Instances, described
 from fintaqush_tools.options import Parser, Words, number, parser_of, wrong
 from fintaqush_tools.progress import Progress, say
+from fintaqush_tools.recording import BACKLOG
 from fintaqush_tools.texts import shown
-from fintaqush_tools.tracing import MEGABYTE, Instance, Stamps, mount_tracefs
+from fintaqush_tools.tracing import MEGABYTE, Instance, Sources, Stamps, mount_tracefs
 
-FULL = 0.9  # share of a buffer at which a recording ends
-LOOKS, AHEAD = 0.25, 4  # seconds between checks of the buffers, and how many checks ahead it ends
-POLLED = re.compile(rb"\[(\d+)\].* napi_poll: napi poll on napi struct \S+ for (?:network )?device (\S+) work (\d+) ")
-SENT = re.compile(rb" net_dev_xmit: dev=(\S+) .* rc=(\S+)")
-RECEIVED = re.compile(rb" (napi_gro_receive_entry|napi_gro_frags_entry|netif_receive_skb): dev=(\S+) ")
-BACKLOG = "(no_device)"
+FULL = 0.8  # share of a buffer at which a recording ends
+LOOKS, PAUSE = 0.25, 0.02  # seconds between checks of the buffers, and until empty ones are read again
+PIECE = 1 << 16  # bytes that are read at once
+LATE = 20_000  # lines after which no earlier event follows: the buffers of several processors are read in turn
+LINE = re.compile(rb".{16}-\d+\s+\[(\d+)\] \S+ +[\d.]+: (\w+): (.*)", re.S)
+POLLED = re.compile(rb"napi poll on napi struct (\S+) for (?:network )?device (\S+) work (\d+) budget (\d+)")
+STARTED = re.compile(rb"dev=(\S+) queue_mapping=(\d+) skbaddr=(\S+)")
+SENT = re.compile(rb"dev=(\S+) skbaddr=(\S+) .*\brc=(\S+)")
+TAKEN = re.compile(rb"dev=(\S+) napi_id=(\S+) queue_mapping=(\d+) ")
+STACKED = re.compile(rb"dev=(\S+) ")
 
 
 def processors(text: str) -> set[int]:
@@ -104,91 +111,140 @@ def advice_on_buffer(words: Words, took: float, most: int) -> str:
     )
 
 
-def wait(instance: Instance, words: Words) -> bool:
-    """Waits during the recording. Returns whether it ended early because a buffer was nearly full."""
-    until, before, left = time.monotonic() + words.seconds, 0, words.seconds
-    with Progress(
-        "recording",
-        lambda: float(min(1, 1 - (until - time.monotonic()) / words.seconds)),
-        lambda: f"the fullest buffer has {before // MEGABYTE} of {words.buffer} MB",
-    ):
-        while left > 0:
-            time.sleep(min(LOOKS, left))
-            left = until - time.monotonic()
-            most = max(size for _, size, _ in instance.statistics())
-            if most + AHEAD * (most - before) > FULL * words.buffer * MEGABYTE and left > 0:
-                return True
-            before = most
+def is_drained(pipe: int, file: IO[bytes]) -> bool:
+    """Moves a piece of the buffers to a file. Returns whether they are empty."""
+    try:
+        piece = os.read(pipe, PIECE)
+    except BlockingIOError:
+        return True
+    file.write(piece)
+    return not piece
+
+
+def wait(instance: Instance, words: Words, drain: Callable[[], bool]) -> bool:
+    """Empties the buffers during the recording. Returns whether it ended early because one was nearly full nevertheless."""
+    until, next_look = time.monotonic() + words.seconds, time.monotonic() + LOOKS
+    with Progress("recording", lambda: float(min(1, 1 - (until - time.monotonic()) / words.seconds))):
+        while (now := time.monotonic()) < until:
+            if now >= next_look:
+                next_look = now + LOOKS
+                if max(size for size, _ in instance.statistics()) > FULL * words.buffer * MEGABYTE:
+                    return True
+            if drain():
+                time.sleep(min(PAUSE, until - now))
     return False
 
 
 class Body:
-    """The trace's text in a file, and counts of its events."""
+    """The trace's text in a file, and what is in it: `pairs` are the ends of veth pairs, each sender with its receiver."""
 
-    polls: Counter[tuple[str, int]]
     sent: Counter[str]
     received: Counter[tuple[str, bool]]
 
-    def __init__(self, path: str, stamps: Stamps) -> None:
-        self.path, self.stamps, self.lines = path, stamps, 0
-        self.polls, self.sent, self.received = Counter(), Counter(), Counter()
+    def __init__(self, path: str, stamps: Stamps, pairs: Sequence[tuple[str, str]]) -> None:
+        self.path, self.stamps, self.lines, self.read = path, stamps, 0, 0
+        self.instances, self.sent, self.received = Instances(pairs), Counter(), Counter()
+        self.looks = {
+            b"napi_poll": self.look_at_poll,
+            b"net_dev_start_xmit": self.look_at_start,
+            b"net_dev_xmit": self.look_at_sent,
+            b"napi_gro_receive_entry": self.look_at_taken,
+            b"napi_gro_frags_entry": self.look_at_taken,
+            b"netif_receive_skb": self.look_at_stacked,
+        }
 
-    def take(self, trace: str) -> None:
-        """Copies the trace's lines unchanged."""
-        with open(trace, "rb") as lines, open(self.path, "wb") as file:
+    def scan(self) -> None:
+        """Looks at all lines."""
+        whole = max(1, os.path.getsize(self.path))
+        with open(self.path, "rb") as lines, Progress("reading the recording", lambda: min(1, self.read / whole)):
             for line in lines:
+                self.read += len(line)
                 if self.stamps.look(line):
                     continue
-                file.write(line)
-                self.lines += not line.startswith(b"#")
-                polled, sent, received = POLLED.search(line), SENT.search(line), RECEIVED.search(line)
-                if polled:
-                    self.polls[polled[2].decode("utf-8", "replace"), int(polled[1])] += 1
-                elif sent:
-                    self.sent[sent[1].decode("utf-8", "replace")] += 1
-                elif received:
-                    self.received[received[2].decode("utf-8", "replace"), received[1] == b"netif_receive_skb"] += 1
+                self.lines += 1
+                found = LINE.match(line)
+                if found and (look := self.looks.get(found[2])):
+                    look(int(found[1]), found[3])
         self.stamps.settle()
+        self.napi = list(self.instances.found())
+
+    def look_at_poll(self, cpu: int, said: bytes) -> None:
+        found = POLLED.match(said)
+        if found:
+            napi, device, work, budget = (each.decode("utf-8", "replace") for each in found.groups())
+            self.instances.poll(cpu, napi, device, int(work), int(budget))
+
+    def look_at_start(self, _: int, said: bytes) -> None:
+        found = STARTED.match(said)
+        if found:
+            sender, queue, packet = (each.decode("utf-8", "replace") for each in found.groups())
+            self.instances.start(sender, int(queue), packet)
+
+    def look_at_sent(self, _: int, said: bytes) -> None:
+        found = SENT.match(said)
+        if found:
+            self.sent[found[1].decode("utf-8", "replace")] += 1
+            self.instances.finish(found[2].decode("utf-8", "replace"), found[3] in (b"0", b"0x0"))
+
+    def look_at_taken(self, cpu: int, said: bytes) -> None:
+        found = TAKEN.match(said)
+        if found:
+            device = found[1].decode("utf-8", "replace")
+            self.received[device, False] += 1
+            self.instances.receive(cpu, device, int(found[2], 16), int(found[3]))
+
+    def look_at_stacked(self, _: int, said: bytes) -> None:
+        found = STACKED.match(said)
+        if found:
+            self.received[found[1].decode("utf-8", "replace"), True] += 1
 
     def put(self, file: IO[bytes]) -> None:
-        """Writes the lines after the head, with their times in nanoseconds."""
+        """Writes the lines after the head in the order of their times, which are in nanoseconds."""
+        waiting: list[tuple[int, bytes]] = []
         with open(self.path, "rb") as lines:
             for line in lines:
-                file.write(self.stamps.changed(line))
+                if not self.stamps.is_mark(line):
+                    waiting.append(self.stamps.changed(line))
+                if len(waiting) >= 2 * LATE:
+                    waiting.sort(key=lambda each: each[0])
+                    file.writelines(each for _, each in waiting[:LATE])
+                    del waiting[:LATE]
+        file.writelines(each for _, each in sorted(waiting, key=lambda each: each[0]))
 
 
 def recorded(
-    words: Words, folder: str, program: str, tell: Callable[[str], None]
+    words: Words, folder: str, sources: Sources, tell: Callable[[str], None]
 ) -> tuple[dict[str, Any], dict[str, str], Body]:
     """Records. Returns the head's values on the recording, and the body."""
-    with Instance(folder) as instance:
+    with Instance(folder) as instance, open(words.scratch, "wb") as scratch:
         clock = instance.set_clock()
         instance.set_buffers(words.buffer, words.processors)
-        events, missing = instance.enable(program, () if words.sender else words.device)
-        before, began = observed.counters(words.device, words.netns), observed.now()
+        events, missing = instance.enable(sources)
+        before, began, spent = observed.counters(words.device, words.netns), observed.now(), time.process_time()
         start = time.monotonic()
         instance.begin()
         tell(f"recording for {words.seconds} s")
-        is_full = wait(instance, words)
-        instance.end()
-        took = time.monotonic() - start
-        after = observed.counters(words.device, words.netns)
-        lost = sum(each for _, _, each in instance.statistics())
+        with instance.pipe() as pipe:
+            is_full = wait(instance, words, lambda: is_drained(pipe, scratch))
+            instance.end()
+            took, spent = time.monotonic() - start, time.process_time() - spent
+            after = observed.counters(words.device, words.netns)
+            while not is_drained(pipe, scratch):
+                pass
+        lost = sum(each for _, each in instance.statistics())
         if lost:
             raise Refusal(
                 f"the kernel lost {lost} events, so the recording isn't written: record for a shorter time, or with a larger "
                 "--buffer"
             )
-        body, all_lines = Body(words.scratch, Stamps(clock, instance.marks)), sum(
-            count for count, _, _ in instance.statistics()
-        )
-        with Progress("reading the buffers", lambda: min(1, body.lines / max(1, all_lines))):
-            body.take(f"{instance.path}/trace")
+    body = Body(words.scratch, Stamps(clock, instance.marks), list(zip(words.sender, words.device)))
+    body.scan()
     words.took = took if is_full else None
     head = {
         "clock": clock,
-        "began": began,
+        **began,
         "seconds": f"{took:.6f}",
+        "recorder.seconds": f"{spent:.6f}",
         "events": " ".join(events),
         "missing": " ".join(missing),
         "lost": lost,
@@ -198,8 +254,8 @@ def recorded(
 
 def polled_of(words: Words, body: Body) -> list[str]:
     """Returns the names of the devices in their polls: their own, or that of a processor's backlog."""
-    names = [name for name in words.device if any(device == name for device, _ in body.polls)]
-    return names or [BACKLOG] * any(device == BACKLOG for device, _ in body.polls)
+    polled = {each.device for each in body.napi if each.receives} or {each.device for each in body.napi}
+    return [name for name in words.device if name in polled] or [BACKLOG] * (BACKLOG in polled)
 
 
 def head_of(
@@ -225,7 +281,7 @@ def head_of(
         "program": words.program or "",
         "program.pids": " ".join(map(str, pids)),
     }
-    told |= {f"polls.{device}.{processor}": count for (device, processor), count in sorted(body.polls.items())}
+    told |= {f"instance.{place}": each.text() for place, each in enumerate(body.napi, 1)}
     told |= {f"sent.{device}": count for device, count in sorted(body.sent.items())}
     told |= {f"received.{device}": taken_of(body, device) for device in words.device if taken_of(body, device)}
     told |= {f"program.{pid}.{key}": value for pid in pids[:64] for key, value in observed.of_task(pid)}
@@ -248,17 +304,33 @@ def find_senders(words: Words) -> list[str]:
     return found if all(found) else []
 
 
+def sources_of(words: Words, settings: Mapping[str, str], program: str) -> Sources:
+    """Returns what to record of these devices with these settings."""
+    if not words.sender:
+        return Sources(program, words.device)
+    moved = [
+        name
+        for name in words.device
+        if settings.get(f"device.{name}.ethtool.feature.generic-receive-offload") == "off"
+        or any(
+            re.fullmatch(rf"device\.{re.escape(name)}\.rx-\d+\.rps_cpus", key) and value.strip("0,")
+            for key, value in settings.items()
+        )
+    ]
+    senders = [sender for sender, name in zip(words.sender, words.device) if f"device.{name}.rx-1.rps_cpus" in settings]
+    return Sources(program, (), moved, senders)
+
+
 def told_end(words: Words, head: Mapping[str, Any], body: Body) -> str:
     """Returns the final line, which summarizes the recording."""
     own = polled_of(words, body)
-    where = sorted({processor for device, processor in body.polls if device in own})
-    polls = sum(count for (device, _), count in body.polls.items() if device in own)
-    parts = [f"{float(head['seconds']):.1f} s", f"{body.lines} events"]
-    parts.append(
-        f"{polls} polls of {', '.join(own)} on processor {', '.join(map(str, where))}"
-        if own
-        else f"no poll of {', '.join(words.device)}"
-    )
+    parts = [
+        f"{float(head['seconds']):.1f} s",
+        f"{body.lines} events, by {float(head['recorder.seconds']):.1f} s of processor time",
+        *(described(name, body.napi) for name in own),
+    ]
+    if not own:
+        parts.append(f"no poll of {', '.join(words.device)}")
     if words.sender:
         parts.append(f"{sum(body.sent[name] for name in words.sender)} packets of {', '.join(words.sender)}")
     else:
@@ -301,7 +373,7 @@ def record(words: Words, tell: Callable[[str], None]) -> str:
         tell(each)
     if words.program and not pids:
         tell(f"no process is called {shown(words.program)}; its reads are recorded if it starts during the recording")
-    head, counts, body = recorded(words, mount_tracefs(), program, tell)
+    head, counts, body = recorded(words, mount_tracefs(), sources_of(words, settings, program), tell)
     pids = pids or (program_filter(words.program)[1] if words.program else [])
     with WholeFile(words.out) as new, open(new, "wb") as file:
         text = "\n".join(head_of(words, head, settings, counts, body, pids))

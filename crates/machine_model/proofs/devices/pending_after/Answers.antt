@@ -1,5 +1,5 @@
 use Rattle.std.proofs.Common.{◌≡◌, ◌∙◌, ap, get_or, sym}
-use Rattle.device_rows.proofs.PlaceFacts.{at-index}
+use Rattle.device_places.proofs.PlaceFacts.{at-index}
 use Rattle.machine_model.proofs.PendingFacts.{pending-changed}
 use Rattle.machine_model.proofs.devices.pending_after.Goals as goal
 

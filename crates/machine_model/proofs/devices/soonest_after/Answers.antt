@@ -1,5 +1,5 @@
 use Rattle.std.proofs.Common.{◌∙◌, sym}
-use Rattle.device_rows.proofs.PlaceFacts.{at-index}
+use Rattle.device_places.proofs.PlaceFacts.{at-index}
 use Rattle.machine_model.proofs.PendingFacts.{soonest-other, soonest-stays}
 use Rattle.machine_model.proofs.devices.soonest_after.Goals as goal
 

@@ -9,6 +9,6 @@ loop-init g c = refl
 pub loop-preserved : goal.loop-preserved
 unfolding Fails
 loop-preserved g c =
-    let attempt = λ (n : ℕ). g.T.Attempts.makes c.args.call c.loop.it n c.attempt-status.new.self in
-    let failed = subst attempt c.if-status-ne-CHANGED.false c.attempt-status.ensures in
+    let attempt = λ (n : ℕ). g.A.Attempt.makes c.args.attempt.now c.loop.it n c.make-status.new.it in
+    let failed = subst attempt c.if-status-ne-CHANGED.false c.make-status.ensures in
     rw add-one (c.loop.it, c.loop.invariant, failed)

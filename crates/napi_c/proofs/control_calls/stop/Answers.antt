@@ -6,9 +6,9 @@ use Rattle.napi_c.proofs.control_calls.stop.Goals as goal
 pub returns-in-19-clause-makes : goal.returns-in-19-clause-makes
 returns-in-19-clause-makes c =
     let disables : ControlDisables c.args.control.now OK c.repeat.new.it = record {
-      said = c.step.result;
-      marked = c.step.new.self;
-      marks = c.step.ensures;
+      said = c.mark.result;
+      marked = c.mark.new.self;
+      marks = c.mark.ensures;
       last = c.repeat.result;
       takes = c.repeat.ensures;
       status = search rules;
@@ -19,9 +19,9 @@ returns-in-19-clause-makes c =
 pub returns-in_default-clause-makes : goal.returns-in_default-clause-makes
 returns-in_default-clause-makes c =
     let disables : ControlDisables c.args.control.now c.repeat.result c.repeat.new.it = record {
-      said = c.step.result;
-      marked = c.step.new.self;
-      marks = c.step.ensures;
+      said = c.mark.result;
+      marked = c.mark.new.self;
+      marks = c.mark.ensures;
       last = c.repeat.result;
       takes = c.repeat.ensures;
       status = search rules;

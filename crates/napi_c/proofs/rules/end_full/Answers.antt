@@ -1,7 +1,6 @@
 use Rattle.std.proofs.Common.{◌≡◌, ℕ, true, false, refl, subst, sym, ◌∙◌}
-use Rattle.c_handles.specs.{Handles.SeatStep}
+use Rattle.c_handles.specs.{Handles.SeatStep, SeatCalls.CallerRequeues}
 use Rattle.napi_c.proofs.RuleFacts.{look_stays_polling, polls_requeues}
-use Rattle.c_handles.specs.declared.hold.SeatCall.TheVariants as seat_call
 use Rattle.napi_c.proofs.rules.end_full.Goals as goal
 
 pub returns-then-not-stays_scheduled-clause-makes : goal.returns-then-not-stays_scheduled-clause-makes
@@ -27,9 +26,9 @@ returns-then-seen-clause-makes c = record {
 pub returns-clause-makes : goal.returns-clause-makes
 returns-clause-makes c =
     let looked = c.look.new.self in
-    let listed = c.step.new.self in
-    let polls = look_stays_polling c.args.seat.now.hold c.in-Some.seen looked.hold c.in-Some.ensures.looks c.requires.polls in
-    let requeues = polls_requeues looked.hold c.step.result listed.hold c.step.ensures.made polls in
+    let listed = c.requeue.new.self in
+    let polls = look_stays_polling c.args.seat.now.state c.in-Some.seen looked.state c.in-Some.ensures.looks c.requires.polls in
+    let requeues = polls_requeues looked.state c.requeue.result listed.state c.requeue.ensures.0 polls in
     record {
       seen = c.in-Some.seen;
       looked = looked;
@@ -39,12 +38,12 @@ returns-clause-makes c =
       list = λ _ _. (
         requeues.0,
         refl,
-        subst (λ (n : ℕ). SeatStep seat_call.Requeue looked n listed) requeues.0 (c.step.ensures.made, c.step.ensures.counted),
+        subst (λ (n : ℕ). SeatStep CallerRequeues looked n listed) requeues.0 c.requeue.ensures,
       );
     }
 
 pub returns-clause-none : goal.returns-clause-none
 returns-clause-none c = λ no.
     let looked = c.look.new.self in
-    let polls = look_stays_polling c.args.seat.now.hold c.in-Some.seen looked.hold c.in-Some.ensures.looks c.requires.polls in
-    absurd (no (polls_requeues looked.hold c.step.result c.step.new.self.hold c.step.ensures.made polls).0)
+    let polls = look_stays_polling c.args.seat.now.state c.in-Some.seen looked.state c.in-Some.ensures.looks c.requires.polls in
+    absurd (no (polls_requeues looked.state c.requeue.result c.requeue.new.self.state c.requeue.ensures.0 polls).0)

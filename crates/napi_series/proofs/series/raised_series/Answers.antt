@@ -1,4 +1,4 @@
-use Rattle.std.proofs.{Common.{◌≡◌, ◌⊎◌, Err, IfErr, Ok, inl, inr, ℕ, List}, lemmas.Result.err_from_is_err_and}
+use Rattle.std.proofs.{Common.{◌≡◌, ◌⊎◌, Err, IfErr, Ok, inl, inr, List}, lemmas.Result.err_from_is_err_and}
 use Rattle.{std.specs.Prelude.Result, replay_rows.specs.Replay.after_all_rows}
 use Rattle.replay_rows.proofs.{PlayFacts.{report-early, unwritten}, RaisedFacts.raised-unwritten}
 use Rattle.text_io.specs.{Outside.IsReplayOutOfMemory, declared.fault.ReplayFault.ReplayFault}
@@ -10,8 +10,8 @@ use Rattle.napi_series.proofs.series.raised_series.Goals as goal
 never : {A : Type 0} (s : ReplaySettings) (rows : List Row) (r : Result A ReplayFault)
     → IfErr r (λ fault. IsReplayOutOfMemory fault ⊎ (after_all_rows s rows ≡ Err fault)) → IfErr r (λ fault. fault ≡ OutputFailed → ⊥)
 never s rows (Ok a) h = tt
-never s rows (Err fault) (inl memory) = unwritten {A = ℕ} s 1 rows (Err fault) (inl memory)
-never s rows (Err fault) (inr early) = unwritten {A = ℕ} s 1 rows (Err fault) (inr (report-early s rows fault early 1))
+never s rows (Err fault) (inl memory) = unwritten s rows fault (inl memory)
+never s rows (Err fault) (inr early) = unwritten s rows fault (inr (report-early s rows fault early))
 
 pub returns-in_err-rows-in-Some-clause-unwritten : goal.returns-in_err-rows-in-Some-clause-unwritten
 returns-in_err-rows-in-Some-clause-unwritten c =

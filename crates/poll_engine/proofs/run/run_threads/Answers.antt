@@ -70,8 +70,8 @@ gather-requires-clause-some g c =
 pub gather-requires-clause-seats : goal.gather-requires-clause-seats
 gather-requires-clause-seats g c =
     let s = c.spread-tasks.ensures in
-    let polled = vec_items c.drive-tasks.result.pollers in
-    let workers = vec_items c.drive-tasks.result.workers in
+    let polled = vec_items c.drive-tasks.result.0.pollers in
+    let workers = vec_items c.drive-tasks.result.0.workers in
     let same = AllZip-long _ _ _ c.drive-tasks.ensures.pollers ∙ s.seats.3.as_many in
     let sides = rw (← c.replace-parts.ensures.value) at c.requires.sides in
     let back = all_back_at _ _ _ _ _ _ _ _ _ _ sides s.jobs s.job_places c.drive-tasks.ensures.workers in
@@ -109,9 +109,9 @@ returns-clause-ran g c =
     let ends = ends_of_lists _ _ c.in_ok-pollers.ensures.own in
     on_ok_weaker c.stop_of_run-ended.result (λ whole. rw (← c.replace-parts.ensures.value) (record {
       lists = map (λ p. p.served.list) (vec_items c.in_ok-pollers.pollers);
-      workers = vec_items c.drive-tasks.result.workers;
-      polled = vec_items c.drive-tasks.result.pollers;
-      threads = vec_items c.drive-tasks.result.threads;
+      workers = vec_items c.drive-tasks.result.0.workers;
+      polled = vec_items c.drive-tasks.result.0.pollers;
+      threads = vec_items c.drive-tasks.result.0.threads;
       same = AllZip-long _ _ _ c.drive-tasks.ensures.pollers ∙ s.seats.3.as_many;
       made = all_worked _ _ _ _ _ _ _ _ _ _ _ s.jobs (s.wired_jobs _ ends) c.drive-tasks.ensures.workers;
       ran = all_have_polled _ _ _ _ _ s.seats.0 _ _ back s.seats.1 s.seats.2 s.seats.3 c.drive-tasks.ensures.pollers lists;

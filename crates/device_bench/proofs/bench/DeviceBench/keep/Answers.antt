@@ -1,5 +1,5 @@
 use Rattle.std.proofs.Common.{◌≡◌, ◌∙◌, ◌<◌, Some, None, ap, length, refl, sym, arith}
-use Rattle.{device_rows.specs.Places.at, device_rows.proofs.PlaceFacts.{at-index, none-of}}
+use Rattle.{device_places.specs.Places.at, device_places.proofs.PlaceFacts.{at-index, none-of}}
 use Rattle.{device_bench.proofs.{BenchFacts.kept-opened, Waiting.waiting-added}, device_bench.specs.DeviceView.DeviceView}
 use Rattle.device_bench.proofs.bench.DeviceBench.keep.Goals as goal
 

@@ -1,7 +1,7 @@
 use Rattle.std.proofs.Common.{◌∙◌, ap, arith}
 use Rattle.device_bench.{specs.{Device.is_pending, Kept.is_sound}, proofs.BenchFacts.kept-set}
 use Rattle.device_bench.proofs.{BenchFacts.{pending-off, here-at, sound-at}, DeviceFacts.{settle-keeps, settled-same}}
-use Rattle.device_rows.proofs.PlaceFacts.{below-some}
+use Rattle.device_places.proofs.PlaceFacts.{below-some}
 use Rattle.device_bench.proofs.bench.DeviceBench.settle_one.Goals as goal
 
 pub invariant_of-self : goal.invariant_of-self

@@ -1,29 +1,34 @@
-use Rattle.std.proofs.Common.{rules, ◌≡◌, ◌<◌, [], ap, length, slice_set, refl, sym, arith}
-use Rattle.{device_bench.specs.Device.polled_by_thread, device_rows.specs.Places.at}
+use Rattle.std.proofs.Common.{rules, ◌≡◌, ◌<◌, List, [], ap, length, slice_set, refl, subst, sym, arith}
+use Rattle.poll_runs.specs.{Thread.IsThreadPolling, declared.bench.Once.Once}
+use Rattle.{device_bench.specs.Device.polled_by_thread, device_places.specs.Places.at}
 use Rattle.device_bench.proofs.{BenchFacts.{kept-changed, here-at, sound-at}, DeviceFacts.thread-keeps, SideFacts.{set-back, sides-set}}
-use Rattle.{device_bench.proofs.Waiting.waiting-more, device_rows.proofs.PlaceFacts.at-index, std.specs.Prelude.is_some}
+use Rattle.{device_bench.proofs.Waiting.waiting-more, device_places.proofs.PlaceFacts.at-index, std.specs.Prelude.is_some}
+use Rattle.device_bench.proofs.InstanceFacts.{polled-by-thread}
 use Rattle.device_bench.proofs.bench.DeviceBenchBench.poll_thread.Goals as goal
 
 pub invariant_of-self : goal.invariant_of-self
 invariant_of-self g c =
     let here = here-at c.args.id c.args.self.now.kept (omega arith) c.index_mut.ensures.value c.in-Some.is in
+    let is = polled-by-thread c.args.most c.args.weight c.in-Some.device _ _ c.poll_thread_of.ensures.does.2 in
     let keeps = thread-keeps c.args.most c.args.weight c.in-Some.device c.requires.most.0 (sound-at c.args.id c.args.self.now.kept here) in
-    record { kept = kept-changed c.args.id c.args.self.now.kept here c.poll_thread.ensures.device keeps.sound keeps.pending }
+    record { kept = kept-changed c.args.id c.args.self.now.kept here is.1 keeps.sound keeps.pending }
 
 pub returns-in-Some : goal.returns-in-Some
 returns-in-Some g c =
     let here = here-at c.args.id c.args.self.now.kept (omega arith) c.index_mut.ensures.value c.in-Some.is in
+    let is = polled-by-thread c.args.most c.args.weight c.in-Some.device _ _ c.poll_thread_of.ensures.does.2 in
     let keeps =
     thread-keeps c.args.most c.args.weight c.in-Some.device c.requires.most.0 (sound-at c.args.id c.args.self.now.kept here) in (
       (polled_by_thread c.args.most c.args.weight c.in-Some.device).0,
       record {
-        exact = (rw here refl, rw (here, c.poll_thread.ensures.device) refl);
+        exact = (rw here refl, rw (here, is.1) refl);
         transmits = λ all shown. record { sides = shown.sides; each = sides-set _ all c.args.id _ (ap is_some (sym here)) shown.each };
         waits =
-            waiting-more c.args.self.now.devices.items c.args.id _ c.in-Some.device c.poll_thread.new.self here
-            (rw c.poll_thread.ensures.device keeps.listed);
+            waiting-more c.args.self.now.devices.items c.args.id _ c.in-Some.device c.poll_thread_of.new.instance here
+            (rw is.1 keeps.listed);
       },
-      c.poll_thread.ensures.report,
+      subst (λ (polls : List Once). IsThreadPolling c.args.weight c.args.most polls c.poll_thread_of.result) is.0
+          c.poll_thread_of.ensures.does.4,
     )
 
 pub returns-in_default : goal.returns-in_default

@@ -1,7 +1,7 @@
 use Rattle.std.proofs.Common.{◌∙◌, Some, true, ap, arith}
 use Rattle.device_bench.specs.{DeviceView.DeviceView, Kept.is_sound, Waiting.waits_on_list}
 use Rattle.device_bench.proofs.{BenchFacts.{kept-set, here-at, sound-at}, DeviceFacts.disable-keeps, Waiting.waiting-same}
-use Rattle.device_rows.proofs.PlaceFacts.{below-some}
+use Rattle.device_places.proofs.PlaceFacts.{below-some}
 use Rattle.device_bench.proofs.bench.DeviceBenchReplayBench.disable.Goals as goal
 
 pub invariant_of-self : goal.invariant_of-self

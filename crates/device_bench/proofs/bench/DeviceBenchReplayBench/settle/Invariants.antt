@@ -1,5 +1,5 @@
 use Rattle.std.proofs.Common.{◌≡◌, ◌<◌, ℕ, true, false}
-use Rattle.{device_bench.specs.Kept.is_pending_at, device_bench.proofs.BenchFacts.settled_to, device_rows.specs.Places.at}
+use Rattle.{device_bench.specs.Kept.is_pending_at, device_bench.proofs.BenchFacts.settled_to, device_places.specs.Places.at}
 use Rattle.device_bench.proofs.bench.DeviceBenchReplayBench.settle.Given as goal
 
 abbrev pub invariant-loop-device : goal.invariant-loop-device

@@ -1,6 +1,6 @@
 use Rattle.std.proofs.Common.{◌≡◌, ◌∙◌, ◌<◌, None, false, length, rules, arith}
 use Rattle.std.specs.Prelude.{is_some}
-use Rattle.device_rows.proofs.PlaceFacts.{at-index, none-of}
+use Rattle.device_places.proofs.PlaceFacts.{at-index, none-of}
 use Rattle.machine_model.proofs.PendingFacts.{opened-kept}
 use Rattle.machine_model.proofs.devices.QueueTable.open.Goals as goal
 

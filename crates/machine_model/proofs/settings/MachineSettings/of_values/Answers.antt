@@ -36,5 +36,6 @@ returns c =
     let backlog = flag (slice_index_or values 4 0) (in_range_at values 4 no_option 0 c.requires (omega arith)).1 in
     let threaded = flag (slice_index_or values 13 0) (in_range_at values 13 no_option 0 c.requires (omega arith)).1 in
     let apart = flag (slice_index_or values 14 0) (in_range_at values 14 no_option 0 c.requires (omega arith)).1 in
+    let heedless = flag (slice_index_or values 21 0) (in_range_at values 21 no_option 0 c.requires (omega arith)).1 in
     let all = listed values c.requires in
-    cc (backlog, threaded, apart, all)
+    cc (backlog, threaded, apart, heedless, all)

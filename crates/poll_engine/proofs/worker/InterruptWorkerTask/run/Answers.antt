@@ -1,6 +1,5 @@
-use Rattle.std.proofs.{Common.{◌≡◌, ◌∙◌, is_some, refl, ap, rules, arith}, lemmas.Grind.common_steps}
-use Rattle.poll_engine.specs.Trails.{questions}
-use Rattle.poll_engine.proofs.{LedgerSteps.{off_is, same_handles, works}, Listings.{lists_more, lists_same}}
+use Rattle.std.proofs.{Common.{is_some, refl, arith}, lemmas.Grind.common_steps}
+use Rattle.poll_engine.proofs.LedgerSteps.{off_is, same_handles, works}
 use Rattle.poll_engine.proofs.worker.InterruptWorkerTask.run.Goals.{in-Some, in_default}
 use Rattle.poll_engine.proofs.worker.InterruptWorkerTask.run.Goals as goal
 
@@ -10,9 +9,6 @@ returns g c =
     let all = acted.ensures in
     let on = c.turn_on.ensures.turns in
     let off = c.turn_off.ensures.turns in
-    let out = c.match-handler.out in
-    let kept : (out.list ≡ acted.new.out.list) × (out.list_wakes ≡ acted.new.out.list_wakes) × (out.asked ≡ acted.new.out.asked)
-    = elim c.match-handler.branch [ in-Some w ↦ rw w.out-is (refl, refl, refl) | in_default w ↦ rw w.out-is (refl, refl, refl) ] in
     record {
       why = all.why;
       same_handler = refl;
@@ -22,17 +18,14 @@ returns g c =
         run = λ whole. rw (← c.open-handles.ensures, c.new.ensures)
             (works c.open-handles.result acted.result.0 _ _ on off (is_some c.args.self.handler.thread) g.D.Device.answer
             g.D.Device.after c.args.self.device (g.D.Device.acts c.args.self.device) c.args.self.rx acted.new.rx (all.made whole));
-        lists = rw (← c.open-handles.ensures, c.new.ensures) (lists_more all.lists (lists_same _ _ _ kept.0 kept.1));
-        wakes = record {
-          last = acted.new.out;
-          wakes = rw (← c.open-handles.ensures, c.new.ensures) all.wakes;
-          closed = elim c.match-handler.branch [
-            | in-Some w ↦ rw (w.in-Some.is, w.out-is, c.new.ensures) (grind (arith, common_steps, w.close.ensures))
-            | in_default w ↦ rw (w.in_default.is, w.out-is) refl
-          ];
-        };
+        lists = rw (← c.open-handles.ensures, c.new.ensures) all.lists;
+        wakes = rw (← c.open-handles.ensures, c.new.ensures) all.wakes;
+        closes = elim c.match-handler.branch [
+          | in-Some w ↦ rw (w.in-Some.is, w.closes-is, c.new.ensures) (grind (arith, common_steps, w.close.ensures))
+          | in_default w ↦ rw (w.in_default.is, w.closes-is) refl
+        ];
         let_go = all.let_go;
-        asked = λ whole. ap questions kept.2 ∙ all.asked whole;
+        asked = all.asked;
         made = all.device;
         ring = all.ring;
         few = all.few;

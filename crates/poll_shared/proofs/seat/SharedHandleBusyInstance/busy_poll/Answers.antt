@@ -1,5 +1,6 @@
 use Rattle.std.proofs.Common.{ap, refl, Some}
-use Rattle.poll_shared.{specs.declared.seat.HandleState.TheVariants.PollsBusily, proofs.SeatFacts.{polled_packets, seat_gives}}
+use Rattle.napi_calls.specs.declared.state.CallerState.TheVariants.{Busy}
+use Rattle.poll_shared.{proofs.SeatFacts.{polled_packets, seat_gives}}
 use Rattle.poll_shared.proofs.seat.SharedHandleBusyInstance.busy_poll.Goals as goal
 
 pub returns-clause-does : goal.returns-clause-does
@@ -8,7 +9,7 @@ returns-clause-does g c =
     let w = c.busy-busy.result in
     let p = c.poll-work.ensures in (
       _,
-      seat_gives _ (PollsBusily w) _ (PollsBusily c.poll-work.new.self) _ w.ctx c.poll-work.new.self.ctx c.args.weight
+      seat_gives _ (Busy w) _ (Busy c.poll-work.new.self) _ w.ctx c.poll-work.new.self.ctx c.args.weight
           c.poll-work.new.batch.items (e.was, e.gone, c.put.ensures) (ap Some p.pass) refl refl p.next
           (polled_packets w.pass c.poll-work.new.self.pass w.ctx c.poll-work.new.self.ctx c.poll-work.new.batch.items p.pass p.polled),
       refl,

@@ -1,7 +1,7 @@
 use Rattle.std.proofs.Common.{refl}
 use Rattle.{napi_calls.proofs.Dealing.delivers_none, poll_runs.specs.Polling.{busy_takes, is_taken}}
 use Rattle.napi_model.specs.declared.event.Operation.TheVariants.{BusyTake, Look}
-use Rattle.poll_shared.specs.declared.seat.HandleState.TheVariants.{Rests, PollsBusily}
+use Rattle.napi_calls.specs.declared.state.CallerState.TheVariants.{Rests, Busy}
 use Rattle.poll_shared.proofs.{SeatFacts.{seat_does, taken_packets}, TriesFacts.asked}
 use Rattle.poll_shared.proofs.seat.SharedHandleBusyInstance.busy_take.Goals as goal
 use Rattle.napi_model.specs.declared.event.Call.TheVariants as call
@@ -9,7 +9,7 @@ use Rattle.napi_model.specs.declared.event.Call.TheVariants as call
 pub returns-in-Ok-clause-does : goal.returns-in-Ok-clause-does
 returns-in-Ok-clause-does g c =
     let e = c.in-Ok.ensures.events in
-    seat_does busy_takes _ (Rests c.caller.result) _ (PollsBusily c.in-Ok.busy) _ _ _ _ _
+    seat_does busy_takes _ (Rests c.caller.result) _ (Busy c.in-Ok.busy) _ _ _ _ _
     (c.caller.ensures.was, c.caller.ensures.gone, c.put.ensures) refl refl tt e.3
     (asked call.BusyTake is_taken BusyTake _ refl (e.0, e.1, e.2, refl))
     (taken_packets c.caller.result.pass c.in-Ok.busy.pass c.in-Ok.busy.ctx c.in-Ok.ensures.packets)

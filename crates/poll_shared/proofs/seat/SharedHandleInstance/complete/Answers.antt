@@ -1,6 +1,7 @@
 use Rattle.std.proofs.Common.{Bool, ap, append-nil, refl, subst, sym, ◌∙◌}
 use Rattle.poll_runs.specs.Polling.{completed, next_of}
-use Rattle.poll_shared.specs.{declared.seat.{HandleState.TheVariants.{Rests, Polls}, SharedHandle.SharedHandle}, Seat.packets_by}
+use Rattle.napi_calls.specs.declared.state.CallerState.TheVariants.{Rests, Polls}
+use Rattle.poll_shared.specs.{declared.seat.SharedHandle.SharedHandle, Seat.packets_by}
 use Rattle.poll_shared.specs.{Tries.PlanMakes}
 use Rattle.poll_shared.proofs.SeatFacts.{seat_does}
 use Rattle.poll_shared.proofs.seat.SharedHandleInstance.complete.Goals as goal

@@ -1,6 +1,7 @@
 use Rattle.{std.proofs.Common.{[], ◌∷◌, refl}, poll_runs.specs.Polling.{disabling, flags_in}}
 use Rattle.napi_model.specs.declared.event.Operation.TheVariants.{Look}
-use Rattle.poll_shared.{specs.declared.seat.HandleState.TheVariants.Polls, proofs.SeatFacts.{held_packets, seat_does}}
+use Rattle.napi_calls.specs.declared.state.CallerState.TheVariants.{Polls}
+use Rattle.poll_shared.{proofs.SeatFacts.{held_packets, seat_does}}
 use Rattle.poll_shared.proofs.TriesFacts.{asked}
 use Rattle.poll_shared.proofs.seat.SharedHandleInstance.is_disabling.Goals as goal
 use Rattle.napi_model.specs.declared.event.Call.TheVariants as call

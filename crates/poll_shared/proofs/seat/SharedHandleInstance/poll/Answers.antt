@@ -1,5 +1,6 @@
 use Rattle.std.proofs.Common.{ap, refl, Some}
-use Rattle.poll_shared.{specs.declared.seat.HandleState.TheVariants.Polls, proofs.SeatFacts.{polled_packets, seat_gives}}
+use Rattle.napi_calls.specs.declared.state.CallerState.TheVariants.{Polls}
+use Rattle.poll_shared.{proofs.SeatFacts.{polled_packets, seat_gives}}
 use Rattle.poll_shared.proofs.seat.SharedHandleInstance.poll.Goals as goal
 
 pub returns-clause-does : goal.returns-clause-does

@@ -1,5 +1,6 @@
 use Rattle.{std.proofs.Common.{[], ◌∷◌, refl}, poll_runs.specs.Polling.makes, napi_model.specs.declared.event.Operation.TheVariants.Hand}
-use Rattle.poll_shared.{specs.declared.seat.HandleState.TheVariants.{Rests, Polls}, proofs.SeatFacts.{back_packets, seat_does}}
+use Rattle.napi_calls.specs.declared.state.CallerState.TheVariants.{Rests, Polls}
+use Rattle.poll_shared.{proofs.SeatFacts.{back_packets, seat_does}}
 use Rattle.poll_shared.proofs.TriesFacts.{acted}
 use Rattle.poll_shared.proofs.seat.SharedHandleInstance.requeue.Goals as goal
 use Rattle.napi_model.specs.declared.state.Kind.TheVariants as kind

@@ -1,7 +1,8 @@
 use Rattle.{std.proofs.Common.{[], ◌∷◌, false, refl, true}, napi_calls.proofs.Dealing.delivers_none}
 use Rattle.poll_runs.specs.Polling.{is_taken, takes}
 use Rattle.napi_model.specs.declared.event.Operation.TheVariants.{Take}
-use Rattle.poll_shared.{specs.declared.seat.HandleState.TheVariants.{Rests, Polls}, proofs.SeatFacts.{seat_does, taken_packets}}
+use Rattle.napi_calls.specs.declared.state.CallerState.TheVariants.{Rests, Polls}
+use Rattle.poll_shared.{proofs.SeatFacts.{seat_does, taken_packets}}
 use Rattle.poll_shared.proofs.TriesFacts.{asked}
 use Rattle.poll_shared.proofs.seat.SharedHandleInstance.take.Goals as goal
 use Rattle.napi_model.specs.declared.event.Call.TheVariants as call

@@ -1,5 +1,5 @@
 use Rattle.std.proofs.Common.{◌≡◌, ◌∙◌, ◌+◌, ◌++◌, ℕ, List, append_assoc, append-nil, Some, suc, ap, arith, string_bytes, sym}
-use Rattle.device_rows.proofs.PlaceFacts.{none-of}
+use Rattle.device_places.proofs.PlaceFacts.{none-of}
 use Rattle.{replay_rows.specs.{Played.replay_state, Report.{reported_counts, device_lines, lines_below}}}
 use Rattle.replay_rows.{specs.Report.lines_of, proofs.replay.Replay.add_devices.Goals.{then-is_attached+in_ok-add_device, else-is_attached}}
 use Rattle.replay_rows.proofs.replay.Replay.add_devices.Goals as goal

@@ -1,6 +1,7 @@
 use Rattle.std.proofs.{Common.{◌∙◌, inl, inr, take, subst, sym, arith}, lemmas.Result.err_from_is_err_and}
 use Rattle.device_bench.specs.DeviceBench.{ShowsTransmits}
-use Rattle.device_rows.specs.{Places.empty, declared.event.RowEvent.TheVariants.Opened, declared.row.Row.Row}
+use Rattle.device_places.specs.Places.{empty}
+use Rattle.device_rows.specs.{declared.event.RowEvent.TheVariants.Opened, declared.row.Row.Row}
 use Rattle.{device_rows.proofs.Accepted.accepted-at, replay_rows.specs.Transmits.after_transmits}
 use Rattle.replay_rows.proofs.{PlayFacts.{after_transmits-more, played-early, played-more}, RunLogFacts.{list-next, polls-next}}
 use Rattle.replay_rows.proofs.serial_replay.SerialReplay.play_row.Goals as goal

@@ -1,0 +1,424 @@
+"""What include/fintaqush.h declares, for ctypes: its numbers, structs and calls. scripts/abi.py writes this file."""
+
+from __future__ import annotations
+
+import ctypes
+import enum
+from typing import Any
+
+u8, u32, u64, i64 = ctypes.c_uint8, ctypes.c_uint32, ctypes.c_uint64, ctypes.c_int64
+size, boolean, text, pointer = ctypes.c_size_t, ctypes.c_bool, ctypes.c_char_p, ctypes.POINTER
+VERSION = "1.1.0"
+MESSAGE_ROOM = 96
+UNTIL_EMPTY = 4294967295
+FAULTS = {
+    1: "BadHeader",
+    2: "BadFields",
+    3: "BadNumber",
+    4: "BadEvent",
+    5: "OutOfRange",
+    6: "UnknownDevice",
+    7: "OpenTwice",
+    8: "WrongState",
+    9: "TooManyRows",
+    10: "ReadFailed",
+    11: "OutOfMemory",
+    12: "Pending",
+}
+
+
+class Status(enum.IntEnum):
+    """The statuses that calls return, each with the calls that it is of, if not of all, and its message. 0: success. 1
+    to 15: errors of a queue limit; the operation isn't made. 16 to 99: results. After FQ_NOT_THERE, FQ_BUSY,
+    FQ_CHANGED, FQ_STOPPED, FQ_MORE_THAN_SENT and FQ_NOT_DUE nothing has changed, and after FQ_FULL neither, except for
+    a burst. 100 and above: errors; the operation isn't made."""
+
+    OK = 0
+    BAD_BOUNDS = 1
+    TOO_LARGE = 2
+    TOO_MUCH_IN_FLIGHT = 3
+    MORE_THAN_QUEUED = 4
+    GRANTED = 16
+    MISSED = 17
+    DISABLED = 18
+    TAKEN = 19
+    NOT_THERE = 20
+    RELEASED = 21
+    AGAIN = 22
+    HELD = 23
+    BUSY = 24
+    CHANGED = 25
+    FULL = 26
+    DONE = 27
+    STOPPED = 28
+    MORE_THAN_SENT = 29
+    NOT_DUE = 30
+    NOT_ALLOWED = 100
+    BAD_KIND = 101
+    BAD_HANDLE = 110
+    IN_USE = 111
+    OUT_OF_MEMORY = 112
+    BAD_CAPACITY = 113
+    BAD_WEIGHT = 114
+    NO_ROOM = 115
+    BAD_BUDGET = 116
+    BAD_COUNT = 117
+    BAD_NEXT = 118
+    BAD_WORK = 119
+    BAD_TRACE = 120
+    BAD_DEVICE = 121
+    BAD_SIZE = 122
+    BAD_SETTING = 123
+    BAD_ARRIVALS = 124
+
+
+class Kind(enum.IntEnum):
+    """Where an instance is queued. Calls that read the kind from the state word say so."""
+
+    LIST = 0
+    THREAD = 1
+
+
+class Next(enum.IntEnum):
+    """How a poll ended."""
+
+    GONE = 0
+    AGAIN = 1
+    AGAIN_THREAD = 2
+    REPOLL = 3
+    ABSENT = 4
+
+
+class Word(enum.IntFlag):
+    """The bits of a state word: the kernel's NAPI_STATE_.., and two of this library. The kernel's NAPI_STATE_LISTED is
+    a different flag, bit 4, which the library doesn't have."""
+
+    SCHED = 1 << 0
+    MISSED = 1 << 1
+    DISABLE = 1 << 2
+    NPSVC = 1 << 3
+    IN_BUSY_POLL = 1 << 6
+    THREADED = 1 << 8
+    SCHED_THREADED = 1 << 9
+    QUEUED = 1 << 32
+    TO_THREAD = 1 << 33
+
+
+class What(enum.IntEnum):
+    """What has to be done. After FQ_TODO_SLEEP and FQ_TODO_ENDED there is nothing to report, and fq_driver_done does
+    nothing."""
+
+    SLEEP = 0
+    MASK = 1
+    UNMASK = 2
+    LOOK = 3
+    FETCH = 4
+    ENDED = 5
+
+
+class DeviceState(enum.IntEnum):
+    """The states of a device."""
+
+    CLOSED = 0
+    OPEN = 1
+    STOPPING = 2
+
+
+class Dql(ctypes.Structure):
+    _fields_ = [("private_a", u32 * 8), ("private_b", u64), ("private_c", u32 * 2), ("private_d", u64)]
+
+
+class DqlMade(ctypes.Structure):
+    _fields_ = [("dql", Dql), ("status", u32)]
+
+
+class Napi(ctypes.Structure):
+    _fields_ = [
+        ("sched", u8),
+        ("missed", u8),
+        ("disable", u8),
+        ("npsvc", u8),
+        ("in_busy_poll", u8),
+        ("threaded", u8),
+        ("sched_threaded", u8),
+        ("place", u8),
+        ("owner", u32),
+        ("controller", u32),
+    ]
+
+
+class Handle(ctypes.Structure):
+    _fields_ = [("private_set", boolean), ("private_at", ctypes.c_void_p)]
+
+
+class Packet(ctypes.Structure):
+    _fields_ = [("number", u64), ("bytes", u32)]
+
+
+class Counts(ctypes.Structure):
+    _fields_ = [("polls", u64), ("packets", u64), ("bytes", u64)]
+
+
+class Totals(ctypes.Structure):
+    _fields_ = [("put", u64), ("polled", u64), ("left", u64), ("bytes", u64)]
+
+
+class RingShown(ctypes.Structure):
+    _fields_ = [("put", u64), ("places", size)]
+
+
+class TxShown(ctypes.Structure):
+    _fields_ = [("queued", u32), ("completed", u32), ("limit", u32), ("avail", i64), ("stopped", boolean)]
+
+
+class TxWatchdog(ctypes.Structure):
+    _fields_ = [("private_stopped", u8), ("private_completed", u32), ("private_since", u64)]
+
+
+class Answers(ctypes.Structure):
+    _fields_ = [
+        ("granted", u64),
+        ("missed", u64),
+        ("disabled", u64),
+        ("released", u64),
+        ("again", u64),
+        ("held", u64),
+        ("changed", u64),
+    ]
+
+
+class RunReport(ctypes.Structure):
+    _fields_ = [("polls", u32), ("work", u32), ("squeezed", boolean)]
+
+
+class Todo(ctypes.Structure):
+    _fields_ = [
+        ("size", size),
+        ("number", u64),
+        ("what", u32),
+        ("device", u32),
+        ("most", u32),
+        ("packets", u32),
+        ("run", RunReport),
+    ]
+
+
+class DeviceShown(ctypes.Structure):
+    _fields_ = [
+        ("size", size),
+        ("state", u32),
+        ("scheduled", boolean),
+        ("missed", boolean),
+        ("polls", u64),
+        ("packets", u64),
+    ]
+
+
+class Settings(ctypes.Structure):
+    _fields_ = [("budget", u32), ("weight", u32), ("window", u32)]
+
+
+class Replayed(ctypes.Structure):
+    _fields_ = [("length", size), ("fault", u32), ("row", u32)]
+
+
+class MachineSettings(ctypes.Structure):
+    _fields_ = [
+        ("size", size),
+        ("processors", u32),
+        ("queues", u32),
+        ("ring", u32),
+        ("socket", u32),
+        ("backlog", u32),
+        ("budget", u32),
+        ("weight", u32),
+        ("window", u32),
+        ("time_limit", u32),
+        ("rx_nsecs", u32),
+        ("rx_frames", u32),
+        ("defer_hard_irqs", u32),
+        ("gro_flush_timeout", u32),
+        ("threaded", u32),
+        ("apart", u32),
+        ("app_wake", u32),
+        ("interrupt", u32),
+        ("poll", u32),
+        ("packet", u32),
+        ("use_time", u32),
+        ("wake", u32),
+        ("heedless", u32),
+    ]
+
+
+class MachineRan(ctypes.Structure):
+    _fields_ = [
+        ("size", size),
+        ("length", size),
+        ("row", u64),
+        ("fault", u32),
+        ("setting", u32),
+        ("message", ctypes.c_char * 64),
+    ]
+
+
+# The structs whose size the library returns, by their numbers.
+SIZES: dict[type[ctypes.Structure], int] = {
+    Handle: 0,
+    Dql: 1,
+    DqlMade: 2,
+    Napi: 3,
+    Packet: 4,
+    Counts: 5,
+    Totals: 6,
+    RingShown: 7,
+    TxShown: 8,
+    Answers: 9,
+    RunReport: 10,
+    Todo: 11,
+    DeviceShown: 12,
+    TxWatchdog: 13,
+}
+
+# The calls, by their names without fq_: the type of the result, and those of the arguments.
+CALLS: dict[str, tuple[Any, dict[str, Any]]] = {
+    "version": (size, {"to": text, "room": size}),
+    "status_text": (size, {"status": u32, "to": text, "room": size}),
+    "status_message": (size, {"status": u32, "to": text, "room": size}),
+    "fault_text": (size, {"fault": u32, "to": text, "room": size}),
+    "struct_size": (size, {"which": u32}),
+    "dql_new": (DqlMade, {"min": u32, "max": u32, "hold_ms": u64, "now_ms": u64}),
+    "dql_renew": (Status, {"dql": pointer(Dql), "min": u32, "max": u32, "hold_ms": u64, "now_ms": u64}),
+    "dql_queued": (Status, {"dql": pointer(Dql), "count": u32}),
+    "dql_completed": (Status, {"dql": pointer(Dql), "count": u32, "now_ms": u64}),
+    "dql_reset": (None, {"dql": pointer(Dql), "now_ms": u64}),
+    "dql_limit": (u32, {"dql": pointer(Dql)}),
+    "dql_avail": (i64, {"dql": pointer(Dql)}),
+    "dql_in_flight": (u32, {"dql": pointer(Dql)}),
+    "napi_new": (Napi, {"controller": u32}),
+    "napi_init": (None, {"napi": pointer(Napi), "controller": u32}),
+    "napi_schedule": (Status, {"napi": pointer(Napi), "who": u32}),
+    "napi_hand": (Status, {"napi": pointer(Napi), "who": u32, "kind": u32}),
+    "napi_take": (Status, {"napi": pointer(Napi), "who": u32, "kind": u32}),
+    "napi_complete": (Status, {"napi": pointer(Napi), "who": u32}),
+    "napi_end": (Status, {"napi": pointer(Napi), "who": u32, "full": boolean, "next": pointer(u32)}),
+    "napi_busy_take": (Status, {"napi": pointer(Napi), "who": u32}),
+    "napi_busy_stop": (Status, {"napi": pointer(Napi), "who": u32}),
+    "napi_set_threaded": (None, {"napi": pointer(Napi), "who": u32, "threaded": boolean}),
+    "napi_mark_disable": (Status, {"napi": pointer(Napi), "who": u32}),
+    "napi_take_disable": (Status, {"napi": pointer(Napi), "who": u32}),
+    "napi_unmark": (Status, {"napi": pointer(Napi), "who": u32}),
+    "napi_enable": (Status, {"napi": pointer(Napi), "who": u32, "threaded": boolean}),
+    "napi_word": (u64, {"napi": pointer(Napi)}),
+    "free": (Status, {"handle": pointer(Handle)}),
+    "abandon": (Status, {"handle": pointer(Handle)}),
+    "move": (Status, {"from": pointer(Handle), "to": pointer(Handle)}),
+    "ring_new": (Status, {"ring": pointer(Handle), "capacity": size}),
+    "ring_put": (Status, {"ring": pointer(Handle), "number": u64, "bytes": u32}),
+    "ring_put_all": (
+        Status,
+        {"ring": pointer(Handle), "packets": pointer(Packet), "len": size, "count": pointer(size)},
+    ),
+    "ring_poll": (
+        Status,
+        {"ring": pointer(Handle), "weight": size, "out": pointer(Packet), "len": size, "count": pointer(size)},
+    ),
+    "count": (Status, {"handle": pointer(Handle), "counts": pointer(Counts)}),
+    "ring_show": (Status, {"ring": pointer(Handle), "shown": pointer(RingShown)}),
+    "ring_split": (Status, {"ring": pointer(Handle), "out": pointer(Handle)}),
+    "ring_finish": (Status, {"ring": pointer(Handle), "totals": pointer(Totals)}),
+    "tx_new": (
+        Status,
+        {"tx": pointer(Handle), "capacity": size, "min": u32, "max": u32, "hold_ms": u64, "now_ms": u64},
+    ),
+    "tx_send": (Status, {"tx": pointer(Handle), "bytes": u32}),
+    "tx_done": (Status, {"tx": pointer(Handle), "count": u32, "now_ms": u64}),
+    "tx_state": (Status, {"tx": pointer(Handle), "state": pointer(TxShown)}),
+    "tx_watch": (
+        Status,
+        {
+            "tx": pointer(Handle),
+            "watchdog": pointer(TxWatchdog),
+            "limit_ms": u64,
+            "now_ms": u64,
+            "stuck": pointer(boolean),
+        },
+    ),
+    "shared_new": (
+        Status,
+        {"ring": pointer(Handle), "control": pointer(Handle), "seats": pointer(Handle), "count": size},
+    ),
+    "shared_bare": (Status, {"control": pointer(Handle), "seats": pointer(Handle), "count": size}),
+    "seat_schedule": (Status, {"seat": pointer(Handle)}),
+    "seat_schedule_prep": (Status, {"seat": pointer(Handle)}),
+    "seat_take": (Status, {"seat": pointer(Handle), "kind": u32}),
+    "seat_busy_take": (Status, {"seat": pointer(Handle)}),
+    "seat_set_threaded": (Status, {"seat": pointer(Handle), "threaded": boolean}),
+    "seat_hand": (Status, {"seat": pointer(Handle), "kind": u32}),
+    "seat_poll": (
+        Status,
+        {"seat": pointer(Handle), "weight": size, "out": pointer(Packet), "len": size, "count": pointer(size)},
+    ),
+    "seat_requeue": (Status, {"seat": pointer(Handle)}),
+    "seat_complete": (Status, {"seat": pointer(Handle)}),
+    "seat_complete_done": (Status, {"seat": pointer(Handle)}),
+    "seat_busy_stop": (Status, {"seat": pointer(Handle)}),
+    "seat_look": (Status, {"seat": pointer(Handle), "word": pointer(u64)}),
+    "seat_count": (Status, {"seat": pointer(Handle), "answers": pointer(Answers)}),
+    "seat_hand_again": (Status, {"seat": pointer(Handle), "next": pointer(u32)}),
+    "seat_end": (Status, {"seat": pointer(Handle), "full": boolean, "next": pointer(u32)}),
+    "control_enable": (Status, {"control": pointer(Handle), "threaded": boolean}),
+    "control_mark": (Status, {"control": pointer(Handle)}),
+    "control_try_take": (Status, {"control": pointer(Handle)}),
+    "control_step": (Status, {"control": pointer(Handle), "on": boolean, "threaded": boolean}),
+    "list_new": (Status, {"list": pointer(Handle)}),
+    "list_push": (Status, {"list": pointer(Handle), "id": u32}),
+    "list_remove": (Status, {"list": pointer(Handle), "id": u32}),
+    "list_len": (Status, {"list": pointer(Handle), "len": pointer(u32)}),
+    "run_begin": (Status, {"list": pointer(Handle), "budget": u32, "weight": u32, "window": u32}),
+    "run_next": (Status, {"list": pointer(Handle), "id": pointer(u32)}),
+    "run_polled": (Status, {"list": pointer(Handle), "work": u32, "next": u32}),
+    "run_end": (Status, {"list": pointer(Handle), "report": pointer(RunReport)}),
+    "driver_new": (Status, {"driver": pointer(Handle), "devices": u32, "budget": u32, "weight": u32, "window": u32}),
+    "driver_open": (Status, {"driver": pointer(Handle), "device": u32}),
+    "driver_stop": (Status, {"driver": pointer(Handle), "device": u32}),
+    "driver_interrupt": (Status, {"driver": pointer(Handle), "device": u32}),
+    "driver_next": (Status, {"driver": pointer(Handle), "todo": pointer(Todo)}),
+    "driver_done": (Status, {"driver": pointer(Handle), "todo": pointer(Todo)}),
+    "driver_step": (Status, {"driver": pointer(Handle), "todo": pointer(Todo)}),
+    "driver_show": (Status, {"driver": pointer(Handle), "device": u32, "shown": pointer(DeviceShown)}),
+    "replay": (
+        Status,
+        {
+            "settings": pointer(Settings),
+            "trace": text,
+            "len": size,
+            "report": text,
+            "room": size,
+            "replayed": pointer(Replayed),
+        },
+    ),
+    "raise_": (
+        Status,
+        {
+            "settings": pointer(Settings),
+            "restarts": u32,
+            "trace": text,
+            "len": size,
+            "out": text,
+            "room": size,
+            "replayed": pointer(Replayed),
+        },
+    ),
+    "machine_default": (Status, {"settings": pointer(MachineSettings), "size": size}),
+    "machine": (
+        Status,
+        {
+            "settings": pointer(MachineSettings),
+            "arrivals": text,
+            "len": size,
+            "report": text,
+            "room": size,
+            "ran": pointer(MachineRan),
+        },
+    ),
+}

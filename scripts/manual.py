@@ -1,0 +1,101 @@
+"""The reference of the C library, from what scripts/header.py read of include/fintaqush.h.
+
+manual.py FOLDER writes the manual pages of section 3: fintaqush_GROUP.3 for each group, and for each call CALL.3, which leads there.
+manual.py --names prints their names. manual.py --doxygen FILE prints a header with its comments as Doxygen reads them.
+"""
+
+from __future__ import annotations
+
+import re
+import sys
+import textwrap
+from collections.abc import Iterator, Mapping, Sequence
+from pathlib import Path
+from typing import Any
+
+import header
+from abi_names import sentence
+
+
+def calls_of(group: Mapping[str, Any]) -> list[str]:
+    items = [item for block in group["blocks"] for item in block["items"]]
+    return [item["name"] for item in items if item["kind"] == "function"]
+
+
+def roff(text: str) -> str:
+    return re.sub(r"^([.'])", r"\\&\1", text.replace("\\", "\\e").replace("-", "\\-"), flags=re.M)
+
+
+def manual(group: Mapping[str, Any], others: Sequence[str], version: str) -> Iterator[str]:
+    name = group["name"]
+    yield f'.TH FINTAQUSH_{name.upper()} 3 "" "Fintaqush {version}"'
+    yield f".SH NAME\n{', '.join([f'fintaqush_{name}', *calls_of(group)])} \\- {group['title']}"
+    yield f".SH SYNOPSIS\n.nf\n.B #include <{header.HEADER.name}>\n.fi"
+    yield ".SH DESCRIPTION"
+    yield roff(f"{sentence(group['title'])} {group['about']}".strip())
+    for block in group["blocks"]:
+        yield from described(block)
+    yield ".SH SEE ALSO\n.BR fintaqush (3),\n" + ",\n".join(f".BR fintaqush_{other} (3)" for other in others)
+
+
+def described(block: Mapping[str, Any]) -> Iterator[str]:
+    """Yields the declarations of a block, and what its comment and notes say about them."""
+    for item in block["items"]:
+        text = item["text"]
+        lines = text.splitlines() if "\n" in text else textwrap.wrap(text, 72, subsequent_indent="    ")
+        yield ".PP\n.nf\n" + roff("\n".join(lines)) + "\n.fi"
+    notes = [f"{item['name']}: {item['note']}." for item in block["items"] if item["note"]]
+    about = " ".join(filter(None, [block["about"], *notes]))
+    if about:
+        yield f".RS 4\n{roff(about)}\n.RE" if block["items"] else f".PP\n{roff(about)}"
+
+
+def pages() -> Iterator[tuple[str, str]]:
+    """Yields each manual page's name and text."""
+    read = header.abi()
+    names = [group["name"] for group in read["groups"]]
+    for group in read["groups"]:
+        name = group["name"]
+        lines = manual(group, [other for other in names if other != name], read["version"])
+        yield f"fintaqush_{name}.3", "\n".join(lines) + "\n"
+        yield from ((f"{call}.3", f".so man3/fintaqush_{name}.3\n") for call in calls_of(group))
+
+
+def for_doxygen(path: Path) -> str:
+    """Returns a header's text with comments that Doxygen reads: the comment before the code becomes the main page, and groups become
+    modules."""
+    text = path.read_text()
+    if path.suffix == ".hpp":
+        text = re.sub(r"^( *)// ", r"\1/// ", text, flags=re.M)
+        begin = text.index("#ifndef")
+        return "/** @file */\n" + linked(text[:begin]) + text[begin:]
+    text = re.sub(r"(?<=\S)( +)/\* ", r"\1/**< ", text)
+    text = re.sub(r"^( *)/\*(?=[ \n])", r"\1/**", text, flags=re.M)
+    text = "/** @file */\n" + text.replace("/**\n", "/** @mainpage Calls of C and C++\n", 1)
+    for at, group in enumerate(header.abi()["groups"]):
+        module = f"/** @defgroup {group['name']} {group['title'][0].upper()}{group['title'][1:]}\n * @{{\n * "
+        text = text.replace(f"/** {header.BANNER}{group['name']}: ", ("/** @} */\n" if at else "") + module, 1)
+    end = text.rindex("#ifdef __cplusplus")
+    text = f"{text[:end]}/** @}} */\n{text[end:]}"
+    return re.sub(r"/\*\*.*?\*/", lambda comment: linked(comment[0]), text, flags=re.S)
+
+
+def linked(text: str) -> str:
+    """Returns a comment's text with each name of the library as a link."""
+    return re.sub(r"\b(fq_\w+|FQ_[A-Z_]*[A-Z])\b", r"#\1", text)
+
+
+def main(words: Sequence[str]) -> None:
+    if words[0] == "--names":
+        print(*(name for name, _ in pages()), sep="\n")
+    elif words[0] == "--doxygen":
+        sys.stdout.write(for_doxygen(Path(words[1])))
+    else:
+        folder = Path(words[0])
+        folder.mkdir(parents=True, exist_ok=True)
+        for name, text in pages():
+            (folder / name).write_text(text)
+
+
+if __name__ == "__main__":
+    main(sys.argv[1:])

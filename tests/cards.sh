@@ -1,0 +1,55 @@
+#!/usr/bin/env bash
+# tests/cards.sh [--fetch]: the rules of cards. The plain model predicts what the real drivers e1000 and vmxnet3 did on emulated cards, from
+# one recording of each, and napi_machine prints the model's bytes: first with the recordings that tests/cards/kept has, in seconds; then
+# with recordings that this makes itself in some 3 minutes of processor time, in a guest under QEMU's interpreter, where other work on the
+# machine changes hardly anything. Then the table of drivers is compared with the sources of Linux. QEMU, Debian's kernel and the guest's
+# programs aren't installed: --fetch downloads them once, 160 MB into ~/.cache/fintaqush, and does no more, with status 1 if it can't.
+# Recordings are skipped without these packages, with less than 2 GB of free memory, and if other work lets a guest take over 27 minutes.
+# Settings that need an option which napi_machine lacks are skipped for napi_machine. MACHINE=FILE names another build of napi_machine.
+# The last line is `N passed, M failed, K skipped`.
+set -uo pipefail
+unset CDPATH
+top=$(dirname "$(dirname "$(readlink -f "$0")")")
+scratch=$(mktemp -d)
+trap 'rm -rf "$scratch"' EXIT
+. "$top/scripts/checks.sh"
+
+cards() { timeout 3400 python3 -EsSB "$top/tests/cards/cards.py" "$@"; }
+
+[ "${1:-}" != --fetch ] || exec python3 -EsSB "$top/tests/cards/cards.py" fetch
+
+# compared ARGUMENT ..: adds the sums of a comparison, whose lines are printed.
+compared() {
+    cards "$@" > "$scratch/compared" 2>&1
+    sed '$d' "$scratch/compared"
+    if [[ $(tail -n 1 "$scratch/compared") =~ ^([0-9]+)\ passed,\ ([0-9]+)\ failed,\ ([0-9]+)\ skipped$ ]]; then
+        passed=$((passed + BASH_REMATCH[1]))
+        failed=$((failed + BASH_REMATCH[2]))
+        skipped=$((skipped + BASH_REMATCH[3]))
+    else
+        tail -n 1 "$scratch/compared"
+        check "the comparison '$1' ends" false
+    fi
+}
+
+program=${MACHINE:-$top/crates/napi_machine/out/napi_machine}
+[ -n "${MACHINE:-}" ] || check 'napi_machine is built' "$top/scripts/build.sh" napi_machine
+compared kept "$program"
+
+if has cc 'recordings of emulated cards'; then
+    if ! cards memory; then
+        skip 'recordings of emulated cards' 2-GB-of-memory
+    elif ! cards fetched; then
+        skip 'recordings of emulated cards' linux-cards
+    else
+        compared here "$program"
+    fi
+fi
+
+mapfile -t files < <(cards files)
+if "$top/scripts/linux_source.sh" 6.12 "$scratch/linux" "${files[@]}" > "$scratch/log"; then
+    check 'the lines of the table of drivers are those of Linux' cards sources "$scratch/linux"
+else
+    skip 'the table of drivers' linux-source
+fi
+sum_up

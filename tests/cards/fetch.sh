@@ -1,0 +1,32 @@
+#!/usr/bin/env bash
+# tests/cards/fetch.sh FOLDER: downloads QEMU, a Debian kernel and the guest's programs of tests/cards.sh by apt-get, and unpacks them into
+# FOLDER/root. It installs nothing: apt has its own settings and state in a scratch folder. 160 MB are downloaded, 300 MB unpacked. The
+# packages are those of the row `linux-cards` in tests/needs.txt, of Debian's release SUITE. Exit status: 0, or that of what failed.
+set -euo pipefail
+unset CDPATH
+top=$(dirname "$(dirname "$(dirname "$(readlink -f "$0")")")")
+folder=$1
+suite=${SUITE:-trixie}
+key=/usr/share/keyrings/debian-archive-keyring.gpg
+[ -f "$key" ] || { echo "fetch.sh: there is no $key: this downloads packages of Debian" >&2; exit 1; }
+mkdir -p "$(dirname "$folder")"
+work=$(mktemp -d "$folder.XXXXXX")
+trap 'rm -rf "$work"' EXIT
+mkdir -p "$work"/{lists,cache/archives}/partial "$work"/{state,root}
+echo "deb [signed-by=$key] http://deb.debian.org/debian $suite main" > "$work/sources"
+: > "$work/status"
+own=(-q -o Dir::Etc::sourcelist="$work/sources" -o Dir::Etc::sourceparts=/dev/null -o Dir::State="$work/state"
+     -o Dir::State::lists="$work/lists" -o Dir::State::status="$work/status" -o Dir::Cache="$work/cache" -o Acquire::Languages=none
+     -o Debug::NoLocking=1 -o Acquire::http::Timeout=20 -o APT::Sandbox::User=root)
+apt-get "${own[@]}" update
+# the kernel without the packages that it depends on
+read -ra packages < <(awk '$1 == "linux-cards" { sub(/ *#.*/, ""); sub(/linux-image-amd64/, ""); $1 = ""; print }' "$top/tests/needs.txt")
+image=$(apt-cache "${own[@]}" depends linux-image-amd64 | sed -n 's/.*Depends: \(linux-image-[^ ]*\)$/\1/p' | head -n 1)
+apt-get -y -d --no-install-recommends "${own[@]}" install "${packages[@]}"
+(cd "$work/cache/archives" && apt-get "${own[@]}" download "$image")
+for deb in "$work"/cache/archives/*.deb; do
+    dpkg-deb --fsys-tarfile "$deb" | tar -x -C "$work/root" --exclude='./usr/share/doc*' --exclude='./usr/share/man*' --exclude='./usr/share/locale*'
+done
+rm -rf "$folder"
+mkdir "$folder"
+mv "$work/root" "$folder/root"

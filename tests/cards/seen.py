@@ -1,0 +1,103 @@
+"""What a recording of an emulated card shows: costs, arrivals at the card, and measured values."""
+
+import struct
+from collections.abc import Iterable, Iterator
+from pathlib import Path
+
+import emulation
+from fintaqush_tools import card_costs, predicting
+from fintaqush_tools.card_costs import CardTimes
+from fintaqush_tools.commands import costs
+from fintaqush_tools.receiving import Receiving
+from fintaqush_tools.recording import Event, Head, check_lost, events_in
+from fintaqush_tools.timeline import Timeline
+
+Frame = tuple[int, int]  # when it came to the card, by QEMU's virtual clock in ns, and its number
+Measured = dict[str, float]
+
+DEVICE = "eth0"
+PORT = 9000
+BEGAN = 1767225600 * 10**9  # 2026-01-01, at which the guest's clock begins
+MOST_DRIFT = 1000  # ns, within a recording
+# What is kept of a recording's head.
+HEAD = (
+    "kernel",
+    "clock",
+    f"device.{DEVICE}.driver",
+    f"device.{DEVICE}.ethtool.ring.rx",
+    f"device.{DEVICE}.ethtool.coalesce.rx-usecs",
+    f"device.{DEVICE}.ethtool.feature.large-receive-offload",
+    "sysctl.net.core.gro_normal_batch",
+)
+
+
+def frames_in(path: Path) -> Iterator[Frame]:
+    """Yields the test packets of a capture."""
+    mac, udp, to = bytes.fromhex(emulation.MAC.replace(":", "")), 17, PORT.to_bytes(2, "big")
+    with open(path, "rb") as file:
+        file.read(24)
+        while len(front := file.read(16)) == 16:
+            seconds, micros, have, _ = struct.unpack("<4I", front)
+            data = file.read(have)
+            is_own = len(data) >= 50 and data[:6] == mac and data[12:14] == b"\x08\x00"
+            if is_own and data[23] == udp and data[36:38] == to:
+                yield seconds * 10**9 + micros * 1000 - BEGAN, struct.unpack("<Q", data[42:50])[0]
+
+
+def rows_in(path: Path) -> list[tuple[int, ...]]:
+    return [tuple(map(int, line.split(","))) for line in path.read_text(encoding="ascii").splitlines()]
+
+
+def ahead_of(stamps: list[tuple[int, ...]]) -> int:
+    """Returns how far the virtual clock is ahead of CLOCK_MONOTONIC. Each stamp is a reading of the one between two of the other."""
+    first, last = (min(part, key=lambda each: each[2] - each[0]) for part in (stamps[:3], stamps[3:]))
+    ahead, later = ((each[0] + each[2]) // 2 - each[1] for each in (first, last))
+    if abs(later - ahead) > MOST_DRIFT:
+        raise emulation.Failed("the guest's clocks drift")
+    return ahead
+
+
+class Seen:
+    """What a recording shows, with the arrivals at the card."""
+
+    def __init__(self, folder: Path, setting: emulation.Setting, frames: Iterable[Frame]) -> None:
+        self.path = folder / f"{setting.file}.rec"
+        self.receiving, self.card, self.interrupts = Receiving({DEVICE}, {"card"}), CardTimes({DEVICE}), 0
+        self.head: Head = {}
+        stamps = rows_in(folder / f"{setting.file}.stamps")
+        self.add_arrivals(frames, stamps, {row[0] for row in rows_in(folder / f"{setting.file}.read")})
+        lost: list[str] = []
+        events = list(events_in(str(self.path), lost, self.head))
+        self.timeline = Timeline(None, [DEVICE], None, costs.interrupts_in(self.head, [DEVICE]))
+        for event in events:
+            self.add(event)
+        self.timeline.settle()
+        check_lost(lost)
+
+    def add_arrivals(self, frames: Iterable[Frame], stamps: list[tuple[int, ...]], read: set[int]) -> None:
+        ahead = ahead_of(stamps)
+        for time, number in sorted(frame for frame in frames if stamps[0][0] <= frame[0] <= stamps[-1][2]):
+            self.receiving.sent.append(time - ahead)
+            self.receiving.has_come.append(number in read)
+            self.receiving.sent_on.append(0)
+            self.receiving.sent_by.append("card")
+
+    def add(self, event: Event) -> None:
+        self.receiving.add(event)
+        self.card.add(event)
+        self.timeline.add(event)
+        self.interrupts += event.name == "irq_handler_entry" and f"name={DEVICE}" in event.said
+
+    def measured(self, packet: float) -> Measured:
+        return {**predicting.measured_of(self.receiving, self.head, packet=packet), "interrupts": self.interrupts}
+
+    def costs(self) -> dict[str, int]:
+        """Returns the costs by `fintaqush costs`, and those of cards."""
+        found = costs.object_in(str(self.path), [DEVICE])["costs"]
+        values = {name.replace("_", "-"): cost["value"] for name, cost in found.items()}
+        use = costs.estimated(self.timeline, self.head)[0].get("use")
+        entries = self.receiving.entries[self.receiving.processor]
+        more = card_costs.known_costs(self.card, self.timeline, use)[0]
+        if interrupt := card_costs.arrival_interrupt_cost(self.receiving.sent, entries):
+            more["interrupt"] = interrupt
+        return {**values, **{name: round(cost.value) for name, cost in more.items()}}

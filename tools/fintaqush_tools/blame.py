@@ -1,0 +1,68 @@
+"""Which part of the packets' waits passed while another task had the processor: for advise. It explains a recording and predicts nothing."""
+
+from __future__ import annotations
+
+import bisect
+from collections import Counter
+from collections.abc import Collection, Iterable, Iterator, Sequence
+
+from fintaqush_tools.layout import Layout
+from fintaqush_tools.receiving import Receiving
+from fintaqush_tools.tasks import KERNEL_TASKS, Tasks
+from fintaqush_tools.texts import shown
+
+Span = tuple[int, int, int]  # a processor, and when a wait there begins and ends
+
+NOTABLE = 0.1  # least share that is worth a line
+SLOWEST = 100  # one in so many waits
+MOST = 20_000  # waits that are looked at
+NAMED = 3  # tasks
+
+
+def spans_of(seen: Receiving, layout: Layout) -> list[tuple[int, list[Span]]]:
+    """Returns for each delivered packet its wait, from its arrival to the end of its poll, and the part of it before the poll began: while polls
+    run in a softirq, the task that they interrupted counts as running."""
+    found = [each for matched in layout.deliveries.values() for each in matched]
+    spans = []
+    for packet, poll, _ in found[:: len(found) // MOST + 1]:
+        begin, end = seen.sent[packet], seen.begun[poll] or seen.ended[poll]
+        spans.append((max(0, seen.ended[poll] - begin), [(seen.on[poll], begin, max(begin, end))]))
+    return spans
+
+
+def others_in(tasks: Tasks, spans: Iterable[Span], known: Collection[int]) -> Counter[str]:
+    """Returns how long tasks had the processors in these spans, other than idle tasks, those that poll, and those with known numbers."""
+    taken: Counter[str] = Counter()
+    for processor, begin, end in spans:
+        times, running = tasks.history[processor]
+        place = max(0, bisect.bisect_right(times, begin) - 1)
+        while place < len(times) and times[place] < end:
+            until = times[place + 1] if place + 1 < len(times) else end
+            name, number, _ = running[place]
+            if number and number not in known and not KERNEL_TASKS.match(name):
+                taken[name] += max(0, min(end, until) - max(begin, times[place]))
+            place += 1
+    return taken
+
+
+def told(waits: Sequence[tuple[int, list[Span]]], tasks: Tasks, known: Collection[int]) -> tuple[float, str]:
+    """Returns the share of these waits that passed while other tasks had the processor, and the tasks."""
+    whole = max(1, sum(wait for wait, _ in waits))
+    taken = others_in(tasks, (span for _, spans in waits for span in spans), known)
+    names = ", ".join(f"{shown(name)} {100 * time / whole:.0f} %" for name, time in taken.most_common(NAMED))
+    return sum(taken.values()) / whole, names
+
+
+def lines_of(seen: Receiving, layout: Layout, known: Collection[int]) -> Iterator[str]:
+    """Yields a line about all waits and the slowest of them, if other tasks have a notable share."""
+    waits = sorted(spans_of(seen, layout), key=lambda each: each[0])
+    slowest = waits[-max(1, len(waits) // SLOWEST) :]
+    (share, names), (slow_share, slow_names) = (told(each, seen.tasks, known) for each in (waits, slowest))
+    if max(share, slow_share) >= NOTABLE:
+        yield (
+            f"of the waits to delivery {100 * share:.0f} % passed while another task had the processor"
+            + (f" ({names})" if names else "")
+            + f", and of the slowest one in {SLOWEST} {100 * slow_share:.0f} %"
+            + (f" ({slow_names})" if slow_names else "")
+            + ": no setting that is tried here changes that; priorities and other processors for these tasks do"
+        )

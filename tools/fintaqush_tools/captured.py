@@ -1,0 +1,54 @@
+"""The arrivals of a capture that was made during a recording: for advise."""
+
+from __future__ import annotations
+
+import time
+
+from fintaqush_tools.arrivals import SECOND
+from fintaqush_tools.commands import from_pcap
+from fintaqush_tools.errors import Refusal
+from fintaqush_tools.options import Words
+from fintaqush_tools.recording import Head
+from fintaqush_tools.texts import is_number, shown
+
+CLOCK = (
+    "their clock isn't the system's: let phc2sys set the card's clock by it, and capture with `tcpdump -j adapter`, or record and capture at the "
+    "same time"
+)
+
+
+def times_in(capture: str, address: str) -> list[int]:
+    """Returns the times of the packets to a link address and of broadcasts, in ns of CLOCK_REALTIME. Multicasts are left out, because a card
+    accepts only those that its driver has enabled."""
+    packets, _ = from_pcap.packets_in(Words(capture=capture, count=None, flows=False), [])
+    return [
+        moment
+        for moment, kind, _ in packets.in_order()
+        if not kind.is_multicast and address in kind.receivers([address])
+    ]
+
+
+def date(moment: int) -> str:
+    return time.strftime("%Y-%m-%dT%H:%M:%SZ", time.gmtime(moment // SECOND))
+
+
+def arrivals_within(capture: str, head: Head, device: str) -> list[int]:
+    """Returns when the packets of a capture arrived at a device during its recording, in ns of CLOCK_MONOTONIC."""
+    address = head.get(f"device.{device}.address", "")
+    real, monotonic = head.get("began.realtime", ""), head.get("began.monotonic", "")
+    if not address or not is_number(real) or not is_number(monotonic):
+        raise Refusal(
+            "it has neither the device's address nor both clocks, which a capture is aligned by: record again"
+        )
+    times = times_in(capture, address)
+    if not times:
+        raise Refusal(f"{shown(capture)}: no packet to {address}, the address of {shown(device)}, is in it")
+    begin = int(real)
+    end = begin + round(float(head.get("seconds", "0")) * SECOND)
+    within = [moment - int(real) + int(monotonic) for moment in times if begin <= moment <= end]
+    if not within:
+        raise Refusal(
+            f"{shown(capture)}: its packets to {shown(device)} are from {date(times[0])} to {date(times[-1])}, and the recording from {date(begin)} to "
+            f"{date(end)}; if they were captured meanwhile, {CLOCK}"
+        )
+    return within

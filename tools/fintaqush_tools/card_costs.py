@@ -1,0 +1,146 @@
+"""Estimates the costs of cards and of NAPI's timer from a recording: taking a packet from the ring, a timer and the wake-up by one, waking the
+program on the processor that polls, and an interrupt whose packet's arrival at the card is known.
+
+CardTimes collects what the estimates need, event by event, next to a Timeline. Each function returns a cost, or None if too few times of its
+kind were recorded; `known_costs` returns all of a recording, with a line about each.
+"""
+
+from __future__ import annotations
+
+import bisect
+import re
+from collections.abc import Iterable, Sequence
+from typing import Optional
+
+from fintaqush_tools.fits import Cost, cost_of
+from fintaqush_tools.recording import POLLED, Event, Head
+from fintaqush_tools.timeline import RETURNED, SHORT_SWITCH, SWITCH, TIMER, Timeline
+
+GIVEN = re.compile(r"dev=(\S+) ")
+TO_GRO = {"napi_gro_receive_entry", "napi_gro_frags_entry"}  # a driver passes a packet to GRO
+QUIET = 200_000  # ns without a poll before an arrival, after which the card and the processor are idle
+SOON = 10_000  # ns from such an arrival to the softirq that its interrupt requests
+
+
+class CardTimes:
+    """Collects times of the polls of some devices, by default of all, and of the programs that read."""
+
+    takes: list[int]
+    woken_uses: list[int]
+    taken: dict[int, int]
+    sleeps: dict[int, int]
+    woken: dict[int, int]
+
+    def __init__(self, polled: Iterable[str] = ()) -> None:
+        self.polled = set(polled)
+        self.takes = []  # from one packet that a poll passes to GRO to the next one
+        self.woken_uses = (
+            []
+        )  # from the end of a poll of one packet, for which a program slept, to the program's next read
+        self.taken = {}  # by processor: when the poll that it makes last passed a packet to GRO
+        self.sleeps = {}  # by task that sleeps: how many packets polls had delivered by then
+        self.woken = {}  # by task that read the only packet since then: the end of that packet's poll
+        self.delivered, self.poll_end, self.poll_on, self.was_lone = 0, 0, -1, False
+
+    def add(self, event: Event) -> None:
+        """Processes the next event of the recording."""
+        if event.name in TO_GRO:
+            self.take(event)
+        elif event.name == "netif_receive_skb":
+            self.taken.pop(event.cpu, None)  # GRO passes its batch to the stack
+        elif event.name == "napi_poll":
+            self.poll(event)
+        elif event.name == "sched_switch":
+            self.switch(event)
+        elif event.name.startswith("sys_exit_"):
+            self.end_read(event)
+        elif event.name.startswith("sys_enter_"):
+            self.begin_read(event)
+
+    def take(self, event: Event) -> None:
+        found = GIVEN.match(event.said)
+        if found and (not self.polled or found[1] in self.polled):
+            if event.cpu in self.taken:
+                self.takes.append(event.time - self.taken[event.cpu])
+            self.taken[event.cpu] = event.time
+
+    def poll(self, event: Event) -> None:
+        self.taken.pop(event.cpu, None)
+        *_, device, work, _ = event.parts(POLLED)
+        if not self.polled or device in self.polled:
+            self.delivered += int(work)
+            self.poll_end, self.poll_on, self.was_lone = event.time, event.cpu, int(work) == 1
+
+    def switch(self, event: Event) -> None:
+        found = SWITCH.match(event.said) or SHORT_SWITCH.match(event.said)
+        if found and not found[2].startswith("R"):
+            self.sleeps[int(found[1])] = self.delivered
+
+    def end_read(self, event: Event) -> None:
+        """A read returns, perhaps of the only packet since the program slept."""
+        found, before = RETURNED.search(event.said), self.sleeps.pop(event.pid, None)
+        if not found or not 0 < int(found[1], 16) < 1 << 31 or before is None:
+            return
+        if self.delivered - before == 1 and self.was_lone and event.cpu == self.poll_on:
+            self.woken[event.pid] = self.poll_end
+
+    def begin_read(self, event: Event) -> None:
+        """The program reads again, after the use of the packet; a poll since then would have taken some of that time."""
+        if self.woken.pop(event.pid, None) == self.poll_end:
+            self.woken_uses.append(event.time - self.poll_end)
+
+
+def take_cost(times: CardTimes) -> Optional[Cost]:
+    """Returns the cost of taking a packet from the ring and passing it to GRO, without the stack's part."""
+    return cost_of(times.takes, "pairs of packets")
+
+
+def app_wake_cost(times: CardTimes, use: Optional[Cost]) -> Optional[Cost]:
+    """Returns the cost of waking the program on the processor that polls; `use` is the cost of a packet's use there."""
+    return cost_of(times.woken_uses, "single packets", use.value) if use else None
+
+
+def timer_costs(times: Timeline) -> dict[str, Cost]:
+    """Returns `timer`, the cost of the handler of NAPI's timer, and `timer-wake`, that of waking an idle processor by it. Both grow with the
+    time that the processor slept, so `timeouts_of` has to be printed with them."""
+    found = {
+        "timer": cost_of(times.handlers.get(TIMER, []), "handlers of NAPI's timer"),
+        "timer-wake": cost_of(times.wakes.get("timers", []), "timers on an idle processor"),
+    }
+    return {name: cost for name, cost in found.items() if cost}
+
+
+def timeouts_of(head: Head, devices: Iterable[str]) -> list[int]:
+    """Returns the gro_flush_timeout of the recorded devices, in ns, without 0."""
+    texts = (head.get(f"device.{device}.gro_flush_timeout", "") for device in devices)
+    return sorted({int(text) for text in texts if text.isdigit()} - {0})
+
+
+def packet_interrupt_cost(times: Timeline) -> Optional[Cost]:
+    """Returns the cost of the interrupts that packets request, without those of NAPI's timer, if both kinds were recorded."""
+    kinds = {name: took for name, took in times.handlers.items() if name != TIMER}
+    return cost_of([each for took in kinds.values() for each in took], "handlers without NAPI's timer")
+
+
+def arrival_interrupt_cost(arrivals: Sequence[int], softirqs: Sequence[int]) -> Optional[Cost]:
+    """Returns the time from a packet's arrival at the card to the softirq on an idle processor, which begins at one of `softirqs`: an interrupt,
+    with what the handler's events don't show of it. Both are sorted, in ns."""
+    took = []
+    for before, entry in zip(softirqs, softirqs[1:]):
+        came = arrivals[bisect.bisect_right(arrivals, before) : bisect.bisect_right(arrivals, entry)]
+        if len(came) == 1 and came[0] - before > QUIET and entry - came[0] < SOON:
+            took.append(entry - came[0])
+    return cost_of(took, "single packets for an idle processor")
+
+
+def known_costs(
+    times: CardTimes, timeline: Timeline, use: Optional[Cost], timeouts: Sequence[int] = ()
+) -> tuple[dict[str, Cost], list[str]]:
+    """Returns the costs that the recording shows, by the names of the machine's options, and a line about each. `use` is the cost of a
+    packet's use if the program reads on the processor that polls; `timeouts` are the recorded gro_flush_timeout, in ns.
+    """
+    found = {"take": take_cost(times), "app-wake": app_wake_cost(times, use)}
+    costs = {**{name: cost for name, cost in found.items() if cost}, **timer_costs(timeline)}
+    told = [f"{name} {cost.interval()}: {cost.count} {cost.source}" for name, cost in costs.items()]
+    at = f", at a gro_flush_timeout of {' and '.join(map(str, timeouts))} ns"
+    return costs, [line + at if timeouts and line.startswith("timer") else line for line in told]

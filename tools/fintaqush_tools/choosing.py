@@ -1,0 +1,152 @@
+"""Chooses the best of several settings for a goal by the predictions of napi_machine: for advise."""
+
+from __future__ import annotations
+
+import os
+from collections.abc import Collection, Iterator, Mapping, Sequence
+from concurrent.futures import ThreadPoolExecutor
+from typing import Any, Optional
+
+from fintaqush_tools import predicting
+from fintaqush_tools.machine import COSTS, values_of, values_on, with_costs
+from fintaqush_tools.options import Words
+from fintaqush_tools.progress import Progress
+
+Options = dict[str, int]
+Values = dict[str, Any]
+Tried = tuple[Options, Values]  # a setting and its results
+
+BAND = (80, 120)  # % of the costs
+NOTABLE = 0.03  # relative difference below which two settings are equally good
+GOALS = {
+    "p99": "the 99th percentile of waits",
+    "p50": "the median wait",
+    "cpu": "the kernel's processor time",
+    "drops": "drops",
+}
+
+
+def numeric(value: Any) -> float:
+    """Converts a value of the machine's report to a number; shares are texts there."""
+    return float(value) if isinstance(value, str) else int(value)
+
+
+def settings_of(costs: Mapping[str, int], options: Options) -> Options:
+    """Returns the machine's options. It has one cost for interrupts and timers, and with deferral nearly all are timers."""
+    is_deferred = options.get("defer-hard-irqs") and options.get("gro-flush-timeout")
+    timer = {"interrupt": costs["timer"]} if is_deferred and "timer" in costs else {}
+    return {**{name: costs[name] for name in COSTS if name in costs}, **timer, **options}
+
+
+class Predictions:
+    """Runs napi_machine for several settings at once."""
+
+    def __init__(self, made: str, costs: dict[str, int], arrivals: str, devices: Collection[int]) -> None:
+        """`costs` has that of a NAPI timer too. `devices` are those whose waits count."""
+        self.made, self.costs, self.arrivals, self.devices = made, costs, arrivals.encode(), devices
+
+    def report(self, options: Options, percent: int = 100) -> str:
+        return predicting.reported(self.made, self.arrivals, with_costs(settings_of(self.costs, options), percent))
+
+    def of(self, options: Options, percent: int = 100) -> Values:
+        """Returns the results of a setting, with all costs scaled to `percent`."""
+        values = values_of(self.report(options, percent), self.devices)
+        return {
+            **{name: numeric(value) for name, value in values.items()},
+            "kernel_percent": float(values["interrupt_percent"]) + float(values["poll_percent"]),
+            "program_percent": float(values["use_percent"]),
+            "lost": values["dropped"] + values["refused"],
+        }
+
+    def on(self, options: Options) -> list[dict[str, int]]:
+        """Returns the results of a setting for each processor."""
+        return values_on(self.report(options), self.devices)
+
+    def of_all(self, tried: Sequence[Options]) -> list[Values]:
+        """Returns the results of each setting."""
+        pool = ThreadPoolExecutor(os.cpu_count())
+        values: list[Values] = []
+        try:
+            with Progress(f"predicting {len(tried)} settings", lambda: len(values) / len(tried)):
+                for each in pool.map(self.of, tried):
+                    values.append(each)
+        finally:
+            pool.shutdown(cancel_futures=True)
+        return values
+
+    def band_of(self, options: Options) -> list[Values]:
+        """Returns the results with all costs 20 % lower and higher."""
+        return [self.of(options, percent) for percent in BAND]
+
+
+class Choice:
+    """The best setting for a goal. Of settings that are equally good the one with the fewest changes is the best; one that moves the program to
+    another processor only if no other is as good, because what the program meets there isn't predicted."""
+
+    best: Optional[Tried]
+
+    def __init__(self, words: Words, end: str, predictions: Predictions, tried: Sequence[Options]) -> None:
+        self.goal, self.end, self.predictions = words.goal, end, predictions
+        self.tried = list(zip(tried, predictions.of_all(tried)))
+        self.now, today = self.tried[0]
+        self.most = today["lost"] if words.max_drops is None else words.max_drops
+        self.below = None if words.p99_below is None else words.p99_below * 1000
+        self.order = sorted(self.tried, key=lambda pair: (*self.key(pair[1]), *self.changes_of(pair[0])))
+        allowed = [pair for pair in self.order if self.is_allowed(pair[1])]
+        safe = next((pair for pair in allowed if self.is_safe(pair[0])), None)
+        self.best, self.has_room = safe or next(iter(allowed), None), safe is not None
+        if self.best:
+            self.best = self.fewest_changes(self.best, allowed)
+
+    def fewest_changes(self, best: Tried, allowed: Sequence[Tried]) -> Tried:
+        """Returns the setting with the fewest changes among those that are as good as the best one: within 3 % of it, with the costs as they are
+        or 20 % lower or higher."""
+        band = self.predictions.band_of(best[0])
+        most = max(self.value(values) for values in (best[1], *band)) * (1 + NOTABLE)
+        near = [pair for pair in allowed if self.value(pair[1]) <= most]
+        for pair in sorted(near, key=lambda pair: (*self.changes_of(pair[0]), *self.key(pair[1]))):
+            others = self.predictions.band_of(pair[0])
+            is_alike = self.is_alike(pair[1], best[1]) or any(map(self.is_alike, others, band))
+            if is_alike and (not self.has_room or self.is_safe(pair[0])):
+                return pair
+        return best
+
+    def is_alike(self, values: Values, best: Values) -> bool:
+        return self.value(values) <= self.value(best) * (1 + NOTABLE)
+
+    def changes_of(self, options: Options) -> tuple[bool, int]:
+        """Returns whether a setting moves the program, and how many options it changes."""
+        changed = {name for name in options if options[name] != self.now.get(name)}
+        return "apart" in changed, len(changed)
+
+    def value(self, values: Mapping[str, Any]) -> float:
+        """Returns the value that the goal is about, of which less is better."""
+        return float(self.key(values)[0])
+
+    def key(self, values: Mapping[str, Any]) -> tuple[float, ...]:
+        """The sort key of a setting: the best one comes first."""
+        cpu, p99 = round(values["kernel_percent"], 1), values[f"{self.end}_p99"]
+        return {
+            "p99": (p99, cpu),
+            "p50": (values[f"{self.end}_p50"], cpu),
+            "cpu": (cpu, p99),
+            "drops": (values["lost"], p99, cpu),
+        }[self.goal]
+
+    def is_allowed(self, values: Mapping[str, Any]) -> bool:
+        """Returns whether a setting's results are within the limits."""
+        return (self.goal == "drops" or values["lost"] <= self.most) and (
+            self.below is None or values[f"{self.end}_p99"] <= self.below
+        )
+
+    def is_safe(self, options: Options) -> bool:
+        """Returns whether a setting is within the limits with all costs 20 % lower and higher too."""
+        return all(map(self.is_allowed, self.predictions.band_of(options)))
+
+    def warnings(self, best: Options, band: Sequence[Values], today: Sequence[Values]) -> Iterator[str]:
+        """Yields warnings about the best setting."""
+        if not self.has_room:
+            yield "with costs 20 % lower or higher it exceeds the limits"
+        for percent, values, old in zip(BAND, band, today):
+            if best != self.now and self.key(old) < self.key(values):
+                yield f"with costs 20 % {'lower' if percent < 100 else 'higher'} today's setting is better"

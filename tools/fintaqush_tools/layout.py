@@ -1,0 +1,90 @@
+"""How a recording's instances become devices of arrivals: napi_machine takes device d on processor (d - 1) mod M, so the k-th instance of the
+processor of rank r is device r + 1 + M * k."""
+
+from __future__ import annotations
+
+import bisect
+from collections import Counter, defaultdict
+
+from fintaqush_tools.errors import Refusal
+from fintaqush_tools.instances import Place
+from fintaqush_tools.receiving import Receiving
+
+MAJOR = 1000  # packets: the waits of a device with fewer don't count if another one has so many
+MOST_PROCESSORS, MOST_INSTANCES = 64, 64  # of napi_machine, and of each processor
+MOVED = 0.05  # share of an instance's packets on processors other than its main one
+
+
+class Layout:
+    """The devices of a recording: one for each instance on each processor that polled it."""
+
+    numbers: dict[tuple[Place, int], int]
+    devices: list[int]
+    packets: Counter[int]
+    on: defaultdict[Place, Counter[int]]
+
+    def __init__(self, seen: Receiving) -> None:
+        self.seen = seen
+        self.processors = sorted(set(seen.on))
+        self.deliveries = seen.deliveries()
+        cpus = self.cpus_of_packets()
+        self.on = defaultdict(Counter)
+        for place, cpu in zip(seen.sent_to, cpus):
+            self.on[seen.place_of(place)][cpu] += 1
+        self.numbers, counts = {}, Counter[int]()
+        for place, on in self.on.items():
+            for cpu in sorted(on):
+                self.numbers[place, cpu] = self.processors.index(cpu) + 1 + len(self.processors) * counts[cpu]
+                counts[cpu] += 1
+        if len(self.processors) > MOST_PROCESSORS or max(counts.values(), default=0) > MOST_INSTANCES:
+            raise Refusal(
+                f"{len(self.processors)} processors poll up to {max(counts.values())} instances each, and napi_machine has at most "
+                f"{MOST_PROCESSORS} processors of {MOST_INSTANCES}"
+            )
+        self.devices = [self.numbers[seen.place_of(place), cpu] for place, cpu in zip(seen.sent_to, cpus)]
+        self.packets = Counter(self.devices)
+
+    def cpus_of_packets(self) -> list[int]:
+        """Returns the processor of each packet: of the poll that took it, or of the next poll of its instance."""
+        seen = self.seen
+        polls = seen.polls_by_place()
+        ended = {place: [seen.ended[number] for number in own] for place, own in polls.items()}
+        cpus = [-1] * len(seen.sent)
+        for matched in self.deliveries.values():
+            for packet, poll, _ in matched:
+                cpus[packet] = seen.on[poll]
+        for packet, cpu in enumerate(cpus):
+            place = seen.place_of(seen.sent_to[packet])
+            if cpu < 0 and place in polls:
+                at = bisect.bisect_left(ended[place], seen.sent[packet])
+                cpus[packet] = seen.on[polls[place][min(at, len(polls[place]) - 1)]]
+        return [seen.processor if cpu < 0 else cpu for cpu in cpus]
+
+    def processor_of(self, device: int) -> int:
+        return self.processors[(device - 1) % len(self.processors)]
+
+    def major(self) -> set[int]:
+        """Returns the devices whose waits count: those with many packets, or else the one with most on each processor."""
+        many = {device for device, count in self.packets.items() if count >= MAJOR}
+        most = {self.processor_of(device): device for device, _ in reversed(self.packets.most_common())}
+        return many or set(most.values())
+
+    def waits(self, cost: float) -> dict[int, list[float]]:
+        """Returns the sorted waits to delivery of each device; none if packets and polls don't match. `cost` is that of a packet in ns."""
+        seen = self.seen
+        waits: defaultdict[int, list[float]] = defaultdict(list)
+        if not all(self.deliveries.values()):
+            return waits
+        for matched in self.deliveries.values():
+            for packet, poll, after in matched:
+                waits[self.devices[packet]].append(seen.delivery(packet, poll, after, cost) - seen.sent[packet])
+        return {device: sorted(each) for device, each in waits.items()}
+
+    def shares(self) -> dict[int, float]:
+        """Returns the share of the packets that each processor has."""
+        on = Counter(self.processor_of(device) for device in self.devices)
+        return {cpu: on[cpu] / max(1, len(self.devices)) for cpu in self.processors}
+
+    def moving(self) -> list[Place]:
+        """Returns the instances that several processors polled."""
+        return [place for place, on in self.on.items() if on.most_common(1)[0][1] < (1 - MOVED) * sum(on.values())]

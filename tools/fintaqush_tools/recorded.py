@@ -1,0 +1,126 @@
+"""A file of fintaqush record, read for one of its devices: for advise."""
+
+from __future__ import annotations
+
+from fintaqush_tools import predicting
+from fintaqush_tools.captured import arrivals_within
+from fintaqush_tools.errors import Refusal
+from fintaqush_tools.instances import ANY, NapiInstance, Routes, instances_in
+from fintaqush_tools.layout import Layout
+from fintaqush_tools.options import Words
+from fintaqush_tools.receiving import Receiving
+from fintaqush_tools.recording import BACKLOG, check_lost, events_in, head_of
+from fintaqush_tools.texts import shown
+from fintaqush_tools.timeline import Timeline
+from fintaqush_tools.tracing import STACK
+
+DISTURBED = 0.02  # share of the processor's time that other tasks may take
+NO_ARRIVAL = (
+    "no arrival is in it: a veth pair's are what its other end sends (fintaqush record --sender), a card's what polls take "
+    "(napi_gro_receive_entry); or name a capture that was made meanwhile by --capture"
+)
+
+
+class Recording:
+    """A recording made by fintaqush record, for one device. Only its head is read until `read` is called."""
+
+    layout: Layout
+    by: str
+
+    def __init__(self, path: str, words: Words) -> None:
+        self.path, self.head = path, head_of(path)
+        if not self.head:
+            raise Refusal("not a file of fintaqush record, which includes the settings")
+        self.device, self.sender = self.chosen(words.device)
+        self.polled = BACKLOG if self.head["polled"] == BACKLOG else self.device
+        self.capture = words.capture
+        self.check_head()
+        pairs = {self.sender: self.device} if self.sender else {}
+        self.seen = Receiving({self.polled}, set(pairs), () if pairs else {self.device}, Routes(self.head, pairs))
+
+    def read(self, times: Timeline | None = None) -> Recording:
+        """Reads the events, also for `times`, which costs are estimated from. Fails if the recording can't be predicted."""
+        lost: list[str] = []
+        for event in events_in(self.path, lost):
+            self.seen.add(event)
+            if times:
+                times.add(event)
+        check_lost(lost)
+        self.by = self.seen.settle()
+        self.check()
+        if self.capture:
+            self.seen.replace_arrivals(arrivals_within(self.capture, self.head, self.device), self.device)
+        self.layout = Layout(self.seen)
+        return self
+
+    def chosen(self, named: str | None) -> tuple[str, str]:
+        """Returns the device to examine, and the other end of its veth pair."""
+        devices, senders = self.head.get("device", "").split(), self.head.get("sender", "").split()
+        polled = [name for name in self.head.get("polled", "").split() if name in devices] or devices
+        if not self.head.get("polled"):
+            raise Refusal(f"it has no polls of {shown(', '.join(devices))}: record while packets arrive")
+        if named and named not in devices:
+            raise Refusal(f"--device {shown(named)}: it has {shown(', '.join(devices))}")
+        if not named and len(polled) > 1:
+            raise Refusal(f"it has several devices: name one with --device: {shown(', '.join(polled))}")
+        device = named or polled[0]
+        return device, dict(zip(devices, senders)).get(device, "")
+
+    def own_instances(self) -> list[NapiInstance]:
+        """Returns the instances that receive for the device, as the head lists them."""
+        return [each for each in instances_in(self.head) if each.device == self.polled and each.receives]
+
+    def check_head(self) -> None:
+        """Fails if the head shows that the recording can't be predicted, before its events are read."""
+        own, events = self.own_instances(), self.head.get("events", "").split()
+        if not own and instances_in(self.head):
+            raise Refusal(f"no poll of {shown(self.polled)} took a packet: record while packets arrive")
+        if self.sender and self.capture:
+            raise Refusal("--capture is for a card: the arrivals at the end of a veth pair are in the recording")
+        if self.capture and len(own) > 1:
+            raise Refusal(
+                f"{len(own)} instances of {shown(self.polled)} poll, and a capture doesn't say which of them gets a packet"
+            )
+        if own and not self.sender and not self.capture and f"received.{self.device}" not in self.head:
+            raise Refusal(NO_ARRIVAL)
+        if not self.sender or len(own) < 2:
+            return
+        if self.polled == BACKLOG and STACK not in events:
+            raise Refusal(
+                f"the backlogs of {len(own)} processors poll, and which of them gets a packet isn't recorded: it is if RPS is set, or GRO is off, "
+                "when the recording begins"
+            )
+        if self.polled != BACKLOG and any(each.queue is None for each in own):
+            raise Refusal(
+                f"{len(own)} instances of {shown(self.polled)} poll, and which of them has which queue isn't known: record for longer, or more packets"
+            )
+
+    def check(self) -> None:
+        """Fails if the recording can't be predicted."""
+        seen = self.seen
+        if not seen.ended and "napi/napi_poll" in self.head.get("missing", "").split():
+            raise Refusal("the kernel that recorded it has no event napi/napi_poll, so no poll is in it")
+        if not seen.ended:
+            raise Refusal(f"it has no polls of {shown(self.polled)}: record while packets arrive")
+        receive = [place for place, packets in seen.packets_of.items() if packets]
+        if ANY in seen.places and len(receive) > 1:
+            raise Refusal(
+                f"{len(receive)} instances of {shown(self.polled)} poll, and which of them gets a packet isn't in recordings of this age: record again"
+            )
+
+    def program_pids(self) -> set[int]:
+        return {int(each) for each in self.head.get("program.pids", "").split()}
+
+    def disturbing(self, processor: int | None = None) -> dict[str, float]:
+        """Returns other tasks that ran on the processor, each with its share of the time, if together their share is notable."""
+        others = self.seen.other_tasks(self.program_pids(), processor)
+        return others if sum(others.values()) > DISTURBED else {}
+
+
+def arrivals_in(recording: Recording, words: Words) -> tuple[str, str]:
+    """Returns all arrivals of a recording, and a first part of them, with which settings are tried."""
+    if not recording.seen.sent:
+        raise Refusal(NO_ARRIVAL)
+    text = predicting.arrivals_of(recording.seen.sent, recording.layout.devices)
+    lines = text.splitlines(True)
+    return text, "".join(lines[: words.packets + 1])
