@@ -9,7 +9,7 @@ use Rattle.replay_rows.specs.declared.serial_replay.SerialReplay.{SerialReplay}
 use Rattle.text_io.specs.{declared.fault.ReplayFault.ReplayFault, declared.settings.ReplaySettings.ReplaySettings}
 
 pub record IsAfter (s : ReplaySettings) (rows : List Row) (n : ℕ) (r : SerialReplay) : Type 0 where
-  pub state : after_all_rows s (take n rows) ≡ Ok (replay_state devices_of r.replay)
+  pub state : after_all_rows s (take n rows) ≡ Ok (replay_state r.replay)
   pub transmits : ShowsTransmits r.replay.bench (transmits_of (take n rows))
   pub list : r.log.list.items ≡ list_before s rows n
   pub polls : r.log.polls.items ≡ polls_of_row s rows n

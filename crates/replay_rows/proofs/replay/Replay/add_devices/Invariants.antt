@@ -3,6 +3,6 @@ use Rattle.{device_bench.specs.Transmits.Transmits, replay_rows.specs.{Played.re
 use Rattle.replay_rows.proofs.replay.Replay.add_devices.Given as goal
 
 abbrev pub invariant-loop-number : goal.invariant-loop-number
-invariant-loop-number g l = (all : Transmits) → g.B.ReplayBench.shows l.self.bench all
+invariant-loop-number g l = (all : Transmits) → ShowsTransmits l.self.bench all
     → string_bytes l.text
-    ≡ string_bytes l.initial.text ++ lines_below (lines_of l.version (replay_state g.B.ReplayBench.devices l.self) all) l.number
+    ≡ string_bytes l.initial.text ++ lines_below (lines_of l.version (replay_state l.self) all) l.number

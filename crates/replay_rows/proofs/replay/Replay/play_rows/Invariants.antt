@@ -5,7 +5,7 @@ use Rattle.replay_rows.proofs.replay.Replay.play_rows.Given as goal
 
 abbrev pub invariant-loop-i : goal.invariant-loop-i
 invariant-loop-i g l = record {
-  played : after_rows l.settings 1 (take l.i l.rows) start ≡ Ok (replay_state g.B.ReplayBench.devices l.self);
-  transmits : Changes g.B.ReplayBench.shows (after_transmits (take l.i l.rows)) l.fn.self.bench l.self.bench;
+  played : after_rows l.settings 1 (take l.i l.rows) start ≡ Ok (replay_state l.self);
+  transmits : Changes ShowsTransmits (after_transmits (take l.i l.rows)) l.fn.self.bench l.self.bench;
   lines : length l.self.lines.items ≤ l.i;
 }

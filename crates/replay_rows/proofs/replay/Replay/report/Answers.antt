@@ -20,6 +20,6 @@ returns g c all shows =
     )
     (four-parts
     (flat_map (λ line. with_newline (poll_line line)) c.args.self.now.lines.items)
-    (lines_below (lines_of c.args.version (replay_state g.B.ReplayBench.devices c.args.self.now) all) 17)
+    (lines_below (lines_of c.args.version (replay_state c.args.self.now) all) 17)
     (with_newline (list_line c.args.self.now.list))
-    (with_newline (total_line (run_totals (attached (g.B.ReplayBench.devices c.args.self.now.bench)) c.args.self.now.lines.items))))
+    (with_newline (total_line (run_totals (attached (devices_of c.args.self.now.bench)) c.args.self.now.lines.items))))
