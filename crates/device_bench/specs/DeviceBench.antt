@@ -22,11 +22,11 @@ module _ {S Kit End : Type 0} {g : Ghosts S Kit End} where
 
   -- a poll from the list: its outcome and the devices afterwards are those of the function
   pub record IsListPoll (before : DeviceBench S Kit End g) (number weight : ℕ) (once : Once) (after : DeviceBench S Kit End g) : Type 0
-      where
-    pub exact : (once ≡ (polled_at (devices_of before) number weight).0)
-        × (devices_of after ≡ (polled_at (devices_of before) number weight).1)
-    pub transmits : KeepsTransmits ShowsTransmits before after
-    pub waits : waiting_of before ≤ waiting_of after + leaves once.next
+    where
+      pub exact : (once ≡ (polled_at (devices_of before) number weight).0)
+          × (devices_of after ≡ (polled_at (devices_of before) number weight).1)
+      pub transmits : KeepsTransmits ShowsTransmits before after
+      pub waits : waiting_of before ≤ waiting_of after + leaves once.next
 
   pub record IsThreadPolls (before : DeviceBench S Kit End g) (number weight most : ℕ) (polls : List Once)
       (after : DeviceBench S Kit End g) : Type 0 where

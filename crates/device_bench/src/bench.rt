@@ -88,6 +88,12 @@ impl<S: ReceiveSide> DeviceBench<S> {
         })
     }
 
+    fn taken_places(&self) -> usize
+        ensures { result ≡ attached (devices_of self.now) }
+    {
+        self.devices.iter().filter(|place| place.is_some()).count()
+    }
+
     // Adds a device, unless its number has one.
     fn keep(&mut self, alloc: Global, device: u32, capacity: u32) -> Result<(), AllocError>
         requires device { IsWithin 1 16 device }
@@ -252,7 +258,7 @@ impl<S: ReceiveSide> DeviceBench<S> {
         ensures devices { result ≡ attached (devices_of self.now) }
         ensures transmits { (all : Transmits) → ShowsTransmits self.now all → result ≡ attached all }
     {
-        self.devices.iter().filter(|place| place.is_some()).count()
+        self.taken_places()
     }
 
     /// Returns whether a device is attached.

@@ -7,11 +7,7 @@ use crate::seats::{Seats, Turn};
 use napi_calls::{Caller, Control, Napi, Off, next_caller};
 
 /// Takes the three callers out of their vector.
-pub(crate) fn new_seats(
-    napi: &Napi,
-    callers: &mut Vec<Caller>,
-    control: Control<Off>,
-) -> Seats
+pub(crate) fn new_seats(napi: &Napi, callers: &mut Vec<Caller>, control: Control<Off>) -> Seats
     requires { AreNewCallers napi.now callers.old.items control.pass }
     ensures new { AreNew napi.now result control.state.ctx }
     ensures none { length callers.new.items ≡ 0 }

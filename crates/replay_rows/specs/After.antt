@@ -1,6 +1,6 @@
 -- The state of a replay after its first n rows, none of which had an error, and what it shows.
 use Rattle.std.specs.Prelude.{◌≡◌, ℕ, Bool, List, [], Option, None, Result, Ok, Err, take}
-use Rattle.device_bench.specs.{Transmits.{Transmits, is_used}, DeviceBench.{ShowsTransmits, devices_of}}
+use Rattle.device_bench.specs.{Transmits.{Transmits, is_used}, DeviceBench.ShowsTransmits}
 use Rattle.{device_bench.specs.declared.counts.DeviceCounts.DeviceCounts, device_places.specs.Places.at}
 use Rattle.device_rows.specs.declared.row.Row.{Row}
 use Rattle.replay_rows.specs.{Played.replay_state, Replay.after_all_rows, Report.{reported_counts, last_poll_by}, Transmits.transmits_of}

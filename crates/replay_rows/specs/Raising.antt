@@ -1,5 +1,5 @@
 -- What a raise has made so far, as plain values.
-use Rattle.{device_bench.specs.DeviceBench.devices_of, replay_rows.specs.{Played.replay_state, Raised.Raised}}
+use Rattle.replay_rows.specs.{Played.replay_state, Raised.Raised}
 use Rattle.replay_rows.specs.declared.raised.Raising.{Raising}
 
 abbrev pub raised_so_far : Raising → Raised

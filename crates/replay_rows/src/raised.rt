@@ -8,7 +8,7 @@ ghost use Rattle.text_io.specs.Outside.{IsReplayOutOfMemory};
 
 use crate::replay::{Replay, room_for_lines};
 use crate::softirq::is_softirq;
-use device_bench::SerialBench;
+use device_bench::{SerialBench, SerialReceive};
 use device_rows::{MOST_ROWS, Row, TraceFault};
 use std::alloc::{AllocError, Global};
 use text_io::{ReplayFault, ReplaySettings};

@@ -10,7 +10,7 @@ use crate::softirq::is_softirq;
 use device_bench::{DeviceBench, ReceiveSide};
 use device_rows::{Row, RowEvent};
 use napi_model::Kind;
-use poll_runs::{Next, PlainList, PollList, run_softirq};
+use poll_runs::{Bench, Next, PlainList, PollList, run_softirq};
 use std::alloc::{AllocError, Global};
 use text_io::{ReplayFault, ReplaySettings};
 

@@ -10,7 +10,7 @@ ghost use Rattle.poll_runs.specs.Polls.{At, Chain};
 ghost use Rattle.replay_rows.specs.RunLog.{logged, polls_in};
 
 use device_bench::{DeviceBench, DeviceCounts, ReceiveSide};
-use poll_runs::{Once, PlainList, PollingRun, RunReport};
+use poll_runs::{Bench, Once, PlainList, PollingRun, RunReport};
 use std::alloc::{AllocError, Global};
 use text_io::ReplaySettings;
 

@@ -1,4 +1,5 @@
 use Rattle.std.proofs.{Common.{◌≡◌, ◌∙◌, ◌∷◌, ◌++◌, Some, [], length-append, refl, sym, arith}, lemmas.List.{append-nil, map-append}}
+use Rattle.device_bench.specs.DeviceBench.{IsListPoll, devices_of}
 use Rattle.{poll_runs.specs.Polls.At, poll_runs.proofs.PollFacts.chain-push}
 use Rattle.{replay_rows.specs.{RunLog.{logged, polls_in}, declared.run_log.RunPoll.RunPoll}, replay_rows.proofs.RunLogFacts.logged-push}
 use Rattle.replay_rows.proofs.run_log.run_logged.Goals as goal

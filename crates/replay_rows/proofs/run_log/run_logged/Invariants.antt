@@ -1,4 +1,5 @@
 use Rattle.std.proofs.Common.{◌≡◌, ◌≤◌, ◌-◌, ◌++◌, None, List, length, vec_capacity}
+use Rattle.device_bench.specs.DeviceBench.{IsListPoll, ShowsTransmits, devices_of}
 use Rattle.device_bench.specs.Transmits.{Transmits}
 use Rattle.poll_runs.specs.{Driven.{IsGoing, held}, Plain.{HasListRoom, NothingBehind, OwnPushes, all_held}, Polls.{At, Chain, Poll}}
 use Rattle.replay_rows.specs.RunLog.{logged, polls_in}

@@ -1,4 +1,5 @@
 use Rattle.std.proofs.Common.{◌≡◌, ◌++◌, string_bytes}
+use Rattle.device_bench.specs.DeviceBench.{ShowsTransmits}
 use Rattle.{device_bench.specs.Transmits.Transmits, replay_rows.specs.{Played.replay_state, Report.{lines_below, lines_of}}}
 use Rattle.replay_rows.proofs.replay.Replay.add_devices.Given as goal
 

@@ -1,4 +1,5 @@
 use Rattle.std.proofs.{Common.{◌≡◌, ◌+◌, inl, inr, ◌<◌, length, get_or, take, ap, subst, sym, arith}, lemmas.Result.err_from_is_err_and}
+use Rattle.device_bench.specs.DeviceBench.{ShowsTransmits, devices_of}
 use Rattle.device_rows.{specs.declared.{event.RowEvent.TheVariants.Opened, row.Row.Row}, proofs.Accepted.accepted-at}
 use Rattle.replay_rows.specs.{Played.replay_state, Replay.{after_row, all_tried}, ReplayState.ReplayState}
 use Rattle.replay_rows.{specs.Transmits.after_transmits, proofs.PlayFacts.{after_transmits-more, played-early, played-more, report-early}}

@@ -1,4 +1,5 @@
 use Rattle.std.proofs.Common.{◌≡◌, ◌≤◌, Ok, length, take}
+use Rattle.device_bench.specs.DeviceBench.{ShowsTransmits}
 use Rattle.device_bench.specs.Transmits.{Changes}
 use Rattle.replay_rows.specs.{Played.replay_state, Replay.{after_rows, start}, Transmits.after_transmits}
 use Rattle.replay_rows.proofs.replay.Replay.play_rows.Given as goal

@@ -1,4 +1,5 @@
 use Rattle.{std.specs.Prelude.flat_map, device_bench.specs.Bench.attached, replay_rows.specs.{Played.replay_state, Report.lines_below}}
+use Rattle.device_bench.specs.DeviceBench.{devices_of}
 use Rattle.replay_rows.{specs.Report.{lines_of, list_line, poll_line, text_by, total_line, run_totals}, proofs.PlayFacts.four-parts}
 use Rattle.text_io.specs.Lines.{with_newline}
 use Rattle.replay_rows.proofs.replay.Replay.report.Goals as goal

@@ -1,4 +1,5 @@
 use Rattle.{std.proofs.Common.{◌∙◌, ap, refl}, replay_rows.proofs.RunFacts.{only-run, run-room, transmits-stay}}
+use Rattle.device_bench.specs.DeviceBench.{devices_of}
 use Rattle.replay_rows.specs.RunLog.{logged}
 use Rattle.replay_rows.proofs.replay.Replay.run_with.Goals as goal
 
