@@ -158,7 +158,8 @@ impl<S: ReceiveSide> DeviceBench<S> {
         ensures devices { OnOk result
             (devices_of self.new ≡ added device (new_device capacity) (devices_of self.old)) }
         ensures transmits { OnOk result
-            (Changes ShowsTransmits (added device (opened_transmit capacity moment)) self.old self.new) }
+            (Changes ShowsTransmits (added device (opened_transmit capacity moment))
+            self.old self.new) }
         ensures waiting { waiting_of self.old ≤ waiting_of self.new }
         ensures refused { OnErr result (self.new ≡ self.old) }
     {
@@ -171,7 +172,8 @@ impl<S: ReceiveSide> DeviceBench<S> {
     /// Sends a packet of this size, or counts it as held if the ring rejects it (`netdev_tx_sent_queue`).
     pub fn send(&mut self, device: u32, bytes: u32)
         ensures devices { devices_of self.new ≡ devices_of self.old }
-        ensures transmits { Changes ShowsTransmits (changed (after_tx bytes) device) self.old self.new }
+        ensures transmits { Changes ShowsTransmits
+            (changed (after_tx bytes) device) self.old self.new }
         ensures waiting { waiting_of self.new ≡ waiting_of self.old }
     {
         self.transmits.send(device, bytes);
@@ -256,7 +258,8 @@ impl<S: ReceiveSide> DeviceBench<S> {
     /// The number of devices.
     pub fn attached(&self) -> usize
         ensures devices { result ≡ attached (devices_of self.now) }
-        ensures transmits { (all : Transmits) → ShowsTransmits self.now all → result ≡ attached all }
+        ensures transmits { (all : Transmits) → ShowsTransmits self.now all
+            → result ≡ attached all }
     {
         self.taken_places()
     }
@@ -286,7 +289,8 @@ impl<S: ReceiveSide> DeviceBench<S> {
 
     /// Returns whether an attached device had a tx or done row; otherwise the report omits its transmit side.
     pub fn uses_transmit(&self, device: u32) -> bool
-        ensures { (all : Transmits) → ShowsTransmits self.now all → result ≡ is_used (at device all) }
+        ensures { (all : Transmits) → ShowsTransmits self.now all
+            → result ≡ is_used (at device all) }
     {
         self.transmits.is_used(device)
     }
