@@ -8,8 +8,9 @@ use crate::device::{BenchDevice, PolledBytes};
 use crate::receive_side::ReceiveSide;
 use crate::serial_receive::SerialReceive;
 use crate::sides::TransmitSides;
+use crate::table::{DeviceTable, empty_table};
 use crate::transmit::Transmit;
-use device_places::{DeviceTable, TABLE_LEN, empty_table};
+use device_places::TABLE_LEN;
 use napi_model::Kind;
 use poll_runs::{
     Bench, BusyReport, Next, Once, ThreadReport, poll_busy_of, poll_once_of, poll_thread_of,

@@ -10,10 +10,12 @@ mod device;
 mod receive_side;
 mod serial_receive;
 mod sides;
+mod table;
 mod transmit;
 
 pub use bench::{DeviceBench, SerialBench};
 pub use counts::{DeviceCounts, DeviceState};
 pub use receive_side::ReceiveSide;
 pub use serial_receive::SerialReceive;
+pub use table::DeviceTable;
 pub use transmit::{Transmit, TxCounts};

@@ -2,8 +2,9 @@
 
 ghost use Rattle.std.specs.Prelude.{◌≡◌, length};
 
+use crate::table::{DeviceTable, empty_table};
 use crate::transmit::{Transmit, TxCounts};
-use device_places::{DeviceTable, TABLE_LEN, empty_table};
+use device_places::TABLE_LEN;
 use std::alloc::{AllocError, Global};
 
 /// At most sixteen transmit sides, by device number. A call with a number that has none changes nothing.
