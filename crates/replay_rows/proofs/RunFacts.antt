@@ -6,7 +6,7 @@ use Rattle.device_bench.specs.{Bench.{BenchDevices, polled_at}, DeviceBench.{IsL
 use Rattle.device_bench.specs.{Transmits.KeepsTransmits, Waiting.leaves, declared.bench.DeviceBench.DeviceBench}
 use Rattle.device_bench.specs.declared.receive_side.ReceiveSide.{Ghosts}
 use Rattle.poll_runs.specs.{Function.run_report, Laws.IsPlainRun, Polls.{At, Chain, Poll, queued_by, ids, is_arrival, is_repoll, repolled}}
-use Rattle.poll_runs.specs.declared.{bench.{Next.{Next, TheVariants.{Absent, Gone, Again, Repoll}}, Once.Once}, run.RunReport.RunReport}
+use Rattle.poll_runs.specs.declared.{bench.{Next.{Next, TheVariants.{Absent, Gone, Again, Repoll}}}, run.RunReport.RunReport}
 use Rattle.poll_runs.proofs.{FunctionFacts.run-is-shown, PlainFacts.list-afterwards, PollFacts.{arrivals-append, arrivals-one, length-ids}}
 use Rattle.{poll_runs.proofs.PollFacts.{repolled-append, repolled-one}, replay_rows.specs.Run.replay_run}
 use Rattle.text_io.specs.declared.settings.ReplaySettings.{ReplaySettings}
