@@ -128,7 +128,7 @@ def aliased(crate: str, name: str) -> tuple[str, str] | None:
 def surface(facade: str) -> Iterator[tuple[str, tuple[str, str] | None, Iterator[Item]]]:
     """Yields the parts of a facade: each is a crate, the alias under which the facade re-exports its one type (None if there is none), and
     its items, with the names that the facade gives them."""
-    shown: set[tuple[str, str]] = set()
+    shown = {(crate, name) for crate, names in passed_on(facade) for name in names}
     other = exported(facade)
 
     def as_exported(found: Iterable[Item]) -> Iterator[Item]:
