@@ -148,6 +148,7 @@ static inline void act(struct card *card, struct fq_todo *todo) {
         todo->packets = card->put - card->taken < todo->most ? (uint32_t)(card->put - card->taken) : todo->most;
         card->taken += todo->packets;
         break;
+    case FQ_TODO_ENDED: case FQ_TODO_SLEEP: case FQ_TODO_FAILED: break;
     }
 }
 
@@ -162,9 +163,9 @@ static bool driver(uint64_t count, uint32_t burst) {
     struct card card = {0, 0, true};
     if (!opens(&driver)) return false;
     while (card.taken < count) {
-        while (fq_driver_next(&driver, &todo), todo.what != FQ_TODO_SLEEP) {
+        while (fq_driver_next(&driver, &todo) == FQ_OK && todo.what != FQ_TODO_SLEEP) {
             act(&card, &todo);
-            fq_driver_done(&driver, &todo);
+            if (fq_driver_done(&driver, &todo) != FQ_OK) return false;
         }
         if (card.masked || card.taken != card.put) return false;
         card.put += burst;
@@ -181,7 +182,7 @@ static bool step(uint64_t count, uint32_t burst) {
     struct card card = {0, 0, true};
     if (!opens(&driver)) return false;
     while (card.taken < count) {
-        while (fq_driver_step(&driver, &todo), todo.what != FQ_TODO_SLEEP) act(&card, &todo);
+        while (fq_driver_step(&driver, &todo) == FQ_OK && todo.what != FQ_TODO_SLEEP) act(&card, &todo);
         if (card.masked || card.taken != card.put) return false;
         card.put += burst;
         if (fq_driver_interrupt(&driver, 0) != FQ_GRANTED) return false;

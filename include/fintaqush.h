@@ -49,6 +49,13 @@
 #define FQ_RESTRICT
 #endif
 
+/* How many drivers the program has made, because each numbers its actions from another number on: one count for all its files. */
+#if defined(__GNUC__)
+#define FQ_PRIVATE_COUNT(count) __atomic_fetch_add(&(count), 1, __ATOMIC_RELAXED)
+#else
+#define FQ_PRIVATE_COUNT(count) ((count)++)
+#endif
+
 /* An enum is a uint32_t, also in C++, so that it can hold a number that a later library returns and this header doesn't name. */
 #ifdef __cplusplus
 #define FQ_NUMBER : uint32_t
@@ -58,6 +65,12 @@
 
 #ifdef __cplusplus
 extern "C" {
+#endif
+
+#if defined(__GNUC__)
+__attribute__((weak)) uint32_t fq_private_drivers;
+#else
+static uint32_t fq_private_drivers;
 #endif
 
 /* ---- status: statuses, kinds, flags and sizes. */
@@ -146,6 +159,9 @@ static inline const char *fq_status_name(uint32_t status) {
     }
     return "?";
 }
+
+/* Returns whether a status is an error; any other is FQ_OK or a result. */
+static inline bool fq_is_error(uint32_t status) { return (status > FQ_OK && status < FQ_GRANTED) || status >= FQ_NOT_ALLOWED; }
 
 /* Where an instance is queued. Calls that read the kind from the state word say so. */
 enum fq_kind FQ_NUMBER {
@@ -551,13 +567,18 @@ FQ_CHECKED enum fq_status fq_control_try_take(struct fq_handle *control);       
  * to open one that isn't off; FQ_BAD_HANDLE. Since 1.1. */
 FQ_CHECKED enum fq_status fq_control_step(struct fq_handle *control, bool on, bool threaded);
 
+/* Returns FQ_OK if the seat belongs to the controller's instance, otherwise FQ_BAD_HANDLE. Since 1.1. */
+FQ_CHECKED enum fq_status fq_control_has(struct fq_handle *FQ_RESTRICT control, struct fq_handle *FQ_RESTRICT seat);
+
 /* Opens a driver's instance: enables it, and requests a poll once by a seat at rest (as virtnet_napi_enable does), so that what came
  * while it was off is polled. Returns, and sets *next, like fq_seat_request: FQ_GRANTED, and the number has to be listed or the thread
  * woken; FQ_MISSED: another seat has requested a poll meanwhile; FQ_NOT_ALLOWED, and nothing is done, if the controller isn't off;
- * FQ_NOT_ALLOWED also if the seat isn't at rest: then the instance is enabled, and a poll still has to be requested; FQ_BAD_HANDLE. */
+ * FQ_NOT_ALLOWED also if the seat isn't at rest: then the instance is enabled, and a poll still has to be requested; FQ_BAD_HANDLE, and
+ * nothing is done, also if the seat is another instance's. It never returns FQ_DISABLED, which a seat gets while its instance is being disabled. */
 FQ_CHECKED static inline enum fq_status fq_control_open(struct fq_handle *FQ_RESTRICT control, bool threaded, struct fq_handle *FQ_RESTRICT seat, const struct fq_card *FQ_RESTRICT card, uint32_t *FQ_RESTRICT next) {
     *next = FQ_NEXT_GONE;
-    const enum fq_status said = fq_control_step(control, true, threaded);
+    enum fq_status said = fq_control_has(control, seat);
+    if (said == FQ_OK) said = fq_control_step(control, true, threaded);
     return said == FQ_OK ? fq_seat_request(seat, card, next) : said;
 }
 
@@ -604,18 +625,20 @@ FQ_CHECKED enum fq_status fq_run_end(struct fq_handle *FQ_RESTRICT list, struct 
  * this call:
  *
  *     struct fq_todo todo = FQ_TODO_INIT;
- *     while (report_interrupts(), fq_driver_step(&driver, &todo), todo.what != FQ_TODO_SLEEP) {
+ *     while (report_interrupts(), !fq_is_error(fq_driver_step(&driver, &todo)) && todo.what != FQ_TODO_SLEEP) {
  *         switch (todo.what) {
  *         case FQ_TODO_MASK: mask(todo.device); break;
  *         case FQ_TODO_UNMASK: unmask(todo.device); break;
  *         case FQ_TODO_LOOK: todo.packets = has_packets(todo.device); break;
  *         case FQ_TODO_FETCH: todo.packets = fetch(todo.device, todo.most); break;
+ *         case FQ_TODO_ENDED: case FQ_TODO_SLEEP: case FQ_TODO_FAILED: break;
  *         }
  *     }
- *     (now wait for the next interrupt, and begin again)
+ *     (end the program if todo.status is not FQ_OK; otherwise wait for the next interrupt, and begin again)
  *
  * where report_interrupts reports each interrupt that came since by fq_driver_interrupt. It is called before each step, because a device
  * that always has packets keeps the driver from sleeping: devices whose interrupts are reported only after a sleep would never be polled.
+ * An error is a mistake of the program: a handle without a driver, or a fetch that took more than `most`. It ends the loop.
  *
  * A driver that isn't a loop, for example one of callbacks, asks by fq_driver_next and reports by fq_driver_done.
  *
@@ -627,7 +650,8 @@ FQ_CHECKED enum fq_status fq_run_end(struct fq_handle *FQ_RESTRICT list, struct 
  * Only one thread uses a driver at a time. If interrupts come on another thread, raise a bit in a struct fq_word there, and report each
  * bit that the driver's thread takes from it. */
 
-/* What has to be done. After FQ_TODO_SLEEP and FQ_TODO_ENDED there is nothing to report, and fq_driver_done does nothing. */
+/* What has to be done. After FQ_TODO_SLEEP, FQ_TODO_ENDED and FQ_TODO_FAILED there is nothing to report, and fq_driver_done does nothing. A
+ * switch over it has no default, so that a compiler names an action that it forgets. */
 enum fq_what FQ_NUMBER {
     FQ_TODO_SLEEP = 0,  /* nothing, until the next interrupt, open or stop */
     FQ_TODO_MASK = 1,   /* mask the interrupt of the device's card */
@@ -635,25 +659,33 @@ enum fq_what FQ_NUMBER {
     FQ_TODO_LOOK = 3,   /* look whether the card has packets, and set `packets` to how many, or to 1 if it has any, or to 0: after a full
                          * memory fence, if the card works at the same time */
     FQ_TODO_FETCH = 4,  /* take packets from the card, at most `most` of them, deliver them, and set `packets` to how many */
-    FQ_TODO_ENDED = 5   /* a run ended, with the report `run` (net_rx_action): do other work first, if there is some */
+    FQ_TODO_ENDED = 5,  /* a run ended, with the report `run` (net_rx_action): do other work first, if there is some */
+    FQ_TODO_FAILED = 6  /* nothing, because the call failed, with the error `status`: a loop has to end */
 };
 
 /* An action that has to be done. */
 struct fq_todo {
-    size_t size;              /* the size of this struct: set by the caller, once (FQ_TODO_INIT), because the struct may grow */
+    size_t size;              /* the size of this struct, which fq_driver_next and fq_driver_step set, because it may grow */
     uint64_t number;          /* the number under which to report it: each action has another one; 0 if there is nothing to report */
-    uint32_t what;            /* what has to be done: a number of enum fq_what */
-    uint32_t device;          /* the device; 0 for FQ_TODO_SLEEP and FQ_TODO_ENDED */
+    enum fq_what what;        /* what has to be done */
+    uint32_t device;          /* the device; 0 if the action is at none */
     uint32_t most;            /* the packets that a fetch may take, the driver's weight; 0 for anything else */
-    uint32_t packets;         /* the packets of a look and a fetch: 0 at first; the caller sets it after a look and a fetch */
+    uint32_t packets;         /* set by the caller after a look and a fetch; before that 1 for a look, so that packets aren't forgotten, else 0 */
     struct fq_run_report run; /* the report of the run that ended; all 0 for anything else */
+    enum fq_status status;    /* the error after FQ_TODO_FAILED, otherwise FQ_OK */
 };
 
-#define FQ_TODO_INIT {sizeof(struct fq_todo), 0, FQ_TODO_SLEEP, 0, 0, 0, {0, 0, false}}
+#define FQ_TODO_INIT {sizeof(struct fq_todo), 0, FQ_TODO_SLEEP, 0, 0, 0, {0, 0, false}, FQ_OK}
+
+/* Like fq_driver_new, for bindings. Drivers with different salts number their actions differently, so that none takes a report that is
+ * another one's. Since 1.1. */
+FQ_CHECKED enum fq_status fq_driver_new_salted(struct fq_handle *driver, uint32_t devices, uint32_t budget, uint32_t weight, uint32_t window, uint16_t salt);
 
 /* Makes a driver of 1 to 64 devices, all closed, their cards masked. Budget, weight and window are those of fq_run_begin. fq_free frees
- * it in any state. Returns FQ_OK; FQ_IN_USE; FQ_BAD_COUNT; FQ_BAD_WEIGHT; FQ_BAD_BUDGET; FQ_OUT_OF_MEMORY. Since 1.1. */
-FQ_CHECKED enum fq_status fq_driver_new(struct fq_handle *driver, uint32_t devices, uint32_t budget, uint32_t weight, uint32_t window);
+ * it in any state. Returns FQ_OK; FQ_IN_USE; FQ_BAD_COUNT; FQ_BAD_WEIGHT; FQ_BAD_BUDGET; FQ_OUT_OF_MEMORY. */
+FQ_CHECKED static inline enum fq_status fq_driver_new(struct fq_handle *driver, uint32_t devices, uint32_t budget, uint32_t weight, uint32_t window) {
+    return fq_driver_new_salted(driver, devices, budget, weight, window, (uint16_t)FQ_PRIVATE_COUNT(fq_private_drivers));
+}
 
 /* Opens a closed device (napi_enable): its card will be unmasked and looked at, so that packets which came before are polled too.
  * Returns FQ_OK; FQ_NOT_DUE if it isn't closed; FQ_BAD_DEVICE; FQ_BAD_HANDLE. Since 1.1. */
@@ -667,27 +699,36 @@ FQ_CHECKED enum fq_status fq_driver_stop(struct fq_handle *driver, uint32_t devi
 /* Reports an interrupt of a card (napi_schedule), at any time, also before an action that is due is reported. Returns FQ_GRANTED: a
  * poll was requested, whose first action is to mask the card; FQ_MISSED: a poll is requested already, and one more follows, or the
  * device is closed; FQ_DISABLED: it is being stopped; FQ_BAD_DEVICE; FQ_BAD_HANDLE. It may be called too often: an interrupt without
- * packets costs one empty poll. Since 1.1. */
-FQ_CHECKED enum fq_status fq_driver_interrupt(struct fq_handle *driver, uint32_t device);
+ * packets costs one empty poll. The status may be ignored if the device and the handle are right. Since 1.1. */
+FQ_NONNULL enum fq_status fq_driver_interrupt(struct fq_handle *driver, uint32_t device);
+
+/* Like fq_driver_next and fq_driver_step, for bindings, which set todo->size themselves. Return FQ_BAD_SIZE if that is too small, and
+ * nothing is read, written or changed. Since 1.1. */
+FQ_CHECKED enum fq_status fq_driver_next_sized(struct fq_handle *FQ_RESTRICT driver, struct fq_todo *FQ_RESTRICT todo);
+FQ_CHECKED enum fq_status fq_driver_step_sized(struct fq_handle *FQ_RESTRICT driver, struct fq_todo *FQ_RESTRICT todo);
 
 /* Sets *todo to what has to be done now. It is the same action, with the same number, until that is reported or isn't due any more.
- * Returns FQ_OK; FQ_BAD_HANDLE, and *todo is set to sleep; FQ_BAD_SIZE if todo->size is too small, and *todo is unchanged. The status may
- * be ignored if `size` and the handle are right. Since 1.1. */
-FQ_NONNULL enum fq_status fq_driver_next(struct fq_handle *FQ_RESTRICT driver, struct fq_todo *FQ_RESTRICT todo);
+ * Returns FQ_OK; FQ_BAD_HANDLE, and *todo is FQ_TODO_FAILED. */
+FQ_CHECKED static inline enum fq_status fq_driver_next(struct fq_handle *FQ_RESTRICT driver, struct fq_todo *FQ_RESTRICT todo) {
+    todo->size = sizeof *todo;
+    return fq_driver_next_sized(driver, todo);
+}
 
 /* Reports that the action in *todo was done, with todo->packets; only todo->number and todo->packets are read. Call it before the next
- * call of fq_driver_next, or not at all: an action that isn't reported is returned again. Returns FQ_OK; FQ_BAD_HANDLE; FQ_BAD_SIZE if
- * todo->size is too small; FQ_NOT_DUE: the driver doesn't wait for this report any more, because of an interrupt, an open, a stop or an
- * earlier report, and fq_driver_next says what is due instead, so the status may be ignored; FQ_BAD_WORK if a fetch took more than
- * `most`. Nothing changes unless it returns FQ_OK. Since 1.1. */
-FQ_NONNULL enum fq_status fq_driver_done(struct fq_handle *FQ_RESTRICT driver, const struct fq_todo *FQ_RESTRICT todo);
+ * call of fq_driver_next, or not at all: an action that isn't reported is returned again. Returns FQ_OK; FQ_BAD_HANDLE; FQ_NOT_DUE: the
+ * driver doesn't wait for this report any more, because of an interrupt, an open, a stop or an earlier report, or it is another
+ * driver's, and fq_driver_next says what is due instead; FQ_BAD_WORK if a fetch took more than `most`. Nothing changes unless it returns
+ * FQ_OK. Since 1.1. */
+FQ_CHECKED enum fq_status fq_driver_done(struct fq_handle *FQ_RESTRICT driver, const struct fq_todo *FQ_RESTRICT todo);
 
 /* Reports the action in *todo, unless its number is 0, and sets *todo to what has to be done now: fq_driver_done and then fq_driver_next
- * in one call. Report interrupts that came meanwhile before it, so that they count before the next poll. Returns FQ_OK; FQ_BAD_HANDLE,
- * and *todo is set to sleep; FQ_BAD_SIZE if todo->size is too small, and nothing changes; FQ_NOT_DUE: the driver didn't wait for this
- * report any more, and *todo is what is due instead, so the status may be ignored; FQ_BAD_WORK if a fetch took more than `most`, and
- * nothing changes: *todo is still that fetch. Since 1.1. */
-FQ_NONNULL enum fq_status fq_driver_step(struct fq_handle *FQ_RESTRICT driver, struct fq_todo *FQ_RESTRICT todo);
+ * in one call. Report interrupts that came meanwhile before it, so that they count before the next poll. Returns FQ_OK; FQ_NOT_DUE: the
+ * driver didn't wait for this report any more, and *todo is what is due instead; FQ_BAD_HANDLE, and FQ_BAD_WORK if a fetch took more than
+ * `most`: nothing changes, and *todo is FQ_TODO_FAILED. */
+FQ_CHECKED static inline enum fq_status fq_driver_step(struct fq_handle *FQ_RESTRICT driver, struct fq_todo *FQ_RESTRICT todo) {
+    todo->size = sizeof *todo;
+    return fq_driver_step_sized(driver, todo);
+}
 
 /* The states of a device. */
 enum fq_device_state FQ_NUMBER {
@@ -706,8 +747,8 @@ struct fq_device_shown {
     uint64_t packets; /* the packets of these fetches; saturates */
 };
 
-/* Sets *shown to the state of a device and the counts of its polls. Returns FQ_OK; FQ_BAD_HANDLE; FQ_BAD_SIZE if shown->size is too
- * small; FQ_BAD_DEVICE. *shown is unchanged unless it returns FQ_OK. Since 1.1. */
+/* Sets *shown to the state of a device and the counts of its polls. Returns FQ_OK; FQ_BAD_SIZE if shown->size is too small;
+ * FQ_BAD_HANDLE; FQ_BAD_DEVICE. *shown is unchanged unless it returns FQ_OK. Since 1.1. */
 FQ_CHECKED enum fq_status fq_driver_show(struct fq_handle *FQ_RESTRICT driver, uint32_t device, struct fq_device_shown *FQ_RESTRICT shown);
 
 /* ---- word: a word of pending bits. Only its poller uses a list: another thread sets the bit of a device in such a word, and wakes the poller,

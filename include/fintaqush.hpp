@@ -305,6 +305,8 @@ public:
 private:
     friend class Granted;
     friend class Polling;
+    template <class>
+    friend class Control;
     friend struct Shared;
     friend struct Bare;
     using Seat::Seat;
@@ -465,11 +467,12 @@ public:
         return Control<On>(std::move(at_));
     }
     // Opens a driver's instance (fq_control_open): enables it, and requests a poll once by this caller, with card.mask() if that is
-    // granted.
+    // granted. The request returns FQ_BAD_HANDLE if the caller is another instance's: a poll still has to be requested.
     template <class Card>
     [[nodiscard]] std::pair<Control<On>, Requested> open(bool threaded, Caller &caller, Card &card) && noexcept {
+        const Status has = fq_control_has(at_.raw(), caller.at_.raw());
         auto on = std::move(*this).enable(threaded);
-        const Requested asked = caller.request(card);
+        const Requested asked = has == FQ_OK ? caller.request(card) : Requested{has, FQ_NEXT_GONE};
         return {std::move(on), asked};
     }
     // Returns the counts of the ring's polls.
@@ -739,7 +742,13 @@ private:
     Handle at_;
 };
 
-using Todo = fq_todo;
+// An action that has to be done, and then reported. It is true unless there is nothing to do: it is FQ_TODO_SLEEP or, with the error
+// `status`, FQ_TODO_FAILED. A new one is no action.
+struct Todo : fq_todo {
+    Todo() noexcept : fq_todo FQ_TODO_INIT {}
+    explicit operator bool() const noexcept { return what != FQ_TODO_SLEEP && what != FQ_TODO_FAILED; }
+};
+
 using DeviceShown = fq_device_shown;
 
 // A driver of up to 64 devices on one thread: their instances, the poll list and the runs over it. It returns what has to be
@@ -764,20 +773,21 @@ public:
 
     // Returns what has to be done now. An action that isn't reported is returned again.
     [[nodiscard]] Todo next() {
-        Todo todo FQ_TODO_INIT;
-        fq_driver_next(at_.raw(), &todo);
+        Todo todo;
+        detail::made(fq_driver_next(at_.raw(), &todo));
         return todo;
     }
     // Reports that an action was done; after a look and a fetch set todo.packets before. Returns FQ_OK; FQ_NOT_DUE if the
     // action isn't due any more; FQ_BAD_WORK if a fetch took more than todo.most.
-    Status done(const Todo &todo) { return Status(fq_driver_done(at_.raw(), &todo)); }
-    // Reports an action, and sets it to what has to be done now: done and next in one call. The first action is FQ_TODO_INIT, which
-    // reports nothing. Returns what done returns; after FQ_BAD_WORK nothing has changed.
-    Status step(Todo &todo) { return Status(fq_driver_step(at_.raw(), &todo)); }
+    [[nodiscard]] Status done(const Todo &todo) { return fq_driver_done(at_.raw(), &todo); }
+    // Reports an action, and sets it to what has to be done now: done and next in one call. The first action is a new Todo, which
+    // reports nothing. Returns what done returns; after FQ_BAD_WORK nothing has changed, and the action is FQ_TODO_FAILED.
+    [[nodiscard]] Status step(Todo &todo) { return fq_driver_step(at_.raw(), &todo); }
 
     // Does one action at a card: calls mask(device), unmask(device), look(device), which returns whether the card has packets,
     // or fetch(device, most), which takes and delivers packets and returns how many. Returns the action, or that there is
-    // nothing to do, or that a run ended. If a call throws, nothing is reported, and the same action is due again.
+    // nothing to do, or that a run ended; FQ_TODO_FAILED with FQ_BAD_WORK after a fetch of more than `most`. If a call throws, nothing
+    // is reported, and the same action is due again.
     template <class Cards>
     Todo act(Cards &cards) {
         Todo todo = next();
@@ -786,9 +796,9 @@ public:
         case FQ_TODO_UNMASK: cards.unmask(todo.device); break;
         case FQ_TODO_LOOK: todo.packets = cards.look(todo.device); break;
         case FQ_TODO_FETCH: todo.packets = cards.fetch(todo.device, todo.most); break;
-        default: return todo;
+        case FQ_TODO_SLEEP: case FQ_TODO_ENDED: case FQ_TODO_FAILED: return todo;
         }
-        done(todo);
+        if (const Status said = done(todo); fq_is_error(said)) todo.what = FQ_TODO_FAILED, todo.status = said;
         return todo;
     }
 

@@ -36,6 +36,7 @@ KEYWORDS = ("move",)  # of Rust, among the names of calls
 LENGTHS = ("len", "room", "count")  # the names of a parameter that is the length of the array before it
 TYPES = {
     "uint8_t": "u8",
+    "uint16_t": "u16",
     "uint32_t": "u32",
     "uint64_t": "u64",
     "int64_t": "i64",

@@ -23,8 +23,8 @@ import abi_names  # noqa: E402
 import header  # noqa: E402
 
 # The C type of each type of Rattle that a call or a struct has, and its size in bytes on x86-64. A text is bytes to Rattle.
-TYPES = {"u8": "uint8_t", "u32": "uint32_t", "u64": "uint64_t", "i64": "int64_t", "usize": "size_t", "bool": "bool"}
-SIZES = {"uint8_t": 1, "uint32_t": 4, "uint64_t": 8, "int64_t": 8, "size_t": 8, "bool": 1}
+TYPES = {"u8": "uint8_t", "u16": "uint16_t", "u32": "uint32_t", "u64": "uint64_t", "i64": "int64_t", "usize": "size_t", "bool": "bool"}
+SIZES = {"uint8_t": 1, "uint16_t": 2, "uint32_t": 4, "uint64_t": 8, "int64_t": 8, "size_t": 8, "bool": 1}
 # The structs whose name in C isn't that of Rattle, in small letters.
 RENAMED = {"FqDqlNew": "fq_dql_made", "Packet": "fq_packet", "TxState": "fq_tx_shown"}
 EMPTY = {"Global"}  # the heap, which has no bytes and is no parameter in C
@@ -112,8 +112,8 @@ def c_parts(structs: Mapping[str, Any], name: str) -> list[Part]:
 
 
 def plain(c_type: str) -> str:
-    """Returns a type as the exports have it: a text is bytes, an untyped pointer leads to bytes, and a status is a number."""
-    return re.sub(r"\b(?:char|void)\b", "uint8_t", c_type).replace("enum fq_status", "uint32_t")
+    """Returns a type as the exports have it: a text is bytes, an untyped pointer leads to bytes, and an enum is a number."""
+    return re.sub(r"\benum fq_\w+", "uint32_t", re.sub(r"\b(?:char|void)\b", "uint8_t", c_type))
 
 
 def laid_out(fields: list[tuple[str, str | list[Part]]]) -> list[Part]:

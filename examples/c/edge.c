@@ -35,13 +35,13 @@ static uint32_t fetch(struct card *card, uint32_t most) {
 
 static void report_interrupts(void) {
     for (uint64_t bits = fq_word_take(&interrupts); bits; bits &= bits - 1)
-        must(fq_driver_interrupt(&driver, (uint32_t)__builtin_ctzll(bits)) < FQ_NOT_ALLOWED);
+        must(!fq_is_error(fq_driver_interrupt(&driver, (uint32_t)__builtin_ctzll(bits))));
 }
 
 /* Does what the driver asks for until there is nothing to do: from then on each packet that arrives raises an interrupt. */
 static void work(void) {
     struct fq_todo todo = FQ_TODO_INIT;
-    while (report_interrupts(), fq_driver_step(&driver, &todo), todo.what != FQ_TODO_SLEEP) {
+    while (report_interrupts(), must(!fq_is_error(fq_driver_step(&driver, &todo))), todo.what != FQ_TODO_SLEEP) {
         struct card *card = &cards[todo.device];
         if (todo.what == FQ_TODO_MASK) card->masked = 1;
         else if (todo.what == FQ_TODO_UNMASK) card->masked = 0;

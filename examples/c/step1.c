@@ -20,16 +20,17 @@ static uint32_t fetch(uint32_t most) {
 
 static void work(struct fq_handle *driver) {
     struct fq_todo todo = FQ_TODO_INIT;
-    while (fq_driver_step(driver, &todo), todo.what != FQ_TODO_SLEEP) {
+    while (!fq_is_error(fq_driver_step(driver, &todo)) && todo.what != FQ_TODO_SLEEP) {
         switch (todo.what) {
         case FQ_TODO_MASK: masked = true; puts("  mask"); break;
         case FQ_TODO_UNMASK: masked = false; puts("  unmask"); break;
         case FQ_TODO_LOOK: todo.packets = waiting; printf("  look: %u packets\n", waiting); break;
         case FQ_TODO_FETCH: todo.packets = fetch(todo.most); printf("  fetch: %u packets\n", todo.packets); break;
-        default: printf("  a run ended: %u polls, %u packets\n", todo.run.polls, todo.run.work);
+        case FQ_TODO_ENDED: printf("  a run ended: %u polls, %u packets\n", todo.run.polls, todo.run.work); break;
+        case FQ_TODO_SLEEP: case FQ_TODO_FAILED: break;
         }
     }
-    puts("  sleep");
+    puts(todo.status == FQ_OK ? "  sleep" : fq_status_name(todo.status));
 }
 
 int main(void) {

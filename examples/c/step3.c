@@ -32,7 +32,7 @@ static uint32_t fetch(uint32_t most) {
 
 static void work(void) {
     struct fq_todo todo = FQ_TODO_INIT;
-    while (fq_driver_step(&driver, &todo), todo.what != FQ_TODO_SLEEP) {
+    while (must(!fq_is_error(fq_driver_step(&driver, &todo))), todo.what != FQ_TODO_SLEEP) {
         if (todo.what == FQ_TODO_MASK) masked = true;
         else if (todo.what == FQ_TODO_UNMASK) masked = false;
         else if (todo.what == FQ_TODO_LOOK) todo.packets = arrived - polled + sent; /* or if there is something to complete */

@@ -138,16 +138,18 @@ static inline uint32_t fetch_from(struct device *device, uint32_t most) {
 /* Does what the driver asks for until a run ends; returns false if there is nothing to do. */
 static inline bool run(void) {
     struct fq_todo todo = FQ_TODO_INIT;
-    while (report_interrupts(), fq_driver_step(&driver, &todo), todo.what != FQ_TODO_SLEEP) {
+    while (report_interrupts(), !fq_is_error(fq_driver_step(&driver, &todo)) && todo.what != FQ_TODO_SLEEP) {
         struct device *device = devices[todo.device];
         switch (todo.what) {
         case FQ_TODO_MASK: device->mask(device); break;
         case FQ_TODO_UNMASK: device->unmask(device); break;
         case FQ_TODO_LOOK: todo.packets = device->look(device); break;
         case FQ_TODO_FETCH: todo.packets = fetch_from(device, todo.most); break;
-        default: return runs++, squeezed += todo.run.squeezed, true;
+        case FQ_TODO_ENDED: return runs++, squeezed += todo.run.squeezed, true;
+        case FQ_TODO_SLEEP: case FQ_TODO_FAILED: break;
         }
     }
+    must("step", todo.status, FQ_OK);
     return false;
 }
 

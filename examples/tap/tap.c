@@ -138,12 +138,13 @@ static uint32_t fetch(struct queue *queue, uint32_t most) {
 static bool run(void) {
     struct fq_todo todo = FQ_TODO_INIT;
     for (uint64_t bits = fq_word_take(&interrupted); bits; bits &= bits - 1) report(&queues[__builtin_ctzll(bits)]);
-    while (fq_driver_step(&driver, &todo), todo.what != FQ_TODO_SLEEP && todo.what != FQ_TODO_ENDED) {
+    while (!fq_is_error(fq_driver_step(&driver, &todo)) && todo.what != FQ_TODO_SLEEP && todo.what != FQ_TODO_ENDED) {
         struct queue *queue = &queues[todo.device];
         if (todo.what == FQ_TODO_FETCH) todo.packets = fetch(queue, todo.most);
         if (todo.what == FQ_TODO_UNMASK && set.mask) arm(queue, EPOLL_CTL_MOD);
         if (todo.what == FQ_TODO_LOOK) todo.packets = queue->put != queue->taken && !trace.file;
     }
+    must("step", todo.status, FQ_OK);
     if (todo.what == FQ_TODO_ENDED) row(&trace, now_ms(), 0, "softirq", 0), runs++, squeezed += todo.run.squeezed;
     for (size_t i = 0; i < set.queues; i++) send_answers(&queues[i]);
     return todo.what == FQ_TODO_ENDED;

@@ -242,6 +242,20 @@ static void an_open_asks_once(void) {
     }
 }
 
+/* An open by another instance's seat enables nothing. */
+static void an_open_knows_its_seats(void) {
+    struct fq_handle other = FQ_NONE, others[2] = {FQ_NONE, FQ_NONE};
+    uint32_t next = 99;
+    masks = 0;
+    want(fq_shared_bare(&control, seats, 2) == FQ_OK && fq_shared_bare(&other, others, 2) == FQ_OK, "two instances");
+    want(fq_control_has(&control, poller) == FQ_OK && fq_control_has(&control, irq) == FQ_OK && fq_control_has(&other, &others[1]) == FQ_OK, "its seats");
+    want(fq_control_has(&other, irq) == FQ_BAD_HANDLE && fq_control_has(poller, irq) == FQ_BAD_HANDLE && fq_control_has(&control, &other) == FQ_BAD_HANDLE, "others");
+    want(fq_control_open(&control, false, &others[0], &card, &next) == FQ_BAD_HANDLE && next == FQ_NEXT_GONE && masks == 0, "another instance's seat");
+    want(fq_control_open(&control, false, poller, &card, &next) == FQ_GRANTED && fq_control_open(&other, false, &others[0], &card, &next) == FQ_GRANTED, "its own");
+    want(fq_abandon(&others[0]) == FQ_OK && fq_abandon(&others[1]) == FQ_OK && fq_abandon(&other) == FQ_OK, "the end");
+    given_up();
+}
+
 /* fq_seat_end_watched and fq_seat_request read the kind from the state word: they queue for a thread that was set meanwhile, and report it. */
 static void unmask(void *at) { (void)at; }
 static bool look(void *at) { return (void)at, true; }
@@ -359,7 +373,8 @@ static const struct {
     void (*call)(void);
 } cases[] = {CASE(a_full_poll_of_a_thread), CASE(a_full_poll_of_a_busy_poller), CASE(bytes_of_an_instance), CASE(a_limit_out_of_bounds), CASE(a_polled_instance_is_handed), CASE(a_list_of_64), CASE(a_device_leaves_a_list),
     CASE(weights_of_devices), CASE(a_split_of_what_is_no_ring), CASE(a_ring_whose_instance_is_refused), CASE(buffers_in_turn),
-    CASE(ends_of_polls_on_one_thread), CASE(a_full_poll_under_a_disable), CASE(an_open_asks_once), CASE(handed_to_a_thread_that_was_set_meanwhile), CASE(a_stopped_ring_is_watched),
+    CASE(ends_of_polls_on_one_thread), CASE(a_full_poll_under_a_disable), CASE(an_open_asks_once), CASE(an_open_knows_its_seats),
+    CASE(handed_to_a_thread_that_was_set_meanwhile), CASE(a_stopped_ring_is_watched),
     CASE(refusals_of_a_replay), CASE(runs_that_the_kernel_would_add), CASE(frees_and_lists)};
 
 int main(int count, char **words) {

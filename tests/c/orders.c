@@ -56,6 +56,7 @@ static void act(struct fq_todo *todo) {
     case FQ_TODO_UNMASK: card->masked = false; break;
     case FQ_TODO_LOOK: todo->packets = mistake == NO_LOOK ? 0 : card->waiting; break;
     case FQ_TODO_FETCH: todo->packets = fetch(card, todo->most); break;
+    case FQ_TODO_ENDED: case FQ_TODO_SLEEP: case FQ_TODO_FAILED: break;
     }
 }
 
@@ -81,14 +82,14 @@ static void step(struct fq_todo *todo) {
 
 /* A report of what was due earlier, or never, and calls whose numbers are wrong. */
 static void stray(void) {
-    const uint64_t number = kept.number && any(2) ? any((unsigned)kept.number) : UINT64_MAX - any(2);
+    const uint64_t number = kept.number && any(2) ? kept.number - 1 - any(9) : UINT64_MAX - any(2);
     struct fq_todo todo = kept;
     todo.number = number, todo.packets = any(70);
     const enum fq_status said = fq_driver_done(&driver, &todo);
     must(said == FQ_NOT_DUE || (number == 0 && said == FQ_OK), "a stray report");
     must(fq_driver_interrupt(&driver, DEVICES + any(9)) == FQ_BAD_DEVICE, "no device");
     todo.size = any(8);
-    must(fq_driver_next(&driver, &todo) == FQ_BAD_SIZE && fq_driver_step(&driver, &todo) == FQ_BAD_SIZE, "a bad size");
+    must(fq_driver_next_sized(&driver, &todo) == FQ_BAD_SIZE && fq_driver_step_sized(&driver, &todo) == FQ_BAD_SIZE, "a bad size");
 }
 
 /* One call or event. */

@@ -6,7 +6,7 @@ import ctypes
 import enum
 from typing import Any
 
-u8, u32, u64, i64 = ctypes.c_uint8, ctypes.c_uint32, ctypes.c_uint64, ctypes.c_int64
+u8, u16, u32, u64, i64 = ctypes.c_uint8, ctypes.c_uint16, ctypes.c_uint32, ctypes.c_uint64, ctypes.c_int64
 size, boolean, text, pointer = ctypes.c_size_t, ctypes.c_bool, ctypes.c_char_p, ctypes.POINTER
 VERSION = "1.1.0"
 MESSAGE_ROOM = 96
@@ -105,8 +105,8 @@ class Word(enum.IntFlag):
 
 
 class What(enum.IntEnum):
-    """What has to be done. After FQ_TODO_SLEEP and FQ_TODO_ENDED there is nothing to report, and fq_driver_done does
-    nothing."""
+    """What has to be done. After FQ_TODO_SLEEP, FQ_TODO_ENDED and FQ_TODO_FAILED there is nothing to report, and
+    fq_driver_done does nothing. A switch over it has no default, so that a compiler names an action that it forgets."""
 
     SLEEP = 0
     MASK = 1
@@ -114,6 +114,7 @@ class What(enum.IntEnum):
     LOOK = 3
     FETCH = 4
     ENDED = 5
+    FAILED = 6
 
 
 class DeviceState(enum.IntEnum):
@@ -200,6 +201,7 @@ class Todo(ctypes.Structure):
         ("most", u32),
         ("packets", u32),
         ("run", RunReport),
+        ("status", u32),
     ]
 
 
@@ -370,6 +372,7 @@ CALLS: dict[str, tuple[Any, dict[str, Any]]] = {
     "control_mark": (Status, {"control": pointer(Handle)}),
     "control_try_take": (Status, {"control": pointer(Handle)}),
     "control_step": (Status, {"control": pointer(Handle), "on": boolean, "threaded": boolean}),
+    "control_has": (Status, {"control": pointer(Handle), "seat": pointer(Handle)}),
     "list_new": (Status, {"list": pointer(Handle)}),
     "list_push": (Status, {"list": pointer(Handle), "id": u32}),
     "list_remove": (Status, {"list": pointer(Handle), "id": u32}),
@@ -378,13 +381,16 @@ CALLS: dict[str, tuple[Any, dict[str, Any]]] = {
     "run_next": (Status, {"list": pointer(Handle), "id": pointer(u32)}),
     "run_polled": (Status, {"list": pointer(Handle), "work": u32, "next": u32}),
     "run_end": (Status, {"list": pointer(Handle), "report": pointer(RunReport)}),
-    "driver_new": (Status, {"driver": pointer(Handle), "devices": u32, "budget": u32, "weight": u32, "window": u32}),
+    "driver_new_salted": (
+        Status,
+        {"driver": pointer(Handle), "devices": u32, "budget": u32, "weight": u32, "window": u32, "salt": u16},
+    ),
     "driver_open": (Status, {"driver": pointer(Handle), "device": u32}),
     "driver_stop": (Status, {"driver": pointer(Handle), "device": u32}),
     "driver_interrupt": (Status, {"driver": pointer(Handle), "device": u32}),
-    "driver_next": (Status, {"driver": pointer(Handle), "todo": pointer(Todo)}),
+    "driver_next_sized": (Status, {"driver": pointer(Handle), "todo": pointer(Todo)}),
+    "driver_step_sized": (Status, {"driver": pointer(Handle), "todo": pointer(Todo)}),
     "driver_done": (Status, {"driver": pointer(Handle), "todo": pointer(Todo)}),
-    "driver_step": (Status, {"driver": pointer(Handle), "todo": pointer(Todo)}),
     "driver_show": (Status, {"driver": pointer(Handle), "device": u32, "shown": pointer(DeviceShown)}),
     "replay": (
         Status,

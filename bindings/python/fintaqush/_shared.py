@@ -142,7 +142,8 @@ class Control(_Part):
 
     def open(self, seat: Seat, threaded: bool = False, mask: Callable[[], object] = lambda: None) -> tuple[Status, Next]:
         """Opens a driver's instance: enables it, and requests a poll once by a seat that owns nothing. Returns what `Seat.request`
-        returns."""
+        returns. BAD_HANDLE, and nothing is done, if the seat is another instance's."""
+        c.control_has(self._at, seat._at)
         self.enable(threaded)
         return seat.request(mask)
 

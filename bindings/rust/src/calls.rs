@@ -355,6 +355,11 @@ pub(crate) fn control_step(control: &mut fq_handle, on: bool, threaded: bool) ->
     unsafe { fq_control_step(control, on, threaded) }
 }
 
+pub(crate) fn control_has(control: &mut fq_handle, seat: &mut fq_handle) -> u32 {
+    // SAFETY: each reference and each slice leads to whole objects, to which no other argument leads.
+    unsafe { fq_control_has(control, seat) }
+}
+
 pub(crate) fn list_new(list: &mut fq_handle) -> u32 {
     // SAFETY: each reference and each slice leads to whole objects, to which no other argument leads.
     unsafe { fq_list_new(list) }
@@ -395,15 +400,16 @@ pub(crate) fn run_end(list: &mut fq_handle, report: &mut fq_run_report) -> u32 {
     unsafe { fq_run_end(list, report) }
 }
 
-pub(crate) fn driver_new(
+pub(crate) fn driver_new_salted(
     driver: &mut fq_handle,
     devices: u32,
     budget: u32,
     weight: u32,
     window: u32,
+    salt: u16,
 ) -> u32 {
     // SAFETY: each reference and each slice leads to whole objects, to which no other argument leads.
-    unsafe { fq_driver_new(driver, devices, budget, weight, window) }
+    unsafe { fq_driver_new_salted(driver, devices, budget, weight, window, salt) }
 }
 
 pub(crate) fn driver_open(driver: &mut fq_handle, device: u32) -> u32 {
@@ -421,19 +427,19 @@ pub(crate) fn driver_interrupt(driver: &mut fq_handle, device: u32) -> u32 {
     unsafe { fq_driver_interrupt(driver, device) }
 }
 
-pub(crate) fn driver_next(driver: &mut fq_handle, todo: &mut fq_todo) -> u32 {
+pub(crate) fn driver_next_sized(driver: &mut fq_handle, todo: &mut fq_todo) -> u32 {
     // SAFETY: each reference and each slice leads to whole objects, to which no other argument leads.
-    unsafe { fq_driver_next(driver, todo) }
+    unsafe { fq_driver_next_sized(driver, todo) }
+}
+
+pub(crate) fn driver_step_sized(driver: &mut fq_handle, todo: &mut fq_todo) -> u32 {
+    // SAFETY: each reference and each slice leads to whole objects, to which no other argument leads.
+    unsafe { fq_driver_step_sized(driver, todo) }
 }
 
 pub(crate) fn driver_done(driver: &mut fq_handle, todo: &fq_todo) -> u32 {
     // SAFETY: each reference and each slice leads to whole objects, to which no other argument leads.
     unsafe { fq_driver_done(driver, todo) }
-}
-
-pub(crate) fn driver_step(driver: &mut fq_handle, todo: &mut fq_todo) -> u32 {
-    // SAFETY: each reference and each slice leads to whole objects, to which no other argument leads.
-    unsafe { fq_driver_step(driver, todo) }
 }
 
 pub(crate) fn driver_show(driver: &mut fq_handle, device: u32, shown: &mut fq_device_shown) -> u32 {

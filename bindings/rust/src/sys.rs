@@ -140,6 +140,8 @@ pub const FQ_TODO_LOOK: u32 = 3;
 pub const FQ_TODO_FETCH: u32 = 4;
 /// A run ended, with the report `run` (`net_rx_action`): do other work first, if there is some.
 pub const FQ_TODO_ENDED: u32 = 5;
+/// Nothing, because the call failed, with the error `status`: a loop has to end.
+pub const FQ_TODO_FAILED: u32 = 6;
 
 /// Closed, and its card is masked.
 pub const FQ_DEVICE_CLOSED: u32 = 0;
@@ -357,20 +359,23 @@ pub struct fq_run_report {
 #[repr(C)]
 #[derive(Clone, Copy, Debug, PartialEq, Eq)]
 pub struct fq_todo {
-    /// The size of this struct: set by the caller, once (`FQ_TODO_INIT`), because the struct may grow.
+    /// The size of this struct, which `fq_driver_next` and `fq_driver_step` set, because it may grow.
     pub size: usize,
     /// The number under which to report it: each action has another one; 0 if there is nothing to report.
     pub number: u64,
-    /// What has to be done: a number of enum `fq_what`.
+    /// What has to be done.
     pub what: u32,
-    /// The device; 0 for `FQ_TODO_SLEEP` and `FQ_TODO_ENDED`.
+    /// The device; 0 if the action is at none.
     pub device: u32,
     /// The packets that a fetch may take, the driver's weight; 0 for anything else.
     pub most: u32,
-    /// The packets of a look and a fetch: 0 at first; the caller sets it after a look and a fetch.
+    /// Set by the caller after a look and a fetch; before that 1 for a look, so that packets aren't forgotten, else
+    /// 0.
     pub packets: u32,
     /// The report of the run that ended; all 0 for anything else.
     pub run: fq_run_report,
+    /// The error after `FQ_TODO_FAILED`, otherwise `FQ_OK`.
+    pub status: u32,
 }
 
 /// The state of a device, and the counts of its polls.

@@ -626,7 +626,7 @@ fn an_open_asks_once_and_a_request_goes_by_the_word() {
         assert_eq!(interrupts.request(), (Prep::Missed, Next::Gone));
         let mut card = Model::default();
         let kind = if threaded { Kind::Thread } else { Kind::List };
-        let (_on, prep, next) = control.open(threaded, &mut poller, &mut card);
+        let (_on, prep, next) = control.open(threaded, &mut poller, &mut card).unwrap();
         assert_eq!((prep, next), (Prep::Granted, Next::Again(kind)));
         assert!(card.masked);
         assert_eq!(interrupts.request(), (Prep::Missed, Next::Gone));
@@ -886,12 +886,12 @@ fn a_driver_polls_what_came_before_it_was_opened() {
         waiting: 100,
         ..EdgeCard::default()
     };
-    assert_eq!(driver.act(&mut card), What::Sleep);
+    assert_eq!(driver.act(&mut card), Ok(What::Sleep));
     driver.open(1).unwrap();
     assert_eq!(driver.open(1), Err(Fault::NOT_DUE));
     let mut did = Vec::new();
     while did.last() != Some(&What::Sleep) {
-        did.push(driver.act(&mut card));
+        did.push(driver.act(&mut card).unwrap());
     }
     did.retain(|what| !matches!(what, What::Ended(_)));
     let fetch = What::Fetch {
@@ -920,7 +920,7 @@ fn a_driver_polls_what_came_before_it_was_opened() {
     driver.stop(1).unwrap();
     assert_eq!(driver.stop(1), Err(Fault::NOT_DUE));
     assert_eq!(driver.interrupt(1), Ok(Prep::Disabled));
-    while driver.act(&mut card) != What::Sleep {}
+    while driver.act(&mut card) != Ok(What::Sleep) {}
     assert_eq!(driver.shown(1).unwrap().state, DeviceState::Closed);
     assert!(!card.open);
 }
@@ -942,10 +942,9 @@ fn a_loop_needs_only_steps() {
             What::Unmask(device) => card.unmask(device),
             What::Look(device) => todo.set_packets(card.look(device).into()),
             What::Fetch { device, most } => {
-                let fetch = todo;
                 todo.set_packets(9);
                 assert_eq!(driver.step(&mut todo), Err(Fault::BAD_WORK));
-                assert_eq!(todo.what(), fetch.what());
+                assert_eq!(driver.step(&mut todo), Ok(What::Fetch { device, most }));
                 todo.set_packets(card.fetch(device, most));
             }
             What::Ended(_) => {}
@@ -992,20 +991,24 @@ fn a_driver_refuses_what_is_not_due() {
     assert_eq!(todo.what(), What::Fetch { device: 0, most: 8 });
     assert_eq!(driver.done(todo, 9), Err(Fault::BAD_WORK));
     let broken = catch_unwind(AssertUnwindSafe(|| {
-        struct Broken;
+        struct Broken(bool);
         impl Cards for Broken {
             fn mask(&mut self, _: u32) {}
             fn unmask(&mut self, _: u32) {}
             fn look(&mut self, _: u32) -> bool {
                 false
             }
-            fn fetch(&mut self, _: u32, _: u32) -> u32 {
-                panic!("a card")
+            fn fetch(&mut self, _: u32, most: u32) -> u32 {
+                assert!(!self.0, "a card");
+                most + 1
             }
         }
-        driver.act(&mut Broken)
+        assert_eq!(driver.act(&mut Broken(false)), Err(Fault::BAD_WORK));
+        driver.act(&mut Broken(true))
     }));
     assert!(broken.is_err());
+    let mut other = Driver::new(1, 300, Weight::MAX, 1024).unwrap();
+    assert_eq!(other.done(todo, 1), Err(Fault::NOT_DUE)); // another driver's action
     assert_eq!(driver.next().what(), What::Fetch { device: 0, most: 8 });
 }
 

@@ -112,3 +112,19 @@ pub extern "C" fn fq_control_step(handle: &mut FqHandle, on: bool, threaded: boo
     }
     switch_in(handle.held.as_mut(), on, threaded)
 }
+
+fn has_seat(control: &Object, seat: &Object) -> u32 {
+    match (control, seat) {
+        (Object::Controller(control), Object::Seat(seat)) if control.has(seat) => status::OK,
+        _ => status::BAD_HANDLE,
+    }
+}
+
+/// Returns OK if the seat belongs to the controller's instance, otherwise BAD_HANDLE.
+#[unsafe(no_mangle)]
+pub extern "C" fn fq_control_has(handle: &mut FqHandle, seat: &mut FqHandle) -> u32 {
+    if !handle.is_set() || !seat.is_set() {
+        return status::BAD_HANDLE;
+    }
+    has_seat(handle.held.as_mut(), seat.held.as_mut())
+}

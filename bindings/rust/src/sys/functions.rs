@@ -288,6 +288,8 @@ extern "C" {
     /// pending, and the owner has to complete the instance before the next step; `FQ_NOT_ALLOWED` to open one that
     /// isn't off; `FQ_BAD_HANDLE`. Since 1.1.
     pub fn fq_control_step(control: *mut fq_handle, on: bool, threaded: bool) -> u32;
+    /// Returns `FQ_OK` if the seat belongs to the controller's instance, otherwise `FQ_BAD_HANDLE`. Since 1.1.
+    pub fn fq_control_has(control: *mut fq_handle, seat: *mut fq_handle) -> u32;
     /// Makes a poll list for up to 64 numbers of devices; for more devices use more lists, for example one for each
     /// processor. A number leaves the list when its poll ends with `FQ_NEXT_GONE`, or by `fq_list_remove`. Returns
     /// `FQ_OK`; `FQ_IN_USE`; `FQ_OUT_OF_MEMORY`.
@@ -319,15 +321,15 @@ extern "C" {
     /// Ends the run, and sets `*report`. The numbers that weren't polled, and those to be polled again, are on the
     /// list. Returns `FQ_OK`; `FQ_NOT_ALLOWED`.
     pub fn fq_run_end(list: *mut fq_handle, report: *mut fq_run_report) -> u32;
-    /// Makes a driver of 1 to 64 devices, all closed, their cards masked. Budget, weight and window are those of
-    /// `fq_run_begin`. `fq_free` frees it in any state. Returns `FQ_OK`; `FQ_IN_USE`; `FQ_BAD_COUNT`;
-    /// `FQ_BAD_WEIGHT`; `FQ_BAD_BUDGET`; `FQ_OUT_OF_MEMORY`. Since 1.1.
-    pub fn fq_driver_new(
+    /// Like `fq_driver_new`, for bindings. Drivers with different salts number their actions differently, so that
+    /// none takes a report that is another one's. Since 1.1.
+    pub fn fq_driver_new_salted(
         driver: *mut fq_handle,
         devices: u32,
         budget: u32,
         weight: u32,
         window: u32,
+        salt: u16,
     ) -> u32;
     /// Opens a closed device (`napi_enable`): its card will be unmasked and looked at, so that packets which came
     /// before are polled too. Returns `FQ_OK`; `FQ_NOT_DUE` if it isn't closed; `FQ_BAD_DEVICE`; `FQ_BAD_HANDLE`.
@@ -341,29 +343,23 @@ extern "C" {
     /// Returns `FQ_GRANTED`: a poll was requested, whose first action is to mask the card; `FQ_MISSED`: a poll is
     /// requested already, and one more follows, or the device is closed; `FQ_DISABLED`: it is being stopped;
     /// `FQ_BAD_DEVICE`; `FQ_BAD_HANDLE`. It may be called too often: an interrupt without packets costs one empty
-    /// poll. Since 1.1.
+    /// poll. The status may be ignored if the device and the handle are right. Since 1.1.
     pub fn fq_driver_interrupt(driver: *mut fq_handle, device: u32) -> u32;
-    /// Sets `*todo` to what has to be done now. It is the same action, with the same number, until that is reported
-    /// or isn't due any more. Returns `FQ_OK`; `FQ_BAD_HANDLE`, and `*todo` is set to sleep; `FQ_BAD_SIZE` if
-    /// `todo->size` is too small, and `*todo` is unchanged. The status may be ignored if `size` and the handle are
-    /// right. Since 1.1.
-    pub fn fq_driver_next(driver: *mut fq_handle, todo: *mut fq_todo) -> u32;
+    /// Like `fq_driver_next` and `fq_driver_step`, for bindings, which set `todo->size` themselves. Return
+    /// `FQ_BAD_SIZE` if that is too small, and nothing is read, written or changed. Since 1.1.
+    pub fn fq_driver_next_sized(driver: *mut fq_handle, todo: *mut fq_todo) -> u32;
+    /// Like `fq_driver_next` and `fq_driver_step`, for bindings, which set `todo->size` themselves. Return
+    /// `FQ_BAD_SIZE` if that is too small, and nothing is read, written or changed. Since 1.1.
+    pub fn fq_driver_step_sized(driver: *mut fq_handle, todo: *mut fq_todo) -> u32;
     /// Reports that the action in `*todo` was done, with `todo->packets`; only `todo->number` and `todo->packets` are
     /// read. Call it before the next call of `fq_driver_next`, or not at all: an action that isn't reported is
-    /// returned again. Returns `FQ_OK`; `FQ_BAD_HANDLE`; `FQ_BAD_SIZE` if `todo->size` is too small; `FQ_NOT_DUE`:
-    /// the driver doesn't wait for this report any more, because of an interrupt, an open, a stop or an earlier
-    /// report, and `fq_driver_next` says what is due instead, so the status may be ignored; `FQ_BAD_WORK` if a fetch
-    /// took more than `most`. Nothing changes unless it returns `FQ_OK`. Since 1.1.
+    /// returned again. Returns `FQ_OK`; `FQ_BAD_HANDLE`; `FQ_NOT_DUE`: the driver doesn't wait for this report any
+    /// more, because of an interrupt, an open, a stop or an earlier report, or it is another driver's, and
+    /// `fq_driver_next` says what is due instead; `FQ_BAD_WORK` if a fetch took more than `most`. Nothing changes
+    /// unless it returns `FQ_OK`. Since 1.1.
     pub fn fq_driver_done(driver: *mut fq_handle, todo: *const fq_todo) -> u32;
-    /// Reports the action in `*todo`, unless its number is 0, and sets `*todo` to what has to be done now:
-    /// `fq_driver_done` and then `fq_driver_next` in one call. Report interrupts that came meanwhile before it, so
-    /// that they count before the next poll. Returns `FQ_OK`; `FQ_BAD_HANDLE`, and `*todo` is set to sleep;
-    /// `FQ_BAD_SIZE` if `todo->size` is too small, and nothing changes; `FQ_NOT_DUE`: the driver didn't wait for this
-    /// report any more, and `*todo` is what is due instead, so the status may be ignored; `FQ_BAD_WORK` if a fetch
-    /// took more than `most`, and nothing changes: `*todo` is still that fetch. Since 1.1.
-    pub fn fq_driver_step(driver: *mut fq_handle, todo: *mut fq_todo) -> u32;
-    /// Sets `*shown` to the state of a device and the counts of its polls. Returns `FQ_OK`; `FQ_BAD_HANDLE`;
-    /// `FQ_BAD_SIZE` if `shown->size` is too small; `FQ_BAD_DEVICE`. `*shown` is unchanged unless it returns `FQ_OK`.
+    /// Sets `*shown` to the state of a device and the counts of its polls. Returns `FQ_OK`; `FQ_BAD_SIZE` if
+    /// `shown->size` is too small; `FQ_BAD_HANDLE`; `FQ_BAD_DEVICE`. `*shown` is unchanged unless it returns `FQ_OK`.
     /// Since 1.1.
     pub fn fq_driver_show(driver: *mut fq_handle, device: u32, shown: *mut fq_device_shown) -> u32;
     /// Replays a trace of `len` bytes, and writes its report to an array of `room` bytes. Returns `FQ_BAD_WEIGHT`,
