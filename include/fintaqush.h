@@ -129,6 +129,9 @@ FQ_NONNULL size_t fq_status_text(uint32_t status, char *to, size_t room);
 FQ_NONNULL size_t fq_status_message(uint32_t status, char *to, size_t room);
 FQ_NONNULL size_t fq_fault_text(uint32_t fault, char *to, size_t room);
 
+/* Returns the library's version as a number, as FQ_VERSION_NUMBER is that of the header. Since 1.1. */
+uint32_t fq_version_number(void);
+
 /* The structs that calls read and write, except those of fq_replay and those that begin with their size. fq_struct_size returns the size
  * of one in bytes, so that bindings can check theirs; 0 for an unknown number. */
 enum fq_struct FQ_NUMBER {

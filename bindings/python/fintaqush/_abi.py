@@ -287,6 +287,7 @@ CALLS: dict[str, tuple[Any, dict[str, Any]]] = {
     "status_text": (size, {"status": u32, "to": text, "room": size}),
     "status_message": (size, {"status": u32, "to": text, "room": size}),
     "fault_text": (size, {"fault": u32, "to": text, "room": size}),
+    "version_number": (u32, {}),
     "struct_size": (size, {"which": u32}),
     "dql_new": (DqlMade, {"min": u32, "max": u32, "hold_ms": u64, "now_ms": u64}),
     "dql_renew": (Status, {"dql": pointer(Dql), "min": u32, "max": u32, "hold_ms": u64, "now_ms": u64}),

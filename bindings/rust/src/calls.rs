@@ -23,6 +23,11 @@ pub(crate) fn fault_text(fault: u32, to: &mut [u8]) -> usize {
     unsafe { fq_fault_text(fault, to.as_mut_ptr().cast(), to.len()) }
 }
 
+pub(crate) fn version_number() -> u32 {
+    // SAFETY: each reference and each slice leads to whole objects, to which no other argument leads.
+    unsafe { fq_version_number() }
+}
+
 pub(crate) fn struct_size(which: u32) -> usize {
     // SAFETY: each reference and each slice leads to whole objects, to which no other argument leads.
     unsafe { fq_struct_size(which) }

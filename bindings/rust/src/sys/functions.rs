@@ -18,6 +18,8 @@ extern "C" {
     /// name of a status, or its message ("?" for an unknown number); the name of a trace's fault. It returns the
     /// length of the text; if that isn't below `room`, the array is unchanged.
     pub fn fq_fault_text(fault: u32, to: *mut c_char, room: usize) -> usize;
+    /// Returns the library's version as a number, as `FQ_VERSION_NUMBER` is that of the header. Since 1.1.
+    pub fn fq_version_number() -> u32;
     /// The structs that calls read and write, except those of `fq_replay` and those that begin with their size.
     /// `fq_struct_size` returns the size of one in bytes, so that bindings can check theirs; 0 for an unknown number.
     pub fn fq_struct_size(which: u32) -> usize;
