@@ -11,7 +11,8 @@
  * - Calls on one object don't overlap, not even those that only read. An object may move from thread to thread if a lock, a thread's start
  *   or join, or a sequentially consistent atomic orders the calls. The ring's input, each seat and the controller of one shared instance
  *   are separate objects, which may be used at the same time, each by one thread.
- * - A struct fq_handle or fq_dql isn't copied, and only calls write its fields. An unset handle is all zero.
+ * - A handle (struct fq_ring, fq_tx, fq_seat, fq_control, fq_list, fq_driver) or fq_dql isn't copied, and only calls write its fields. An
+ *   unset handle is all zero.
  * - No call is made from a signal handler, or from the forked child of a process with threads.
  *
  * No call blocks, sleeps, locks or starts a thread. fq_seat_schedule_prep, fq_seat_complete_done, fq_seat_end and fq_control_step, and
@@ -282,14 +283,22 @@ FQ_NONNULL uint64_t fq_napi_word(const struct fq_napi *napi);
 
 /* ---- handle: free, abandon and move objects of the library. They are on the library's heap. */
 
-/* A handle to an object of the library. It isn't copied, and only calls write its fields. */
+/* What the handles of all kinds of objects have in common. It isn't copied, and only calls write its fields. */
 struct fq_handle {
     bool private_set;
     void *private_at;
 };
 
+/* The handles, with a type for each kind of object. The calls on an object of any kind take its member: `fq_free(&ring.handle)`. */
+struct fq_ring { struct fq_handle handle; };    /* a receive ring, or its input or its poll end */
+struct fq_tx { struct fq_handle handle; };      /* a transmit ring */
+struct fq_seat { struct fq_handle handle; };    /* a caller of a shared instance */
+struct fq_control { struct fq_handle handle; }; /* the controller of a shared instance */
+struct fq_list { struct fq_handle handle; };    /* a poll list, and the run over it */
+struct fq_driver { struct fq_handle handle; };  /* a driver */
+
 /* An unset handle: it refers to no object. */
-#define FQ_NONE {false, NULL}
+#define FQ_NONE {{false, NULL}}
 
 /* Frees the object of a handle, which is unset after that. Returns FQ_OK; FQ_BAD_HANDLE; FQ_NOT_ALLOWED, and nothing is freed, for a seat
  * that isn't at rest, for a controller that isn't off, and for a list in a run: then the handle still has its object, which leaks unless a
@@ -310,17 +319,17 @@ struct fq_packet {
 };
 
 /* Makes a ring of capacity 1 to 65536. Returns FQ_OK; FQ_IN_USE; FQ_BAD_CAPACITY; FQ_OUT_OF_MEMORY. */
-FQ_CHECKED enum fq_status fq_ring_new(struct fq_handle *ring, size_t capacity);
+FQ_CHECKED enum fq_status fq_ring_new(struct fq_ring *ring, size_t capacity);
 /* Puts a packet into the ring, after all others. Returns FQ_OK; FQ_FULL; FQ_BAD_HANDLE. */
-FQ_CHECKED enum fq_status fq_ring_put(struct fq_handle *ring, uint64_t number, uint32_t bytes);
+FQ_CHECKED enum fq_status fq_ring_put(struct fq_ring *ring, uint64_t number, uint32_t bytes);
 /* Puts the packets of an array into the ring, after all others and in order: as many of the first ones as fit. Sets *count to how many.
  * Returns FQ_OK if all fit; FQ_FULL if not; FQ_BAD_HANDLE, and *count is 0. A poll sees all of them at once. A circular pool of buffers
  * needs as many as the ring's capacity, plus 64 for a poll, plus the longest burst, which is 1 for fq_ring_put. */
-FQ_CHECKED enum fq_status fq_ring_put_all(struct fq_handle *FQ_RESTRICT ring, const struct fq_packet *FQ_RESTRICT packets, size_t len, size_t *FQ_RESTRICT count);
+FQ_CHECKED enum fq_status fq_ring_put_all(struct fq_ring *FQ_RESTRICT ring, const struct fq_packet *FQ_RESTRICT packets, size_t len, size_t *FQ_RESTRICT count);
 /* Removes the first packets from the ring, at most `weight` (1 to 64), and writes them to an array of `len` elements, at least the
  * weight. Returns FQ_OK, and sets *count to their number. Otherwise *count is 0: FQ_BAD_WEIGHT; FQ_NO_ROOM; FQ_BAD_HANDLE, also for a
  * ring whose poll end belongs to an instance or to another handle. */
-FQ_CHECKED enum fq_status fq_ring_poll(struct fq_handle *FQ_RESTRICT ring, size_t weight, struct fq_packet *FQ_RESTRICT out, size_t len, size_t *FQ_RESTRICT count);
+FQ_CHECKED enum fq_status fq_ring_poll(struct fq_ring *FQ_RESTRICT ring, size_t weight, struct fq_packet *FQ_RESTRICT out, size_t len, size_t *FQ_RESTRICT count);
 
 /* The counts of a ring's polls, each of which saturates at its maximum. */
 struct fq_counts {
@@ -349,13 +358,13 @@ struct fq_ring_shown {
 };
 
 /* Sets *shown to the state of a ring, or of its input. Returns FQ_OK; FQ_BAD_HANDLE, and *shown is unchanged. */
-FQ_CHECKED enum fq_status fq_ring_show(struct fq_handle *FQ_RESTRICT ring, struct fq_ring_shown *FQ_RESTRICT shown);
+FQ_CHECKED enum fq_status fq_ring_show(struct fq_ring *FQ_RESTRICT ring, struct fq_ring_shown *FQ_RESTRICT shown);
 /* Splits a ring without an instance for two threads: after it, `ring` is the ring's input, for puts, and `out` its poll end, for polls.
  * Each is freed separately. Returns FQ_OK; FQ_IN_USE; FQ_BAD_HANDLE; FQ_OUT_OF_MEMORY. */
-FQ_CHECKED enum fq_status fq_ring_split(struct fq_handle *FQ_RESTRICT ring, struct fq_handle *FQ_RESTRICT out);
+FQ_CHECKED enum fq_status fq_ring_split(struct fq_ring *FQ_RESTRICT ring, struct fq_ring *FQ_RESTRICT out);
 /* Frees a ring that was never split, and sets *totals to its totals; the handle is unset after that. Returns FQ_OK; FQ_BAD_HANDLE, and
  * nothing changes. */
-FQ_CHECKED enum fq_status fq_ring_finish(struct fq_handle *FQ_RESTRICT ring, struct fq_totals *FQ_RESTRICT totals);
+FQ_CHECKED enum fq_status fq_ring_finish(struct fq_ring *FQ_RESTRICT ring, struct fq_totals *FQ_RESTRICT totals);
 
 /* ---- tx: transmit rings under a byte queue limit (netdev_tx_sent_queue, netdev_tx_completed_queue). The ring keeps the sizes of the
  * packets that were sent and aren't completed, in order; the packets themselves stay with the caller. Times are milliseconds. */
@@ -371,16 +380,16 @@ struct fq_tx_shown {
 
 /* Makes a ring of capacity 1 to 65536, not stopped, over a new limit between `min` and `max` bytes, with the slack hold time `hold_ms`
  * (dql_init). fq_free frees it, whatever it holds. Returns FQ_OK; FQ_IN_USE; FQ_BAD_BOUNDS; FQ_BAD_CAPACITY; FQ_OUT_OF_MEMORY. */
-FQ_CHECKED enum fq_status fq_tx_new(struct fq_handle *tx, size_t capacity, uint32_t min, uint32_t max, uint64_t hold_ms, uint64_t now_ms);
+FQ_CHECKED enum fq_status fq_tx_new(struct fq_tx *tx, size_t capacity, uint32_t min, uint32_t max, uint64_t hold_ms, uint64_t now_ms);
 /* Sends a packet of `bytes` bytes to the device (netdev_tx_sent_queue): adds it to the ring, and stops the queue if `avail` becomes
  * negative. Returns FQ_OK; otherwise nothing is sent: FQ_STOPPED, else FQ_FULL, else FQ_TOO_LARGE, else FQ_TOO_MUCH_IN_FLIGHT;
  * FQ_BAD_HANDLE. */
-FQ_CHECKED enum fq_status fq_tx_send(struct fq_handle *tx, uint32_t bytes);
+FQ_CHECKED enum fq_status fq_tx_send(struct fq_tx *tx, uint32_t bytes);
 /* Completes the `count` oldest packets (netdev_tx_completed_queue). If these have any bytes, the limit adapts, and the queue is started
  * if the limit has room again. Returns FQ_OK; FQ_MORE_THAN_SENT, and nothing is completed; FQ_BAD_HANDLE. */
-FQ_CHECKED enum fq_status fq_tx_done(struct fq_handle *tx, uint32_t count, uint64_t now_ms);
+FQ_CHECKED enum fq_status fq_tx_done(struct fq_tx *tx, uint32_t count, uint64_t now_ms);
 /* Sets *state to the state of the ring. Returns FQ_OK; FQ_BAD_HANDLE, and *state is unchanged. */
-FQ_CHECKED enum fq_status fq_tx_state(struct fq_handle *FQ_RESTRICT tx, struct fq_tx_shown *FQ_RESTRICT state);
+FQ_CHECKED enum fq_status fq_tx_state(struct fq_tx *FQ_RESTRICT tx, struct fq_tx_shown *FQ_RESTRICT state);
 
 /* What a driver's watchdog timer keeps about a transmit ring (dev_watchdog): all 0 at first. */
 struct fq_tx_watchdog {
@@ -392,39 +401,39 @@ struct fq_tx_watchdog {
 /* Checks a ring at each tick of that timer. Sets *stuck to whether the ring has been stopped, with no byte completed, for `limit_ms`
  * since the first check that found it so; if the clock went back to before that check, 0 ms have passed. Returns FQ_OK; FQ_BAD_HANDLE,
  * and *stuck is false. Since 1.1. */
-FQ_CHECKED enum fq_status fq_tx_watch(struct fq_handle *FQ_RESTRICT tx, struct fq_tx_watchdog *FQ_RESTRICT watchdog, uint64_t limit_ms, uint64_t now_ms, bool *FQ_RESTRICT stuck);
+FQ_CHECKED enum fq_status fq_tx_watch(struct fq_tx *FQ_RESTRICT tx, struct fq_tx_watchdog *FQ_RESTRICT watchdog, uint64_t limit_ms, uint64_t now_ms, bool *FQ_RESTRICT stuck);
 
 /* ---- shared: instances that threads share. */
 
 /* Makes an instance over the ring's poll end, with its controller and an array of `count` (2 to 8) seats, one for each caller. It is
  * disabled. After it, `ring` is only the ring's input. Returns FQ_OK; FQ_IN_USE; FQ_BAD_COUNT; FQ_BAD_HANDLE; FQ_OUT_OF_MEMORY. */
-FQ_CHECKED enum fq_status fq_shared_new(struct fq_handle *FQ_RESTRICT ring, struct fq_handle *FQ_RESTRICT control, struct fq_handle *FQ_RESTRICT seats, size_t count);
+FQ_CHECKED enum fq_status fq_shared_new(struct fq_ring *FQ_RESTRICT ring, struct fq_control *FQ_RESTRICT control, struct fq_seat *FQ_RESTRICT seats, size_t count);
 
 /* Makes an instance without a ring, for a card that the caller polls itself; fq_seat_poll returns no packets. Otherwise like
  * fq_shared_new. Returns FQ_OK; FQ_IN_USE; FQ_BAD_COUNT; FQ_OUT_OF_MEMORY. */
-FQ_CHECKED enum fq_status fq_shared_bare(struct fq_handle *FQ_RESTRICT control, struct fq_handle *FQ_RESTRICT seats, size_t count);
+FQ_CHECKED enum fq_status fq_shared_bare(struct fq_control *FQ_RESTRICT control, struct fq_seat *FQ_RESTRICT seats, size_t count);
 
 /* The calls of a seat, which is one caller of the instance. Each makes one attempt, after checks for FQ_BAD_KIND, FQ_BAD_WEIGHT,
  * FQ_NO_ROOM and FQ_BAD_HANDLE; fq_seat_schedule_prep and fq_seat_complete_done repeat it while another thread changes the instance. A
  * seat at rest, which owns nothing, may request a poll (napi_schedule_prep), take the instance from the list or as its thread, take it to
  * busy poll it (napi_busy_loop), and set whether polls are queued for its thread (dev_set_threaded). */
-FQ_CHECKED enum fq_status fq_seat_schedule(struct fq_handle *seat);      /* FQ_GRANTED, FQ_MISSED, FQ_DISABLED, FQ_CHANGED */
-FQ_CHECKED enum fq_status fq_seat_schedule_prep(struct fq_handle *seat); /* FQ_GRANTED, FQ_MISSED, FQ_DISABLED, since 1.1 */
-FQ_CHECKED enum fq_status fq_seat_take(struct fq_handle *seat, uint32_t kind); /* FQ_TAKEN, FQ_NOT_THERE */
-FQ_CHECKED enum fq_status fq_seat_busy_take(struct fq_handle *seat); /* FQ_TAKEN, FQ_BUSY, FQ_CHANGED */
-FQ_CHECKED enum fq_status fq_seat_set_threaded(struct fq_handle *seat, bool threaded); /* FQ_OK */
+FQ_CHECKED enum fq_status fq_seat_schedule(struct fq_seat *seat);      /* FQ_GRANTED, FQ_MISSED, FQ_DISABLED, FQ_CHANGED */
+FQ_CHECKED enum fq_status fq_seat_schedule_prep(struct fq_seat *seat); /* FQ_GRANTED, FQ_MISSED, FQ_DISABLED, since 1.1 */
+FQ_CHECKED enum fq_status fq_seat_take(struct fq_seat *seat, uint32_t kind); /* FQ_TAKEN, FQ_NOT_THERE */
+FQ_CHECKED enum fq_status fq_seat_busy_take(struct fq_seat *seat); /* FQ_TAKEN, FQ_BUSY, FQ_CHANGED */
+FQ_CHECKED enum fq_status fq_seat_set_threaded(struct fq_seat *seat, bool threaded); /* FQ_OK */
 /* A seat that was granted the instance has to queue it (____napi_schedule). */
-FQ_CHECKED enum fq_status fq_seat_hand(struct fq_handle *seat, uint32_t kind); /* FQ_OK */
+FQ_CHECKED enum fq_status fq_seat_hand(struct fq_seat *seat, uint32_t kind); /* FQ_OK */
 /* A seat that polls may poll the ring, like fq_ring_poll, and then requeues the instance or completes (napi_complete_done). */
-FQ_CHECKED enum fq_status fq_seat_poll(struct fq_handle *FQ_RESTRICT seat, size_t weight, struct fq_packet *FQ_RESTRICT out, size_t len, size_t *FQ_RESTRICT count);
-FQ_CHECKED enum fq_status fq_seat_requeue(struct fq_handle *seat);       /* FQ_OK: it is on the list again */
-FQ_CHECKED enum fq_status fq_seat_complete(struct fq_handle *seat);      /* FQ_RELEASED, FQ_AGAIN, FQ_CHANGED; FQ_HELD for a busy poller */
-FQ_CHECKED enum fq_status fq_seat_complete_done(struct fq_handle *seat); /* FQ_RELEASED, FQ_AGAIN; FQ_HELD for a busy poller, since 1.1 */
+FQ_CHECKED enum fq_status fq_seat_poll(struct fq_seat *FQ_RESTRICT seat, size_t weight, struct fq_packet *FQ_RESTRICT out, size_t len, size_t *FQ_RESTRICT count);
+FQ_CHECKED enum fq_status fq_seat_requeue(struct fq_seat *seat);       /* FQ_OK: it is on the list again */
+FQ_CHECKED enum fq_status fq_seat_complete(struct fq_seat *seat);      /* FQ_RELEASED, FQ_AGAIN, FQ_CHANGED; FQ_HELD for a busy poller */
+FQ_CHECKED enum fq_status fq_seat_complete_done(struct fq_seat *seat); /* FQ_RELEASED, FQ_AGAIN; FQ_HELD for a busy poller, since 1.1 */
 /* A seat that busy polls may poll and complete, and stops (busy_poll_stop): it then polls once more. */
-FQ_CHECKED enum fq_status fq_seat_busy_stop(struct fq_handle *seat); /* FQ_OK, FQ_CHANGED */
+FQ_CHECKED enum fq_status fq_seat_busy_stop(struct fq_seat *seat); /* FQ_OK, FQ_CHANGED */
 
 /* Sets *word to the state word, a sum of FQ_BIT_.., in any state of the seat. Returns FQ_OK; FQ_BAD_HANDLE. */
-FQ_CHECKED enum fq_status fq_seat_look(struct fq_handle *FQ_RESTRICT seat, uint64_t *FQ_RESTRICT word);
+FQ_CHECKED enum fq_status fq_seat_look(struct fq_seat *FQ_RESTRICT seat, uint64_t *FQ_RESTRICT word);
 
 /* How often a seat's calls returned each result. Each count saturates at its maximum. */
 struct fq_answers {
@@ -439,7 +448,7 @@ struct fq_answers {
 
 /* Sets *answers to how often the seat's calls returned each result since it was made. Returns FQ_OK; FQ_BAD_HANDLE, and *answers is
  * unchanged. */
-FQ_CHECKED enum fq_status fq_seat_count(struct fq_handle *FQ_RESTRICT seat, struct fq_answers *FQ_RESTRICT answers);
+FQ_CHECKED enum fq_status fq_seat_count(struct fq_seat *FQ_RESTRICT seat, struct fq_answers *FQ_RESTRICT answers);
 
 /* The callbacks of a driver for its card. Each is called with `at`. A callback that a call doesn't use may be null. */
 struct fq_card {
@@ -453,13 +462,13 @@ struct fq_card {
 /* Queues a granted instance as the kernel does (____napi_schedule): for its thread if FQ_BIT_THREADED is set. Sets *next to
  * FQ_NEXT_AGAIN or FQ_NEXT_AGAIN_THREAD. Returns FQ_OK; FQ_BAD_HANDLE; FQ_NOT_ALLOWED. *next is FQ_NEXT_GONE unless it returns FQ_OK.
  * Since 1.1. */
-FQ_CHECKED enum fq_status fq_seat_hand_again(struct fq_handle *FQ_RESTRICT seat, uint32_t *FQ_RESTRICT next);
+FQ_CHECKED enum fq_status fq_seat_hand_again(struct fq_seat *FQ_RESTRICT seat, uint32_t *FQ_RESTRICT next);
 
 /* Handles an interrupt: requests a poll (fq_seat_schedule_prep); if granted, masks the card and queues the instance, in the kernel's
  * order: if the card were masked after that, it would stay masked whenever the poller is faster. `kind` follows FQ_BIT_THREADED, which
  * fq_seat_request reads itself. Returns FQ_BAD_KIND; FQ_GRANTED, and the instance is queued; FQ_MISSED; FQ_DISABLED; FQ_BAD_HANDLE;
  * FQ_NOT_ALLOWED. */
-FQ_CHECKED static inline enum fq_status fq_seat_interrupt_masked(struct fq_handle *seat, uint32_t kind, const struct fq_card *card) {
+FQ_CHECKED static inline enum fq_status fq_seat_interrupt_masked(struct fq_seat *seat, uint32_t kind, const struct fq_card *card) {
     if (kind > FQ_THREAD) return FQ_BAD_KIND;
     const enum fq_status said = fq_seat_schedule_prep(seat);
     if (said != FQ_GRANTED) return said;
@@ -469,7 +478,7 @@ FQ_CHECKED static inline enum fq_status fq_seat_interrupt_masked(struct fq_handl
 }
 
 /* Like fq_seat_interrupt_masked, for a card that is masked already, or is never masked. */
-FQ_CHECKED static inline enum fq_status fq_seat_interrupt(struct fq_handle *seat, uint32_t kind) {
+FQ_CHECKED static inline enum fq_status fq_seat_interrupt(struct fq_seat *seat, uint32_t kind) {
     const struct fq_card none = {NULL, NULL, NULL, NULL, NULL};
     return fq_seat_interrupt_masked(seat, kind, &none);
 }
@@ -477,7 +486,7 @@ FQ_CHECKED static inline enum fq_status fq_seat_interrupt(struct fq_handle *seat
 /* Requests a poll (napi_schedule), from an interrupt, a timer or a driver's open. Like fq_seat_interrupt_masked, but reads the kind from
  * the state word. Sets *next to where the instance is queued: after FQ_NEXT_AGAIN list the number, after FQ_NEXT_AGAIN_THREAD wake the
  * thread; FQ_NEXT_GONE unless it returns FQ_GRANTED. Returns FQ_GRANTED; FQ_MISSED; FQ_DISABLED; FQ_BAD_HANDLE; FQ_NOT_ALLOWED. */
-FQ_CHECKED static inline enum fq_status fq_seat_request(struct fq_handle *FQ_RESTRICT seat, const struct fq_card *FQ_RESTRICT card, uint32_t *FQ_RESTRICT next) {
+FQ_CHECKED static inline enum fq_status fq_seat_request(struct fq_seat *FQ_RESTRICT seat, const struct fq_card *FQ_RESTRICT card, uint32_t *FQ_RESTRICT next) {
     *next = FQ_NEXT_GONE;
     const enum fq_status said = fq_seat_schedule_prep(seat);
     if (said != FQ_GRANTED) return said;
@@ -494,14 +503,14 @@ FQ_CHECKED static inline enum fq_status fq_seat_request(struct fq_handle *FQ_RES
  * has to be woken; that may follow a poll from the list too. Returns FQ_OK; FQ_HELD: the seat keeps polling, as a busy poller does;
  * FQ_NOT_ALLOWED if it doesn't poll; FQ_BAD_HANDLE. *next is FQ_NEXT_GONE unless it returns FQ_OK. A seat polls as the thread while
  * FQ_BIT_SCHED_THREADED is set, which fq_seat_requeue doesn't clear. Since 1.1. */
-FQ_CHECKED enum fq_status fq_seat_end(struct fq_handle *FQ_RESTRICT seat, bool full, uint32_t *FQ_RESTRICT next);
+FQ_CHECKED enum fq_status fq_seat_end(struct fq_seat *FQ_RESTRICT seat, bool full, uint32_t *FQ_RESTRICT next);
 
 #if defined(__GNUC__)
 /* Ends a poll of a card whose queue can be checked by `look`. Like fq_seat_end; and if the instance was released, unmasks the card, and
  * looks after a memory fence. If there is something to poll, it requests a poll itself, masks the card and queues the instance. Without
  * this look an edge-triggered interrupt would be lost. If FQ_BIT_THREADED was set meanwhile, the instance is queued for its thread: wake
  * it after FQ_NEXT_AGAIN_THREAD. Returns what fq_seat_end returns. */
-FQ_CHECKED static inline enum fq_status fq_seat_end_watched(struct fq_handle *FQ_RESTRICT seat, bool full, const struct fq_card *FQ_RESTRICT card, uint32_t *FQ_RESTRICT next) {
+FQ_CHECKED static inline enum fq_status fq_seat_end_watched(struct fq_seat *FQ_RESTRICT seat, bool full, const struct fq_card *FQ_RESTRICT card, uint32_t *FQ_RESTRICT next) {
     enum fq_status said = fq_seat_end(seat, full, next);
     if (said != FQ_OK || *next != FQ_NEXT_GONE) return said;
     card->unmask(card->at);
@@ -516,14 +525,14 @@ FQ_CHECKED static inline enum fq_status fq_seat_end_watched(struct fq_handle *FQ
  * card while the seat still polls, polls the rest of the weight, adds that to *work, and ends like fq_seat_end, full or not. A request
  * that comes meanwhile is missed, so that one more poll follows; for that poll, and if this one was full, the card is masked. Returns
  * FQ_BAD_WEIGHT if the weight isn't 1 to 64, and nothing is done; otherwise what fq_seat_end returns. */
-FQ_CHECKED static inline enum fq_status fq_seat_end_unmasked(struct fq_handle *FQ_RESTRICT seat, const struct fq_card *FQ_RESTRICT card, size_t weight, size_t *FQ_RESTRICT work, uint32_t *FQ_RESTRICT next) {
+FQ_CHECKED static inline enum fq_status fq_seat_end_unmasked(struct fq_seat *FQ_RESTRICT seat, const struct fq_card *FQ_RESTRICT card, size_t weight, size_t *FQ_RESTRICT work, uint32_t *FQ_RESTRICT next) {
     struct fq_counts counts; /* only for its status: FQ_OK if the seat polls */
     uint64_t word;
     *next = FQ_NEXT_GONE;
     if (weight < 1 || weight > 64) return FQ_BAD_WEIGHT;
     enum fq_status said = fq_seat_look(seat, &word);
     if (said == FQ_OK && word & FQ_BIT_IN_BUSY_POLL) return fq_seat_end(seat, false, next);
-    if (said == FQ_OK) said = fq_count(seat, &counts);
+    if (said == FQ_OK) said = fq_count(&seat->handle, &counts);
     if (said != FQ_OK) return said;
     if (*work < weight) {
         card->unmask(card->at);
@@ -541,21 +550,21 @@ FQ_CHECKED static inline enum fq_status fq_seat_end_unmasked(struct fq_handle *F
  * returns FQ_TAKEN, and the instance is off again (napi_disable). Request a poll once after each enable, by a seat (fq_seat_request), or
  * enable by fq_control_open, which does so: an earlier request was missed and isn't polled, and a masked card with a full ring would wait
  * forever. */
-FQ_CHECKED enum fq_status fq_control_enable(struct fq_handle *control, bool threaded); /* FQ_OK, FQ_CHANGED */
-FQ_CHECKED enum fq_status fq_control_mark(struct fq_handle *control);                  /* FQ_OK */
-FQ_CHECKED enum fq_status fq_control_try_take(struct fq_handle *control);              /* FQ_TAKEN, FQ_BUSY, FQ_CHANGED */
+FQ_CHECKED enum fq_status fq_control_enable(struct fq_control *control, bool threaded); /* FQ_OK, FQ_CHANGED */
+FQ_CHECKED enum fq_status fq_control_mark(struct fq_control *control);                  /* FQ_OK */
+FQ_CHECKED enum fq_status fq_control_try_take(struct fq_control *control);              /* FQ_TAKEN, FQ_BUSY, FQ_CHANGED */
 
 /* Makes one step of a driver's open (`on`) or stop; repeat it between the driver's polls until it returns FQ_OK. After FQ_OK the
  * instance is enabled, and a poll still has to be requested once (fq_control_open does so); or it is off. Returns FQ_OK, also to stop an
  * instance that is off; FQ_BUSY: a disable is pending, and the owner has to complete the instance before the next step; FQ_NOT_ALLOWED
  * to open one that isn't off; FQ_BAD_HANDLE. Since 1.1. */
-FQ_CHECKED enum fq_status fq_control_step(struct fq_handle *control, bool on, bool threaded);
+FQ_CHECKED enum fq_status fq_control_step(struct fq_control *control, bool on, bool threaded);
 
 /* Opens a driver's instance: enables it, and requests a poll once by a seat at rest (as virtnet_napi_enable does), so that what came
  * while it was off is polled. Returns, and sets *next, like fq_seat_request: FQ_GRANTED, and the number has to be listed or the thread
  * woken; FQ_MISSED: another seat has requested a poll meanwhile; FQ_NOT_ALLOWED, and nothing is done, if the controller isn't off;
  * FQ_NOT_ALLOWED also if the seat isn't at rest: then the instance is enabled, and a poll still has to be requested; FQ_BAD_HANDLE. */
-FQ_CHECKED static inline enum fq_status fq_control_open(struct fq_handle *FQ_RESTRICT control, bool threaded, struct fq_handle *FQ_RESTRICT seat, const struct fq_card *FQ_RESTRICT card, uint32_t *FQ_RESTRICT next) {
+FQ_CHECKED static inline enum fq_status fq_control_open(struct fq_control *FQ_RESTRICT control, bool threaded, struct fq_seat *FQ_RESTRICT seat, const struct fq_card *FQ_RESTRICT card, uint32_t *FQ_RESTRICT next) {
     *next = FQ_NEXT_GONE;
     const enum fq_status said = fq_control_step(control, true, threaded);
     return said == FQ_OK ? fq_seat_request(seat, card, next) : said;
@@ -573,31 +582,31 @@ struct fq_run_report {
 
 /* Makes a poll list for up to 64 numbers of devices; for more devices use more lists, for example one for each processor. A number
  * leaves the list when its poll ends with FQ_NEXT_GONE, or by fq_list_remove. Returns FQ_OK; FQ_IN_USE; FQ_OUT_OF_MEMORY. */
-FQ_CHECKED enum fq_status fq_list_new(struct fq_handle *list);
+FQ_CHECKED enum fq_status fq_list_new(struct fq_list *list);
 /* Puts a number at the list's tail. Returns FQ_OK; FQ_IN_USE if it is on the list, or waits in the run over it; FQ_FULL if the list and
  * its run hold 64, including the number that is being polled: then end that poll with FQ_NEXT_AGAIN instead of a push. */
-FQ_CHECKED enum fq_status fq_list_push(struct fq_handle *list, uint32_t id);
+FQ_CHECKED enum fq_status fq_list_push(struct fq_list *list, uint32_t id);
 /* Removes a number from the list, for a device that goes away; the others keep their order. It may be called during a run. Returns FQ_OK;
  * FQ_BUSY if it isn't on the list, but the run over it has it, which polls it, will poll it, or lists it at its end: then end its poll with
  * FQ_NEXT_GONE, or end the run first; FQ_NOT_THERE if neither the list nor its run has it; FQ_BAD_HANDLE. Nothing changes unless it returns
  * FQ_OK. Since 1.1. */
-FQ_CHECKED enum fq_status fq_list_remove(struct fq_handle *list, uint32_t id);
+FQ_CHECKED enum fq_status fq_list_remove(struct fq_list *list, uint32_t id);
 /* Sets *len to how many numbers the list and its run hold, including the one that is being polled. Returns FQ_OK; FQ_BAD_HANDLE. */
-FQ_CHECKED enum fq_status fq_list_len(struct fq_handle *FQ_RESTRICT list, uint32_t *FQ_RESTRICT len);
+FQ_CHECKED enum fq_status fq_list_len(struct fq_list *FQ_RESTRICT list, uint32_t *FQ_RESTRICT len);
 /* Begins a run with a budget in packets, a weight in packets per poll, and a window in polls, as in struct fq_settings. Returns FQ_OK;
  * FQ_NOT_ALLOWED if a run is in progress; FQ_BAD_WEIGHT; FQ_BAD_BUDGET. */
-FQ_CHECKED enum fq_status fq_run_begin(struct fq_handle *list, uint32_t budget, uint32_t weight, uint32_t window);
+FQ_CHECKED enum fq_status fq_run_begin(struct fq_list *list, uint32_t budget, uint32_t weight, uint32_t window);
 /* Sets *id to the number to poll next. Returns FQ_OK; FQ_DONE if the run is over; FQ_NOT_ALLOWED without a run, or if the last poll
  * wasn't reported. */
-FQ_CHECKED enum fq_status fq_run_next(struct fq_handle *FQ_RESTRICT list, uint32_t *FQ_RESTRICT id);
+FQ_CHECKED enum fq_status fq_run_next(struct fq_list *FQ_RESTRICT list, uint32_t *FQ_RESTRICT id);
 /* Reports the outcome of the poll: its packets, and how it ended (enum fq_next). Returns FQ_OK; FQ_NOT_ALLOWED; FQ_BAD_WORK above the
  * weight; FQ_BAD_NEXT; FQ_IN_USE if the number would be listed twice, and the poll still has to be reported. It isn't checked that
  * FQ_NEXT_REPOLL follows a whole weight, because a device may have its own weight, below the run's; nor that FQ_NEXT_ABSENT comes without
  * packets. */
-FQ_CHECKED enum fq_status fq_run_polled(struct fq_handle *list, uint32_t work, uint32_t next);
+FQ_CHECKED enum fq_status fq_run_polled(struct fq_list *list, uint32_t work, uint32_t next);
 /* Ends the run, and sets *report. The numbers that weren't polled, and those to be polled again, are on the list. Returns FQ_OK;
  * FQ_NOT_ALLOWED. */
-FQ_CHECKED enum fq_status fq_run_end(struct fq_handle *FQ_RESTRICT list, struct fq_run_report *FQ_RESTRICT report);
+FQ_CHECKED enum fq_status fq_run_end(struct fq_list *FQ_RESTRICT list, struct fq_run_report *FQ_RESTRICT report);
 
 /* ---- driver: a driver of up to 64 devices on one thread. It has their instances, the poll list and the runs over it. It does no input
  * or output and calls nothing back: fq_driver_step reports that an action was done at a card, and says what has to be done next. A loop needs only
@@ -653,41 +662,41 @@ struct fq_todo {
 
 /* Makes a driver of 1 to 64 devices, all closed, their cards masked. Budget, weight and window are those of fq_run_begin. fq_free frees
  * it in any state. Returns FQ_OK; FQ_IN_USE; FQ_BAD_COUNT; FQ_BAD_WEIGHT; FQ_BAD_BUDGET; FQ_OUT_OF_MEMORY. Since 1.1. */
-FQ_CHECKED enum fq_status fq_driver_new(struct fq_handle *driver, uint32_t devices, uint32_t budget, uint32_t weight, uint32_t window);
+FQ_CHECKED enum fq_status fq_driver_new(struct fq_driver *driver, uint32_t devices, uint32_t budget, uint32_t weight, uint32_t window);
 
 /* Opens a closed device (napi_enable): its card will be unmasked and looked at, so that packets which came before are polled too.
  * Returns FQ_OK; FQ_NOT_DUE if it isn't closed; FQ_BAD_DEVICE; FQ_BAD_HANDLE. Since 1.1. */
-FQ_CHECKED enum fq_status fq_driver_open(struct fq_handle *driver, uint32_t device);
+FQ_CHECKED enum fq_status fq_driver_open(struct fq_driver *driver, uint32_t device);
 
 /* Stops an open device (napi_disable). Polls that were requested are still made, its card is masked, and then it is closed, which
  * fq_driver_show shows. Packets that stay in the card are polled after the next open. Returns FQ_OK; FQ_NOT_DUE if it is closed or
  * being stopped; FQ_BAD_DEVICE; FQ_BAD_HANDLE. Since 1.1. */
-FQ_CHECKED enum fq_status fq_driver_stop(struct fq_handle *driver, uint32_t device);
+FQ_CHECKED enum fq_status fq_driver_stop(struct fq_driver *driver, uint32_t device);
 
 /* Reports an interrupt of a card (napi_schedule), at any time, also before an action that is due is reported. Returns FQ_GRANTED: a
  * poll was requested, whose first action is to mask the card; FQ_MISSED: a poll is requested already, and one more follows, or the
  * device is closed; FQ_DISABLED: it is being stopped; FQ_BAD_DEVICE; FQ_BAD_HANDLE. It may be called too often: an interrupt without
  * packets costs one empty poll. Since 1.1. */
-FQ_CHECKED enum fq_status fq_driver_interrupt(struct fq_handle *driver, uint32_t device);
+FQ_CHECKED enum fq_status fq_driver_interrupt(struct fq_driver *driver, uint32_t device);
 
 /* Sets *todo to what has to be done now. It is the same action, with the same number, until that is reported or isn't due any more.
  * Returns FQ_OK; FQ_BAD_HANDLE, and *todo is set to sleep; FQ_BAD_SIZE if todo->size is too small, and *todo is unchanged. The status may
  * be ignored if `size` and the handle are right. Since 1.1. */
-FQ_NONNULL enum fq_status fq_driver_next(struct fq_handle *FQ_RESTRICT driver, struct fq_todo *FQ_RESTRICT todo);
+FQ_NONNULL enum fq_status fq_driver_next(struct fq_driver *FQ_RESTRICT driver, struct fq_todo *FQ_RESTRICT todo);
 
 /* Reports that the action in *todo was done, with todo->packets; only todo->number and todo->packets are read. Call it before the next
  * call of fq_driver_next, or not at all: an action that isn't reported is returned again. Returns FQ_OK; FQ_BAD_HANDLE; FQ_BAD_SIZE if
  * todo->size is too small; FQ_NOT_DUE: the driver doesn't wait for this report any more, because of an interrupt, an open, a stop or an
  * earlier report, and fq_driver_next says what is due instead, so the status may be ignored; FQ_BAD_WORK if a fetch took more than
  * `most`. Nothing changes unless it returns FQ_OK. Since 1.1. */
-FQ_NONNULL enum fq_status fq_driver_done(struct fq_handle *FQ_RESTRICT driver, const struct fq_todo *FQ_RESTRICT todo);
+FQ_NONNULL enum fq_status fq_driver_done(struct fq_driver *FQ_RESTRICT driver, const struct fq_todo *FQ_RESTRICT todo);
 
 /* Reports the action in *todo, unless its number is 0, and sets *todo to what has to be done now: fq_driver_done and then fq_driver_next
  * in one call. Report interrupts that came meanwhile before it, so that they count before the next poll. Returns FQ_OK; FQ_BAD_HANDLE,
  * and *todo is set to sleep; FQ_BAD_SIZE if todo->size is too small, and nothing changes; FQ_NOT_DUE: the driver didn't wait for this
  * report any more, and *todo is what is due instead, so the status may be ignored; FQ_BAD_WORK if a fetch took more than `most`, and
  * nothing changes: *todo is still that fetch. Since 1.1. */
-FQ_NONNULL enum fq_status fq_driver_step(struct fq_handle *FQ_RESTRICT driver, struct fq_todo *FQ_RESTRICT todo);
+FQ_NONNULL enum fq_status fq_driver_step(struct fq_driver *FQ_RESTRICT driver, struct fq_todo *FQ_RESTRICT todo);
 
 /* The states of a device. */
 enum fq_device_state FQ_NUMBER {
@@ -708,7 +717,7 @@ struct fq_device_shown {
 
 /* Sets *shown to the state of a device and the counts of its polls. Returns FQ_OK; FQ_BAD_HANDLE; FQ_BAD_SIZE if shown->size is too
  * small; FQ_BAD_DEVICE. *shown is unchanged unless it returns FQ_OK. Since 1.1. */
-FQ_CHECKED enum fq_status fq_driver_show(struct fq_handle *FQ_RESTRICT driver, uint32_t device, struct fq_device_shown *FQ_RESTRICT shown);
+FQ_CHECKED enum fq_status fq_driver_show(struct fq_driver *FQ_RESTRICT driver, uint32_t device, struct fq_device_shown *FQ_RESTRICT shown);
 
 /* ---- word: a word of pending bits. Only its poller uses a list: another thread sets the bit of a device in such a word, and wakes the poller,
  * which takes all bits and pushes their numbers. All operations are sequentially consistent. */

@@ -93,30 +93,34 @@ private:
     fq_word raw_{};
 };
 
-// Owns an object on the library's heap. It can be moved, not copied.
+// Owns an object on the library's heap, by its handle in C, for example fq_ring. It can be moved, not copied.
+template <class Raw>
 class [[nodiscard]] Handle {
 public:
     Handle() = default;
-    Handle(Handle &&other) noexcept : raw_(std::exchange(other.raw_, fq_handle FQ_NONE)) {}
+    explicit Handle(Raw &raw) noexcept : raw_(std::exchange(raw, Raw{})) {}
+    Handle(Handle &&other) noexcept : Handle(other.raw_) {}
     Handle &operator=(Handle &&other) noexcept {
-        if (this != &other) {
-            give_up();
-            raw_ = std::exchange(other.raw_, fq_handle FQ_NONE);
-        }
+        Handle moved(std::move(other));
+        std::swap(raw_, moved.raw_);
         return *this;
     }
     Handle(const Handle &) = delete;
     Handle &operator=(const Handle &) = delete;
-    ~Handle() { give_up(); }
-
-    [[nodiscard]] fq_handle *raw() noexcept { return &raw_; }
-
-private:
-    void give_up() noexcept {
-        if (raw_.private_set) detail::made(fq_abandon(&raw_));
+    ~Handle() {
+        if (raw_.handle.private_set) detail::made(fq_abandon(&raw_.handle));
     }
 
-    fq_handle raw_ = FQ_NONE;
+    [[nodiscard]] Raw *raw() noexcept { return &raw_; }
+    // Returns the counts of a ring's polls, if the object has its poll end.
+    [[nodiscard]] Counts counts() noexcept {
+        Counts counts{};
+        detail::made(fq_count(&raw_.handle, &counts));
+        return counts;
+    }
+
+private:
+    Raw raw_{};
 };
 
 // A byte queue limit. Times are milliseconds of the caller's clock.
@@ -153,7 +157,7 @@ public:
     // Makes a ring; returns nullopt if the capacity isn't 1 to 65536, min is above max, max is above 1879048192, or memory runs out.
     [[nodiscard]] static std::optional<TxRing> make(std::size_t capacity, std::uint32_t min, std::uint32_t max,
                                                     std::uint64_t hold_ms, std::uint64_t now_ms) {
-        Handle at;
+        Handle<fq_tx> at;
         if (fq_tx_new(at.raw(), capacity, min, max, hold_ms, now_ms) != FQ_OK) return std::nullopt;
         return std::optional<TxRing>(TxRing(std::move(at)));
     }
@@ -173,8 +177,8 @@ public:
     }
 
 private:
-    explicit TxRing(Handle &&at) noexcept : at_(std::move(at)) {}
-    Handle at_;
+    explicit TxRing(Handle<fq_tx> &&at) noexcept : at_(std::move(at)) {}
+    Handle<fq_tx> at_;
 };
 
 // An instance of one thread, whose calls are checked at run time.
@@ -253,8 +257,8 @@ public:
     }
 
 protected:
-    explicit Seat(Handle &&at) noexcept : at_(std::move(at)) {}
-    Handle at_;
+    explicit Seat(Handle<fq_seat> &&at) noexcept : at_(std::move(at)) {}
+    Handle<fq_seat> at_;
 };
 
 // A caller that polls, or busy polls.
@@ -267,11 +271,7 @@ public:
         return count;
     }
     // Returns the counts of the ring's polls.
-    [[nodiscard]] Counts counts() {
-        Counts counts{};
-        made(fq_count(at_.raw(), &counts));
-        return counts;
-    }
+    [[nodiscard]] Counts counts() { return at_.counts(); }
 
 protected:
     using Seat::Seat;
@@ -451,8 +451,8 @@ public:
 
 private:
     friend class Control<Off>;
-    explicit Control(Handle &&at) noexcept : at_(std::move(at)) {}
-    Handle at_;
+    explicit Control(Handle<fq_control> &&at) noexcept : at_(std::move(at)) {}
+    Handle<fq_control> at_;
 };
 
 template <>
@@ -473,19 +473,15 @@ public:
         return {std::move(on), asked};
     }
     // Returns the counts of the ring's polls.
-    [[nodiscard]] Counts counts() {
-        Counts counts{};
-        detail::made(fq_count(at_.raw(), &counts));
-        return counts;
-    }
+    [[nodiscard]] Counts counts() { return at_.counts(); }
 
 private:
     friend class Control<On>;
     friend class Control<Marked>;
     friend struct Shared;
     friend struct Bare;
-    explicit Control(Handle &&at) noexcept : at_(std::move(at)) {}
-    Handle at_;
+    explicit Control(Handle<fq_control> &&at) noexcept : at_(std::move(at)) {}
+    Handle<fq_control> at_;
 };
 
 template <>
@@ -499,8 +495,8 @@ public:
 
 private:
     friend class Control<On>;
-    explicit Control(Handle &&at) noexcept : at_(std::move(at)) {}
-    Handle at_;
+    explicit Control(Handle<fq_control> &&at) noexcept : at_(std::move(at)) {}
+    Handle<fq_control> at_;
 };
 
 inline Control<Marked> Control<On>::mark() && noexcept {
@@ -539,8 +535,8 @@ public:
 private:
     friend class Ring;
     friend struct Shared;
-    explicit Input(Handle &&at) noexcept : at_(std::move(at)) {}
-    Handle at_;
+    explicit Input(Handle<fq_ring> &&at) noexcept : at_(std::move(at)) {}
+    Handle<fq_ring> at_;
 };
 
 // The poll end of a ring without an instance.
@@ -551,16 +547,12 @@ public:
         detail::made(fq_ring_poll(at_.raw(), weight.get(), out.data(), out.size(), &count));
         return count;
     }
-    [[nodiscard]] Counts counts() {
-        Counts counts{};
-        detail::made(fq_count(at_.raw(), &counts));
-        return counts;
-    }
+    [[nodiscard]] Counts counts() { return at_.counts(); }
 
 private:
     friend class Ring;
-    explicit Output(Handle &&at) noexcept : at_(std::move(at)) {}
-    Handle at_;
+    explicit Output(Handle<fq_ring> &&at) noexcept : at_(std::move(at)) {}
+    Handle<fq_ring> at_;
 };
 
 // A receive ring without an instance, with both its ends.
@@ -568,7 +560,7 @@ class [[nodiscard]] Ring {
 public:
     // Makes a ring of capacity 1 to 65536; returns nullopt if it is out of range, or memory runs out.
     [[nodiscard]] static std::optional<Ring> make(std::size_t capacity) {
-        Handle at;
+        Handle<fq_ring> at;
         if (fq_ring_new(at.raw(), capacity) != FQ_OK) return std::nullopt;
         return std::optional<Ring>(Ring(std::move(at)));
     }
@@ -580,15 +572,11 @@ public:
         detail::made(fq_ring_poll(input_.at_.raw(), weight.get(), out.data(), out.size(), &count));
         return count;
     }
-    [[nodiscard]] Counts counts() {
-        Counts counts{};
-        detail::made(fq_count(input_.at_.raw(), &counts));
-        return counts;
-    }
+    [[nodiscard]] Counts counts() { return input_.at_.counts(); }
     [[nodiscard]] RingShown shown() { return input_.shown(); }
     // Returns its two ends, each for its own thread; nullopt if memory runs out, and the ring is unchanged.
     [[nodiscard]] std::optional<std::pair<Input, Output>> split() && {
-        Handle out;
+        Handle<fq_ring> out;
         if (fq_ring_split(input_.at_.raw(), out.raw()) != FQ_OK) return std::nullopt;
         return std::pair<Input, Output>(std::move(input_), Output(std::move(out)));
     }
@@ -600,7 +588,7 @@ public:
     }
 
 private:
-    explicit Ring(Handle &&at) noexcept : input_(std::move(at)) {}
+    explicit Ring(Handle<fq_ring> &&at) noexcept : input_(std::move(at)) {}
     Input input_;
 };
 
@@ -611,13 +599,9 @@ std::optional<std::vector<Caller>> callers(std::size_t count, Make make, ToCalle
     if (count < 2 || count > 8) return std::nullopt;
     std::vector<Caller> made;
     made.reserve(count);
-    fq_handle seats[8] = {};
+    fq_seat seats[8] = {};
     const std::uint32_t said = make(seats);
-    for (std::size_t i = 0; i < count; i++) {
-        Handle seat;
-        *seat.raw() = std::exchange(seats[i], fq_handle FQ_NONE);
-        made.push_back(to_caller(std::move(seat)));
-    }
+    for (std::size_t i = 0; i < count; i++) made.push_back(to_caller(Handle<fq_seat>(seats[i])));
     if (said != FQ_OK) return std::nullopt;
     return made;
 }
@@ -632,11 +616,12 @@ struct [[nodiscard]] Shared {
     // Makes an instance over a ring of capacity 1 to 65536, with 2 to 8 callers; returns nullopt if one is out of range, or memory runs
     // out.
     [[nodiscard]] static std::optional<Shared> make(std::size_t capacity, std::size_t callers) {
-        Handle ring, control;
+        Handle<fq_ring> ring;
+        Handle<fq_control> control;
         if (fq_ring_new(ring.raw(), capacity) != FQ_OK) return std::nullopt;
         auto made = detail::callers(
-            callers, [&](fq_handle *seats) { return fq_shared_new(ring.raw(), control.raw(), seats, callers); },
-            [](Handle &&seat) { return Caller(std::move(seat)); });
+            callers, [&](fq_seat *seats) { return fq_shared_new(ring.raw(), control.raw(), seats, callers); },
+            [](Handle<fq_seat> &&seat) { return Caller(std::move(seat)); });
         if (!made) return std::nullopt;
         return Shared{Input(std::move(ring)), Control<Off>(std::move(control)), std::move(*made)};
     }
@@ -649,10 +634,10 @@ struct [[nodiscard]] Bare {
 
     // Makes an instance with 2 to 8 callers; returns nullopt if that is out of range, or memory runs out.
     [[nodiscard]] static std::optional<Bare> make(std::size_t callers) {
-        Handle control;
+        Handle<fq_control> control;
         auto made = detail::callers(
-            callers, [&](fq_handle *seats) { return fq_shared_bare(control.raw(), seats, callers); },
-            [](Handle &&seat) { return Caller(std::move(seat)); });
+            callers, [&](fq_seat *seats) { return fq_shared_bare(control.raw(), seats, callers); },
+            [](Handle<fq_seat> &&seat) { return Caller(std::move(seat)); });
         if (!made) return std::nullopt;
         return Bare{Control<Off>(std::move(control)), std::move(*made)};
     }
@@ -682,7 +667,7 @@ class [[nodiscard]] List {
 public:
     // Makes a list; returns nullopt if memory runs out.
     [[nodiscard]] static std::optional<List> make() {
-        Handle at;
+        Handle<fq_list> at;
         if (fq_list_new(at.raw()) != FQ_OK) return std::nullopt;
         return std::optional<List>(List(std::move(at)));
     }
@@ -721,10 +706,10 @@ public:
 private:
     // A run in progress, which ends with its scope. A call fails, and changes nothing, if there is nothing left to end.
     struct Run {
-        fq_handle *at;
+        fq_list *at;
         fq_run_report report;
 
-        Run(fq_handle *list, fq_run_report none) noexcept : at(list), report(none) {}
+        Run(fq_list *list, fq_run_report none) noexcept : at(list), report(none) {}
         Run(const Run &) = delete;
         Run &operator=(const Run &) = delete;
         // A poll whose result was rejected is still open: it is reported as FQ_NEXT_ABSENT.
@@ -735,8 +720,8 @@ private:
         ~Run() { end(); }
     };
 
-    explicit List(Handle &&at) noexcept : at_(std::move(at)) {}
-    Handle at_;
+    explicit List(Handle<fq_list> &&at) noexcept : at_(std::move(at)) {}
+    Handle<fq_list> at_;
 };
 
 using Todo = fq_todo;
@@ -750,7 +735,7 @@ public:
     // runs out.
     [[nodiscard]] static std::optional<Driver> make(std::uint32_t devices, std::uint32_t budget = 300, Weight weight = Weight(),
                                                     std::uint32_t window = 1024) {
-        Handle at;
+        Handle<fq_driver> at;
         if (fq_driver_new(at.raw(), devices, budget, std::uint32_t(weight.get()), window) != FQ_OK) return std::nullopt;
         return std::optional<Driver>(Driver(std::move(at)));
     }
@@ -801,8 +786,8 @@ public:
     }
 
 private:
-    explicit Driver(Handle &&at) noexcept : at_(std::move(at)) {}
-    Handle at_;
+    explicit Driver(Handle<fq_driver> &&at) noexcept : at_(std::move(at)) {}
+    Handle<fq_driver> at_;
 };
 
 // Why a trace has no report, or can't have all its runs: the status, and for FQ_BAD_TRACE the number of the trace's fault (fq_fault_name) and its row.

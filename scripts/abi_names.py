@@ -13,6 +13,11 @@ def enum_of(read: Mapping[str, Any], name: str) -> Item:
     return next(item for item in items_of(read, "enum") if item["name"] == name)
 
 
+def is_object(struct: Item) -> bool:
+    """Returns whether a struct is the handle of one kind of object: its only member is what handles of all kinds have."""
+    return [member[:2] for member in struct["members"]] == [["handle", "struct fq_handle"]]
+
+
 def names_of(read: Mapping[str, Any], enum: str) -> list[str]:
     return [name for name, _, _ in enum_of(read, enum)["values"]]
 

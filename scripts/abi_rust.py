@@ -7,7 +7,7 @@ import textwrap
 from collections.abc import Iterator, Mapping
 from typing import Any
 
-from abi_names import enum_of, faults, names_of, prefix_of, sentence, statuses
+from abi_names import enum_of, faults, is_object, names_of, prefix_of, sentence, statuses
 from header import Item, items_of
 
 HEAD = """\
@@ -119,10 +119,11 @@ def structs(read: Mapping[str, Any]) -> Iterator[str]:
 def struct(item: Item, about: str) -> Iterator[str]:
     """Yields a struct; a member is public unless its name begins with private_."""
     is_grown = item["members"][0][0] == "size"  # with 0 for its size it would be wrong
-    derives = DERIVES.get(item["name"], ALL.replace("Default, ", "") if is_grown else ALL)
+    usual = "Debug" if is_object(item) else ALL.replace("Default, ", "") if is_grown else ALL
+    derives = DERIVES.get(item["name"], usual)
     yield from (*doc(about), "#[repr(C)]", f"#[derive({derives})]", f"pub struct {item['name']} {{")
     for name, c_type, note in item["members"]:
-        if name.startswith("private_"):
+        if name.startswith("private_") or is_object(item):
             yield f"    pub(crate) {name}: {rust_type(c_type)},"
         else:
             yield from (*doc(sentence(note), "    "), f"    pub {name}: {rust_type(c_type)},")

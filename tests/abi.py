@@ -1,6 +1,6 @@
 #!/usr/bin/env python3
 """tests/abi.py: the C header and the exports of the crates have the same calls, with the same types of parameters and results, and the same
-structs, member by member. The header is what scripts/header.py read of it; the exports are the functions `extern "C"` and the structs
+structs, member by member; a handle of one kind of object is to the crates the one handle of all kinds. The header is what scripts/header.py read of it; the exports are the functions `extern "C"` and the structs
 `repr(C)` of the crates' sources. It prints each difference. With --planted, or --planted-in-header, which needs clang, it plants faults in
 copies of the sources, or of the header, and prints those that it doesn't find. With --python it prints C that compiles only if the package
 for Python has the header's structs and numbers.
@@ -29,6 +29,9 @@ SIZES = {"uint8_t": 1, "uint32_t": 4, "uint64_t": 8, "int64_t": 8, "size_t": 8, 
 RENAMED = {"FqDqlNew": "fq_dql_made", "Packet": "fq_packet", "TxState": "fq_tx_shown"}
 EMPTY = {"Global"}  # the heap, which has no bytes and is no parameter in C
 ONLY_C = {"fq_card", "fq_word"}  # structs that only the header's inline functions use
+# The handle that a call's prefix names, if that isn't the handle's own name; and the calls on handles of any kind.
+KINDS = {"run": "list"}
+OF_ANY = {"fq_free", "fq_abandon", "fq_move", "fq_count"}
 # Python's enums, and what their names begin with in C.
 PREFIXES = {
     "Status": "FQ_",
@@ -134,12 +137,13 @@ def differences(read: Mapping[str, Any], texts: Mapping[str, str]) -> Iterator[s
     sources = Sources(texts)
     calls = {item["name"]: item for item in header.items_of(read, "function") if not item["inline"]}
     structs = {item["name"]: item for item in header.items_of(read, "struct") if item["name"] not in ONLY_C}
+    objects = {name for name, item in structs.items() if abi_names.is_object(item)}
     yield from (f"{name} is only in the header" for name in sorted(calls.keys() - sources.calls.keys()))
     yield from (f"{name} is only in the crates" for name in sorted(sources.calls.keys() - calls.keys()))
     for name in sorted(calls.keys() & sources.calls.keys()):
-        yield from of_call(sources, calls[name])
+        yield from of_call(sources, calls[name], objects)
     exported = {c_name(name): name for name in sources.structs}
-    for name in sorted(structs):
+    for name in sorted(structs.keys() - objects):
         if name not in exported:
             yield f"struct {name} is only in the header"
         else:
@@ -150,19 +154,31 @@ def differences(read: Mapping[str, Any], texts: Mapping[str, str]) -> Iterator[s
         yield "enum fq_struct and fq_struct_size number different structs"
 
 
-def of_call(sources: Sources, call: Mapping[str, Any]) -> Iterator[str]:
+def of_call(sources: Sources, call: Mapping[str, Any], objects: set[str]) -> Iterator[str]:
     """Yields how a call differs. A number's name is the same on both sides; in the header it may end with its unit, _ms."""
     name, own = call["name"], list(sources.parameters(call["name"]))
+    yield from of_handles(call, objects)
     result = sources.calls[name][1]
     if (returned := sources.c_type(result) if result else "void") != plain(call["returns"]).replace("uint8_t", "void"):
         yield f"{name} returns {call['returns']} in the header, and {returned} in the crates"
     if len(own) != len(call["parameters"]):
         yield f"{name} has {len(call['parameters'])} parameters in the header, and {len(own)} in the crates"
     for (parameter, c_type), (own_name, exported) in zip(call["parameters"], own):
-        if plain(c_type) != exported:
+        found = re.fullmatch(r"struct (\w+) \*", c_type)
+        given = "struct fq_handle *" if found and found[1] in objects else plain(c_type)
+        if given != exported:
             yield f"{name}: {parameter} is {c_type} in the header, and {exported} in the crates"
         elif "*" not in c_type and own_name and own_name != parameter.removesuffix("_ms"):
             yield f"{name}: {parameter} in the header is {own_name} in the crates"
+
+
+def of_handles(call: Mapping[str, Any], objects: set[str]) -> Iterator[str]:
+    """Yields a call whose first handle isn't of the kind that its name says: only some take any kind."""
+    handles = [found[1] for _, c_type in call["parameters"] if (found := re.fullmatch(r"struct (\w+) \*", c_type))]
+    kind = call["name"].split("_")[1]
+    wanted = "fq_handle" if call["name"] in OF_ANY else f"fq_{KINDS.get(kind, kind)}"
+    if "fq_handle" in handles and wanted != "fq_handle" or wanted in objects and wanted != handles[0]:
+        yield f"{call['name']} takes a {handles[0]}"
 
 
 def of_struct(name: str, wanted: list[Part], exported: list[Part]) -> Iterator[str]:
@@ -228,6 +244,9 @@ PLANTED_IN_HEADER = [
     ("uint64_t number, uint32_t bytes);", "uint32_t number, uint32_t bytes);", "fq_ring_put"),
     ("fq_dql_new(uint32_t min, uint32_t max,", "fq_dql_new(uint32_t max, uint32_t min,", "fq_dql_new"),
     ("fq_dql_limit(const struct fq_dql *dql);", "fq_dql_limit(struct fq_dql *dql);", "fq_dql_limit"),
+    ("fq_list_len(struct fq_list *", "fq_list_len(struct fq_ring *", "fq_list_len"),
+    ("fq_shared_bare(struct fq_control *", "fq_shared_bare(struct fq_handle *", "fq_shared_bare"),
+    ("struct fq_tx { struct fq_handle handle; }", "struct fq_tx { struct fq_handle handle; int more; }", "fq_tx"),
     ("uint64_t private_b;\n    uint32_t private_c[2];", "uint32_t private_c[2];\n    uint64_t private_b;", "fq_dql"),
     ("    uint64_t number; /* a number", "    int64_t number; /* a number", "fq_packet"),
     ("FQ_STRUCT_PACKET = 4, FQ_STRUCT_COUNTS = 5", "FQ_STRUCT_PACKET = 5, FQ_STRUCT_COUNTS = 4", "fq_struct_size"),

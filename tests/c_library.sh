@@ -403,7 +403,8 @@ fi
 cat > "$scratch/tells.c" << 'END'
 #include <fintaqush.h>
 int main(void) {
-    struct fq_handle seat = FQ_NONE, list = FQ_NONE;
+    struct fq_seat seat = FQ_NONE;
+    struct fq_list list = FQ_NONE;
     uint32_t next;
     if (fq_seat_end(&seat, true, &next) == FQ_NOT_ALLOWED) return 1;
     return fq_run_polled(&list, 64, next) == FQ_BAD_HANDLE ? 0 : 2;
@@ -415,6 +416,11 @@ cat > "$scratch/null.c" << 'END'
 #include <fintaqush.h>
 int main(void) { return (int)fq_free(NULL); }
 END
+cat > "$scratch/another.c" << 'END'
+#include <fintaqush.h>
+int main(void) { struct fq_ring ring = FQ_NONE; return (int)fq_list_push(&ring, 1); }
+END
+cp "$scratch/another.c" "$scratch/another.cpp"
 cat > "$scratch/ignored.c" << 'END'
 #include <fintaqush.h>
 int main(void) { struct fq_napi napi = fq_napi_new(0); fq_napi_schedule(&napi, 1); return 0; }
@@ -445,6 +451,8 @@ auto enable(fintaqush::Control<fintaqush::On> control) { return std::move(contro
 int main() {}
 END
 check 'a null handle is refused' refused nonnull compile gcc "$scratch/null.c" "$scratch/refused"
+check 'a ring in place of a list is refused' refused 'incompatible pointer type' compile gcc "$scratch/another.c" "$scratch/refused"
+check 'a ring in place of a list is refused in C++' refused 'cannot convert' compile g++ "$scratch/another.cpp" "$scratch/refused"
 check 'an answer that nobody reads is refused' refused unused-result compile gcc "$scratch/ignored.c" "$scratch/refused"
 check 'a poll whose packets nobody counts is refused' refused unused-result compile g++ "$scratch/ignores.cpp" "$scratch/refused"
 check 'a poll by a Caller is refused' refused "has no member named .poll" compile g++ "$scratch/polls.cpp" "$scratch/refused"

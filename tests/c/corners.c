@@ -1,7 +1,7 @@
 /* corners [NAME]: results in corner cases, each case by hand, with calls and structs of the headers only. If one is wrong it
  * prints which, and exits with 9. To be linked with --wrap for malloc, realloc and free. */
+#include "any.h"
 #include "memory.h"
-#include <fintaqush.h>
 #include <stdio.h>
 #include <stdlib.h>
 #include <string.h>
@@ -13,15 +13,16 @@ static void want(bool holds, const char *what) {
 }
 
 /* An instance that is enabled, with an interrupt's seat and a poller's. */
-static struct fq_handle control, seats[2];
-static struct fq_handle *const irq = &seats[0], *const poller = &seats[1];
+static struct fq_control control;
+static struct fq_seat seats[2];
+static struct fq_seat *const irq = &seats[0], *const poller = &seats[1];
 
 static void enabled(bool threaded) {
     want(fq_shared_bare(&control, seats, 2) == FQ_OK && fq_control_enable(&control, threaded) == FQ_OK, "it is enabled");
 }
 
 static void given_up(void) {
-    want(fq_abandon(&control) == FQ_OK && fq_abandon(irq) == FQ_OK && fq_abandon(poller) == FQ_OK && blocks == 0, "nothing is left");
+    want(fq_abandon(&control.handle) == FQ_OK && fq_abandon(&irq->handle) == FQ_OK && fq_abandon(&poller->handle) == FQ_OK && blocks == 0, "nothing is left");
 }
 
 /* A caller that took the instance as its thread, and polled its whole weight, polls again: otherwise no list would have the
@@ -88,7 +89,7 @@ static void a_polled_instance_is_handed(void) {
 
 /* The number that is being polled counts among the 64, and returns after the others at the end of its poll. */
 static void a_list_of_64(void) {
-    struct fq_handle list = FQ_NONE;
+    struct fq_list list = FQ_NONE;
     uint32_t id = 99, len = 99;
     want(fq_list_new(&list) == FQ_OK, "a list");
     for (uint32_t i = 0; i < 64; i++) want(fq_list_push(&list, i) == FQ_OK, "a push");
@@ -96,12 +97,12 @@ static void a_list_of_64(void) {
     want(fq_list_push(&list, 0) == FQ_FULL && fq_list_len(&list, &len) == FQ_OK && len == 64, "the list is full");
     want(fq_run_polled(&list, 0, FQ_NEXT_AGAIN) == FQ_OK && fq_list_len(&list, &len) == FQ_OK && len == 64, "it is listed again");
     for (uint32_t i = 1; i < 65; i++) want(fq_run_next(&list, &id) == FQ_OK && id == i % 64 && fq_run_polled(&list, 0, FQ_NEXT_GONE) == FQ_OK, "all in turn");
-    want(fq_run_next(&list, &id) == FQ_DONE && fq_abandon(&list) == FQ_OK && blocks == 0, "the end");
+    want(fq_run_next(&list, &id) == FQ_DONE && fq_abandon(&list.handle) == FQ_OK && blocks == 0, "the end");
 }
 
 /* A device that goes away leaves the list, and the others keep their order. What only the run has can't leave. */
 static void a_device_leaves_a_list(void) {
-    struct fq_handle list = FQ_NONE;
+    struct fq_list list = FQ_NONE;
     struct fq_run_report report;
     uint32_t id = 99, len = 99;
     want(fq_list_remove(&list, 1) == FQ_BAD_HANDLE && fq_list_new(&list) == FQ_OK && fq_list_remove(&list, 1) == FQ_NOT_THERE, "an empty list");
@@ -114,7 +115,7 @@ static void a_device_leaves_a_list(void) {
     want(fq_run_end(&list, &report) == FQ_OK && fq_list_remove(&list, 4) == FQ_OK && fq_list_remove(&list, 1) == FQ_OK, "4 and 1 leave");
     want(fq_run_begin(&list, 300, 64, 1024) == FQ_OK, "a run");
     for (uint32_t i = 3; i < 6; i += 2) want(fq_run_next(&list, &id) == FQ_OK && id == i && fq_run_polled(&list, 0, FQ_NEXT_GONE) == FQ_OK, "3, then 5");
-    want(fq_run_next(&list, &id) == FQ_DONE && fq_abandon(&list) == FQ_OK && blocks == 0, "the end");
+    want(fq_run_next(&list, &id) == FQ_DONE && fq_abandon(&list.handle) == FQ_OK && blocks == 0, "the end");
 }
 
 /* Devices with their own weights, below the run's, are polled as by net_rx_action, which asks again for a device with a full
@@ -122,7 +123,7 @@ static void a_device_leaves_a_list(void) {
 static void weights_of_devices(void) {
     static const uint32_t weights[3] = {8, 16, 64}, polls[] = {0, 1, 2, 0, 1, 2, 0, 1};
     uint32_t left[3] = {20, 40, 100}, id = 99;
-    struct fq_handle list = FQ_NONE;
+    struct fq_list list = FQ_NONE;
     struct fq_run_report report;
     size_t made = 0;
     want(fq_list_new(&list) == FQ_OK, "a list");
@@ -138,24 +139,25 @@ static void weights_of_devices(void) {
         want(fq_run_end(&list, &report) == FQ_OK, "the run's end");
         if (report.polls == 0) break;
     }
-    want(made == 8 && left[0] + left[1] + left[2] == 0 && fq_abandon(&list) == FQ_OK && blocks == 0, "all is polled");
+    want(made == 8 && left[0] + left[1] + left[2] == 0 && fq_abandon(&list.handle) == FQ_OK && blocks == 0, "all is polled");
 }
 
 /* A split checks its handle before it allocates, which may fail. */
 static void a_split_of_what_is_no_ring(void) {
-    struct fq_handle list = FQ_NONE, out = FQ_NONE;
-    want(fq_list_new(&list) == FQ_OK, "a list");
+    union any list = {{false, NULL}};
+    struct fq_ring out = FQ_NONE;
+    want(fq_list_new(&list.list) == FQ_OK, "a list");
     takes = 0, refused_take = 1;
-    want(fq_ring_split(&list, &out) == FQ_BAD_HANDLE && takes == 0, "it is no ring");
+    want(fq_ring_split(&list.ring, &out) == FQ_BAD_HANDLE && takes == 0, "it is no ring");
     refused_take = 0;
-    want(fq_abandon(&list) == FQ_OK && blocks == 0, "the end");
+    want(fq_abandon(&list.handle) == FQ_OK && blocks == 0, "the end");
 }
 
 /* If an instance over a ring can't be made, whichever allocation fails, the ring is unchanged, and nothing else is set. */
 static void a_ring_whose_instance_is_refused(void) {
     uint32_t said = FQ_OUT_OF_MEMORY;
     for (long at = 1; said == FQ_OUT_OF_MEMORY; at++) {
-        struct fq_handle ring = FQ_NONE;
+        struct fq_ring ring = FQ_NONE;
         struct fq_packet out[4];
         size_t count;
         want(fq_ring_new(&ring, 4) == FQ_OK && fq_ring_put(&ring, 5, 60) == FQ_OK, "a ring");
@@ -163,10 +165,10 @@ static void a_ring_whose_instance_is_refused(void) {
         said = fq_shared_new(&ring, &control, seats, 2);
         refused_take = 0;
         if (said == FQ_OUT_OF_MEMORY) {
-            want(!control.private_set && !irq->private_set && !poller->private_set, "nothing is set");
+            want(!control.handle.private_set && !irq->handle.private_set && !poller->handle.private_set, "nothing is set");
             want(fq_ring_poll(&ring, 4, out, 4, &count) == FQ_OK && count == 1 && out[0].number == 5, "it is polled");
         }
-        want(fq_abandon(&ring) == FQ_OK, "the ring's end");
+        want(fq_abandon(&ring.handle) == FQ_OK, "the ring's end");
     }
     want(said == FQ_OK, "with memory it is made");
     given_up();
@@ -263,7 +265,7 @@ static void handed_to_a_thread_that_was_set_meanwhile(void) {
 
 /* A ring is stuck from the first check on if the limit is 0, and for as long as nothing is completed, also if the clock goes back. */
 static void a_stopped_ring_is_watched(void) {
-    struct fq_handle tx = FQ_NONE;
+    struct fq_tx tx = FQ_NONE;
     struct fq_tx_watchdog watchdog = {false, 0, 0};
     bool stuck = true;
     want(fq_tx_watch(&tx, &watchdog, 0, 7, &stuck) == FQ_BAD_HANDLE && !stuck && watchdog.private_since == 0, "no ring");
@@ -273,7 +275,7 @@ static void a_stopped_ring_is_watched(void) {
     want(fq_tx_watch(&tx, &watchdog, UINT64_MAX - 5, UINT64_MAX, &stuck) == FQ_OK && stuck, "as long as a clock counts");
     want(fq_tx_watch(&tx, &watchdog, 1, 4, &stuck) == FQ_OK && !stuck && fq_tx_watch(&tx, &watchdog, 1, 6, &stuck) == FQ_OK && stuck, "a clock that goes back");
     want(fq_tx_done(&tx, 1, 9) == FQ_OK && fq_tx_watch(&tx, &watchdog, 0, UINT64_MAX, &stuck) == FQ_OK && !stuck, "it is started");
-    want(fq_free(&tx) == FQ_OK && blocks == 0, "the end");
+    want(fq_free(&tx.handle) == FQ_OK && blocks == 0, "the end");
 }
 
 /* If several errors apply, a replay returns the one that the header names first. */
@@ -318,16 +320,16 @@ static void runs_that_the_kernel_would_add(void) {
 
 /* The statuses of a free and of a list are those that the header names. */
 static void frees_and_lists(void) {
-    struct fq_handle list = FQ_NONE;
-    fq_abandon(&list); /* compilers don't warn about this one */
-    want(fq_list_new(&list) == FQ_OK && fq_list_new(&list) == FQ_IN_USE && fq_free(&list) == FQ_OK && fq_free(&list) == FQ_BAD_HANDLE, "a list");
+    struct fq_list list = FQ_NONE;
+    fq_abandon(&list.handle); /* compilers don't warn about this one */
+    want(fq_list_new(&list) == FQ_OK && fq_list_new(&list) == FQ_IN_USE && fq_free(&list.handle) == FQ_OK && fq_free(&list.handle) == FQ_BAD_HANDLE, "a list");
 }
 
 /* This many buffers are used in turn, for a ring of capacity 256 and bursts of 16, of which as many are put as fit while a
  * poll's packets are read: returns how many of these are overwritten by then. */
 static unsigned written_over(uint64_t buffers) {
     static uint64_t written[400];
-    struct fq_handle ring = FQ_NONE;
+    struct fq_ring ring = FQ_NONE;
     struct fq_packet burst[16], out[64];
     unsigned over = 0;
     uint64_t first = 0;
@@ -344,7 +346,7 @@ static unsigned written_over(uint64_t buffers) {
         } while (put == 16);
         for (size_t i = 0; i < polled; i++) over += written[out[i].number % buffers] != out[i].number;
     }
-    want(fq_abandon(&ring) == FQ_OK && blocks == 0, "the end");
+    want(fq_abandon(&ring.handle) == FQ_OK && blocks == 0, "the end");
     return over;
 }
 

@@ -66,7 +66,7 @@ class Driver(_Owned):
     one that isn't due returns False and changes nothing. BAD_COUNT, BAD_WEIGHT, BAD_BUDGET."""
 
     def __init__(self, devices: int, budget: int = 300, weight: int = 64, window: int = 1024) -> None:
-        super().__init__(c.driver_new, devices, budget, weight, window)
+        super().__init__(abi.Driver(), c.driver_new, devices, budget, weight, window)
 
     def open(self, device: int) -> bool:
         """Opens a closed device (`napi_enable`); returns False if it isn't closed. BAD_DEVICE."""

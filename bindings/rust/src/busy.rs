@@ -12,7 +12,7 @@ use crate::sys;
 #[derive(Debug)]
 #[must_use = "an instance whose poller is dropped is polled by nobody"]
 pub struct Busy {
-    pub(crate) at: Handle,
+    pub(crate) at: Handle<sys::fq_seat>,
 }
 
 impl Busy {

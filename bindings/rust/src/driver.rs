@@ -183,7 +183,7 @@ pub struct DeviceShown {
 /// ```
 #[derive(Debug)]
 pub struct Driver {
-    at: Handle,
+    at: Handle<sys::fq_driver>,
 }
 
 impl Driver {

@@ -21,7 +21,7 @@ pub struct Polled {
 /// A poll list of one thread: numbers of devices, which runs of the softirq poll in order.
 #[derive(Debug)]
 pub struct List {
-    at: Handle,
+    at: Handle<sys::fq_list>,
 }
 
 impl List {

@@ -242,12 +242,60 @@ pub struct fq_napi {
     pub controller: u32,
 }
 
-/// A handle to an object of the library. It isn't copied, and only calls write its fields.
+/// What the handles of all kinds of objects have in common. It isn't copied, and only calls write its fields.
 #[repr(C)]
 #[derive(Debug)]
 pub struct fq_handle {
     pub(crate) private_set: bool,
     pub(crate) private_at: *mut c_void,
+}
+
+/// The handles, with a type for each kind of object. The calls on an object of any kind take its member:
+/// `fq_free(&ring.handle)`. A receive ring, or its input or its poll end.
+#[repr(C)]
+#[derive(Debug)]
+pub struct fq_ring {
+    pub(crate) handle: fq_handle,
+}
+
+/// The handles, with a type for each kind of object. The calls on an object of any kind take its member:
+/// `fq_free(&ring.handle)`. A transmit ring.
+#[repr(C)]
+#[derive(Debug)]
+pub struct fq_tx {
+    pub(crate) handle: fq_handle,
+}
+
+/// The handles, with a type for each kind of object. The calls on an object of any kind take its member:
+/// `fq_free(&ring.handle)`. A caller of a shared instance.
+#[repr(C)]
+#[derive(Debug)]
+pub struct fq_seat {
+    pub(crate) handle: fq_handle,
+}
+
+/// The handles, with a type for each kind of object. The calls on an object of any kind take its member:
+/// `fq_free(&ring.handle)`. The controller of a shared instance.
+#[repr(C)]
+#[derive(Debug)]
+pub struct fq_control {
+    pub(crate) handle: fq_handle,
+}
+
+/// The handles, with a type for each kind of object. The calls on an object of any kind take its member:
+/// `fq_free(&ring.handle)`. A poll list, and the run over it.
+#[repr(C)]
+#[derive(Debug)]
+pub struct fq_list {
+    pub(crate) handle: fq_handle,
+}
+
+/// The handles, with a type for each kind of object. The calls on an object of any kind take its member:
+/// `fq_free(&ring.handle)`. A driver.
+#[repr(C)]
+#[derive(Debug)]
+pub struct fq_driver {
+    pub(crate) handle: fq_handle,
 }
 
 /// A packet.

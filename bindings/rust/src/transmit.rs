@@ -31,7 +31,7 @@ pub use crate::sys::fq_tx_watchdog as TxWatchdog;
 /// ```
 #[derive(Debug)]
 pub struct TxRing {
-    at: Handle,
+    at: Handle<sys::fq_tx>,
 }
 
 impl TxRing {
