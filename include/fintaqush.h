@@ -8,7 +8,7 @@
  * What the caller must ensure, because nothing here can check it:
  * - A pointer points to a whole object of its type, or to as many as its count says. None is null (also for a count of 0), and no two
  *   arguments of one call point to the same memory.
- * - Calls on one object don't overlap, not even those that only read. An object may move from thread to thread if a lock, a thread's start
+ * - Calls on one object don't overlap, not even two that only read, which take a pointer to const. An object may move from thread to thread if a lock, a thread's start
  *   or join, or a sequentially consistent atomic orders the calls. The ring's input, each seat and the controller of one shared instance
  *   are separate objects, which may be used at the same time, each by one thread.
  * - A handle (struct fq_ring, fq_tx, fq_seat, fq_control, fq_list, fq_driver) or fq_dql isn't copied, and only calls write its fields. An
@@ -349,7 +349,7 @@ struct fq_totals {
 /* Sets *counts to the counts of a ring's polls. The handle has to own the poll end: it is a ring, or the poll end of one that was split;
  * a seat that polls; the controller of a disabled instance. Returns FQ_OK; FQ_BAD_HANDLE; FQ_NOT_ALLOWED for any other. *counts is
  * unchanged unless it returns FQ_OK. */
-FQ_CHECKED enum fq_status fq_count(struct fq_handle *FQ_RESTRICT handle, struct fq_counts *FQ_RESTRICT counts);
+FQ_CHECKED enum fq_status fq_count(const struct fq_handle *FQ_RESTRICT handle, struct fq_counts *FQ_RESTRICT counts);
 
 /* The state of a ring, or of its input. */
 struct fq_ring_shown {
@@ -358,7 +358,7 @@ struct fq_ring_shown {
 };
 
 /* Sets *shown to the state of a ring, or of its input. Returns FQ_OK; FQ_BAD_HANDLE, and *shown is unchanged. */
-FQ_CHECKED enum fq_status fq_ring_show(struct fq_ring *FQ_RESTRICT ring, struct fq_ring_shown *FQ_RESTRICT shown);
+FQ_CHECKED enum fq_status fq_ring_show(const struct fq_ring *FQ_RESTRICT ring, struct fq_ring_shown *FQ_RESTRICT shown);
 /* Splits a ring without an instance for two threads: after it, `ring` is the ring's input, for puts, and `out` its poll end, for polls.
  * Each is freed separately. Returns FQ_OK; FQ_IN_USE; FQ_BAD_HANDLE; FQ_OUT_OF_MEMORY. */
 FQ_CHECKED enum fq_status fq_ring_split(struct fq_ring *FQ_RESTRICT ring, struct fq_ring *FQ_RESTRICT out);
@@ -389,7 +389,7 @@ FQ_CHECKED enum fq_status fq_tx_send(struct fq_tx *tx, uint32_t bytes);
  * if the limit has room again. Returns FQ_OK; FQ_MORE_THAN_SENT, and nothing is completed; FQ_BAD_HANDLE. */
 FQ_CHECKED enum fq_status fq_tx_done(struct fq_tx *tx, uint32_t count, uint64_t now_ms);
 /* Sets *state to the state of the ring. Returns FQ_OK; FQ_BAD_HANDLE, and *state is unchanged. */
-FQ_CHECKED enum fq_status fq_tx_state(struct fq_tx *FQ_RESTRICT tx, struct fq_tx_shown *FQ_RESTRICT state);
+FQ_CHECKED enum fq_status fq_tx_state(const struct fq_tx *FQ_RESTRICT tx, struct fq_tx_shown *FQ_RESTRICT state);
 
 /* What a driver's watchdog timer keeps about a transmit ring (dev_watchdog): all 0 at first. */
 struct fq_tx_watchdog {
@@ -401,7 +401,7 @@ struct fq_tx_watchdog {
 /* Checks a ring at each tick of that timer. Sets *stuck to whether the ring has been stopped, with no byte completed, for `limit_ms`
  * since the first check that found it so; if the clock went back to before that check, 0 ms have passed. Returns FQ_OK; FQ_BAD_HANDLE,
  * and *stuck is false. Since 1.1. */
-FQ_CHECKED enum fq_status fq_tx_watch(struct fq_tx *FQ_RESTRICT tx, struct fq_tx_watchdog *FQ_RESTRICT watchdog, uint64_t limit_ms, uint64_t now_ms, bool *FQ_RESTRICT stuck);
+FQ_CHECKED enum fq_status fq_tx_watch(const struct fq_tx *FQ_RESTRICT tx, struct fq_tx_watchdog *FQ_RESTRICT watchdog, uint64_t limit_ms, uint64_t now_ms, bool *FQ_RESTRICT stuck);
 
 /* ---- shared: instances that threads share. */
 
@@ -448,7 +448,7 @@ struct fq_answers {
 
 /* Sets *answers to how often the seat's calls returned each result since it was made. Returns FQ_OK; FQ_BAD_HANDLE, and *answers is
  * unchanged. */
-FQ_CHECKED enum fq_status fq_seat_count(struct fq_seat *FQ_RESTRICT seat, struct fq_answers *FQ_RESTRICT answers);
+FQ_CHECKED enum fq_status fq_seat_count(const struct fq_seat *FQ_RESTRICT seat, struct fq_answers *FQ_RESTRICT answers);
 
 /* The callbacks of a driver for its card. Each is called with `at`. A callback that a call doesn't use may be null. */
 struct fq_card {
@@ -592,7 +592,7 @@ FQ_CHECKED enum fq_status fq_list_push(struct fq_list *list, uint32_t id);
  * FQ_OK. Since 1.1. */
 FQ_CHECKED enum fq_status fq_list_remove(struct fq_list *list, uint32_t id);
 /* Sets *len to how many numbers the list and its run hold, including the one that is being polled. Returns FQ_OK; FQ_BAD_HANDLE. */
-FQ_CHECKED enum fq_status fq_list_len(struct fq_list *FQ_RESTRICT list, uint32_t *FQ_RESTRICT len);
+FQ_CHECKED enum fq_status fq_list_len(const struct fq_list *FQ_RESTRICT list, uint32_t *FQ_RESTRICT len);
 /* Begins a run with a budget in packets, a weight in packets per poll, and a window in polls, as in struct fq_settings. Returns FQ_OK;
  * FQ_NOT_ALLOWED if a run is in progress; FQ_BAD_WEIGHT; FQ_BAD_BUDGET. */
 FQ_CHECKED enum fq_status fq_run_begin(struct fq_list *list, uint32_t budget, uint32_t weight, uint32_t window);
@@ -717,7 +717,7 @@ struct fq_device_shown {
 
 /* Sets *shown to the state of a device and the counts of its polls. Returns FQ_OK; FQ_BAD_HANDLE; FQ_BAD_SIZE if shown->size is too
  * small; FQ_BAD_DEVICE. *shown is unchanged unless it returns FQ_OK. Since 1.1. */
-FQ_CHECKED enum fq_status fq_driver_show(struct fq_driver *FQ_RESTRICT driver, uint32_t device, struct fq_device_shown *FQ_RESTRICT shown);
+FQ_CHECKED enum fq_status fq_driver_show(const struct fq_driver *FQ_RESTRICT driver, uint32_t device, struct fq_device_shown *FQ_RESTRICT shown);
 
 /* ---- word: a word of pending bits. Only its poller uses a list: another thread sets the bit of a device in such a word, and wakes the poller,
  * which takes all bits and pushes their numbers. All operations are sequentially consistent. */

@@ -112,8 +112,9 @@ public:
     }
 
     [[nodiscard]] Raw *raw() noexcept { return &raw_; }
+    [[nodiscard]] const Raw *raw() const noexcept { return &raw_; }
     // Returns the counts of a ring's polls, if the object has its poll end.
-    [[nodiscard]] Counts counts() noexcept {
+    [[nodiscard]] Counts counts() const noexcept {
         Counts counts{};
         detail::made(fq_count(&raw_.handle, &counts));
         return counts;
@@ -164,13 +165,13 @@ public:
 
     [[nodiscard]] Status send(std::uint32_t bytes) { return Status(fq_tx_send(at_.raw(), bytes)); }
     [[nodiscard]] Status done(std::uint32_t count, std::uint64_t now_ms) { return Status(fq_tx_done(at_.raw(), count, now_ms)); }
-    [[nodiscard]] TxState state() {
+    [[nodiscard]] TxState state() const {
         TxState shown{};
         detail::made(fq_tx_state(at_.raw(), &shown));
         return shown;
     }
     // Returns whether the ring has been stopped, with no byte completed, for limit_ms; call it at each tick of a timer (fq_tx_watch).
-    [[nodiscard]] bool watch(TxWatchdog &watchdog, std::uint64_t limit_ms, std::uint64_t now_ms) {
+    [[nodiscard]] bool watch(TxWatchdog &watchdog, std::uint64_t limit_ms, std::uint64_t now_ms) const {
         bool stuck = false;
         detail::made(fq_tx_watch(at_.raw(), &watchdog, limit_ms, now_ms, &stuck));
         return stuck;
@@ -250,7 +251,7 @@ public:
     }
 
     // Returns how often its calls returned each result since the instance was made.
-    [[nodiscard]] Answers answers() {
+    [[nodiscard]] Answers answers() const {
         Answers answers{};
         made(fq_seat_count(at_.raw(), &answers));
         return answers;
@@ -271,7 +272,7 @@ public:
         return count;
     }
     // Returns the counts of the ring's polls.
-    [[nodiscard]] Counts counts() { return at_.counts(); }
+    [[nodiscard]] Counts counts() const { return at_.counts(); }
 
 protected:
     using Seat::Seat;
@@ -473,7 +474,7 @@ public:
         return {std::move(on), asked};
     }
     // Returns the counts of the ring's polls.
-    [[nodiscard]] Counts counts() { return at_.counts(); }
+    [[nodiscard]] Counts counts() const { return at_.counts(); }
 
 private:
     friend class Control<On>;
@@ -526,7 +527,7 @@ public:
     }
 
     // Returns the ring's capacity, and how many packets were put.
-    [[nodiscard]] RingShown shown() {
+    [[nodiscard]] RingShown shown() const {
         RingShown shown{};
         detail::made(fq_ring_show(at_.raw(), &shown));
         return shown;
@@ -547,7 +548,7 @@ public:
         detail::made(fq_ring_poll(at_.raw(), weight.get(), out.data(), out.size(), &count));
         return count;
     }
-    [[nodiscard]] Counts counts() { return at_.counts(); }
+    [[nodiscard]] Counts counts() const { return at_.counts(); }
 
 private:
     friend class Ring;
@@ -572,8 +573,8 @@ public:
         detail::made(fq_ring_poll(input_.at_.raw(), weight.get(), out.data(), out.size(), &count));
         return count;
     }
-    [[nodiscard]] Counts counts() { return input_.at_.counts(); }
-    [[nodiscard]] RingShown shown() { return input_.shown(); }
+    [[nodiscard]] Counts counts() const { return input_.at_.counts(); }
+    [[nodiscard]] RingShown shown() const { return input_.shown(); }
     // Returns its two ends, each for its own thread; nullopt if memory runs out, and the ring is unchanged.
     [[nodiscard]] std::optional<std::pair<Input, Output>> split() && {
         Handle<fq_ring> out;
@@ -679,7 +680,7 @@ public:
     // FQ_NOT_THERE if neither of them has it.
     [[nodiscard]] Status remove(std::uint32_t id) { return fq_list_remove(at_.raw(), id); }
     // Returns how many numbers the list and its run hold.
-    [[nodiscard]] std::uint32_t size() {
+    [[nodiscard]] std::uint32_t size() const {
         std::uint32_t len = 0;
         detail::made(fq_list_len(at_.raw(), &len));
         return len;
@@ -778,7 +779,7 @@ public:
     }
 
     // Returns the state of a device and the counts of its polls; nullopt if there is no such device.
-    [[nodiscard]] std::optional<DeviceShown> shown(std::uint32_t device) {
+    [[nodiscard]] std::optional<DeviceShown> shown(std::uint32_t device) const {
         DeviceShown shown{};
         shown.size = sizeof shown;
         if (fq_driver_show(at_.raw(), device, &shown) != FQ_OK) return std::nullopt;

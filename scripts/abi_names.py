@@ -3,6 +3,7 @@
 from __future__ import annotations
 
 import os
+import re
 from collections.abc import Mapping
 from typing import Any
 
@@ -16,6 +17,12 @@ def enum_of(read: Mapping[str, Any], name: str) -> Item:
 def is_object(struct: Item) -> bool:
     """Returns whether a struct is the handle of one kind of object: its only member is what handles of all kinds have."""
     return [member[:2] for member in struct["members"]] == [["handle", "struct fq_handle"]]
+
+
+def handle_of(c_type: str) -> tuple[str, bool]:
+    """Returns the struct to which a pointer leads, or "", and whether it is const."""
+    found = re.fullmatch(r"(const )?struct (\w+) \*", c_type)
+    return (found[2], bool(found[1])) if found else ("", False)
 
 
 def names_of(read: Mapping[str, Any], enum: str) -> list[str]:

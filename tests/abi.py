@@ -65,6 +65,7 @@ class Sources:
         self.structs = {name: FIELD.findall(body) for name, body in STRUCT.findall(every)}
         self.counts = dict(COUNT.findall(every))
         self.numbers = {int(number): name for number, name in SIZE_OF.findall(every)}
+        self.readers = {call for call in self.calls for text in texts.values() if only_reads(text, call)}
 
     def c_type(self, rattle: str) -> str:
         """Returns the type of C, without arrays: those are in `parts`."""
@@ -97,6 +98,13 @@ class Sources:
         for name, rattle in self.members(struct):
             fields.append((name, kinds.get(rattle) or self.c_type(rattle)))
         return laid_out(fields)
+
+
+def only_reads(text: str, call: str) -> bool:
+    """Returns whether an export in this source file lends its object only to functions that can't change it."""
+    body = re.search(rf'^pub extern "C" fn {call}\(.*?^\}}', text, re.M | re.S)
+    lent = re.findall(r"(\S*?)\(?\bhandle\.held\.as_mut\(\)", body[0]) if body else []
+    return bool(lent) and all(re.search(rf"^fn {one}\(\s*\w+: &Object[,)]", text, re.M) for one in lent)
 
 
 def c_name(rattle: str) -> str:
@@ -157,28 +165,34 @@ def differences(read: Mapping[str, Any], texts: Mapping[str, str]) -> Iterator[s
 def of_call(sources: Sources, call: Mapping[str, Any], objects: set[str]) -> Iterator[str]:
     """Yields how a call differs. A number's name is the same on both sides; in the header it may end with its unit, _ms."""
     name, own = call["name"], list(sources.parameters(call["name"]))
-    yield from of_handles(call, objects)
+    yield from of_handles(call, objects, name in sources.readers)
     result = sources.calls[name][1]
     if (returned := sources.c_type(result) if result else "void") != plain(call["returns"]).replace("uint8_t", "void"):
         yield f"{name} returns {call['returns']} in the header, and {returned} in the crates"
     if len(own) != len(call["parameters"]):
         yield f"{name} has {len(call['parameters'])} parameters in the header, and {len(own)} in the crates"
     for (parameter, c_type), (own_name, exported) in zip(call["parameters"], own):
-        found = re.fullmatch(r"struct (\w+) \*", c_type)
-        given = "struct fq_handle *" if found and found[1] in objects else plain(c_type)
+        given = plain(c_type)
+        if (struct := abi_names.handle_of(c_type)[0]) in {*objects, "fq_handle"}:
+            given = "struct fq_handle *"
         if given != exported:
             yield f"{name}: {parameter} is {c_type} in the header, and {exported} in the crates"
         elif "*" not in c_type and own_name and own_name != parameter.removesuffix("_ms"):
             yield f"{name}: {parameter} in the header is {own_name} in the crates"
 
 
-def of_handles(call: Mapping[str, Any], objects: set[str]) -> Iterator[str]:
-    """Yields a call whose first handle isn't of the kind that its name says: only some take any kind."""
-    handles = [found[1] for _, c_type in call["parameters"] if (found := re.fullmatch(r"struct (\w+) \*", c_type))]
+def of_handles(call: Mapping[str, Any], objects: set[str], is_reader: bool) -> Iterator[str]:
+    """Yields a call whose first handle isn't of the kind that its name says: only some take any kind; or isn't const exactly if the call
+    only reads the object."""
+    handles = [abi_names.handle_of(c_type) for _, c_type in call["parameters"]]
+    handles = [(struct, is_const) for struct, is_const in handles if struct in {*objects, "fq_handle"}]
     kind = call["name"].split("_")[1]
     wanted = "fq_handle" if call["name"] in OF_ANY else f"fq_{KINDS.get(kind, kind)}"
-    if "fq_handle" in handles and wanted != "fq_handle" or wanted in objects and wanted != handles[0]:
-        yield f"{call['name']} takes a {handles[0]}"
+    structs = [struct for struct, _ in handles]
+    if "fq_handle" in structs and wanted != "fq_handle" or wanted in {*objects, "fq_handle"} and wanted != structs[0]:
+        yield f"{call['name']} takes a {structs[0]}"
+    if [is_const for _, is_const in handles] != [is_reader] * len(handles):
+        yield f"{call['name']} {'only reads its object' if is_reader else 'takes a const handle, and changes its object'}"
 
 
 def of_struct(name: str, wanted: list[Part], exported: list[Part]) -> Iterator[str]:
@@ -218,6 +232,8 @@ PLANTED = [
     ("crates/napi_c/src/limit.rt", "fq_dql_limit(dql: &FqDql)", "fq_dql_limit(dql: &mut FqDql)", "fq_dql_limit"),
     ("crates/napi_c/src/driver.rt", "_open(handle: &mut FqHandle, device", "_open(handle: &FqHandle, device", "fq_driver_open"),
     ("crates/napi_c/src/list.rt", "fn fq_list_len(", "fn fq_list_size(", "fq_list_size"),
+    ("crates/napi_c/src/list.rt", "fn len_in(at: &Object,", "fn len_in(at: &mut Object,", "fq_list_len"),
+    ("crates/napi_c/src/list.rt", "fn push_in(at: &mut Object,", "fn push_in(at: &Object,", "fq_list_push"),
     ("crates/napi_c/src/counts.rt", "pub polls: u64,", "pub polls: u32,", "fq_counts"),
     ("crates/c_handles/src/lister.rt", "pub polls: u32,", "pub work: u32,", "fq_run_report"),
     ("crates/c_handles/src/drive.rt", "pub scheduled: bool,", "pub scheduled: u32,", "fq_device_shown"),
@@ -244,7 +260,9 @@ PLANTED_IN_HEADER = [
     ("uint64_t number, uint32_t bytes);", "uint32_t number, uint32_t bytes);", "fq_ring_put"),
     ("fq_dql_new(uint32_t min, uint32_t max,", "fq_dql_new(uint32_t max, uint32_t min,", "fq_dql_new"),
     ("fq_dql_limit(const struct fq_dql *dql);", "fq_dql_limit(struct fq_dql *dql);", "fq_dql_limit"),
-    ("fq_list_len(struct fq_list *", "fq_list_len(struct fq_ring *", "fq_list_len"),
+    ("fq_list_len(const struct fq_list *", "fq_list_len(const struct fq_ring *", "fq_list_len"),
+    ("fq_ring_show(const struct", "fq_ring_show(struct", "fq_ring_show"),
+    ("fq_seat_look(struct", "fq_seat_look(const struct", "fq_seat_look"),
     ("fq_shared_bare(struct fq_control *", "fq_shared_bare(struct fq_handle *", "fq_shared_bare"),
     ("struct fq_tx { struct fq_handle handle; }", "struct fq_tx { struct fq_handle handle; int more; }", "fq_tx"),
     ("uint64_t private_b;\n    uint32_t private_c[2];", "uint32_t private_c[2];\n    uint64_t private_b;", "fq_dql"),

@@ -152,7 +152,7 @@ impl Caller {
     }
 
     /// The counts of the results of its calls, since the instance was made.
-    pub fn answers(&mut self) -> Answers {
+    pub fn answers(&self) -> Answers {
         self.at.answers()
     }
 

@@ -183,12 +183,12 @@ pub(crate) fn ring_poll(
     unsafe { fq_ring_poll(ring, weight, out.as_mut_ptr(), out.len(), count) }
 }
 
-pub(crate) fn count(handle: &mut fq_handle, counts: &mut fq_counts) -> u32 {
+pub(crate) fn count(handle: &fq_handle, counts: &mut fq_counts) -> u32 {
     // SAFETY: each reference and each slice leads to whole objects, to which no other argument leads.
     unsafe { fq_count(handle, counts) }
 }
 
-pub(crate) fn ring_show(ring: &mut fq_ring, shown: &mut fq_ring_shown) -> u32 {
+pub(crate) fn ring_show(ring: &fq_ring, shown: &mut fq_ring_shown) -> u32 {
     // SAFETY: each reference and each slice leads to whole objects, to which no other argument leads.
     unsafe { fq_ring_show(ring, shown) }
 }
@@ -225,13 +225,13 @@ pub(crate) fn tx_done(tx: &mut fq_tx, count: u32, now_ms: u64) -> u32 {
     unsafe { fq_tx_done(tx, count, now_ms) }
 }
 
-pub(crate) fn tx_state(tx: &mut fq_tx, state: &mut fq_tx_shown) -> u32 {
+pub(crate) fn tx_state(tx: &fq_tx, state: &mut fq_tx_shown) -> u32 {
     // SAFETY: each reference and each slice leads to whole objects, to which no other argument leads.
     unsafe { fq_tx_state(tx, state) }
 }
 
 pub(crate) fn tx_watch(
-    tx: &mut fq_tx,
+    tx: &fq_tx,
     watchdog: &mut fq_tx_watchdog,
     limit_ms: u64,
     now_ms: u64,
@@ -320,7 +320,7 @@ pub(crate) fn seat_look(seat: &mut fq_seat, word: &mut u64) -> u32 {
     unsafe { fq_seat_look(seat, word) }
 }
 
-pub(crate) fn seat_count(seat: &mut fq_seat, answers: &mut fq_answers) -> u32 {
+pub(crate) fn seat_count(seat: &fq_seat, answers: &mut fq_answers) -> u32 {
     // SAFETY: each reference and each slice leads to whole objects, to which no other argument leads.
     unsafe { fq_seat_count(seat, answers) }
 }
@@ -370,7 +370,7 @@ pub(crate) fn list_remove(list: &mut fq_list, id: u32) -> u32 {
     unsafe { fq_list_remove(list, id) }
 }
 
-pub(crate) fn list_len(list: &mut fq_list, len: &mut u32) -> u32 {
+pub(crate) fn list_len(list: &fq_list, len: &mut u32) -> u32 {
     // SAFETY: each reference and each slice leads to whole objects, to which no other argument leads.
     unsafe { fq_list_len(list, len) }
 }
@@ -436,7 +436,7 @@ pub(crate) fn driver_step(driver: &mut fq_driver, todo: &mut fq_todo) -> u32 {
     unsafe { fq_driver_step(driver, todo) }
 }
 
-pub(crate) fn driver_show(driver: &mut fq_driver, device: u32, shown: &mut fq_device_shown) -> u32 {
+pub(crate) fn driver_show(driver: &fq_driver, device: u32, shown: &mut fq_device_shown) -> u32 {
     // SAFETY: each reference and each slice leads to whole objects, to which no other argument leads.
     unsafe { fq_driver_show(driver, device, shown) }
 }

@@ -64,7 +64,7 @@ impl<M: Mode> Control<M> {
 
 impl Control<Off> {
     /// The counts of the ring's polls.
-    pub fn counts(&mut self) -> Counts {
+    pub fn counts(&self) -> Counts {
         self.at.counts()
     }
 

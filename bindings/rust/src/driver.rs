@@ -276,7 +276,7 @@ impl Driver {
     }
 
     /// Returns the state of a device, and the counts of its polls. Fails with [`BAD_DEVICE`](Fault::BAD_DEVICE).
-    pub fn shown(&mut self, device: u32) -> Result<DeviceShown, Fault> {
+    pub fn shown(&self, device: u32) -> Result<DeviceShown, Fault> {
         let mut shown = sys::fq_device_shown {
             size: std::mem::size_of::<sys::fq_device_shown>(),
             state: 0,
@@ -285,7 +285,7 @@ impl Driver {
             polls: 0,
             packets: 0,
         };
-        let said = calls::driver_show(self.at.raw(), device, &mut shown);
+        let said = calls::driver_show(&self.at.0, device, &mut shown);
         Fault::unless_made(said)?;
         Ok(DeviceShown {
             state: match shown.state {

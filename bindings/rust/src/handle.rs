@@ -9,7 +9,8 @@ pub(crate) trait Object {
     // A handle without an object.
     const UNSET: Self;
     // What handles of all kinds have.
-    fn handle(&mut self) -> &mut sys::fq_handle;
+    fn handle(&self) -> &sys::fq_handle;
+    fn handle_mut(&mut self) -> &mut sys::fq_handle;
 }
 
 macro_rules! objects {
@@ -21,7 +22,10 @@ macro_rules! objects {
                     private_at: std::ptr::null_mut(),
                 },
             };
-            fn handle(&mut self) -> &mut sys::fq_handle {
+            fn handle(&self) -> &sys::fq_handle {
+                &self.handle
+            }
+            fn handle_mut(&mut self) -> &mut sys::fq_handle {
                 &mut self.handle
             }
         }
@@ -49,9 +53,9 @@ impl Handle<sys::fq_seat> {
     }
 
     // The counts of the results of a caller's calls.
-    pub(crate) fn answers(&mut self) -> Answers {
+    pub(crate) fn answers(&self) -> Answers {
         let mut answers = Answers::default();
-        match calls::seat_count(self.raw(), &mut answers) {
+        match calls::seat_count(&self.0, &mut answers) {
             sys::FQ_OK => answers,
             said => unexpected("seat_count", said),
         }
@@ -60,9 +64,9 @@ impl Handle<sys::fq_seat> {
 
 impl Handle<sys::fq_ring> {
     // The state of the input of a ring.
-    pub(crate) fn shown(&mut self) -> RingShown {
+    pub(crate) fn shown(&self) -> RingShown {
         let mut shown = RingShown::default();
-        match calls::ring_show(self.raw(), &mut shown) {
+        match calls::ring_show(&self.0, &mut shown) {
             sys::FQ_OK => shown,
             said => unexpected("ring_show", said),
         }
@@ -74,7 +78,7 @@ impl<O: Object> Handle<O> {
     pub(crate) const NONE: Handle<O> = Handle(O::UNSET);
 
     // The counts of a ring's polls, for an object that has its poll end.
-    pub(crate) fn counts(&mut self) -> Counts {
+    pub(crate) fn counts(&self) -> Counts {
         let mut counts = Counts::default();
         match calls::count(self.0.handle(), &mut counts) {
             sys::FQ_OK => counts,
@@ -91,7 +95,7 @@ impl<O: Object> Handle<O> {
 impl<O: Object> Drop for Handle<O> {
     fn drop(&mut self) {
         if self.0.handle().private_set {
-            calls::abandon(self.0.handle());
+            calls::abandon(self.0.handle_mut());
         }
     }
 }

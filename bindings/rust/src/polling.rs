@@ -41,12 +41,12 @@ impl Polling {
     }
 
     /// The counts of the results of its calls, since the instance was made.
-    pub fn answers(&mut self) -> Answers {
+    pub fn answers(&self) -> Answers {
         self.at.answers()
     }
 
     /// The counts of the ring's polls.
-    pub fn counts(&mut self) -> Counts {
+    pub fn counts(&self) -> Counts {
         self.at.counts()
     }
 

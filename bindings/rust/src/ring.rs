@@ -65,12 +65,12 @@ impl Ring {
     }
 
     /// Returns its capacity, and how many packets were put.
-    pub fn shown(&mut self) -> RingShown {
+    pub fn shown(&self) -> RingShown {
         self.at.shown()
     }
 
     /// The counts of the ring's polls.
-    pub fn counts(&mut self) -> Counts {
+    pub fn counts(&self) -> Counts {
         self.at.counts()
     }
 
@@ -117,7 +117,7 @@ impl Output {
     }
 
     /// The counts of the ring's polls.
-    pub fn counts(&mut self) -> Counts {
+    pub fn counts(&self) -> Counts {
         self.at.counts()
     }
 }
@@ -130,7 +130,7 @@ pub struct Input {
 
 impl Input {
     /// Returns its capacity, and how many packets were put.
-    pub fn shown(&mut self) -> RingShown {
+    pub fn shown(&self) -> RingShown {
         self.at.shown()
     }
 

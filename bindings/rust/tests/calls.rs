@@ -799,7 +799,7 @@ fn polls_are_counted_of_whoever_has_them() {
     polling.poll(Weight::MAX, &mut batch);
     let counts = polling.counts();
     assert_eq!((counts.polls, counts.packets, counts.bytes), (1, 1, 60));
-    let (mut poller, _) = over(polling.end(false));
+    let (poller, _) = over(polling.end(false));
     let (asked, ended) = (interrupts.answers(), poller.answers());
     assert_eq!((asked.granted, asked.missed, asked.released), (1, 0, 0));
     assert_eq!((ended.granted, ended.released, ended.again), (0, 1, 0));

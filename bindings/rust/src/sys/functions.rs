@@ -132,10 +132,10 @@ extern "C" {
     /// Sets `*counts` to the counts of a ring's polls. The handle has to own the poll end: it is a ring, or the poll
     /// end of one that was split; a seat that polls; the controller of a disabled instance. Returns `FQ_OK`;
     /// `FQ_BAD_HANDLE`; `FQ_NOT_ALLOWED` for any other. `*counts` is unchanged unless it returns `FQ_OK`.
-    pub fn fq_count(handle: *mut fq_handle, counts: *mut fq_counts) -> u32;
+    pub fn fq_count(handle: *const fq_handle, counts: *mut fq_counts) -> u32;
     /// Sets `*shown` to the state of a ring, or of its input. Returns `FQ_OK`; `FQ_BAD_HANDLE`, and `*shown` is
     /// unchanged.
-    pub fn fq_ring_show(ring: *mut fq_ring, shown: *mut fq_ring_shown) -> u32;
+    pub fn fq_ring_show(ring: *const fq_ring, shown: *mut fq_ring_shown) -> u32;
     /// Splits a ring without an instance for two threads: after it, `ring` is the ring's input, for puts, and `out`
     /// its poll end, for polls. Each is freed separately. Returns `FQ_OK`; `FQ_IN_USE`; `FQ_BAD_HANDLE`;
     /// `FQ_OUT_OF_MEMORY`.
@@ -163,12 +163,12 @@ extern "C" {
     /// completed; `FQ_BAD_HANDLE`.
     pub fn fq_tx_done(tx: *mut fq_tx, count: u32, now_ms: u64) -> u32;
     /// Sets `*state` to the state of the ring. Returns `FQ_OK`; `FQ_BAD_HANDLE`, and `*state` is unchanged.
-    pub fn fq_tx_state(tx: *mut fq_tx, state: *mut fq_tx_shown) -> u32;
+    pub fn fq_tx_state(tx: *const fq_tx, state: *mut fq_tx_shown) -> u32;
     /// Checks a ring at each tick of that timer. Sets `*stuck` to whether the ring has been stopped, with no byte
     /// completed, for `limit_ms` since the first check that found it so; if the clock went back to before that check,
     /// 0 ms have passed. Returns `FQ_OK`; `FQ_BAD_HANDLE`, and `*stuck` is false. Since 1.1.
     pub fn fq_tx_watch(
-        tx: *mut fq_tx,
+        tx: *const fq_tx,
         watchdog: *mut fq_tx_watchdog,
         limit_ms: u64,
         now_ms: u64,
@@ -249,7 +249,7 @@ extern "C" {
     pub fn fq_seat_look(seat: *mut fq_seat, word: *mut u64) -> u32;
     /// Sets `*answers` to how often the seat's calls returned each result since it was made. Returns `FQ_OK`;
     /// `FQ_BAD_HANDLE`, and `*answers` is unchanged.
-    pub fn fq_seat_count(seat: *mut fq_seat, answers: *mut fq_answers) -> u32;
+    pub fn fq_seat_count(seat: *const fq_seat, answers: *mut fq_answers) -> u32;
     /// Queues a granted instance as the kernel does (`____napi_schedule`): for its thread if `FQ_BIT_THREADED` is
     /// set. Sets `*next` to `FQ_NEXT_AGAIN` or `FQ_NEXT_AGAIN_THREAD`. Returns `FQ_OK`; `FQ_BAD_HANDLE`;
     /// `FQ_NOT_ALLOWED`. `*next` is `FQ_NEXT_GONE` unless it returns `FQ_OK`. Since 1.1.
@@ -304,7 +304,7 @@ extern "C" {
     pub fn fq_list_remove(list: *mut fq_list, id: u32) -> u32;
     /// Sets `*len` to how many numbers the list and its run hold, including the one that is being polled. Returns
     /// `FQ_OK`; `FQ_BAD_HANDLE`.
-    pub fn fq_list_len(list: *mut fq_list, len: *mut u32) -> u32;
+    pub fn fq_list_len(list: *const fq_list, len: *mut u32) -> u32;
     /// Begins a run with a budget in packets, a weight in packets per poll, and a window in polls, as in struct
     /// `fq_settings`. Returns `FQ_OK`; `FQ_NOT_ALLOWED` if a run is in progress; `FQ_BAD_WEIGHT`; `FQ_BAD_BUDGET`.
     pub fn fq_run_begin(list: *mut fq_list, budget: u32, weight: u32, window: u32) -> u32;
@@ -365,7 +365,11 @@ extern "C" {
     /// Sets `*shown` to the state of a device and the counts of its polls. Returns `FQ_OK`; `FQ_BAD_HANDLE`;
     /// `FQ_BAD_SIZE` if `shown->size` is too small; `FQ_BAD_DEVICE`. `*shown` is unchanged unless it returns `FQ_OK`.
     /// Since 1.1.
-    pub fn fq_driver_show(driver: *mut fq_driver, device: u32, shown: *mut fq_device_shown) -> u32;
+    pub fn fq_driver_show(
+        driver: *const fq_driver,
+        device: u32,
+        shown: *mut fq_device_shown,
+    ) -> u32;
     /// Replays a trace of `len` bytes, and writes its report to an array of `room` bytes. Returns `FQ_BAD_WEIGHT`,
     /// `FQ_BAD_BUDGET` for the settings; `FQ_OUT_OF_MEMORY`; `FQ_BAD_TRACE`, and `replayed->fault` and
     /// `replayed->row` say why; `FQ_NO_ROOM`, and `replayed->length` is the room that the report needs; `FQ_OK`, and
