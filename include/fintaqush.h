@@ -6,11 +6,11 @@
  * object's state returns FQ_NOT_ALLOWED and changes nothing.
  *
  * What the caller must ensure, because nothing here can check it:
- * - A pointer points to a whole object of its type, or to as many as its count says. None is null (also for a count of 0), and no two
- *   arguments of one call point to the same memory.
- * - Calls on one object don't overlap, not even two that only read, which take a pointer to const. An object may move from thread to thread if a lock, a thread's start
- *   or join, or a sequentially consistent atomic orders the calls. The ring's input, each seat and the controller of one shared instance
- *   are separate objects, which may be used at the same time, each by one thread.
+ * - A pointer points to a whole object of its type, or to as many as its count says. None is null, except that of an array whose count
+ *   is 0. No two arguments of one call point to the same memory.
+ * - Calls on one object don't overlap, not even two that only read, which take a pointer to const. An object may move from thread to
+ *   thread if a lock, a thread's start or join, or a sequentially consistent atomic orders the calls. The ring's input, each seat and the
+ *   controller of one shared instance are separate objects, which may be used at the same time, each by one thread.
  * - A handle (struct fq_ring, fq_tx, fq_seat, fq_control, fq_list, fq_driver) or fq_dql isn't copied, and only calls write its fields. An
  *   unset handle is all zero.
  * - No call is made from a signal handler, or from the forked child of a process with threads.
@@ -43,10 +43,12 @@
 #if defined(__GNUC__)
 #define FQ_NONNULL __attribute__((nonnull))
 #define FQ_CHECKED __attribute__((nonnull, warn_unused_result))
+#define FQ_CHECKED_AT(...) __attribute__((nonnull(__VA_ARGS__), warn_unused_result)) /* the others are arrays, which may be null */
 #define FQ_RESTRICT __restrict__
 #else
 #define FQ_NONNULL
 #define FQ_CHECKED
+#define FQ_CHECKED_AT(...)
 #define FQ_RESTRICT
 #endif
 
@@ -112,10 +114,10 @@ enum fq_status FQ_NUMBER {
  * message ("?" for an unknown number); the name of a trace's fault. It returns the length of the text; if that isn't below `room`, the
  * array is unchanged. */
 #define FQ_MESSAGE_ROOM 96 /* bytes of an array that has room for each text and its terminating 0 */
-FQ_NONNULL size_t fq_version(char *to, size_t room);
-FQ_NONNULL size_t fq_status_text(uint32_t status, char *to, size_t room);
-FQ_NONNULL size_t fq_status_message(uint32_t status, char *to, size_t room);
-FQ_NONNULL size_t fq_fault_text(uint32_t fault, char *to, size_t room);
+size_t fq_version(char *to, size_t room);
+size_t fq_status_text(uint32_t status, char *to, size_t room);
+size_t fq_status_message(uint32_t status, char *to, size_t room);
+size_t fq_fault_text(uint32_t fault, char *to, size_t room);
 
 /* The structs that calls read and write, except those of fq_replay and those that begin with their size. fq_struct_size returns the size
  * of one in bytes, so that bindings can check theirs; 0 for an unknown number. */
@@ -325,11 +327,11 @@ FQ_CHECKED enum fq_status fq_ring_put(struct fq_ring *ring, uint64_t number, uin
 /* Puts the packets of an array into the ring, after all others and in order: as many of the first ones as fit. Sets *count to how many.
  * Returns FQ_OK if all fit; FQ_FULL if not; FQ_BAD_HANDLE, and *count is 0. A poll sees all of them at once. A circular pool of buffers
  * needs as many as the ring's capacity, plus 64 for a poll, plus the longest burst, which is 1 for fq_ring_put. */
-FQ_CHECKED enum fq_status fq_ring_put_all(struct fq_ring *FQ_RESTRICT ring, const struct fq_packet *FQ_RESTRICT packets, size_t len, size_t *FQ_RESTRICT count);
+FQ_CHECKED_AT(1, 4) enum fq_status fq_ring_put_all(struct fq_ring *FQ_RESTRICT ring, const struct fq_packet *FQ_RESTRICT packets, size_t len, size_t *FQ_RESTRICT count);
 /* Removes the first packets from the ring, at most `weight` (1 to 64), and writes them to an array of `len` elements, at least the
  * weight. Returns FQ_OK, and sets *count to their number. Otherwise *count is 0: FQ_BAD_WEIGHT; FQ_NO_ROOM; FQ_BAD_HANDLE, also for a
  * ring whose poll end belongs to an instance or to another handle. */
-FQ_CHECKED enum fq_status fq_ring_poll(struct fq_ring *FQ_RESTRICT ring, size_t weight, struct fq_packet *FQ_RESTRICT out, size_t len, size_t *FQ_RESTRICT count);
+FQ_CHECKED_AT(1, 5) enum fq_status fq_ring_poll(struct fq_ring *FQ_RESTRICT ring, size_t weight, struct fq_packet *FQ_RESTRICT out, size_t len, size_t *FQ_RESTRICT count);
 
 /* The counts of a ring's polls, each of which saturates at its maximum. */
 struct fq_counts {
@@ -407,11 +409,11 @@ FQ_CHECKED enum fq_status fq_tx_watch(const struct fq_tx *FQ_RESTRICT tx, struct
 
 /* Makes an instance over the ring's poll end, with its controller and an array of `count` (2 to 8) seats, one for each caller. It is
  * disabled. After it, `ring` is only the ring's input. Returns FQ_OK; FQ_IN_USE; FQ_BAD_COUNT; FQ_BAD_HANDLE; FQ_OUT_OF_MEMORY. */
-FQ_CHECKED enum fq_status fq_shared_new(struct fq_ring *FQ_RESTRICT ring, struct fq_control *FQ_RESTRICT control, struct fq_seat *FQ_RESTRICT seats, size_t count);
+FQ_CHECKED_AT(1, 2) enum fq_status fq_shared_new(struct fq_ring *FQ_RESTRICT ring, struct fq_control *FQ_RESTRICT control, struct fq_seat *FQ_RESTRICT seats, size_t count);
 
 /* Makes an instance without a ring, for a card that the caller polls itself; fq_seat_poll returns no packets. Otherwise like
  * fq_shared_new. Returns FQ_OK; FQ_IN_USE; FQ_BAD_COUNT; FQ_OUT_OF_MEMORY. */
-FQ_CHECKED enum fq_status fq_shared_bare(struct fq_control *FQ_RESTRICT control, struct fq_seat *FQ_RESTRICT seats, size_t count);
+FQ_CHECKED_AT(1) enum fq_status fq_shared_bare(struct fq_control *FQ_RESTRICT control, struct fq_seat *FQ_RESTRICT seats, size_t count);
 
 /* The calls of a seat, which is one caller of the instance. Each makes one attempt, after checks for FQ_BAD_KIND, FQ_BAD_WEIGHT,
  * FQ_NO_ROOM and FQ_BAD_HANDLE; fq_seat_schedule_prep and fq_seat_complete_done repeat it while another thread changes the instance. A
@@ -425,7 +427,7 @@ FQ_CHECKED enum fq_status fq_seat_set_threaded(struct fq_seat *seat, bool thread
 /* A seat that was granted the instance has to queue it (____napi_schedule). */
 FQ_CHECKED enum fq_status fq_seat_hand(struct fq_seat *seat, uint32_t kind); /* FQ_OK */
 /* A seat that polls may poll the ring, like fq_ring_poll, and then requeues the instance or completes (napi_complete_done). */
-FQ_CHECKED enum fq_status fq_seat_poll(struct fq_seat *FQ_RESTRICT seat, size_t weight, struct fq_packet *FQ_RESTRICT out, size_t len, size_t *FQ_RESTRICT count);
+FQ_CHECKED_AT(1, 5) enum fq_status fq_seat_poll(struct fq_seat *FQ_RESTRICT seat, size_t weight, struct fq_packet *FQ_RESTRICT out, size_t len, size_t *FQ_RESTRICT count);
 FQ_CHECKED enum fq_status fq_seat_requeue(struct fq_seat *seat);       /* FQ_OK: it is on the list again */
 FQ_CHECKED enum fq_status fq_seat_complete(struct fq_seat *seat);      /* FQ_RELEASED, FQ_AGAIN, FQ_CHANGED; FQ_HELD for a busy poller */
 FQ_CHECKED enum fq_status fq_seat_complete_done(struct fq_seat *seat); /* FQ_RELEASED, FQ_AGAIN; FQ_HELD for a busy poller, since 1.1 */
@@ -763,9 +765,9 @@ struct fq_replayed {
 /* Replays a trace of `len` bytes, and writes its report to an array of `room` bytes. Returns FQ_BAD_WEIGHT, FQ_BAD_BUDGET for the
  * settings; FQ_OUT_OF_MEMORY; FQ_BAD_TRACE, and replayed->fault and replayed->row say why; FQ_NO_ROOM, and replayed->length is the room
  * that the report needs; FQ_OK, and the first replayed->length bytes of the array are the report, with no terminating 0. All other bytes
- * of the array are unchanged, and all of them unless it returns FQ_OK. For an empty trace or array the pointer still points to some byte.
- * An instance's thread polls at most 131072 times at a time, which no trace of 100000 rows reaches. */
-FQ_CHECKED enum fq_status fq_replay(const struct fq_settings *FQ_RESTRICT settings, const uint8_t *FQ_RESTRICT trace, size_t len, uint8_t *FQ_RESTRICT report, size_t room, struct fq_replayed *FQ_RESTRICT replayed);
+ * of the array are unchanged, and all of them unless it returns FQ_OK. An instance's thread polls at most 131072 times at a time, which no
+ * trace of 100000 rows reaches. */
+FQ_CHECKED_AT(1, 6) enum fq_status fq_replay(const struct fq_settings *FQ_RESTRICT settings, const uint8_t *FQ_RESTRICT trace, size_t len, uint8_t *FQ_RESTRICT report, size_t room, struct fq_replayed *FQ_RESTRICT replayed);
 
 /* Writes a trace with the runs that the kernel would make, because net_rx_action raises the softirq again if instances are left on the poll
  * list: each softirq row that leaves some is repeated until the list is empty, at most `restarts` times; with FQ_UNTIL_EMPTY, or any number
@@ -773,7 +775,7 @@ FQ_CHECKED enum fq_status fq_replay(const struct fq_settings *FQ_RESTRICT settin
  * decimal, and nothing is quoted. Returns what fq_replay returns, and replayed->length is the length of the trace that it writes. A trace
  * that would have more than 100000 rows has fault 9; the row of fault 12 counts added rows. Since 1.1. */
 #define FQ_UNTIL_EMPTY UINT32_MAX /* as many added runs as empty the list */
-FQ_CHECKED enum fq_status fq_raise(const struct fq_settings *FQ_RESTRICT settings, uint32_t restarts, const uint8_t *FQ_RESTRICT trace, size_t len, uint8_t *FQ_RESTRICT out, size_t room, struct fq_replayed *FQ_RESTRICT replayed);
+FQ_CHECKED_AT(1, 7) enum fq_status fq_raise(const struct fq_settings *FQ_RESTRICT settings, uint32_t restarts, const uint8_t *FQ_RESTRICT trace, size_t len, uint8_t *FQ_RESTRICT out, size_t room, struct fq_replayed *FQ_RESTRICT replayed);
 
 /* The faults of a trace, in the order in which docs/FORMATS.md describes them. */
 enum fq_fault FQ_NUMBER {
@@ -846,8 +848,8 @@ FQ_CHECKED enum fq_status fq_machine_default(struct fq_machine_settings *setting
  * `size` isn't set, and *ran is unchanged; FQ_BAD_SETTING, and ran->setting says which; FQ_OUT_OF_MEMORY; FQ_BAD_ARRIVALS, and
  * ran->fault, ran->row and ran->message say why; FQ_NO_ROOM, and ran->length is the room that the report needs; FQ_OK, and the first
  * ran->length bytes of the array are the report, with no terminating 0. All other bytes of the array are unchanged, and all of
- * them unless it returns FQ_OK. For empty arrivals or an empty array the pointer still points to some byte. Since 1.1. */
-FQ_CHECKED enum fq_status fq_machine(const struct fq_machine_settings *FQ_RESTRICT settings, const uint8_t *FQ_RESTRICT arrivals, size_t len, uint8_t *FQ_RESTRICT report, size_t room, struct fq_machine_ran *FQ_RESTRICT ran);
+ * them unless it returns FQ_OK. Since 1.1. */
+FQ_CHECKED_AT(1, 6) enum fq_status fq_machine(const struct fq_machine_settings *FQ_RESTRICT settings, const uint8_t *FQ_RESTRICT arrivals, size_t len, uint8_t *FQ_RESTRICT report, size_t room, struct fq_machine_ran *FQ_RESTRICT ran);
 
 #ifdef __cplusplus
 }

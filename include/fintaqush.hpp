@@ -520,7 +520,6 @@ public:
 
     // Puts as many of the first packets into the ring as fit, after all others, and returns how many. A poll sees all of them at once.
     [[nodiscard]] std::size_t put_all(const fq_packet *packets, std::size_t len) {
-        if (len == 0) return 0;
         std::size_t count = 0;
         const auto said = fq_ring_put_all(at_.raw(), packets, len, &count);
         return said == FQ_OK ? len : count;
@@ -800,8 +799,7 @@ namespace detail {
 // Returns what a call writes for a trace: call(bytes, length, out, room, &replayed).
 template <class Call>
 [[nodiscard]] std::variant<std::string, NoReport> written(std::string_view trace, Call call) {
-    const std::uint8_t none = 0;
-    const std::uint8_t *bytes = trace.empty() ? &none : reinterpret_cast<const std::uint8_t *>(trace.data());
+    const auto *bytes = reinterpret_cast<const std::uint8_t *>(trace.data());
     std::string out(4096, '\0');
     fq_replayed replayed{};
     const auto write = [&] { return call(bytes, trace.size(), reinterpret_cast<std::uint8_t *>(out.data()), out.size(), &replayed); };
@@ -843,8 +841,7 @@ struct MachineFault {
 
 // Runs the machine on arrivals (napi_machine), and returns its report.
 [[nodiscard]] inline std::variant<std::string, MachineFault> machine(std::string_view arrivals, const fq_machine_settings &settings = MachineSettings()) {
-    const std::uint8_t none = 0;
-    const std::uint8_t *bytes = arrivals.empty() ? &none : reinterpret_cast<const std::uint8_t *>(arrivals.data());
+    const auto *bytes = reinterpret_cast<const std::uint8_t *>(arrivals.data());
     std::string report(4096, '\0');
     fq_machine_ran ran{};
     ran.size = sizeof ran;

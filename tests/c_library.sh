@@ -140,7 +140,7 @@ echo 'it tells of itself what the header says' > "$scratch/told"
 check 'told.c compiles' compile gcc "$top/tests/c/told.c" "$scratch/tells" -O2
 check 'what the library tells of itself' compared "$scratch/told" "$scratch/tells"
 
-echo '19 corners, each answered as it has to be' > "$scratch/cornered"
+echo '20 corners, each answered as it has to be' > "$scratch/cornered"
 check 'corners.c compiles' compile gcc "$top/tests/c/corners.c" "$scratch/corners" -O2 "$wraps"
 check 'answers at corners' compared "$scratch/cornered" "$scratch/corners"
 

@@ -318,6 +318,30 @@ static void runs_that_the_kernel_would_add(void) {
     want(blocks == 0, "nothing is left");
 }
 
+/* For a count of 0 the pointer of an array may be null, in each call that has one. */
+static void arrays_of_nothing(void) {
+    const struct fq_settings settings = FQ_DEFAULT_SETTINGS;
+    struct fq_machine_settings machine;
+    struct fq_machine_ran ran = {.size = sizeof ran};
+    struct fq_replayed replayed;
+    struct fq_ring ring = FQ_NONE;
+    size_t count = 9;
+    want(fq_version(NULL, 0) == strlen(FQ_VERSION) && fq_status_text(FQ_OK, NULL, 0) == 5, "texts");
+    want(fq_status_message(FQ_OK, NULL, 0) == 4 && fq_fault_text(1, NULL, 0) == 9, "a message, a fault");
+    want(fq_ring_new(&ring, 1) == FQ_OK && fq_ring_put_all(&ring, NULL, 0, &count) == FQ_OK && count == 0, "a burst");
+    want(fq_ring_poll(&ring, 1, NULL, 0, &count) == FQ_NO_ROOM && fq_seat_poll(poller, 1, NULL, 0, &count) == FQ_NO_ROOM, "polls");
+    want(fq_shared_new(&ring, &control, NULL, 0) == FQ_BAD_COUNT && fq_shared_bare(&control, NULL, 0) == FQ_BAD_COUNT, "seats");
+    want(fq_abandon(&ring.handle) == FQ_OK, "the ring's end");
+    want(fq_replay(&settings, NULL, 0, NULL, 0, &replayed) == FQ_BAD_TRACE && replayed.fault == FQ_FAULT_BAD_HEADER, "a replay");
+    want(fq_raise(&settings, 9, NULL, 0, NULL, 0, &replayed) == FQ_BAD_TRACE && replayed.fault == FQ_FAULT_BAD_HEADER, "a raise");
+    static const uint8_t trace[] = "moment,device,event,value\n", arrivals[] = "moment,device,bytes\n";
+    want(fq_replay(&settings, trace, sizeof trace - 1, NULL, 0, &replayed) == FQ_NO_ROOM && replayed.length > 0, "a report");
+    want(fq_machine_default(&machine, sizeof machine) == FQ_OK, "settings");
+    want(fq_machine(&machine, NULL, 0, NULL, 0, &ran) == FQ_BAD_ARRIVALS && ran.fault == 1, "a machine");
+    want(fq_machine(&machine, arrivals, sizeof arrivals - 1, NULL, 0, &ran) == FQ_NO_ROOM && ran.length > 0, "its report");
+    want(blocks == 0, "nothing is left");
+}
+
 /* The statuses of a free and of a list are those that the header names. */
 static void frees_and_lists(void) {
     struct fq_list list = FQ_NONE;
@@ -362,7 +386,7 @@ static const struct {
 } cases[] = {CASE(a_full_poll_of_a_thread), CASE(a_full_poll_of_a_busy_poller), CASE(bytes_of_an_instance), CASE(a_limit_out_of_bounds), CASE(a_polled_instance_is_handed), CASE(a_list_of_64), CASE(a_device_leaves_a_list),
     CASE(weights_of_devices), CASE(a_split_of_what_is_no_ring), CASE(a_ring_whose_instance_is_refused), CASE(buffers_in_turn),
     CASE(ends_of_polls_on_one_thread), CASE(a_full_poll_under_a_disable), CASE(an_open_asks_once), CASE(handed_to_a_thread_that_was_set_meanwhile), CASE(a_stopped_ring_is_watched),
-    CASE(refusals_of_a_replay), CASE(runs_that_the_kernel_would_add), CASE(frees_and_lists)};
+    CASE(refusals_of_a_replay), CASE(runs_that_the_kernel_would_add), CASE(arrays_of_nothing), CASE(frees_and_lists)};
 
 int main(int count, char **words) {
     unsigned called = 0;

@@ -374,9 +374,8 @@ extern "C" {
     /// `FQ_BAD_BUDGET` for the settings; `FQ_OUT_OF_MEMORY`; `FQ_BAD_TRACE`, and `replayed->fault` and
     /// `replayed->row` say why; `FQ_NO_ROOM`, and `replayed->length` is the room that the report needs; `FQ_OK`, and
     /// the first `replayed->length` bytes of the array are the report, with no terminating 0. All other bytes of the
-    /// array are unchanged, and all of them unless it returns `FQ_OK`. For an empty trace or array the pointer still
-    /// points to some byte. An instance's thread polls at most 131072 times at a time, which no trace of 100000 rows
-    /// reaches.
+    /// array are unchanged, and all of them unless it returns `FQ_OK`. An instance's thread polls at most 131072
+    /// times at a time, which no trace of 100000 rows reaches.
     pub fn fq_replay(
         settings: *const fq_settings,
         trace: *const u8,
@@ -408,8 +407,7 @@ extern "C" {
     /// says which; `FQ_OUT_OF_MEMORY`; `FQ_BAD_ARRIVALS`, and `ran->fault`, `ran->row` and `ran->message` say why;
     /// `FQ_NO_ROOM`, and `ran->length` is the room that the report needs; `FQ_OK`, and the first `ran->length` bytes
     /// of the array are the report, with no terminating 0. All other bytes of the array are unchanged, and all of
-    /// them unless it returns `FQ_OK`. For empty arrivals or an empty array the pointer still points to some byte.
-    /// Since 1.1.
+    /// them unless it returns `FQ_OK`. Since 1.1.
     pub fn fq_machine(
         settings: *const fq_machine_settings,
         arrivals: *const u8,
