@@ -93,13 +93,13 @@ extern "C" {
     pub fn fq_napi_enable(napi: *mut fq_napi, who: u32, threaded: bool) -> u32;
     /// Returns the state word, a sum of `FQ_BIT_..`
     pub fn fq_napi_word(napi: *const fq_napi) -> u64;
-    /// Frees the object of a handle, which is unset after that. Returns `FQ_OK`; `FQ_BAD_HANDLE`; `FQ_NOT_ALLOWED`,
-    /// and nothing is freed, for a seat that isn't at rest, for a controller that isn't off, and for a list in a run:
-    /// then the handle still has its object, which leaks unless a later call frees it. Packets in a ring are lost, so
-    /// poll them before.
+    /// Frees the object of a handle, which is unset after that. AN OBJECT IN USE IS NOT FREED: for a seat that isn't
+    /// at rest, a controller that isn't off, and a list in a run it returns `FQ_NOT_ALLOWED`, and the handle still
+    /// has its object, which leaks unless a later call frees it. Rings, transmit rings and drivers are freed in any
+    /// state; packets in a ring are lost, so poll them before. Returns `FQ_OK`; `FQ_BAD_HANDLE`; `FQ_NOT_ALLOWED`.
     pub fn fq_free(handle: *mut fq_handle) -> u32;
-    /// Frees the object of a handle in any state. Returns `FQ_OK`; `FQ_BAD_HANDLE`. An instance whose poller was
-    /// abandoned is never polled again. The status may be ignored.
+    /// Frees the object of a handle in any state, so nothing leaks. Returns `FQ_OK`; `FQ_BAD_HANDLE`. An instance
+    /// whose poller was abandoned is never polled again. The status may be ignored.
     pub fn fq_abandon(handle: *mut fq_handle) -> u32;
     /// Moves the object of `from` to `to`; `from` is unset after that. Returns `FQ_OK`; `FQ_IN_USE` if `to` is set;
     /// `FQ_BAD_HANDLE`.
