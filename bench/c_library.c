@@ -21,7 +21,7 @@ static uint64_t now(bool of_two) {
 }
 
 static bool limits(uint64_t pairs) {
-    struct fq_dql dql;
+    struct fq_dql dql = {0};
     uint64_t sum = 0, over = 0;
     uint32_t queued = 0;
     if (fq_dql_init(&dql, 0, 1879048192u, 4, 0) != FQ_OK) return false;

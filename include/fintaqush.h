@@ -11,6 +11,8 @@
  * - Calls on one object don't overlap, not even two that only read, which take a pointer to const. An object may move from thread to
  *   thread if a lock, a thread's start or join, or a sequentially consistent atomic orders the calls. The ring's input, each seat and the
  *   controller of one shared instance are separate objects, which may be used at the same time, each by one thread.
+ * - A struct that begins with `size`, which may grow, has its sizeof there. For a size that the library doesn't know, a call returns
+ *   FQ_BAD_SIZE and changes nothing.
  * - A handle (struct fq_ring, fq_tx, fq_seat, fq_control, fq_list, fq_driver) or fq_dql isn't copied, and only calls write its fields. An
  *   unset handle is all zero.
  * - No call is made from a signal handler, or from the forked child of a process with threads.
@@ -122,9 +124,9 @@ size_t fq_fault_text(uint32_t fault, char *to, size_t room);
 /* The structs that calls read and write, except those of fq_replay and those that begin with their size. fq_struct_size returns the size
  * of one in bytes, so that bindings can check theirs; 0 for an unknown number. */
 enum fq_struct FQ_NUMBER {
-    FQ_STRUCT_HANDLE = 0, FQ_STRUCT_DQL = 1, FQ_STRUCT_DQL_MADE = 2, FQ_STRUCT_NAPI = 3, FQ_STRUCT_PACKET = 4, FQ_STRUCT_COUNTS = 5,
-    FQ_STRUCT_TOTALS = 6, FQ_STRUCT_RING_SHOWN = 7, FQ_STRUCT_TX_SHOWN = 8, FQ_STRUCT_ANSWERS = 9, FQ_STRUCT_RUN_REPORT = 10,
-    FQ_STRUCT_TODO = 11, FQ_STRUCT_DEVICE_SHOWN = 12, FQ_STRUCT_TX_WATCHDOG = 13
+    FQ_STRUCT_HANDLE = 0, FQ_STRUCT_DQL = 1, FQ_STRUCT_NAPI = 2, FQ_STRUCT_PACKET = 3, FQ_STRUCT_COUNTS = 4, FQ_STRUCT_TOTALS = 5,
+    FQ_STRUCT_RING_SHOWN = 6, FQ_STRUCT_TX_SHOWN = 7, FQ_STRUCT_ANSWERS = 8, FQ_STRUCT_RUN_REPORT = 9, FQ_STRUCT_TODO = 10,
+    FQ_STRUCT_DEVICE_SHOWN = 11, FQ_STRUCT_TX_WATCHDOG = 12
 };
 size_t fq_struct_size(uint32_t which);
 
@@ -188,26 +190,9 @@ struct fq_dql {
     uint64_t private_d;
 };
 
-/* What fq_dql_new returns. */
-struct fq_dql_made {
-    struct fq_dql dql; /* the limit; a limit of 0 unless the status is FQ_OK */
-    uint32_t status;   /* FQ_OK or FQ_BAD_BOUNDS */
-};
-
-/* Returns a new limit between `min` and `max` bytes, with the slack hold time `hold_ms` (dql_init), and the status FQ_OK or
- * FQ_BAD_BOUNDS; after FQ_BAD_BOUNDS it is a limit of 0. */
-struct fq_dql_made fq_dql_new(uint32_t min, uint32_t max, uint64_t hold_ms, uint64_t now_ms);
-
-/* Like fq_dql_new, but writes the limit to the caller's struct, and returns the status. */
-FQ_CHECKED static inline enum fq_status fq_dql_init(struct fq_dql *dql, uint32_t min, uint32_t max, uint64_t hold_ms, uint64_t now_ms) {
-    struct fq_dql_made made = fq_dql_new(min, max, hold_ms, now_ms);
-    *dql = made.dql;
-    return (enum fq_status)made.status;
-}
-
-/* Like fq_dql_init, for callers that can't use returned structs. *dql has to be all 0 or a limit; it is unchanged if the call returns
- * FQ_BAD_BOUNDS. */
-FQ_CHECKED enum fq_status fq_dql_renew(struct fq_dql *dql, uint32_t min, uint32_t max, uint64_t hold_ms, uint64_t now_ms);
+/* Makes a new limit between `min` and `max` bytes, with the slack hold time `hold_ms` (dql_init). *dql has to be all 0 or a limit; it is
+ * unchanged if the call returns FQ_BAD_BOUNDS. Returns FQ_OK; FQ_BAD_BOUNDS. Since 1.1. */
+FQ_CHECKED enum fq_status fq_dql_init(struct fq_dql *dql, uint32_t min, uint32_t max, uint64_t hold_ms, uint64_t now_ms);
 
 /* Adds an object of `count` bytes that was sent to the device (dql_queued). Returns FQ_OK; FQ_TOO_LARGE; FQ_TOO_MUCH_IN_FLIGHT. */
 FQ_CHECKED enum fq_status fq_dql_queued(struct fq_dql *dql, uint32_t count);
@@ -748,23 +733,27 @@ FQ_NONNULL static inline uint64_t fq_word_take(struct fq_word *word) { return __
 
 /* The settings of a replay. */
 struct fq_settings {
+    size_t size;     /* the size of this struct, which the caller sets */
     uint32_t budget; /* packets that a run polls before it is squeezed, 1 to 65535 (netdev_budget) */
     uint32_t weight; /* packets that one poll returns at most, 1 to 64 (NAPI_POLL_WEIGHT) */
     uint32_t window; /* polls that a run makes before it is squeezed, 1 to 65535 (in place of netdev_budget_usecs) */
 };
 
 /* The default settings of napi_replay. */
-#define FQ_DEFAULT_SETTINGS {300, 64, 1024}
+#define FQ_DEFAULT_SETTINGS {sizeof(struct fq_settings), 300, 64, 1024}
 
 /* What a replay returns besides its status. */
 struct fq_replayed {
+    size_t size;    /* the size of this struct, which the caller sets */
     size_t length;  /* the length of the report or trace in bytes, even if there is no room for it; 0 if there is none */
     uint32_t fault; /* the trace's fault: a number of enum fq_fault; 0 if it has none */
     uint32_t row;   /* the row that the fault names, counted from 1; 0 if it names none */
 };
 
-/* Replays a trace of `len` bytes, and writes its report to an array of `room` bytes. Returns FQ_BAD_WEIGHT, FQ_BAD_BUDGET for the
- * settings; FQ_OUT_OF_MEMORY; FQ_BAD_TRACE, and replayed->fault and replayed->row say why; FQ_NO_ROOM, and replayed->length is the room
+#define FQ_REPLAYED_INIT {sizeof(struct fq_replayed), 0, 0, 0}
+
+/* Replays a trace of `len` bytes, and writes its report to an array of `room` bytes. Returns FQ_BAD_SIZE, and *replayed is unchanged;
+ * FQ_BAD_WEIGHT, FQ_BAD_BUDGET for the settings; FQ_OUT_OF_MEMORY; FQ_BAD_TRACE, and replayed->fault and replayed->row say why; FQ_NO_ROOM, and replayed->length is the room
  * that the report needs; FQ_OK, and the first replayed->length bytes of the array are the report, with no terminating 0. All other bytes
  * of the array are unchanged, and all of them unless it returns FQ_OK. An instance's thread polls at most 131072 times at a time, which no
  * trace of 100000 rows reaches. */
@@ -805,7 +794,7 @@ static inline const char *fq_fault_name(uint32_t fault) {
 
 /* The settings of the machine. The members after `size` are the options of napi_machine, with their ranges and defaults. */
 struct fq_machine_settings {
-    size_t size; /* the size of this struct, which fq_machine_default sets */
+    size_t size; /* the size of this struct, which the caller sets */
     /* scripts/options.py: begin */
     uint32_t processors;        /* processors that receive; queue q belongs to processor (q - 1) mod N, and each serves at most 64 queues, 1 to 64 (1) */
     uint32_t queues;            /* queues of each device, chosen by the packet's flow (RSS: ethtool -L, -X), 1 to 64 (1) */
@@ -842,9 +831,9 @@ struct fq_machine_ran {
     char message[64]; /* the message of the fault of the arrivals, as napi_machine prints it, with a terminating 0; otherwise empty */
 };
 
-/* Sets all settings to the defaults of napi_machine, in a struct of `size` bytes: call it with sizeof *settings, and then set others.
- * Returns FQ_OK; FQ_BAD_SIZE, and the struct is unchanged. Since 1.1. */
-FQ_CHECKED enum fq_status fq_machine_default(struct fq_machine_settings *settings, size_t size);
+/* Sets all settings to the defaults of napi_machine, after the caller has set settings->size. Returns FQ_OK; FQ_BAD_SIZE, and the struct
+ * is unchanged. Since 1.1. */
+FQ_CHECKED enum fq_status fq_machine_default(struct fq_machine_settings *settings);
 /* Runs the machine on arrivals of `len` bytes, and writes its report to an array of `room` bytes. Returns FQ_BAD_SIZE if a struct's
  * `size` isn't set, and *ran is unchanged; FQ_BAD_SETTING, and ran->setting says which; FQ_OUT_OF_MEMORY; FQ_BAD_ARRIVALS, and
  * ran->fault, ran->row and ran->message say why; FQ_NO_ROOM, and ran->length is the room that the report needs; FQ_OK, and the first

@@ -801,7 +801,7 @@ template <class Call>
 [[nodiscard]] std::variant<std::string, NoReport> written(std::string_view trace, Call call) {
     const auto *bytes = reinterpret_cast<const std::uint8_t *>(trace.data());
     std::string out(4096, '\0');
-    fq_replayed replayed{};
+    fq_replayed replayed = FQ_REPLAYED_INIT;
     const auto write = [&] { return call(bytes, trace.size(), reinterpret_cast<std::uint8_t *>(out.data()), out.size(), &replayed); };
     std::uint32_t said = write();
     if (said == FQ_NO_ROOM) {
@@ -828,7 +828,10 @@ template <class Call>
 
 // The settings of the machine, at first the defaults of napi_machine.
 struct MachineSettings : fq_machine_settings {
-    MachineSettings() noexcept : fq_machine_settings{} { detail::made(fq_machine_default(this, sizeof(fq_machine_settings))); }
+    MachineSettings() noexcept : fq_machine_settings{} {
+        size = sizeof(fq_machine_settings);
+        detail::made(fq_machine_default(this));
+    }
 };
 
 // Why the machine returned no report: its status; for FQ_BAD_SETTING the setting's number, from 1; for FQ_BAD_ARRIVALS the

@@ -46,7 +46,7 @@ def camel(name: str) -> str:
 
 
 def type_name(name: str) -> str:
-    """Returns the name of a struct or an enum in Python, for example DqlMade for fq_dql_made."""
+    """Returns the name of a struct or an enum in Python, for example RingShown for fq_ring_shown."""
     return camel(name[len("fq_") :])
 
 

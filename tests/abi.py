@@ -26,7 +26,7 @@ import header  # noqa: E402
 TYPES = {"u8": "uint8_t", "u32": "uint32_t", "u64": "uint64_t", "i64": "int64_t", "usize": "size_t", "bool": "bool"}
 SIZES = {"uint8_t": 1, "uint32_t": 4, "uint64_t": 8, "int64_t": 8, "size_t": 8, "bool": 1}
 # The structs whose name in C isn't that of Rattle, in small letters.
-RENAMED = {"FqDqlNew": "fq_dql_made", "Packet": "fq_packet", "TxState": "fq_tx_shown"}
+RENAMED = {"Packet": "fq_packet", "TxState": "fq_tx_shown"}
 EMPTY = {"Global"}  # the heap, which has no bytes and is no parameter in C
 ONLY_C = {"fq_card", "fq_word"}  # structs that only the header's inline functions use
 # The handle that a call's prefix names, if that isn't the handle's own name; and the calls on handles of any kind.
@@ -227,7 +227,7 @@ def c_of_python() -> Iterator[str]:
 
 PLANTED = [
     ("crates/napi_c/src/ring.rt", "number: u64, bytes: u32", "number: u64, bytes: u64", "fq_ring_put"),
-    ("crates/napi_c/src/limit.rt", "fq_dql_new(min: u32, max: u32", "fq_dql_new(max: u32, min: u32", "fq_dql_new"),
+    ("crates/napi_c/src/limit.rt", "fq_dql_init(dql: &mut FqDql, min: u32, max: u32", "fq_dql_init(dql: &mut FqDql, max: u32, min: u32", "fq_dql_init"),
     ("crates/napi_c/src/limit.rt", "avail(dql: &FqDql) -> i64", "avail(dql: &FqDql) -> u64", "fq_dql_avail"),
     ("crates/napi_c/src/limit.rt", "fq_dql_limit(dql: &FqDql)", "fq_dql_limit(dql: &mut FqDql)", "fq_dql_limit"),
     ("crates/napi_c/src/driver.rt", "_open(handle: &mut FqHandle, device", "_open(handle: &FqHandle, device", "fq_driver_open"),
@@ -239,7 +239,7 @@ PLANTED = [
     ("crates/c_handles/src/drive.rt", "pub scheduled: bool,", "pub scheduled: u32,", "fq_device_shown"),
     ("crates/dql_core/src/queue.rt", "start: u64,\n    min_limit: u32", "start: u32,\n    min_limit: u64", "fq_dql"),
     ("crates/machine_model/src/settings.rt", "OPTION_COUNT: usize = ", "OPTION_COUNT: usize = 1", "fq_machine_settings"),
-    ("crates/napi_c/src/sizes.rt", "4 => size_of::<Packet>()", "4 => size_of::<FqCounts>()", "fq_struct_size"),
+    ("crates/napi_c/src/sizes.rt", "3 => size_of::<Packet>()", "3 => size_of::<FqCounts>()", "fq_struct_size"),
 ]
 
 
@@ -258,7 +258,7 @@ def planted(read: Mapping[str, Any], texts: Mapping[str, str]) -> Iterator[str]:
 # Faults of the header, which clang reads.
 PLANTED_IN_HEADER = [
     ("uint64_t number, uint32_t bytes);", "uint32_t number, uint32_t bytes);", "fq_ring_put"),
-    ("fq_dql_new(uint32_t min, uint32_t max,", "fq_dql_new(uint32_t max, uint32_t min,", "fq_dql_new"),
+    ("fq_dql_init(struct fq_dql *dql, uint32_t min, uint32_t max,", "fq_dql_init(struct fq_dql *dql, uint32_t max, uint32_t min,", "fq_dql_init"),
     ("fq_dql_limit(const struct fq_dql *dql);", "fq_dql_limit(struct fq_dql *dql);", "fq_dql_limit"),
     ("fq_list_len(const struct fq_list *", "fq_list_len(const struct fq_ring *", "fq_list_len"),
     ("fq_ring_show(const struct", "fq_ring_show(struct", "fq_ring_show"),
@@ -267,7 +267,7 @@ PLANTED_IN_HEADER = [
     ("struct fq_tx { struct fq_handle handle; }", "struct fq_tx { struct fq_handle handle; int more; }", "fq_tx"),
     ("uint64_t private_b;\n    uint32_t private_c[2];", "uint32_t private_c[2];\n    uint64_t private_b;", "fq_dql"),
     ("    uint64_t number; /* a number", "    int64_t number; /* a number", "fq_packet"),
-    ("FQ_STRUCT_PACKET = 4, FQ_STRUCT_COUNTS = 5", "FQ_STRUCT_PACKET = 5, FQ_STRUCT_COUNTS = 4", "fq_struct_size"),
+    ("FQ_STRUCT_PACKET = 3, FQ_STRUCT_COUNTS = 4", "FQ_STRUCT_PACKET = 4, FQ_STRUCT_COUNTS = 3", "fq_struct_size"),
 ]
 
 

@@ -70,7 +70,7 @@ fi
 # The statuses that the header names with fq_replay, which are the order that corners.c tries.
 replay_names() { awk '/^\/\* Replays a trace/ { on = 1 } on { print } /\*\// { on = 0 }' "$header" | grep -oE 'FQ_[A-Z_]+' | awk '!told[$0]++' | xargs; }
 
-order_of_a_replay() { [ "$(replay_names)" = 'FQ_BAD_WEIGHT FQ_BAD_BUDGET FQ_OUT_OF_MEMORY FQ_BAD_TRACE FQ_NO_ROOM FQ_OK' ]; }
+order_of_a_replay() { [ "$(replay_names)" = 'FQ_BAD_SIZE FQ_BAD_WEIGHT FQ_BAD_BUDGET FQ_OUT_OF_MEMORY FQ_BAD_TRACE FQ_NO_ROOM FQ_OK' ]; }
 
 # The page states the size of the archive, within a tenth.
 told_size() {

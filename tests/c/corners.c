@@ -71,9 +71,9 @@ static void bytes_of_an_instance(void) {
     }
 }
 
-/* After bounds that are rejected the limit is 0, and works as one. */
+/* After bounds that are rejected a struct of zeros is a limit of 0. */
 static void a_limit_out_of_bounds(void) {
-    struct fq_dql dql;
+    struct fq_dql dql = {0};
     want(fq_dql_init(&dql, 5, 4, 0, 0) == FQ_BAD_BOUNDS && fq_dql_limit(&dql) == 0 && fq_dql_avail(&dql) == 0, "min above max");
     want(fq_dql_queued(&dql, 1) == FQ_OK && fq_dql_avail(&dql) == -1 && fq_dql_completed(&dql, 1, 9) == FQ_OK && fq_dql_limit(&dql) == 0, "it goes on");
     want(fq_dql_init(&dql, 0, 1879048193, 0, 0) == FQ_BAD_BOUNDS && fq_dql_limit(&dql) == 0, "max above the greatest");
@@ -283,8 +283,8 @@ static void refusals_of_a_replay(void) {
     static const char good[] = "moment,device,event,value\n0,1,open,4\n";
     static const uint8_t bad[] = "?";
     uint8_t report[1];
-    struct fq_replayed told;
-    struct fq_settings settings = {0, 0, 0};
+    struct fq_replayed told = FQ_REPLAYED_INIT;
+    struct fq_settings settings = {sizeof settings, 0, 0, 0};
     want(fq_replay(&settings, bad, 1, report, 0, &told) == FQ_BAD_WEIGHT, "a weight is looked at first");
     settings.weight = 64;
     want(fq_replay(&settings, bad, 1, report, 0, &told) == FQ_BAD_BUDGET, "then budget and window");
@@ -304,8 +304,8 @@ static void runs_that_the_kernel_would_add(void) {
         uint32_t restarts;
         const char *wanted;
     } rows[] = {{FQ_UNTIL_EMPTY, ROWS RUN RUN RUN RUN LAST}, {0, given}, {1, ROWS RUN RUN LAST LAST}, {3, ROWS RUN RUN RUN RUN LAST}};
-    struct fq_settings settings = {1, 1, 1024};
-    struct fq_replayed told;
+    struct fq_settings settings = {sizeof settings, 1, 1, 1024};
+    struct fq_replayed told = FQ_REPLAYED_INIT;
     uint8_t out[512];
     for (size_t i = 0; i < sizeof rows / sizeof rows[0]; i++) {
         want(fq_raise(&settings, rows[i].restarts, (const uint8_t *)given, sizeof given - 1, out, sizeof out, &told) == FQ_OK, "runs are added");
@@ -321,9 +321,9 @@ static void runs_that_the_kernel_would_add(void) {
 /* For a count of 0 the pointer of an array may be null, in each call that has one. */
 static void arrays_of_nothing(void) {
     const struct fq_settings settings = FQ_DEFAULT_SETTINGS;
-    struct fq_machine_settings machine;
+    struct fq_machine_settings machine = {.size = sizeof machine};
     struct fq_machine_ran ran = {.size = sizeof ran};
-    struct fq_replayed replayed;
+    struct fq_replayed replayed = FQ_REPLAYED_INIT;
     struct fq_ring ring = FQ_NONE;
     size_t count = 9;
     want(fq_version(NULL, 0) == strlen(FQ_VERSION) && fq_status_text(FQ_OK, NULL, 0) == 5, "texts");
@@ -336,7 +336,7 @@ static void arrays_of_nothing(void) {
     want(fq_raise(&settings, 9, NULL, 0, NULL, 0, &replayed) == FQ_BAD_TRACE && replayed.fault == FQ_FAULT_BAD_HEADER, "a raise");
     static const uint8_t trace[] = "moment,device,event,value\n", arrivals[] = "moment,device,bytes\n";
     want(fq_replay(&settings, trace, sizeof trace - 1, NULL, 0, &replayed) == FQ_NO_ROOM && replayed.length > 0, "a report");
-    want(fq_machine_default(&machine, sizeof machine) == FQ_OK, "settings");
+    want(fq_machine_default(&machine) == FQ_OK, "settings");
     want(fq_machine(&machine, NULL, 0, NULL, 0, &ran) == FQ_BAD_ARRIVALS && ran.fault == 1, "a machine");
     want(fq_machine(&machine, arrivals, sizeof arrivals - 1, NULL, 0, &ran) == FQ_NO_ROOM && ran.length > 0, "its report");
     want(blocks == 0, "nothing is left");

@@ -751,8 +751,7 @@ static void limit_call(void) {
     if (which < 3) {
         struct model_limit fresh = l;
         const uint32_t wanted = model_limit_new(&fresh, min, max, hold_ms, now);
-        if (which == 0 && wanted == FQ_OK) want("init", fq_dql_init(&dql, min, max, hold_ms, now), wanted);
-        else want("renew", fq_dql_renew(&dql, min, max, hold_ms, now), wanted);
+        want("init", fq_dql_init(&dql, min, max, hold_ms, now), wanted);
         l = fresh;
     } else if (which < 5) {
         fq_dql_reset(&dql, now);

@@ -144,7 +144,7 @@ static void take_none(void) {
 static const char trace[] = "moment,device,event,value\n0,1,open,4\n0,2,open,4\n1,1,rx,100\n1,2,rx,60\n2,0,softirq,0\n3,1,tx,9\n";
 enum { ROOM = 4096, GUARD = 0xA5 };
 static uint8_t report[ROOM], wanted[ROOM];
-static struct fq_replayed replayed;
+static struct fq_replayed replayed = FQ_REPLAYED_INIT;
 
 static uint32_t make_replay(void) {
     const struct fq_settings settings = FQ_DEFAULT_SETTINGS;
@@ -160,9 +160,9 @@ static const char arrivals[] = "moment,device,bytes\n0,1,60\n10,2,60\n10,1,1500\
 static uint8_t wanted_of_machine[ROOM];
 
 static uint32_t make_machine(void) {
-    struct fq_machine_settings settings;
+    struct fq_machine_settings settings = {.size = sizeof settings};
     struct fq_machine_ran ran = {.size = sizeof ran};
-    want(fq_machine_default(&settings, sizeof settings) == FQ_OK, "the default settings", refused_take);
+    want(fq_machine_default(&settings) == FQ_OK, "the default settings", refused_take);
     settings.processors = 2, settings.threaded = 1, settings.apart = 1;
     memset(report, GUARD, ROOM);
     const uint32_t said = fq_machine(&settings, (const uint8_t *)arrivals, sizeof arrivals - 1, report, ROOM, &ran);
@@ -177,8 +177,8 @@ static const char *const raised_head = "moment,device,event,value\n0,1,open,64\n
 static size_t raised_length;
 
 static uint32_t make_raised(void) {
-    const struct fq_settings settings = {1, 1, 1024};
-    struct fq_replayed raised = {0, 0, 0};
+    const struct fq_settings settings = {sizeof settings, 1, 1, 1024};
+    struct fq_replayed raised = FQ_REPLAYED_INIT;
     char text[1024];
     int len = snprintf(text, sizeof text, "%s", raised_head);
     for (int i = 0; i < 50; i++) len += snprintf(text + len, sizeof text - (size_t)len, "%s", raised_row);

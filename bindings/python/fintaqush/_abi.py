@@ -128,10 +128,6 @@ class Dql(ctypes.Structure):
     _fields_ = [("private_a", u32 * 8), ("private_b", u64), ("private_c", u32 * 2), ("private_d", u64)]
 
 
-class DqlMade(ctypes.Structure):
-    _fields_ = [("dql", Dql), ("status", u32)]
-
-
 class Napi(ctypes.Structure):
     _fields_ = [
         ("sched", u8),
@@ -239,11 +235,11 @@ class DeviceShown(ctypes.Structure):
 
 
 class Settings(ctypes.Structure):
-    _fields_ = [("budget", u32), ("weight", u32), ("window", u32)]
+    _fields_ = [("size", size), ("budget", u32), ("weight", u32), ("window", u32)]
 
 
 class Replayed(ctypes.Structure):
-    _fields_ = [("length", size), ("fault", u32), ("row", u32)]
+    _fields_ = [("size", size), ("length", size), ("fault", u32), ("row", u32)]
 
 
 class MachineSettings(ctypes.Structure):
@@ -289,18 +285,17 @@ class MachineRan(ctypes.Structure):
 SIZES: dict[type[ctypes.Structure], int] = {
     Handle: 0,
     Dql: 1,
-    DqlMade: 2,
-    Napi: 3,
-    Packet: 4,
-    Counts: 5,
-    Totals: 6,
-    RingShown: 7,
-    TxShown: 8,
-    Answers: 9,
-    RunReport: 10,
-    Todo: 11,
-    DeviceShown: 12,
-    TxWatchdog: 13,
+    Napi: 2,
+    Packet: 3,
+    Counts: 4,
+    Totals: 5,
+    RingShown: 6,
+    TxShown: 7,
+    Answers: 8,
+    RunReport: 9,
+    Todo: 10,
+    DeviceShown: 11,
+    TxWatchdog: 12,
 }
 
 # The calls, by their names without fq_: the type of the result, and those of the arguments.
@@ -310,8 +305,7 @@ CALLS: dict[str, tuple[Any, dict[str, Any]]] = {
     "status_message": (size, {"status": u32, "to": text, "room": size}),
     "fault_text": (size, {"fault": u32, "to": text, "room": size}),
     "struct_size": (size, {"which": u32}),
-    "dql_new": (DqlMade, {"min": u32, "max": u32, "hold_ms": u64, "now_ms": u64}),
-    "dql_renew": (Status, {"dql": pointer(Dql), "min": u32, "max": u32, "hold_ms": u64, "now_ms": u64}),
+    "dql_init": (Status, {"dql": pointer(Dql), "min": u32, "max": u32, "hold_ms": u64, "now_ms": u64}),
     "dql_queued": (Status, {"dql": pointer(Dql), "count": u32}),
     "dql_completed": (Status, {"dql": pointer(Dql), "count": u32, "now_ms": u64}),
     "dql_reset": (None, {"dql": pointer(Dql), "now_ms": u64}),
@@ -418,7 +412,7 @@ CALLS: dict[str, tuple[Any, dict[str, Any]]] = {
             "replayed": pointer(Replayed),
         },
     ),
-    "machine_default": (Status, {"settings": pointer(MachineSettings), "size": size}),
+    "machine_default": (Status, {"settings": pointer(MachineSettings)}),
     "machine": (
         Status,
         {

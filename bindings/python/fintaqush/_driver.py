@@ -1,7 +1,6 @@
 """The driver of up to 64 devices on one thread."""
 from __future__ import annotations
 
-import ctypes
 from typing import NamedTuple, Protocol
 
 from . import _abi as abi
@@ -15,7 +14,7 @@ class Todo:
     a run that ended. `packets` are those that a look found or a fetch took, set for the report by `Driver.step`. A new one is no action."""
 
     def __init__(self) -> None:
-        self._raw = abi.Todo(ctypes.sizeof(abi.Todo))
+        self._raw = c.sized(abi.Todo)
 
     @property
     def what(self) -> What:
@@ -120,6 +119,6 @@ class Driver(_Owned):
 
     def shown(self, device: int) -> DeviceShown:
         """Returns the state of a device, and the counts of its polls. BAD_DEVICE."""
-        shown = abi.DeviceShown(ctypes.sizeof(abi.DeviceShown))
+        shown = c.sized(abi.DeviceShown)
         c.driver_show(self._at, device, shown)
         return DeviceShown(DeviceState(shown.state), shown.scheduled, shown.missed, shown.polls, shown.packets)

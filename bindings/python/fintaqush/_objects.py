@@ -53,9 +53,8 @@ class Limit(_One):
     Raises BAD_BOUNDS if min is above max, or max is above 1879048192."""
 
     def __init__(self, min: int = 0, max: int = 1879048192, hold_ms: int = 1000, now_ms: int = 0) -> None:
-        made = c.dql_new(min, max, hold_ms, now_ms)
-        c.checked(made.status)
-        self._dql = made.dql
+        self._dql = abi.Dql()
+        c.dql_init(self._dql, min, max, hold_ms, now_ms)
 
     def queued(self, count: int) -> None:
         """Adds count bytes that were sent to the device (`dql_queued`). TOO_LARGE, TOO_MUCH_IN_FLIGHT."""

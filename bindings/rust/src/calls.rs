@@ -28,14 +28,9 @@ pub(crate) fn struct_size(which: u32) -> usize {
     unsafe { fq_struct_size(which) }
 }
 
-pub(crate) fn dql_new(min: u32, max: u32, hold_ms: u64, now_ms: u64) -> fq_dql_made {
+pub(crate) fn dql_init(dql: &mut fq_dql, min: u32, max: u32, hold_ms: u64, now_ms: u64) -> u32 {
     // SAFETY: each reference and each slice leads to whole objects, to which no other argument leads.
-    unsafe { fq_dql_new(min, max, hold_ms, now_ms) }
-}
-
-pub(crate) fn dql_renew(dql: &mut fq_dql, min: u32, max: u32, hold_ms: u64, now_ms: u64) -> u32 {
-    // SAFETY: each reference and each slice leads to whole objects, to which no other argument leads.
-    unsafe { fq_dql_renew(dql, min, max, hold_ms, now_ms) }
+    unsafe { fq_dql_init(dql, min, max, hold_ms, now_ms) }
 }
 
 pub(crate) fn dql_queued(dql: &mut fq_dql, count: u32) -> u32 {
@@ -481,9 +476,9 @@ pub(crate) fn raise(
     }
 }
 
-pub(crate) fn machine_default(settings: &mut fq_machine_settings, size: usize) -> u32 {
+pub(crate) fn machine_default(settings: &mut fq_machine_settings) -> u32 {
     // SAFETY: each reference and each slice leads to whole objects, to which no other argument leads.
-    unsafe { fq_machine_default(settings, size) }
+    unsafe { fq_machine_default(settings) }
 }
 
 pub(crate) fn machine(

@@ -38,19 +38,7 @@ pub struct Todo {
 impl Todo {
     /// No action, for the first [`Driver::step`]: there is nothing to report.
     pub const NONE: Todo = Todo {
-        raw: sys::fq_todo {
-            size: std::mem::size_of::<sys::fq_todo>(),
-            number: 0,
-            what: sys::FQ_TODO_SLEEP,
-            device: 0,
-            most: 0,
-            packets: 0,
-            run: RunReport {
-                polls: 0,
-                work: 0,
-                squeezed: false,
-            },
-        },
+        raw: sys::fq_todo::INIT,
     };
 
     /// Sets the packets that a look found or a fetch took, for the report by [`Driver::step`].
@@ -277,14 +265,7 @@ impl Driver {
 
     /// Returns the state of a device, and the counts of its polls. Fails with [`BAD_DEVICE`](Fault::BAD_DEVICE).
     pub fn shown(&self, device: u32) -> Result<DeviceShown, Fault> {
-        let mut shown = sys::fq_device_shown {
-            size: std::mem::size_of::<sys::fq_device_shown>(),
-            state: 0,
-            scheduled: false,
-            missed: false,
-            polls: 0,
-            packets: 0,
-        };
+        let mut shown = sys::fq_device_shown::INIT;
         let said = calls::driver_show(&self.at.0, device, &mut shown);
         Fault::unless_made(said)?;
         Ok(DeviceShown {

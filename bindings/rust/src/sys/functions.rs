@@ -21,12 +21,10 @@ extern "C" {
     /// The structs that calls read and write, except those of `fq_replay` and those that begin with their size.
     /// `fq_struct_size` returns the size of one in bytes, so that bindings can check theirs; 0 for an unknown number.
     pub fn fq_struct_size(which: u32) -> usize;
-    /// Returns a new limit between `min` and `max` bytes, with the slack hold time `hold_ms` (`dql_init`), and the
-    /// status `FQ_OK` or `FQ_BAD_BOUNDS`; after `FQ_BAD_BOUNDS` it is a limit of 0.
-    pub fn fq_dql_new(min: u32, max: u32, hold_ms: u64, now_ms: u64) -> fq_dql_made;
-    /// Like `fq_dql_init`, for callers that can't use returned structs. `*dql` has to be all 0 or a limit; it is
-    /// unchanged if the call returns `FQ_BAD_BOUNDS`.
-    pub fn fq_dql_renew(dql: *mut fq_dql, min: u32, max: u32, hold_ms: u64, now_ms: u64) -> u32;
+    /// Makes a new limit between `min` and `max` bytes, with the slack hold time `hold_ms` (`dql_init`). `*dql` has
+    /// to be all 0 or a limit; it is unchanged if the call returns `FQ_BAD_BOUNDS`. Returns `FQ_OK`; `FQ_BAD_BOUNDS`.
+    /// Since 1.1.
+    pub fn fq_dql_init(dql: *mut fq_dql, min: u32, max: u32, hold_ms: u64, now_ms: u64) -> u32;
     /// Adds an object of `count` bytes that was sent to the device (`dql_queued`). Returns `FQ_OK`; `FQ_TOO_LARGE`;
     /// `FQ_TOO_MUCH_IN_FLIGHT`.
     pub fn fq_dql_queued(dql: *mut fq_dql, count: u32) -> u32;
@@ -370,12 +368,12 @@ extern "C" {
         device: u32,
         shown: *mut fq_device_shown,
     ) -> u32;
-    /// Replays a trace of `len` bytes, and writes its report to an array of `room` bytes. Returns `FQ_BAD_WEIGHT`,
-    /// `FQ_BAD_BUDGET` for the settings; `FQ_OUT_OF_MEMORY`; `FQ_BAD_TRACE`, and `replayed->fault` and
-    /// `replayed->row` say why; `FQ_NO_ROOM`, and `replayed->length` is the room that the report needs; `FQ_OK`, and
-    /// the first `replayed->length` bytes of the array are the report, with no terminating 0. All other bytes of the
-    /// array are unchanged, and all of them unless it returns `FQ_OK`. An instance's thread polls at most 131072
-    /// times at a time, which no trace of 100000 rows reaches.
+    /// Replays a trace of `len` bytes, and writes its report to an array of `room` bytes. Returns `FQ_BAD_SIZE`, and
+    /// `*replayed` is unchanged; `FQ_BAD_WEIGHT`, `FQ_BAD_BUDGET` for the settings; `FQ_OUT_OF_MEMORY`;
+    /// `FQ_BAD_TRACE`, and `replayed->fault` and `replayed->row` say why; `FQ_NO_ROOM`, and `replayed->length` is the
+    /// room that the report needs; `FQ_OK`, and the first `replayed->length` bytes of the array are the report, with
+    /// no terminating 0. All other bytes of the array are unchanged, and all of them unless it returns `FQ_OK`. An
+    /// instance's thread polls at most 131072 times at a time, which no trace of 100000 rows reaches.
     pub fn fq_replay(
         settings: *const fq_settings,
         trace: *const u8,
@@ -399,9 +397,9 @@ extern "C" {
         room: usize,
         replayed: *mut fq_replayed,
     ) -> u32;
-    /// Sets all settings to the defaults of `napi_machine`, in a struct of `size` bytes: call it with sizeof
-    /// `*settings`, and then set others. Returns `FQ_OK`; `FQ_BAD_SIZE`, and the struct is unchanged. Since 1.1.
-    pub fn fq_machine_default(settings: *mut fq_machine_settings, size: usize) -> u32;
+    /// Sets all settings to the defaults of `napi_machine`, after the caller has set `settings->size`. Returns
+    /// `FQ_OK`; `FQ_BAD_SIZE`, and the struct is unchanged. Since 1.1.
+    pub fn fq_machine_default(settings: *mut fq_machine_settings) -> u32;
     /// Runs the machine on arrivals of `len` bytes, and writes its report to an array of `room` bytes. Returns
     /// `FQ_BAD_SIZE` if a struct's `size` isn't set, and `*ran` is unchanged; `FQ_BAD_SETTING`, and `ran->setting`
     /// says which; `FQ_OUT_OF_MEMORY`; `FQ_BAD_ARRIVALS`, and `ran->fault`, `ran->row` and `ran->message` say why;
