@@ -93,30 +93,35 @@ private:
     fq_word raw_{};
 };
 
-// Owns an object on the library's heap. It can be moved, not copied.
+// Owns an object on the library's heap, by its handle in C, for example fq_ring. It can be moved, not copied.
+template <class Raw>
 class [[nodiscard]] Handle {
 public:
     Handle() = default;
-    Handle(Handle &&other) noexcept : raw_(std::exchange(other.raw_, fq_handle FQ_NONE)) {}
+    explicit Handle(Raw &raw) noexcept : raw_(std::exchange(raw, Raw{})) {}
+    Handle(Handle &&other) noexcept : Handle(other.raw_) {}
     Handle &operator=(Handle &&other) noexcept {
-        if (this != &other) {
-            give_up();
-            raw_ = std::exchange(other.raw_, fq_handle FQ_NONE);
-        }
+        Handle moved(std::move(other));
+        std::swap(raw_, moved.raw_);
         return *this;
     }
     Handle(const Handle &) = delete;
     Handle &operator=(const Handle &) = delete;
-    ~Handle() { give_up(); }
-
-    [[nodiscard]] fq_handle *raw() noexcept { return &raw_; }
-
-private:
-    void give_up() noexcept {
-        if (raw_.private_set) detail::made(fq_abandon(&raw_));
+    ~Handle() {
+        if (raw_.handle.private_set) detail::made(fq_abandon(&raw_.handle));
     }
 
-    fq_handle raw_ = FQ_NONE;
+    [[nodiscard]] Raw *raw() noexcept { return &raw_; }
+    [[nodiscard]] const Raw *raw() const noexcept { return &raw_; }
+    // Returns the counts of a ring's polls, if the object has its poll end.
+    [[nodiscard]] Counts counts() const noexcept {
+        Counts counts{};
+        detail::made(fq_count(&raw_.handle, &counts));
+        return counts;
+    }
+
+private:
+    Raw raw_{};
 };
 
 // A byte queue limit. Times are milliseconds of the caller's clock.
@@ -153,28 +158,28 @@ public:
     // Makes a ring; returns nullopt if the capacity isn't 1 to 65536, min is above max, max is above 1879048192, or memory runs out.
     [[nodiscard]] static std::optional<TxRing> make(std::size_t capacity, std::uint32_t min, std::uint32_t max,
                                                     std::uint64_t hold_ms, std::uint64_t now_ms) {
-        Handle at;
+        Handle<fq_tx> at;
         if (fq_tx_new(at.raw(), capacity, min, max, hold_ms, now_ms) != FQ_OK) return std::nullopt;
         return std::optional<TxRing>(TxRing(std::move(at)));
     }
 
     [[nodiscard]] Status send(std::uint32_t bytes) { return Status(fq_tx_send(at_.raw(), bytes)); }
     [[nodiscard]] Status done(std::uint32_t count, std::uint64_t now_ms) { return Status(fq_tx_done(at_.raw(), count, now_ms)); }
-    [[nodiscard]] TxState state() {
+    [[nodiscard]] TxState state() const {
         TxState shown{};
         detail::made(fq_tx_state(at_.raw(), &shown));
         return shown;
     }
     // Returns whether the ring has been stopped, with no byte completed, for limit_ms; call it at each tick of a timer (fq_tx_watch).
-    [[nodiscard]] bool watch(TxWatchdog &watchdog, std::uint64_t limit_ms, std::uint64_t now_ms) {
+    [[nodiscard]] bool watch(TxWatchdog &watchdog, std::uint64_t limit_ms, std::uint64_t now_ms) const {
         bool stuck = false;
         detail::made(fq_tx_watch(at_.raw(), &watchdog, limit_ms, now_ms, &stuck));
         return stuck;
     }
 
 private:
-    explicit TxRing(Handle &&at) noexcept : at_(std::move(at)) {}
-    Handle at_;
+    explicit TxRing(Handle<fq_tx> &&at) noexcept : at_(std::move(at)) {}
+    Handle<fq_tx> at_;
 };
 
 // An instance of one thread, whose calls are checked at run time.
@@ -246,15 +251,15 @@ public:
     }
 
     // Returns how often its calls returned each result since the instance was made.
-    [[nodiscard]] Answers answers() {
+    [[nodiscard]] Answers answers() const {
         Answers answers{};
         made(fq_seat_count(at_.raw(), &answers));
         return answers;
     }
 
 protected:
-    explicit Seat(Handle &&at) noexcept : at_(std::move(at)) {}
-    Handle at_;
+    explicit Seat(Handle<fq_seat> &&at) noexcept : at_(std::move(at)) {}
+    Handle<fq_seat> at_;
 };
 
 // A caller that polls, or busy polls.
@@ -267,11 +272,7 @@ public:
         return count;
     }
     // Returns the counts of the ring's polls.
-    [[nodiscard]] Counts counts() {
-        Counts counts{};
-        made(fq_count(at_.raw(), &counts));
-        return counts;
-    }
+    [[nodiscard]] Counts counts() const { return at_.counts(); }
 
 protected:
     using Seat::Seat;
@@ -453,8 +454,8 @@ public:
 
 private:
     friend class Control<Off>;
-    explicit Control(Handle &&at) noexcept : at_(std::move(at)) {}
-    Handle at_;
+    explicit Control(Handle<fq_control> &&at) noexcept : at_(std::move(at)) {}
+    Handle<fq_control> at_;
 };
 
 template <>
@@ -476,19 +477,15 @@ public:
         return {std::move(on), asked};
     }
     // Returns the counts of the ring's polls.
-    [[nodiscard]] Counts counts() {
-        Counts counts{};
-        detail::made(fq_count(at_.raw(), &counts));
-        return counts;
-    }
+    [[nodiscard]] Counts counts() const { return at_.counts(); }
 
 private:
     friend class Control<On>;
     friend class Control<Marked>;
     friend struct Shared;
     friend struct Bare;
-    explicit Control(Handle &&at) noexcept : at_(std::move(at)) {}
-    Handle at_;
+    explicit Control(Handle<fq_control> &&at) noexcept : at_(std::move(at)) {}
+    Handle<fq_control> at_;
 };
 
 template <>
@@ -502,8 +499,8 @@ public:
 
 private:
     friend class Control<On>;
-    explicit Control(Handle &&at) noexcept : at_(std::move(at)) {}
-    Handle at_;
+    explicit Control(Handle<fq_control> &&at) noexcept : at_(std::move(at)) {}
+    Handle<fq_control> at_;
 };
 
 inline Control<Marked> Control<On>::mark() && noexcept {
@@ -526,14 +523,13 @@ public:
 
     // Puts as many of the first packets into the ring as fit, after all others, and returns how many. A poll sees all of them at once.
     [[nodiscard]] std::size_t put_all(const fq_packet *packets, std::size_t len) {
-        if (len == 0) return 0;
         std::size_t count = 0;
         const auto said = fq_ring_put_all(at_.raw(), packets, len, &count);
         return said == FQ_OK ? len : count;
     }
 
     // Returns the ring's capacity, and how many packets were put.
-    [[nodiscard]] RingShown shown() {
+    [[nodiscard]] RingShown shown() const {
         RingShown shown{};
         detail::made(fq_ring_show(at_.raw(), &shown));
         return shown;
@@ -542,8 +538,8 @@ public:
 private:
     friend class Ring;
     friend struct Shared;
-    explicit Input(Handle &&at) noexcept : at_(std::move(at)) {}
-    Handle at_;
+    explicit Input(Handle<fq_ring> &&at) noexcept : at_(std::move(at)) {}
+    Handle<fq_ring> at_;
 };
 
 // The poll end of a ring without an instance.
@@ -554,16 +550,12 @@ public:
         detail::made(fq_ring_poll(at_.raw(), weight.get(), out.data(), out.size(), &count));
         return count;
     }
-    [[nodiscard]] Counts counts() {
-        Counts counts{};
-        detail::made(fq_count(at_.raw(), &counts));
-        return counts;
-    }
+    [[nodiscard]] Counts counts() const { return at_.counts(); }
 
 private:
     friend class Ring;
-    explicit Output(Handle &&at) noexcept : at_(std::move(at)) {}
-    Handle at_;
+    explicit Output(Handle<fq_ring> &&at) noexcept : at_(std::move(at)) {}
+    Handle<fq_ring> at_;
 };
 
 // A receive ring without an instance, with both its ends.
@@ -571,7 +563,7 @@ class [[nodiscard]] Ring {
 public:
     // Makes a ring of capacity 1 to 65536; returns nullopt if it is out of range, or memory runs out.
     [[nodiscard]] static std::optional<Ring> make(std::size_t capacity) {
-        Handle at;
+        Handle<fq_ring> at;
         if (fq_ring_new(at.raw(), capacity) != FQ_OK) return std::nullopt;
         return std::optional<Ring>(Ring(std::move(at)));
     }
@@ -583,15 +575,11 @@ public:
         detail::made(fq_ring_poll(input_.at_.raw(), weight.get(), out.data(), out.size(), &count));
         return count;
     }
-    [[nodiscard]] Counts counts() {
-        Counts counts{};
-        detail::made(fq_count(input_.at_.raw(), &counts));
-        return counts;
-    }
-    [[nodiscard]] RingShown shown() { return input_.shown(); }
+    [[nodiscard]] Counts counts() const { return input_.at_.counts(); }
+    [[nodiscard]] RingShown shown() const { return input_.shown(); }
     // Returns its two ends, each for its own thread; nullopt if memory runs out, and the ring is unchanged.
     [[nodiscard]] std::optional<std::pair<Input, Output>> split() && {
-        Handle out;
+        Handle<fq_ring> out;
         if (fq_ring_split(input_.at_.raw(), out.raw()) != FQ_OK) return std::nullopt;
         return std::pair<Input, Output>(std::move(input_), Output(std::move(out)));
     }
@@ -603,7 +591,7 @@ public:
     }
 
 private:
-    explicit Ring(Handle &&at) noexcept : input_(std::move(at)) {}
+    explicit Ring(Handle<fq_ring> &&at) noexcept : input_(std::move(at)) {}
     Input input_;
 };
 
@@ -614,13 +602,9 @@ std::optional<std::vector<Caller>> callers(std::size_t count, Make make, ToCalle
     if (count < 2 || count > 8) return std::nullopt;
     std::vector<Caller> made;
     made.reserve(count);
-    fq_handle seats[8] = {};
+    fq_seat seats[8] = {};
     const std::uint32_t said = make(seats);
-    for (std::size_t i = 0; i < count; i++) {
-        Handle seat;
-        *seat.raw() = std::exchange(seats[i], fq_handle FQ_NONE);
-        made.push_back(to_caller(std::move(seat)));
-    }
+    for (std::size_t i = 0; i < count; i++) made.push_back(to_caller(Handle<fq_seat>(seats[i])));
     if (said != FQ_OK) return std::nullopt;
     return made;
 }
@@ -635,11 +619,12 @@ struct [[nodiscard]] Shared {
     // Makes an instance over a ring of capacity 1 to 65536, with 2 to 8 callers; returns nullopt if one is out of range, or memory runs
     // out.
     [[nodiscard]] static std::optional<Shared> make(std::size_t capacity, std::size_t callers) {
-        Handle ring, control;
+        Handle<fq_ring> ring;
+        Handle<fq_control> control;
         if (fq_ring_new(ring.raw(), capacity) != FQ_OK) return std::nullopt;
         auto made = detail::callers(
-            callers, [&](fq_handle *seats) { return fq_shared_new(ring.raw(), control.raw(), seats, callers); },
-            [](Handle &&seat) { return Caller(std::move(seat)); });
+            callers, [&](fq_seat *seats) { return fq_shared_new(ring.raw(), control.raw(), seats, callers); },
+            [](Handle<fq_seat> &&seat) { return Caller(std::move(seat)); });
         if (!made) return std::nullopt;
         return Shared{Input(std::move(ring)), Control<Off>(std::move(control)), std::move(*made)};
     }
@@ -652,10 +637,10 @@ struct [[nodiscard]] Bare {
 
     // Makes an instance with 2 to 8 callers; returns nullopt if that is out of range, or memory runs out.
     [[nodiscard]] static std::optional<Bare> make(std::size_t callers) {
-        Handle control;
+        Handle<fq_control> control;
         auto made = detail::callers(
-            callers, [&](fq_handle *seats) { return fq_shared_bare(control.raw(), seats, callers); },
-            [](Handle &&seat) { return Caller(std::move(seat)); });
+            callers, [&](fq_seat *seats) { return fq_shared_bare(control.raw(), seats, callers); },
+            [](Handle<fq_seat> &&seat) { return Caller(std::move(seat)); });
         if (!made) return std::nullopt;
         return Bare{Control<Off>(std::move(control)), std::move(*made)};
     }
@@ -685,7 +670,7 @@ class [[nodiscard]] List {
 public:
     // Makes a list; returns nullopt if memory runs out.
     [[nodiscard]] static std::optional<List> make() {
-        Handle at;
+        Handle<fq_list> at;
         if (fq_list_new(at.raw()) != FQ_OK) return std::nullopt;
         return std::optional<List>(List(std::move(at)));
     }
@@ -697,7 +682,7 @@ public:
     // FQ_NOT_THERE if neither of them has it.
     [[nodiscard]] Status remove(std::uint32_t id) { return fq_list_remove(at_.raw(), id); }
     // Returns how many numbers the list and its run hold.
-    [[nodiscard]] std::uint32_t size() {
+    [[nodiscard]] std::uint32_t size() const {
         std::uint32_t len = 0;
         detail::made(fq_list_len(at_.raw(), &len));
         return len;
@@ -724,10 +709,10 @@ public:
 private:
     // A run in progress, which ends with its scope. A call fails, and changes nothing, if there is nothing left to end.
     struct Run {
-        fq_handle *at;
+        fq_list *at;
         fq_run_report report;
 
-        Run(fq_handle *list, fq_run_report none) noexcept : at(list), report(none) {}
+        Run(fq_list *list, fq_run_report none) noexcept : at(list), report(none) {}
         Run(const Run &) = delete;
         Run &operator=(const Run &) = delete;
         // A poll whose result was rejected is still open: it is reported as FQ_NEXT_ABSENT.
@@ -738,8 +723,8 @@ private:
         ~Run() { end(); }
     };
 
-    explicit List(Handle &&at) noexcept : at_(std::move(at)) {}
-    Handle at_;
+    explicit List(Handle<fq_list> &&at) noexcept : at_(std::move(at)) {}
+    Handle<fq_list> at_;
 };
 
 // An action that has to be done, and then reported. It is true unless there is nothing to do: it is FQ_TODO_SLEEP or, with the error
@@ -759,7 +744,7 @@ public:
     // runs out.
     [[nodiscard]] static std::optional<Driver> make(std::uint32_t devices, std::uint32_t budget = 300, Weight weight = Weight(),
                                                     std::uint32_t window = 1024) {
-        Handle at;
+        Handle<fq_driver> at;
         if (fq_driver_new(at.raw(), devices, budget, std::uint32_t(weight.get()), window) != FQ_OK) return std::nullopt;
         return std::optional<Driver>(Driver(std::move(at)));
     }
@@ -803,7 +788,7 @@ public:
     }
 
     // Returns the state of a device and the counts of its polls; nullopt if there is no such device.
-    [[nodiscard]] std::optional<DeviceShown> shown(std::uint32_t device) {
+    [[nodiscard]] std::optional<DeviceShown> shown(std::uint32_t device) const {
         DeviceShown shown{};
         shown.size = sizeof shown;
         if (fq_driver_show(at_.raw(), device, &shown) != FQ_OK) return std::nullopt;
@@ -811,8 +796,8 @@ public:
     }
 
 private:
-    explicit Driver(Handle &&at) noexcept : at_(std::move(at)) {}
-    Handle at_;
+    explicit Driver(Handle<fq_driver> &&at) noexcept : at_(std::move(at)) {}
+    Handle<fq_driver> at_;
 };
 
 // Why a trace has no report, or can't have all its runs: the status, and for FQ_BAD_TRACE the number of the trace's fault (fq_fault_name) and its row.
@@ -824,10 +809,9 @@ namespace detail {
 // Returns what a call writes for a trace: call(bytes, length, out, room, &replayed).
 template <class Call>
 [[nodiscard]] std::variant<std::string, NoReport> written(std::string_view trace, Call call) {
-    const std::uint8_t none = 0;
-    const std::uint8_t *bytes = trace.empty() ? &none : reinterpret_cast<const std::uint8_t *>(trace.data());
+    const auto *bytes = reinterpret_cast<const std::uint8_t *>(trace.data());
     std::string out(4096, '\0');
-    fq_replayed replayed{};
+    fq_replayed replayed = FQ_REPLAYED_INIT;
     const auto write = [&] { return call(bytes, trace.size(), reinterpret_cast<std::uint8_t *>(out.data()), out.size(), &replayed); };
     std::uint32_t said = write();
     if (said == FQ_NO_ROOM) {
@@ -854,7 +838,10 @@ template <class Call>
 
 // The settings of the machine, at first the defaults of napi_machine.
 struct MachineSettings : fq_machine_settings {
-    MachineSettings() noexcept : fq_machine_settings{} { detail::made(fq_machine_default(this, sizeof(fq_machine_settings))); }
+    MachineSettings() noexcept : fq_machine_settings{} {
+        size = sizeof(fq_machine_settings);
+        detail::made(fq_machine_default(this));
+    }
 };
 
 // Why the machine returned no report: its status; for FQ_BAD_SETTING the setting's number, from 1; for FQ_BAD_ARRIVALS the
@@ -867,8 +854,7 @@ struct MachineFault {
 
 // Runs the machine on arrivals (napi_machine), and returns its report.
 [[nodiscard]] inline std::variant<std::string, MachineFault> machine(std::string_view arrivals, const fq_machine_settings &settings = MachineSettings()) {
-    const std::uint8_t none = 0;
-    const std::uint8_t *bytes = arrivals.empty() ? &none : reinterpret_cast<const std::uint8_t *>(arrivals.data());
+    const auto *bytes = reinterpret_cast<const std::uint8_t *>(arrivals.data());
     std::string report(4096, '\0');
     fq_machine_ran ran{};
     ran.size = sizeof ran;

@@ -10,7 +10,7 @@
 enum { STOPS = 20, BETWEEN = 1000, PACKETS = (STOPS + 1) * BETWEEN, ROOM = 256 };
 static struct card { atomic_uint arrived, polled, masked; } cards[2] = {{.masked = 1}, {.masked = 1}};
 static struct fq_word interrupts; /* a bit for each device whose card has interrupted */
-static struct fq_handle driver;
+static struct fq_driver driver;
 static sem_t wake;
 static unsigned stops;
 static void must(bool holds) { if (!holds) abort(); }
@@ -60,5 +60,5 @@ int main(void) {
     must(pthread_join(thread, NULL) == 0 && fq_driver_stop(&driver, 0) == FQ_OK && fq_driver_stop(&driver, 1) == FQ_OK);
     work();
     printf("%u and %u packets, each polled once, with %u stops\n", (unsigned)cards[0].polled, (unsigned)cards[1].polled, stops);
-    return fq_free(&driver);
+    return fq_free(&driver.handle);
 }

@@ -26,7 +26,8 @@ struct side {
 
 static struct card card;
 static struct side sides[QUEUES];
-static struct fq_handle driver, tx;
+static struct fq_driver driver;
+static struct fq_tx tx;
 static alignas(128) struct fq_word interrupted; /* a bit for each queue that has interrupted */
 static atomic_int wanted;
 static atomic_bool asked; /* a request to print the counts */
@@ -226,8 +227,8 @@ static void open_all(const char *address) {
 static void close_all(void) {
     print();
     card_reset(&card);
-    must("free", fq_free(&tx), FQ_OK);
-    must("free", fq_free(&driver), FQ_OK);
+    must("free", fq_free(&tx.handle), FQ_OK);
+    must("free", fq_free(&driver.handle), FQ_OK);
 }
 
 int main(int count, char **words) {

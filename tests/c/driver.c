@@ -3,7 +3,7 @@
  * interrupt that wasn't reported, each closed one is masked, and what returns FQ_NOT_DUE or an error has changed nothing. The same by
  * fq_driver_step, beside a driver that gets fq_driver_done and fq_driver_next in place of each step. And driver programs, by steps and
  * by reports, which poll all packets in order. It exits with 9 if something is wrong. */
-#include <fintaqush.h>
+#include "any.h"
 #include <stdio.h>
 #include <stdlib.h>
 #include <string.h>
@@ -53,7 +53,7 @@ static void act(struct fq_todo *todo) {
 
 /* ---- random calls */
 
-static struct fq_device_shown shown_of(struct fq_handle *driver, uint32_t device) {
+static struct fq_device_shown shown_of(struct fq_driver *driver, uint32_t device) {
     struct fq_device_shown shown = {sizeof shown, 9, true, true, 9, 9};
     want(fq_driver_show(driver, device, &shown) == FQ_OK && shown.state <= FQ_DEVICE_STOPPING, "what a device shows");
     return shown;
@@ -75,7 +75,7 @@ static bool is_failed(const struct fq_todo *todo, enum fq_status status) {
 }
 
 /* Nothing that is refused changes what is due, or the device. */
-static void refused(struct fq_handle *driver, uint32_t device, uint32_t said, uint32_t wanted, const struct fq_todo *due, struct fq_device_shown before) {
+static void refused(struct fq_driver *driver, uint32_t device, uint32_t said, uint32_t wanted, const struct fq_todo *due, struct fq_device_shown before) {
     struct fq_todo again = FQ_TODO_INIT;
     want(said == wanted, "the status of a call that is refused");
     want(same_shown(shown_of(driver, device), before), "a refused call changed a device");
@@ -84,7 +84,7 @@ static void refused(struct fq_handle *driver, uint32_t device, uint32_t said, ui
          "a refused call changed what is due");
 }
 
-static void tries_what_is_refused(struct fq_handle *driver, uint32_t devices, const struct fq_todo *due) {
+static void tries_what_is_refused(struct fq_driver *driver, uint32_t devices, const struct fq_todo *due) {
     const uint32_t device = below(devices);
     const struct fq_device_shown before = shown_of(driver, device);
     struct fq_todo old = *due, small = *due;
@@ -109,7 +109,7 @@ static void tries_what_is_refused(struct fq_handle *driver, uint32_t devices, co
     }
 }
 
-static void interrupts(struct fq_handle *driver, uint32_t device) {
+static void interrupts(struct fq_driver *driver, uint32_t device) {
     if (!cards[device].interrupting) return;
     const struct fq_device_shown before = shown_of(driver, device);
     const uint32_t said = fq_driver_interrupt(driver, device);
@@ -119,7 +119,7 @@ static void interrupts(struct fq_handle *driver, uint32_t device) {
 }
 
 /* What the driver says is done and reported, perhaps after other calls, or forgotten. */
-static bool one_thing(struct fq_handle *driver, uint32_t devices) {
+static bool one_thing(struct fq_driver *driver, uint32_t devices) {
     struct fq_todo todo = FQ_TODO_INIT;
     want(fq_driver_next(driver, &todo) == FQ_OK && todo.device < devices && todo.packets == (todo.what == FQ_TODO_LOOK), "what is said");
     want(todo.status == FQ_OK, "no error");
@@ -138,7 +138,7 @@ static bool one_thing(struct fq_handle *driver, uint32_t devices) {
     return todo.what != FQ_TODO_SLEEP;
 }
 
-static void rests(struct fq_handle *driver, uint32_t devices) {
+static void rests(struct fq_driver *driver, uint32_t devices) {
     struct fq_todo todo = FQ_TODO_INIT;
     if (fq_driver_next(driver, &todo) != FQ_OK || todo.what != FQ_TODO_SLEEP) return;
     for (uint32_t i = 0; i < devices; i++) {
@@ -150,7 +150,7 @@ static void rests(struct fq_handle *driver, uint32_t devices) {
 }
 
 static void random_calls(uint32_t devices, uint32_t budget, uint32_t weight, uint32_t window) {
-    struct fq_handle driver = FQ_NONE;
+    struct fq_driver driver = FQ_NONE;
     want(fq_driver_new(&driver, devices, budget, weight, window) == FQ_OK, "a driver");
     for (uint32_t i = 0; i < DEVICES; i++) cards[i] = (struct card){true, false, 0, 0};
     for (calls = 0; calls < 200000; calls++) {
@@ -172,13 +172,13 @@ static void random_calls(uint32_t devices, uint32_t budget, uint32_t weight, uin
     rests(&driver, devices);
     for (uint32_t i = 0; i < devices; i++)
         if (shown_of(&driver, i).state == FQ_DEVICE_OPEN) want(cards[i].packets == 0, "packets are left");
-    want(fq_free(&driver) == FQ_OK, "the end");
+    want(fq_free(&driver.handle) == FQ_OK, "the end");
 }
 
 /* ---- the same by steps, beside a driver that reports and asks */
 
 /* A step returns what the report returns, and sets *todo to what is due then, or to the error. If its size is too small, nothing changes. */
-static uint32_t steps(struct fq_handle *driver, struct fq_handle *twin, struct fq_todo *todo) {
+static uint32_t steps(struct fq_driver *driver, struct fq_driver *twin, struct fq_todo *todo) {
     struct fq_todo other = *todo;
     const bool is_small = todo->size < sizeof other;
     const enum fq_status wanted = is_small ? FQ_BAD_SIZE : fq_driver_done(twin, &other);
@@ -189,7 +189,7 @@ static uint32_t steps(struct fq_handle *driver, struct fq_handle *twin, struct f
 }
 
 /* One step, sometimes with a report that is wrong, or that was forgotten. */
-static uint32_t one_step(struct fq_handle *driver, struct fq_handle *twin, struct fq_todo *todo) {
+static uint32_t one_step(struct fq_driver *driver, struct fq_driver *twin, struct fq_todo *todo) {
     const struct fq_todo kept = *todo;
     const uint32_t wrong = below(16);
     if (wrong == 0) todo->size -= 1 + below(8);
@@ -204,7 +204,7 @@ static uint32_t one_step(struct fq_handle *driver, struct fq_handle *twin, struc
     return said;
 }
 
-static void other_calls(struct fq_handle *driver, struct fq_handle *twin, uint32_t devices) {
+static void other_calls(struct fq_driver *driver, struct fq_driver *twin, uint32_t devices) {
     const uint32_t device = below(devices);
     if (below(2) == 0) arrives(&cards[device]);
     if (below(2) == 0 && cards[device].interrupting) {
@@ -217,7 +217,7 @@ static void other_calls(struct fq_handle *driver, struct fq_handle *twin, uint32
 }
 
 static void random_steps(uint32_t devices, uint32_t budget, uint32_t weight, uint32_t window) {
-    struct fq_handle driver = FQ_NONE, twin = FQ_NONE;
+    struct fq_driver driver = FQ_NONE, twin = FQ_NONE;
     struct fq_todo todo = FQ_TODO_INIT;
     long made[FQ_BAD_SIZE + 1] = {0};
     want(fq_driver_new_salted(&driver, devices, budget, weight, window, 7) == FQ_OK, "a driver");
@@ -229,20 +229,20 @@ static void random_steps(uint32_t devices, uint32_t budget, uint32_t weight, uin
         if (below(32) == 0) rests(&driver, devices), rests(&twin, devices);
     }
     want(made[FQ_OK] > 0 && made[FQ_NOT_DUE] > 0 && made[FQ_BAD_WORK] > 0 && made[FQ_BAD_SIZE] > 0, "a step has returned each status");
-    want(fq_free(&driver) == FQ_OK && fq_free(&twin) == FQ_OK, "the end of two drivers");
+    want(fq_free(&driver.handle) == FQ_OK && fq_free(&twin.handle) == FQ_OK, "the end of two drivers");
 }
 
 /* ---- driver programs: by one call, and by a report and a question */
 
-static void reports_and_asks(struct fq_handle *driver, struct fq_todo *todo) {
+static void reports_and_asks(struct fq_driver *driver, struct fq_todo *todo) {
     want(!fq_is_error(fq_driver_done(driver, todo)) && fq_driver_next(driver, todo) == FQ_OK, "a report and a question");
 }
 
-static void goes_on(struct fq_handle *driver, struct fq_todo *todo) { want(!fq_is_error(fq_driver_step(driver, todo)), "a step"); }
+static void goes_on(struct fq_driver *driver, struct fq_todo *todo) { want(!fq_is_error(fq_driver_step(driver, todo)), "a step"); }
 
-static void program(void (*go)(struct fq_handle *driver, struct fq_todo *todo)) {
+static void program(void (*go)(struct fq_driver *driver, struct fq_todo *todo)) {
     uint64_t fetched_next = 0, polled_in_all = 0;
-    struct fq_handle driver = FQ_NONE;
+    struct fq_driver driver = FQ_NONE;
     struct fq_todo todo = FQ_TODO_INIT;
     uint32_t squeezed = 0, runs = 0;
     want(fq_driver_new(&driver, 2, 64, 64, 10) == FQ_OK && fq_driver_open(&driver, 1) == FQ_OK, "a driver");
@@ -260,16 +260,16 @@ static void program(void (*go)(struct fq_handle *driver, struct fq_todo *todo)) 
     want(fq_driver_stop(&driver, 1) == FQ_OK, "a stop");
     while (go(&driver, &todo), todo.what != FQ_TODO_SLEEP) act(&todo);
     want(shown_of(&driver, 1).state == FQ_DEVICE_CLOSED && cards[1].masked, "it is closed");
-    want(fq_abandon(&driver) == FQ_OK, "the end");
+    want(fq_abandon(&driver.handle) == FQ_OK, "the end");
 }
 
 static void without_a_driver(void) {
-    struct fq_handle none = FQ_NONE, list = FQ_NONE;
+    union any none = {{false, NULL}}, list = {{false, NULL}};
     struct fq_todo todo = FQ_TODO_INIT;
     struct fq_device_shown shown = {sizeof shown, 0, false, false, 0, 0};
-    want(fq_list_new(&list) == FQ_OK, "a list");
+    want(fq_list_new(&list.list) == FQ_OK, "a list");
     for (int i = 0; i < 2; i++) {
-        struct fq_handle *const handle = i ? &list : &none;
+        struct fq_driver *const handle = i ? &list.driver : &none.driver;
         const struct fq_todo fetch = {sizeof fetch, 7, FQ_TODO_FETCH, 1, 2, 3, {4, 5, true}, FQ_OK};
         todo = fetch;
         want(fq_driver_done(handle, &todo) == FQ_BAD_HANDLE && same_todo(&todo, &fetch), "a report without a driver");
@@ -279,16 +279,16 @@ static void without_a_driver(void) {
         want(fq_driver_open(handle, 0) == FQ_BAD_HANDLE && fq_driver_stop(handle, 0) == FQ_BAD_HANDLE, "an open without a driver");
         want(fq_driver_interrupt(handle, 0) == FQ_BAD_HANDLE && fq_driver_show(handle, 0, &shown) == FQ_BAD_HANDLE, "an interrupt");
     }
-    want(fq_driver_new(&list, 1, 300, 64, 10) == FQ_IN_USE, "a driver in place of a list");
-    want(fq_driver_new(&none, 0, 0, 0, 0) == FQ_BAD_COUNT && fq_driver_new(&none, 65, 0, 0, 0) == FQ_BAD_COUNT, "too many devices");
-    want(fq_driver_new(&none, 1, 0, 65, 0) == FQ_BAD_WEIGHT && fq_driver_new(&none, 1, 300, 0, 10) == FQ_BAD_WEIGHT, "a weight");
-    want(fq_driver_new(&none, 1, 65536, 64, 10) == FQ_BAD_BUDGET && fq_driver_new(&none, 1, 300, 64, 0) == FQ_BAD_BUDGET, "a budget");
-    want(fq_free(&list) == FQ_OK, "the end");
+    want(fq_driver_new(&list.driver, 1, 300, 64, 10) == FQ_IN_USE, "a driver in place of a list");
+    want(fq_driver_new(&none.driver, 0, 0, 0, 0) == FQ_BAD_COUNT && fq_driver_new(&none.driver, 65, 0, 0, 0) == FQ_BAD_COUNT, "too many devices");
+    want(fq_driver_new(&none.driver, 1, 0, 65, 0) == FQ_BAD_WEIGHT && fq_driver_new(&none.driver, 1, 300, 0, 10) == FQ_BAD_WEIGHT, "a weight");
+    want(fq_driver_new(&none.driver, 1, 65536, 64, 10) == FQ_BAD_BUDGET && fq_driver_new(&none.driver, 1, 300, 64, 0) == FQ_BAD_BUDGET, "a budget");
+    want(fq_free(&list.handle) == FQ_OK, "the end");
 }
 
 /* If several statuses apply, each call returns the one that the header names first. */
 static void first_named(void) {
-    struct fq_handle driver = FQ_NONE;
+    struct fq_driver driver = FQ_NONE;
     struct fq_todo todo = FQ_TODO_INIT, small;
     struct fq_device_shown shown = {sizeof shown - 1, 0, false, false, 0, 0};
     todo.size--;
@@ -300,12 +300,12 @@ static void first_named(void) {
     todo.packets = 9, todo.number++, small = todo, small.size--;
     want(fq_driver_step_sized(&driver, &small) == FQ_BAD_SIZE, "a small size, and an old number");
     want(fq_driver_done(&driver, &todo) == FQ_NOT_DUE && fq_driver_step(&driver, &todo) == FQ_NOT_DUE, "an old number, and too many packets");
-    want(todo.what == FQ_TODO_FETCH && todo.packets == 0 && fq_free(&driver) == FQ_OK, "the fetch is due");
+    want(todo.what == FQ_TODO_FETCH && todo.packets == 0 && fq_free(&driver.handle) == FQ_OK, "the fetch is due");
 }
 
 /* A struct of zeros is no action, what is beyond its size stays, and an action of one driver is none of another. */
 static void mistakes(void) {
-    struct fq_handle one = FQ_NONE, other = FQ_NONE;
+    struct fq_driver one = FQ_NONE, other = FQ_NONE;
     struct { struct fq_todo todo; uint64_t beyond; } at;
     memset(&at, 0, sizeof at);
     at.beyond = 1;
@@ -318,8 +318,8 @@ static void mistakes(void) {
     want(fq_driver_done(&one, &unmask) == FQ_OK && fq_driver_done(&other, &at.todo) == FQ_OK, "its own");
     at.todo.size = sizeof at;
     want(fq_driver_next_sized(&one, &at.todo) == FQ_OK && at.todo.size == sizeof at && at.todo.what == FQ_TODO_LOOK, "a larger size");
-    want(fq_free(&one) == FQ_OK && fq_driver_next_sized(&one, &at.todo) == FQ_BAD_HANDLE, "a driver that was freed");
-    want(is_failed(&at.todo, FQ_BAD_HANDLE) && at.todo.size == sizeof at && at.beyond == 1 && fq_free(&other) == FQ_OK, "all of the struct");
+    want(fq_free(&one.handle) == FQ_OK && fq_driver_next_sized(&one, &at.todo) == FQ_BAD_HANDLE, "a driver that was freed");
+    want(is_failed(&at.todo, FQ_BAD_HANDLE) && at.todo.size == sizeof at && at.beyond == 1 && fq_free(&other.handle) == FQ_OK, "all of the struct");
 }
 
 int main(int argc, char **argv) {

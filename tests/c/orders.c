@@ -13,7 +13,7 @@ static struct card {
     unsigned waiting, taken;
     bool masked, raised, late; /* late: a mask that was reported, and isn't made yet */
 } cards[DEVICES];
-static struct fq_handle driver;
+static struct fq_driver driver;
 static struct fq_todo kept; /* done, and not reported yet */
 static enum mistake mistake;
 static uint64_t state;
@@ -146,7 +146,7 @@ static bool some_hangs(enum mistake which, unsigned long orders) {
         hung = hung || hangs();
         for (uint32_t i = 0; i < DEVICES; i++) must(fq_driver_stop(&driver, i) < FQ_NOT_ALLOWED, "the last stop");
         hung = hangs() || hung;
-        must(fq_free(&driver) == FQ_OK, "the end");
+        must(fq_free(&driver.handle) == FQ_OK, "the end");
     }
     return hung;
 }
@@ -169,7 +169,7 @@ static unsigned fetches_until_other(bool before_each_step) {
         step(&todo);
         fetches += todo.what == FQ_TODO_FETCH && todo.device == 0;
     }
-    must(fq_free(&driver) == FQ_OK, "the end");
+    must(fq_free(&driver.handle) == FQ_OK, "the end");
     return fetches - 10;
 }
 

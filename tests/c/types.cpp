@@ -60,8 +60,7 @@ static_assert(Weight::of<1>().get() == 1 && Weight().get() == 64 && !Weight::mak
 [[maybe_unused]] static void names() {
     fq_counts counts{};
     fq_tx_shown state{};
-    fq_dql_made made{};
-    static_cast<void>(counts), static_cast<void>(state), static_cast<void>(made);
+    static_cast<void>(counts), static_cast<void>(state);
 }
 
 // What ends a run is returned as its status, with what was polled until then, and the others stay listed.

@@ -1,7 +1,6 @@
 """The driver of up to 64 devices on one thread."""
 from __future__ import annotations
 
-import ctypes
 import itertools
 from typing import NamedTuple, Protocol
 
@@ -20,7 +19,7 @@ class Todo:
     action."""
 
     def __init__(self) -> None:
-        self._raw = abi.Todo(ctypes.sizeof(abi.Todo))
+        self._raw = c.sized(abi.Todo)
 
     @property
     def what(self) -> What:
@@ -71,7 +70,7 @@ class Driver(_Owned):
     one that isn't due returns False and changes nothing. BAD_COUNT, BAD_WEIGHT, BAD_BUDGET."""
 
     def __init__(self, devices: int, budget: int = 300, weight: int = 64, window: int = 1024) -> None:
-        super().__init__(c.driver_new_salted, devices, budget, weight, window, next(_made) % 2**16)
+        super().__init__(abi.Driver(), c.driver_new_salted, devices, budget, weight, window, next(_made) % 2**16)
 
     def open(self, device: int) -> bool:
         """Opens a closed device (`napi_enable`); returns False if it isn't closed. BAD_DEVICE."""
@@ -127,6 +126,6 @@ class Driver(_Owned):
 
     def shown(self, device: int) -> DeviceShown:
         """Returns the state of a device, and the counts of its polls. BAD_DEVICE."""
-        shown = abi.DeviceShown(ctypes.sizeof(abi.DeviceShown))
+        shown = c.sized(abi.DeviceShown)
         c.driver_show(self._at, device, shown)
         return DeviceShown(DeviceState(shown.state), shown.scheduled, shown.missed, shown.polls, shown.packets)

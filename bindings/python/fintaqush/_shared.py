@@ -31,7 +31,7 @@ def _decided(call: Callable[..., Any], *values: Any) -> Status:
 class _Part(_Owned):
     """A part of an instance, which the library has made."""
 
-    def __init__(self, at: abi.Handle) -> None:
+    def __init__(self, at: Any) -> None:
         self._at = at
 
 
@@ -121,7 +121,7 @@ class Seat(_Part):
     def counts(self) -> Counts:
         """The counts of the ring's polls so far, for a seat that polls."""
         counts = abi.Counts()
-        c.count(self._at, counts)
+        c.count(self._at.handle, counts)
         return Counts(counts.polls, counts.packets, counts.bytes)
 
     @property
@@ -161,7 +161,7 @@ def shared(capacity: int, seats: int = 2) -> tuple[Input, Control, list[Seat]]:
     BAD_CAPACITY, BAD_COUNT."""
     if not 2 <= seats <= 8:
         raise Fault(Status.BAD_COUNT)
-    ring, control, made = abi.Handle(), abi.Handle(), (abi.Handle * seats)()
+    ring, control, made = abi.Ring(), abi.Control(), (abi.Seat * seats)()
     c.ring_new(ring, capacity)
     owned = Input(ring)
     c.shared_new(ring, control, made, seats)

@@ -49,12 +49,12 @@ impl Mode for Marked {}
 #[derive(Debug)]
 #[must_use = "without its controller an instance is never disabled"]
 pub struct Control<M: Mode> {
-    at: Handle,
+    at: Handle<sys::fq_control>,
     mode: PhantomData<M>,
 }
 
 impl<M: Mode> Control<M> {
-    pub(crate) fn of(at: Handle) -> Control<M> {
+    pub(crate) fn of(at: Handle<sys::fq_control>) -> Control<M> {
         Control {
             at,
             mode: PhantomData,
@@ -64,7 +64,7 @@ impl<M: Mode> Control<M> {
 
 impl Control<Off> {
     /// The counts of the ring's polls.
-    pub fn counts(&mut self) -> Counts {
+    pub fn counts(&self) -> Counts {
         self.at.counts()
     }
 

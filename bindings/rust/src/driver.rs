@@ -42,20 +42,7 @@ pub struct Todo {
 impl Todo {
     /// No action, for the first [`Driver::step`]: there is nothing to report.
     pub const NONE: Todo = Todo {
-        raw: sys::fq_todo {
-            size: std::mem::size_of::<sys::fq_todo>(),
-            number: 0,
-            what: sys::FQ_TODO_SLEEP,
-            device: 0,
-            most: 0,
-            packets: 0,
-            run: RunReport {
-                polls: 0,
-                work: 0,
-                squeezed: false,
-            },
-            status: sys::FQ_OK,
-        },
+        raw: sys::fq_todo::INIT,
     };
 
     /// Sets the packets that a look found or a fetch took, for the report by [`Driver::step`]. Without it, a look counts as one
@@ -190,7 +177,7 @@ pub struct DeviceShown {
 /// ```
 #[derive(Debug)]
 pub struct Driver {
-    at: Handle,
+    at: Handle<sys::fq_driver>,
 }
 
 impl Driver {
@@ -286,16 +273,9 @@ impl Driver {
     }
 
     /// Returns the state of a device, and the counts of its polls. Fails with [`BAD_DEVICE`](Fault::BAD_DEVICE).
-    pub fn shown(&mut self, device: u32) -> Result<DeviceShown, Fault> {
-        let mut shown = sys::fq_device_shown {
-            size: std::mem::size_of::<sys::fq_device_shown>(),
-            state: 0,
-            scheduled: false,
-            missed: false,
-            polls: 0,
-            packets: 0,
-        };
-        let said = calls::driver_show(self.at.raw(), device, &mut shown);
+    pub fn shown(&self, device: u32) -> Result<DeviceShown, Fault> {
+        let mut shown = sys::fq_device_shown::INIT;
+        let said = calls::driver_show(&self.at.0, device, &mut shown);
         Fault::unless_made(said)?;
         Ok(DeviceShown {
             state: match shown.state {

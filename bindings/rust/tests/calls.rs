@@ -482,6 +482,7 @@ const ONE: Settings = Settings {
     budget: 1,
     weight: 1,
     window: 1024,
+    ..Settings::INIT
 };
 
 // With one packet per run, three runs take a packet each. Each poll was full and a request was missed, so a fourth run polls
@@ -799,7 +800,7 @@ fn polls_are_counted_of_whoever_has_them() {
     polling.poll(Weight::MAX, &mut batch);
     let counts = polling.counts();
     assert_eq!((counts.polls, counts.packets, counts.bytes), (1, 1, 60));
-    let (mut poller, _) = over(polling.end(false));
+    let (poller, _) = over(polling.end(false));
     let (asked, ended) = (interrupts.answers(), poller.answers());
     assert_eq!((asked.granted, asked.missed, asked.released), (1, 0, 0));
     assert_eq!((ended.granted, ended.released, ended.again), (0, 1, 0));
@@ -835,7 +836,6 @@ fn the_structs_have_the_sizes_that_the_library_tells() {
     let told = |which| unsafe { fq_struct_size(which) };
     assert_eq!(told(FQ_STRUCT_HANDLE), size_of::<fq_handle>());
     assert_eq!(told(FQ_STRUCT_DQL), size_of::<fq_dql>());
-    assert_eq!(told(FQ_STRUCT_DQL_MADE), size_of::<fq_dql_made>());
     assert_eq!(told(FQ_STRUCT_NAPI), size_of::<fq_napi>());
     assert_eq!(told(FQ_STRUCT_PACKET), size_of::<fq_packet>());
     assert_eq!(told(FQ_STRUCT_COUNTS), size_of::<fq_counts>());
