@@ -450,6 +450,27 @@ cat > "$scratch/enables.cpp" << 'END'
 auto enable(fintaqush::Control<fintaqush::On> control) { return std::move(control).enable(false); }
 int main() {}
 END
+cat > "$scratch/forgets.c" << 'END'
+#include <fintaqush.h>
+int main(void) {
+    struct fq_driver driver = FQ_NONE;
+    struct fq_todo todo = {0};
+    if (fq_is_error(fq_driver_step(&driver, &todo))) return 1;
+    switch (todo.what) {
+    case FQ_TODO_MASK: case FQ_TODO_UNMASK: case FQ_TODO_FETCH: case FQ_TODO_ENDED: case FQ_TODO_SLEEP: case FQ_TODO_FAILED: break;
+    }
+}
+END
+cat > "$scratch/steps.c" << 'END'
+#include <fintaqush.h>
+int main(void) {
+    struct fq_driver driver = FQ_NONE;
+    struct fq_todo todo = FQ_TODO_INIT;
+    while (fq_driver_step(&driver, &todo), todo.what != FQ_TODO_SLEEP) {}
+}
+END
+check 'a look that a switch forgets is refused' refused FQ_TODO_LOOK compile gcc "$scratch/forgets.c" "$scratch/refused"
+check 'a step whose status nobody reads is refused' refused unused-result compile gcc "$scratch/steps.c" "$scratch/refused"
 check 'a null handle is refused' refused nonnull compile gcc "$scratch/null.c" "$scratch/refused"
 check 'a ring in place of a list is refused' refused 'incompatible pointer type' compile gcc "$scratch/another.c" "$scratch/refused"
 check 'a ring in place of a list is refused in C++' refused 'cannot convert' compile g++ "$scratch/another.cpp" "$scratch/refused"

@@ -72,6 +72,18 @@ pub record SameRun (before after : Driver) : Type 0 where
   pub counts : after.counts ≡ before.counts
   pub number : after.number ≡ before.number
 
+-- the run in progress will end before its next poll, and nothing else changes
+pub record CutsRun (before after : Driver) : Type 0 where
+  pub devices : driver_devices after ≡ driver_devices before
+  pub list : after.list ≡ before.list
+  pub run : after.run ≡ before.run
+  pub runs : after.runs ≡ before.runs
+  pub limits : after.limits ≡ before.limits
+  pub counts : after.counts ≡ before.counts
+  pub number : after.number ≡ before.number
+  pub said : said_of after ≡ said_of before
+  pub cut : is_cut after ≡ true
+
 -- the device with this number is replaced, and nothing else changes, except that the action asked for last may not be due any
 -- more
 pub record PutsDevice (id : ℕ) (to : DriverDevice) (before after : Driver) : Type 0 where

@@ -62,7 +62,7 @@ impl Driver {
     ghost use Rattle.driver_core.specs.Counts.{count_one_poll};
     ghost use Rattle.driver_core.specs.Device.{chore_at, after_interrupt, stage_is_listed, after_open, after_stop, MayStop};
     ghost use Rattle.driver_core.specs.Steps.{napi_of};
-    ghost use Rattle.driver_core.specs.Driver.{poll_counts_of, device_of, driver_devices, said_number_of, polled_device, poll_of, said_of, stage_of, is_cut, is_running, driver_limits, list_of, AreClosed, AsksNext, Ends, DoesChore, IsCutShort, IsDue, IsDriverReport, AwaitsNothing, IsIdle, IsNumberedTodo, IsReport, IsRunning, IsStep, IsUncounted, PutsDevice, Reports};
+    ghost use Rattle.driver_core.specs.Driver.{poll_counts_of, device_of, driver_devices, said_number_of, polled_device, poll_of, said_of, stage_of, is_cut, is_running, driver_limits, list_of, AreClosed, AsksNext, CutsRun, Ends, DoesChore, IsCutShort, IsDue, IsDriverReport, AwaitsNothing, IsIdle, IsNumberedTodo, IsReport, IsRunning, IsStep, IsUncounted, PutsDevice, Reports};
 
     /// Creates a driver of this many devices, at most 64, all closed. Drivers with different salts number their actions
     /// differently, for 2^48 actions, so that none takes another one's report.
@@ -175,7 +175,7 @@ impl Driver {
     /// it was squeezed. A fetch that was asked for is reported before. Fails if no run is in progress.
     pub fn end_run(&mut self) -> Result<(), NotDue>
         ensures when { IsOk result ↔ (is_running self.old ≡ true) }
-        ensures ok { OnOk result (self.new ≡ record self.old { cut = true }) }
+        ensures ok { OnOk result (CutsRun self.old self.new) }
         ensures err { OnErr result (self.new ≡ self.old) }
     {
         if !self.runs {
