@@ -730,10 +730,6 @@ FQ_CHECKED static inline enum fq_status fq_driver_step(struct fq_driver *FQ_REST
     return fq_driver_step_sized(driver, todo);
 }
 
-/* Ends the run in progress before its next fetch, by the caller's own clock (netdev_budget_usecs): the report of the run says that it was
- * squeezed. A fetch that was asked for is reported before. Returns FQ_OK; FQ_NOT_DUE if no run is in progress; FQ_BAD_HANDLE. Since 1.1. */
-FQ_CHECKED enum fq_status fq_driver_end_run(struct fq_driver *driver);
-
 /* The states of a device. */
 enum fq_device_state FQ_NUMBER {
     FQ_DEVICE_CLOSED = 0,  /* closed, and its card is masked */

@@ -215,12 +215,6 @@ impl Driver {
         }
     }
 
-    /// Ends the run in progress before its next fetch, by a clock of the caller (`netdev_budget_usecs`): its report says that it
-    /// was squeezed. Fails with [`NOT_DUE`](Fault::NOT_DUE) if no run is in progress.
-    pub fn end_run(&mut self) -> Result<(), Fault> {
-        Fault::unless_made(calls::driver_end_run(self.at.raw()))
-    }
-
     /// Returns what has to be done now. An action that isn't reported is returned again.
     pub fn next(&mut self) -> Todo {
         let mut todo = Todo::NONE;

@@ -1,11 +1,11 @@
 -- A driver for C: what it asks for, as numbers, and the status and the effect of each call.
-use Rattle.std.specs.Prelude.{◌≡◌, ◌≢◌, ◌⊎◌, ◌↔◌, ℕ, ◌+◌, ◌*◌, ◌≤◌, ◌==◌, ◌||◌, false, true, nat_le, if◌then◌else◌}
+use Rattle.std.specs.Prelude.{◌≡◌, ◌≢◌, ◌⊎◌, ◌↔◌, ℕ, ◌+◌, ◌*◌, ◌≤◌, ◌==◌, ◌||◌, false, nat_le, if◌then◌else◌}
 use Rattle.std.specs.Prelude.{length, IsSome, ⊤, Result, Ok, Err}
 use Rattle.napi_model.specs.declared.event.Prep.{Prep, TheVariants.{Granted, Missed, Disabled}}
 use Rattle.napi_model.specs.Step.{schedule_reply}
 use Rattle.driver_core.specs.{Device.{after_interrupt, is_stopping, after_open, after_stop, MayStop}, Steps.{stage_is_scheduled, napi_of}}
-use Rattle.driver_core.specs.Driver.{poll_counts_of, device_of, driver_devices, driver_limits, said_number_of, polled_device, stage_of, is_running}
-use Rattle.driver_core.specs.Driver.{AreClosed, CutsRun, IsDue, AwaitsNothing, IsIdle, IsNumberedWhat, IsReport, IsUncounted, PutsDevice, Reports}
+use Rattle.driver_core.specs.Driver.{poll_counts_of, device_of, driver_devices, driver_limits, said_number_of, polled_device, stage_of}
+use Rattle.driver_core.specs.Driver.{AreClosed, IsDue, AwaitsNothing, IsIdle, IsNumberedWhat, IsReport, IsUncounted, PutsDevice, Reports}
 use Rattle.driver_core.specs.declared.{driver.Driver.Driver, device.Stage.{Stage, TheVariants.Closed}}
 use Rattle.driver_core.specs.declared.todo.Refused.{Refused, TheVariants.{NotDue, TooMany}}
 use Rattle.driver_core.specs.declared.todo.What.{What, TheVariants.{Mask, Unmask, Look, Fetch, Ended, Sleep}}
@@ -155,13 +155,6 @@ pub record IsDriverStop (device : ℕ) (d : Driver) (n : ℕ) (e : Driver) : Typ
   pub status : (n ≡ OK) ⊎ (n ≡ NOT_DUE) ⊎ (n ≡ BAD_DEVICE)
   pub when : n ≢ BAD_DEVICE → (n ≡ OK) ↔ MayStop (stage_of d device)
   pub puts : n ≡ OK → PutsDevice device (after_stop (device_of d device)) d e
-  pub kept : n ≢ OK → e ≡ d
-
--- the run in progress ends before its next poll
-pub record IsDriverEndRun (d : Driver) (n : ℕ) (e : Driver) : Type 0 where
-  pub status : (n ≡ OK) ⊎ (n ≡ NOT_DUE)
-  pub when : (n ≡ OK) ↔ (is_running d ≡ true)
-  pub cuts : n ≡ OK → CutsRun d e
   pub kept : n ≢ OK → e ≡ d
 
 -- ---- what is shown of a device (`struct fq_device_shown`)

@@ -2,7 +2,7 @@
 
 ghost use Rattle.std.specs.Prelude.{◌≡◌, length, nat_lt};
 ghost use Rattle.driver_core.specs.Driver.{driver_devices};
-ghost use Rattle.c_handles.specs.Drivers.{device_in, most_in, packets_in, reply_status, todo_run_in, shown_of, device_state_in, todo_in, what_in, IsDriverEndRun, IsDriverInterrupt, IsDriverNext, IsDriverOpen, IsDriverStep, IsTodoReport, IsDriverShow, IsDriverStop, report_status};
+ghost use Rattle.c_handles.specs.Drivers.{device_in, most_in, packets_in, reply_status, todo_run_in, shown_of, device_state_in, todo_in, what_in, IsDriverInterrupt, IsDriverNext, IsDriverOpen, IsDriverStep, IsTodoReport, IsDriverShow, IsDriverStop, report_status};
 
 use crate::lister::FqRunReport;
 use crate::status;
@@ -248,16 +248,6 @@ pub fn stop(driver: &mut Driver, device: u32) -> u32
         return status::BAD_DEVICE;
     }
     match driver.stop(device) {
-        Ok(()) => status::OK,
-        Err(_) => status::NOT_DUE,
-    }
-}
-
-/// Ends the run in progress before its next poll (`Driver::end_run`).
-pub fn end_run(driver: &mut Driver) -> u32
-    ensures { IsDriverEndRun driver.old result driver.new }
-{
-    match driver.end_run() {
         Ok(()) => status::OK,
         Err(_) => status::NOT_DUE,
     }

@@ -41,10 +41,6 @@ driver_limits driver = driver.limits
 abbrev pub is_running : Driver → Bool
 is_running driver = driver.runs
 
--- the run in progress ends before its next poll
-abbrev pub is_cut : Driver → Bool
-is_cut driver = driver.cut
-
 -- the device that is being polled
 abbrev pub polled_device : Driver → Option ℕ
 polled_device driver = driver.run.asked
@@ -67,22 +63,9 @@ AwaitsNothing driver = (said_of driver ≡ None) × (polled_device driver ≡ No
 pub record SameRun (before after : Driver) : Type 0 where
   pub run : after.run ≡ before.run
   pub runs : after.runs ≡ before.runs
-  pub cut : after.cut ≡ before.cut
   pub limits : after.limits ≡ before.limits
   pub counts : after.counts ≡ before.counts
   pub number : after.number ≡ before.number
-
--- the run in progress will end before its next poll, and nothing else changes
-pub record CutsRun (before after : Driver) : Type 0 where
-  pub devices : driver_devices after ≡ driver_devices before
-  pub list : after.list ≡ before.list
-  pub run : after.run ≡ before.run
-  pub runs : after.runs ≡ before.runs
-  pub limits : after.limits ≡ before.limits
-  pub counts : after.counts ≡ before.counts
-  pub number : after.number ≡ before.number
-  pub said : said_of after ≡ said_of before
-  pub cut : is_cut after ≡ true
 
 -- the device with this number is replaced, and nothing else changes, except that the action asked for last may not be due any
 -- more
@@ -118,7 +101,6 @@ pub record Ends (id packets : ℕ) (before after : Driver) : Type 0 where
   pub devices : driver_devices after ≡ slice_set (driver_devices before) id (after_poll_of id packets before).0
   pub counts : after.counts.items ≡ slice_set before.counts.items id (count_one_poll packets (poll_counts_of before id))
   pub limits : after.limits ≡ before.limits
-  pub cut : after.cut ≡ before.cut
   pub number : said_number_of after ≡ said_number_of before
   pub free : AwaitsNothing after
 
@@ -158,19 +140,10 @@ pub record IsIdle (driver : Driver) : Type 0 where
   pub list : driver.list ≡ []
   pub run : HoldsNothing driver.run
 
--- a run is in progress that began when the list held these devices, and made these polls, and isn't to be cut short; nothing else
--- was put on the list since
+-- a run is in progress that began when the list held these devices, and made these polls; nothing else was put on the list
+-- since
 abbrev pub IsRunning : List ℕ → List Poll → Driver → Type 0
-IsRunning start polls driver =
-    ((is_running driver ≡ true) × (is_cut driver ≡ false))
-    × IsGoing all_held OwnPushes NothingBehind start polls driver.list driver.run
-
--- a run that is cut short makes no other poll, and its report says that it was squeezed
-abbrev pub IsCutShort : What → Type 0
-IsCutShort (Fetch id most) = ⊥
-IsCutShort Sleep = ⊥
-IsCutShort (Ended report) = report.squeezed ≡ true
-IsCutShort what = Unit {0}
+IsRunning start polls driver = (is_running driver ≡ true) × IsGoing all_held OwnPushes NothingBehind start polls driver.list driver.run
 
 -- a run that began when the list held these devices, and made these polls, is over, and this is its report
 abbrev pub IsDriverReport : Limits → List ℕ → List Poll → Driver → RunReport → Type 0
@@ -214,8 +187,6 @@ pub record AsksNext (before : Driver) (todo : Todo) (after : Driver) : Type 0 wh
   pub counts : after.counts ≡ before.counts
   pub limits : driver_limits after ≡ driver_limits before
   pub begins : is_running before ≡ false → is_running after ≡ true → IsRunning (list_of before) [] after
-  pub cut : is_cut before ≡ true → AwaitsNothing before → IsCutShort todo.what
-  pub stays : is_running after ≡ true → is_cut after ≡ is_cut before
   pub going : (start : List ℕ) (polls : List Poll) → IsRunning start polls before → is_running after ≡ true → IsRunning start polls after
   pub ended : (start : List ℕ) (polls : List Poll) (report : RunReport) → todo.what ≡ Ended report → IsRunning start polls before
       → IsDriverReport (driver_limits before) start polls after report

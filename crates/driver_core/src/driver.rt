@@ -14,7 +14,7 @@ use crate::place::{Nowhere, TodoPlace};
 use crate::said::{following, still_due};
 use crate::todo::{NotDue, Refused, Todo, What, what_of};
 use napi_model::Prep;
-use poll_runs::{Once, PollList, PollingRun, RunReport};
+use poll_runs::{Once, PollList, PollingRun};
 use std::alloc::{AllocError, Global};
 
 /// The driver of up to 64 devices, for one thread: the instances, the poll list and the runs over it. It does no input or
@@ -27,8 +27,6 @@ pub struct Driver {
     list: DriverList,
     run: PollingRun,
     runs: bool,
-    // Whether the run in progress ends before its next poll.
-    cut: bool,
     limits: Limits,
     // The action at a card that `next` returned last, if it isn't reported yet. A fetch is stored in the run.
     said: Option<(u32, Chore)>,
@@ -37,7 +35,6 @@ pub struct Driver {
     ghost counted: { length counts.items ≡ length devices.all.items },
     ghost queue: { IsQueue devices.all.items list run },
     ghost idle: { runs ≡ false → HoldsNothing run },
-    ghost whole: { runs ≡ false → cut ≡ false },
     ghost pace: { runs ≡ true → HasLimits limits run },
     ghost asks: { IsStillDue devices.all.items run.asked said },
     ghost numbers: { 1 ≤ number },
@@ -62,7 +59,7 @@ impl Driver {
     ghost use Rattle.driver_core.specs.Counts.{count_one_poll};
     ghost use Rattle.driver_core.specs.Device.{chore_at, after_interrupt, stage_is_listed, after_open, after_stop, MayStop};
     ghost use Rattle.driver_core.specs.Steps.{napi_of};
-    ghost use Rattle.driver_core.specs.Driver.{poll_counts_of, device_of, driver_devices, said_number_of, polled_device, poll_of, said_of, stage_of, is_cut, is_running, driver_limits, list_of, AreClosed, AsksNext, CutsRun, Ends, DoesChore, IsCutShort, IsDue, IsDriverReport, AwaitsNothing, IsIdle, IsNumberedTodo, IsReport, IsRunning, IsStep, IsUncounted, PutsDevice, Reports};
+    ghost use Rattle.driver_core.specs.Driver.{poll_counts_of, device_of, driver_devices, said_number_of, polled_device, poll_of, said_of, stage_of, is_running, driver_limits, list_of, AreClosed, AsksNext, Ends, DoesChore, IsDue, IsDriverReport, AwaitsNothing, IsIdle, IsNumberedTodo, IsReport, IsRunning, IsStep, IsUncounted, PutsDevice, Reports};
 
     /// Creates a driver of this many devices, at most 64, all closed. Drivers with different salts number their actions
     /// differently, for 2^48 actions, so that none takes another one's report.
@@ -82,7 +79,6 @@ impl Driver {
             list: DriverList::new(),
             run: PollingRun::idle(),
             runs: false,
-            cut: false,
             limits,
             said: None,
             number: u64::from(salt) * APART + 1,
@@ -168,20 +164,6 @@ impl Driver {
             return Err(NotDue);
         }
         self.put(device, before.stopped());
-        Ok(())
-    }
-
-    /// Ends the run in progress before its next poll, by the caller's own clock (`netdev_budget_usecs`): its report then says that
-    /// it was squeezed. A fetch that was asked for is reported before. Fails if no run is in progress.
-    pub fn end_run(&mut self) -> Result<(), NotDue>
-        ensures when { IsOk result ↔ (is_running self.old ≡ true) }
-        ensures ok { OnOk result (CutsRun self.old self.new) }
-        ensures err { OnErr result (self.new ≡ self.old) }
-    {
-        if !self.runs {
-            return Err(NotDue);
-        }
-        self.cut = true;
         Ok(())
     }
 
@@ -275,7 +257,6 @@ impl Driver {
         ensures limits { self.new.limits ≡ self.old.limits }
         ensures number { said_number_of self.new ≡ said_number_of self.old }
         ensures runs { is_running self.new ≡ true }
-        ensures cut { is_cut self.new ≡ is_cut self.old }
         ensures going { (start : List _) (polls : List Poll) → IsRunning start polls self.old
             → IsRunning start polls self.new }
         ensures begun { is_running self.old ≡ false → IsRunning (list_of self.old) [] self.new }
@@ -292,50 +273,17 @@ impl Driver {
         self.runs = true;
     }
 
-    // Ends the run before its next poll, and writes its report to the place.
-    #[tactic(auto, using(crate::proofs::QueueFacts::finish_keeps))]
-    #[inline(never)]
-    fn cut_into<P: TodoPlace>(&mut self, place: &mut P) -> Todo
-        requires free { AwaitsNothing self.old }
-        requires runs { is_running self.old ≡ true }
-        ensures due { IsDue self.new result.what }
-        ensures number { IsNumberedTodo (said_number_of self.old) (said_number_of self.new) result }
-        ensures devices { self.new.devices ≡ self.old.devices }
-        ensures counts { self.new.counts ≡ self.old.counts }
-        ensures limits { self.new.limits ≡ self.old.limits }
-        ensures over { is_running self.new ≡ false }
-        ensures cut { IsCutShort result.what }
-        ensures takes { P.takes place.old result place.new }
-    {
-        let RunReport { polls, work, .. } = self.run.finish(&mut self.list);
-        self.runs = false;
-        self.cut = false;
-        let report = RunReport {
-            polls,
-            work,
-            squeezed: true,
-        };
-        let ended = Todo {
-            number: 0,
-            what: What::Ended(report),
-        };
-        place.put(ended);
-        ended
-    }
-
     // Writes the next poll of the run, or its end, to the place, and returns it.
     #[tactic(auto, using(crate::proofs::QueueFacts::next_keeps, crate::proofs::QueueFacts::finish_keeps, crate::proofs::QueueFacts::asked_is_listed, crate::proofs::QueueFacts::asked_in_range))]
     #[inline(always)]
     fn advance_into<P: TodoPlace>(&mut self, place: &mut P) -> Todo
         requires free { AwaitsNothing self.old }
         requires runs { is_running self.old ≡ true }
-        requires whole { is_cut self.old ≡ false }
         ensures due { IsDue self.new result.what }
         ensures number { IsNumberedTodo (said_number_of self.old) (said_number_of self.new) result }
         ensures devices { self.new.devices ≡ self.old.devices }
         ensures counts { self.new.counts ≡ self.old.counts }
         ensures limits { self.new.limits ≡ self.old.limits }
-        ensures cut { is_cut self.new ≡ false }
         ensures going { (start : List _) (polls : List Poll) → IsRunning start polls self.old
             → is_running self.new ≡ true → IsRunning start polls self.new }
         ensures ended { (start : List _) (polls : List Poll) (report : _)
@@ -413,9 +361,6 @@ impl Driver {
             };
             place.put(sleep);
             return sleep;
-        }
-        if self.cut {
-            return self.cut_into(place);
         }
         self.begin();
         self.advance_into(place)

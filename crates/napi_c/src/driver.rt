@@ -1,6 +1,6 @@
 //! Drivers for C.
 ghost use Rattle.std.specs.Prelude.{◌≡◌, ◌≢◌, ◌≤◌, ◌<◌, ◌↔◌, IsSome, IfOk};
-ghost use Rattle.c_handles.specs.Drivers.{failed_in, IsDriverEndRun, IsDriverInterrupt, IsNewDriver, IsDriverNext, IsDriverOpen, IsDriverShow, IsDriverStep, IsDriverStop, IsTodoReport, new_status};
+ghost use Rattle.c_handles.specs.Drivers.{failed_in, IsDriverInterrupt, IsNewDriver, IsDriverNext, IsDriverOpen, IsDriverShow, IsDriverStep, IsDriverStop, IsTodoReport, new_status};
 ghost use Rattle.c_handles.specs.Handles.{DriverMakes, DriverMakesIn, IsDriverWith, LeadsToDriver};
 ghost use Rattle.c_handles.specs.Status.{OK, IN_USE, OUT_OF_MEMORY, BAD_HANDLE, BAD_SIZE};
 
@@ -205,26 +205,6 @@ pub extern "C" fn fq_driver_step_sized(handle: &mut FqHandle, todo: &mut FqTodo)
         return todo.fail(status::BAD_HANDLE);
     }
     step_in(handle.held.as_mut(), todo)
-}
-
-fn end_run_in(at: &mut Object) -> u32
-    ensures { DriverMakesIn IsDriverEndRun at.old result at.new }
-{
-    match at {
-        Object::Driver(driver) => drive::end_run(driver),
-        _ => status::BAD_HANDLE,
-    }
-}
-
-/// Ends the run in progress before its next poll, like `Driver::end_run`.
-#[unsafe(no_mangle)]
-pub extern "C" fn fq_driver_end_run(handle: &mut FqHandle) -> u32
-    ensures { DriverMakes IsDriverEndRun handle.old result handle.new }
-{
-    if !handle.is_set() {
-        return status::BAD_HANDLE;
-    }
-    end_run_in(handle.held.as_mut())
 }
 
 fn show_in(at: &Object, device: u32, shown: &mut FqDeviceShown) -> u32
