@@ -77,7 +77,10 @@ def numbers(read: Mapping[str, Any]) -> Iterator[str]:
 def structs(read: Mapping[str, Any]) -> Iterator[str]:
     for item in items_of(read, "struct"):
         if item["name"] not in NOT_PYTHON:
-            types = [(name, "u32" if c_type.startswith("enum ") else ctypes_of(c_type)) for name, c_type, _ in item["members"]]
+            types = [
+                (name, "u32" if c_type.startswith("enum ") else ctypes_of(c_type))
+                for name, c_type, _ in item["members"]
+            ]
             members = [f'("{name}", {c_type})' for name, c_type in types]
             yield from ("", "", f"class {type_name(item['name'])}(ctypes.Structure):")
             yield from within("    _fields_ = [", members, "]")

@@ -45,7 +45,7 @@ def results(group: Mapping[str, Any], rows: Sequence[Status]) -> Iterator[str]:
         some = [row for row in own if (0 < row[0] < 16 or row[0] >= 100) == of_errors]
         if some and heading:
             yield heading
-        yield from (f".TP\n.BR {name} \" (\" {number} )\n{roff(message)}" for number, name, message in some)
+        yield from (f'.TP\n.BR {name} " (" {number} )\n{roff(message)}' for number, name, message in some)
 
 
 def manual(group: Mapping[str, Any], others: Sequence[str], version: str, rows: Sequence[Status]) -> Iterator[str]:
