@@ -55,9 +55,9 @@ most_in (Fetch id most) = most
 most_in _ = 0
 
 -- the packets of an action whose caller doesn't set them: a look that was forgotten leads to a poll
-abbrev pub packets_in : What → ℕ
-packets_in (Look id) = 1
-packets_in _ = 0
+abbrev pub unset_packets : What → ℕ
+unset_packets (Look id) = 1
+unset_packets _ = 0
 
 abbrev pub todo_run_in : What → FqRunReport
 todo_run_in (Ended r) = record { polls = r.polls; work = r.work; squeezed = r.squeezed }
@@ -70,7 +70,7 @@ todo_in size number what = record {
   what = what_in what;
   device = device_in what;
   most = most_in what;
-  packets = packets_in what;
+  packets = unset_packets what;
   run = todo_run_in what;
   status = OK;
 }

@@ -2,7 +2,7 @@
 
 ghost use Rattle.std.specs.Prelude.{◌≡◌, length, nat_lt};
 ghost use Rattle.driver_core.specs.Driver.{driver_devices};
-ghost use Rattle.c_handles.specs.Drivers.{device_in, most_in, packets_in, reply_status, todo_run_in, shown_of, device_state_in, todo_in, what_in, IsDriverInterrupt, IsDriverNext, IsDriverOpen, IsDriverStep, IsTodoReport, IsDriverShow, IsDriverStop, report_status};
+ghost use Rattle.c_handles.specs.Drivers.{device_in, most_in, unset_packets, reply_status, todo_run_in, shown_of, device_state_in, todo_in, what_in, IsDriverInterrupt, IsDriverNext, IsDriverOpen, IsDriverStep, IsTodoReport, IsDriverShow, IsDriverStop, report_status};
 
 use crate::lister::FqRunReport;
 use crate::status;
@@ -88,8 +88,8 @@ fn where_in(what: What) -> (u32, u32)
 
 // Returns the packets of an action that the caller doesn't set: a look that was forgotten leads to a poll.
 #[inline(always)]
-fn packets_in(what: What) -> u32
-    ensures { result ≡ packets_in what }
+fn unset_packets(what: What) -> u32
+    ensures { result ≡ unset_packets what }
 {
     match what {
         What::Look(_) => 1,
@@ -126,7 +126,7 @@ impl TodoPlace for FqTodo {
         self.what = what_in(what);
         self.device = device;
         self.most = most;
-        self.packets = packets_in(what);
+        self.packets = unset_packets(what);
         self.run.polls = run.polls;
         self.run.work = run.work;
         self.run.squeezed = run.squeezed;

@@ -69,7 +69,8 @@ impl Driver {
         ensures idle { IfOk result (λ driver. IsIdle driver) }
         ensures limits { IfOk result (λ driver. driver_limits driver ≡ limits) }
         ensures counts { IfOk result (λ driver. IsUncounted driver) }
-        ensures number { IfOk result (λ driver. said_number_of driver ≡ salt * 281474976710656 + 1) }
+        ensures number { IfOk result (λ driver. said_number_of driver
+            ≡ salt * 281474976710656 + 1) }
     {
         let closed = Devices::new(alloc, devices)?;
         let counts = new_counts(alloc, devices as usize)?;
