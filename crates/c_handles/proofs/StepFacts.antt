@@ -1,12 +1,12 @@
 -- The status of a report, and what it means.
 use Rattle.std.specs.Prelude.{⊤, IsSome, if◌then◌else◌}
-use Rattle.std.proofs.Common.{◌≡◌, ◌≢◌, ◌⊎◌, ◌∙◌, ◌<◌, ◌≤◌, inl, inr, ℕ, Bool, true, false, is_some, Option, Result, Ok, Err, refl}
+use Rattle.std.proofs.Common.{◌≡◌, ◌≢◌, ◌∙◌, inl, inr, ℕ, Bool, true, false, is_some, Option, Result, Ok, Err, refl}
 use Rattle.std.proofs.Common.{sym, ap, subst, arith}
 use Rattle.std.proofs.lemmas.Bool.Decides.{eqb_tells}
 use Rattle.driver_core.specs.Driver.{AsksNext, AwaitsNothing, IsDone, IsReport, IsStep, Reports, polled_device, said_number_of}
 use Rattle.driver_core.specs.declared.{driver.Driver.Driver, todo.Todo.Todo}
 use Rattle.driver_core.specs.declared.todo.Refused.{Refused, TheVariants.{NotDue, TooMany}}
-use Rattle.c_handles.specs.Drivers.{IsDriverStep, IsTodoReport, Says, failed_in, report_status, todo_in}
+use Rattle.c_handles.specs.Drivers.{IsDriverStep, IsTodoReport, Says, failed_in, report_status, settled, todo_in}
 use Rattle.c_handles.specs.declared.drive.FqTodo.{FqTodo}
 use Rattle.c_handles.specs.Status.{OK, NOT_DUE, BAD_WORK}
 
@@ -118,31 +118,47 @@ step_says : (before after : FqTodo) (d e : Driver) (reported : Result ⊤ Refuse
     → IsStep before.number before.packets d reported todo e → report_status before.number reported ≢ BAD_WORK
     → after ≡ todo_in before.size todo.number todo.what
     → IsDriverStep before after d (report_status before.number reported) e
-step_says before after d e reported todo h good is = record {
-  between = h.between;
-  reports = todo_report before.number before.packets d h.between reported h.reports;
-  says = λ _. says before.size after h.between e todo h.asks is;
-  failed = λ bad. absurd (good bad);
-}
+step_says before after d e reported todo h good is =
+    let report = todo_report before.number before.packets d h.between reported h.reports in
+    record {
+      between = h.between;
+      reports = report;
+      status = report.status;
+      says = λ _. says before.size after h.between e todo h.asks is;
+      failed = λ bad. absurd (good bad);
+    }
+
+step_many : (before after : FqTodo) (d e : Driver) (todo : Todo) → IsStep before.number before.packets d (Err TooMany) todo e
+    → after ≡ failed_in before.size BAD_WORK → IsDriverStep before after d BAD_WORK e
+step_many before after d e todo h is =
+    let report = todo_report before.number before.packets d h.between (Err TooMany) h.reports in
+    record {
+      between = h.between;
+      reports = report;
+      status = report.status;
+      says = λ bad. absurd (bad refl);
+      failed = λ _. (is, refused_keeps before.number before.packets d e todo h);
+    }
 
 done_good : OK ≡ BAD_WORK → ⊥
 done_good bad = omega (arith, bad)
 
--- the report was no report of too many packets
-pub step_made : (before after : FqTodo) (d e : Driver) (reported : Result ⊤ Refused) (todo : Todo)
-    → IsStep before.number before.packets d reported todo e → reported ≢ Err TooMany
-    → after ≡ todo_in before.size todo.number todo.what
-    → IsDriverStep before after d (report_status before.number reported) e
-step_made before after d e (Ok done) todo h other is = step_says before after d e (Ok done) todo h done_good is
-step_made before after d e (Err NotDue) todo h other is =
-    step_says before after d e (Err NotDue) todo h (not_many before.number) is
-step_made before after d e (Err TooMany) todo h other is = absurd (other refl)
+settled_late : (number : ℕ) (todo : FqTodo) → settled (report_status number (Err NotDue)) todo ≡ todo
+settled_late number todo =
+    let P : Bool → Type 0 = λ b. settled (if b then OK else NOT_DUE) todo ≡ todo in
+    elim (eqb_tells number 0) [ inl is ↦ subst P (sym is.0) refl | inr is ↦ subst P (sym is.0) refl ]
 
-pub step_many : (before after : FqTodo) (d e : Driver) (todo : Todo) → IsStep before.number before.packets d (Err TooMany) todo e
-    → after ≡ failed_in before.size BAD_WORK → IsDriverStep before after d BAD_WORK e
-step_many before after d e todo h is = record {
-  between = h.between;
-  reports = todo_report before.number before.packets d h.between (Err TooMany) h.reports;
-  says = λ bad. absurd (bad refl);
-  failed = λ _. (is, refused_keeps before.number before.packets d e todo h);
-}
+-- the next action was written, unless a fetch took too many packets
+pub step_made : (before placed after : FqTodo) (d e : Driver) (reported : Result ⊤ Refused) (todo : Todo)
+    → IsStep before.number before.packets d reported todo e
+    → (reported ≢ Err TooMany → placed ≡ todo_in before.size todo.number todo.what)
+    → (reported ≡ Err TooMany → placed ≡ before)
+    → after ≡ settled (report_status before.number reported) placed
+    → IsDriverStep before after d (report_status before.number reported) e
+step_made before placed after d e (Ok done) todo h takes kept is =
+    step_says before after d e (Ok done) todo h done_good (is ∙ takes (λ bad. cc bad))
+step_made before placed after d e (Err NotDue) todo h takes kept is =
+    step_says before after d e (Err NotDue) todo h (not_many before.number)
+    (is ∙ settled_late before.number placed ∙ takes (λ bad. cc bad))
+step_made before placed after d e (Err TooMany) todo h takes kept is =
+    step_many before after d e todo h (is ∙ ap (λ (t : FqTodo). failed_in t.size BAD_WORK) (kept refl))

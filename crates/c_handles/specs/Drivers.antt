@@ -88,6 +88,10 @@ failed_in size status = record {
   status = status;
 }
 
+-- what a step leaves in the struct, which has the next action unless a fetch took too many packets
+abbrev pub settled : ℕ → FqTodo → FqTodo
+settled n todo = if n == BAD_WORK then failed_in todo.size BAD_WORK else todo
+
 -- The driver asks for this action, which is due. It asks for the same action again until the action is reported or isn't due
 -- any more, and for any other one under a new number.
 pub record Says (size : ℕ) (d : Driver) (todo : FqTodo) (e : Driver) : Type 0 where
@@ -123,6 +127,7 @@ report_status number (Err NotDue) = if number == 0 then OK else NOT_DUE
 pub record IsDriverStep (before after : FqTodo) (d : Driver) (n : ℕ) (e : Driver) : Type 0 where
   pub between : Driver
   pub reports : IsTodoReport before.number before.packets d n between
+  pub status : (n ≡ OK) ⊎ (n ≡ NOT_DUE) ⊎ (n ≡ BAD_WORK)
   pub says : n ≢ BAD_WORK → Says before.size between after e
   pub failed : n ≡ BAD_WORK → (after ≡ failed_in before.size BAD_WORK) × (e ≡ d)
 

@@ -135,7 +135,7 @@ impl TodoPlace for FqTodo {
 }
 
 impl FqTodo {
-    ghost use Rattle.c_handles.specs.Drivers.{failed_in};
+    ghost use Rattle.c_handles.specs.Drivers.{failed_in, settled};
 
     /// Writes that a call failed with this status, which it returns: there is nothing to do.
     pub fn fail(&mut self, status: u32) -> u32
@@ -153,6 +153,16 @@ impl FqTodo {
             status,
         };
         status
+    }
+
+    // Ends a step whose report had this status: after a report of too many packets nothing was written, and the step failed.
+    #[inline(always)]
+    fn settle(&mut self, said: u32)
+        ensures { self.new ≡ settled said self.old }
+    {
+        if said == status::BAD_WORK {
+            self.fail(said);
+        }
     }
 }
 
@@ -197,12 +207,12 @@ pub fn next(driver: &mut Driver, todo: &mut FqTodo) -> u32
 pub fn step(driver: &mut Driver, todo: &mut FqTodo) -> u32
     ensures { IsDriverStep todo.old todo.new driver.old result driver.new }
 {
-    let (number, packets) = (todo.number, todo.packets);
+    let number = todo.number;
+    let packets = todo.packets;
     let (reported, _) = driver.step_into(number, packets, todo);
-    match reported {
-        Err(Refused::TooMany) => todo.fail(status::BAD_WORK),
-        other => report_status(number, other),
-    }
+    let said = report_status(number, reported);
+    todo.settle(said);
+    said
 }
 
 #[inline(always)]
