@@ -50,7 +50,7 @@ class FromFtrace(InFolder):
           <idle>-0     [001]   100.000100: net_dev_xmit:         dev=veth0 skbaddr=0xffff888 len=90 rc=0
           <idle>-0     [001]   100.002100: softirq_entry:        vec=3 [action=NET_RX]
           <idle>-0     [001]   100.002200: napi_poll:            napi poll on napi struct 0xffff9 for device veth1 work 1 budget 64
-""", "--pair", "veth0:veth1", "--places", 16)
+""", "--pair", "veth0:veth1", "--capacity", 16)
         self.assertEqual(rows, ["0,1,open,16", "0,2,open,16", "0,1,rx,90", "2,0,softirq,0"])
         self.assertEqual(work, ["polls 1 work 1"])
 
