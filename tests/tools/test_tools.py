@@ -464,7 +464,7 @@ class Traffic(InFolder):
 
     def test_words_that_it_refuses(self) -> None:
         for words in (["--mix", "busy=1"], ["--mix", "rx=1"], ["--bytes", "9:1"], ["--devices", "17"], ["--rate", "0"]):
-            self.assertEqual(run("traffic", *words).returncode, 2)
+            self.assertEqual(run("traffic", *words).returncode, 64)
         self.assertIn("more than 100000 packets", run("traffic", "--rate", "9999999", "--seconds", "99999").stderr)
 
 
@@ -496,8 +496,8 @@ class CompareRuns(InFolder):
 
     def test_refusals(self) -> None:
         trace = self.write("burst.csv", self.BURST)
-        self.assertEqual(run("compare", trace, "--budget", "1").returncode, 2)
-        self.assertEqual(run("compare", trace, "--", "--budget", "0").returncode, 2)
+        self.assertEqual(run("compare", trace, "--budget", "1").returncode, 64)
+        self.assertEqual(run("compare", trace, "--", "--budget", "0").returncode, 64)
         self.assertIn("trace fault 1 BadHeader row 0", run("compare", "-", "--", text="x\n").stderr)
 
 
