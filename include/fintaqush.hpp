@@ -436,6 +436,15 @@ struct Off {};
 struct On {};
 struct Marked {};
 
+namespace detail {
+// A controller in any state.
+class Controller {
+protected:
+    explicit Controller(Handle<fq_control> &&at) noexcept : at_(std::move(at)) {}
+    Handle<fq_control> at_;
+};
+} // namespace detail
+
 // The controller of an instance, by its state.
 template <class State>
 class Control;
@@ -444,7 +453,7 @@ template <>
 class Control<Marked>;
 
 template <>
-class [[nodiscard]] Control<On> {
+class [[nodiscard]] Control<On> : detail::Controller {
 public:
     [[nodiscard]] Control<Marked> mark() && noexcept;
     // Disables the instance (napi_disable): yields the processor while a caller owns it.
@@ -452,12 +461,11 @@ public:
 
 private:
     friend class Control<Off>;
-    explicit Control(Handle<fq_control> &&at) noexcept : at_(std::move(at)) {}
-    Handle<fq_control> at_;
+    using Controller::Controller;
 };
 
 template <>
-class [[nodiscard]] Control<Off> {
+class [[nodiscard]] Control<Off> : detail::Controller {
 public:
     // Enables the instance (napi_enable). Request a poll once after it (Caller::request), or enable by open: an earlier request isn't
     // polled.
@@ -481,12 +489,11 @@ private:
     friend class Control<Marked>;
     friend struct Shared;
     friend struct Bare;
-    explicit Control(Handle<fq_control> &&at) noexcept : at_(std::move(at)) {}
-    Handle<fq_control> at_;
+    using Controller::Controller;
 };
 
 template <>
-class [[nodiscard]] Control<Marked> {
+class [[nodiscard]] Control<Marked> : detail::Controller {
 public:
     // Takes the instance if no caller owns it; otherwise returns the controller unchanged.
     [[nodiscard]] std::variant<Control<Marked>, Control<Off>> try_take() && noexcept {
@@ -496,8 +503,7 @@ public:
 
 private:
     friend class Control<On>;
-    explicit Control(Handle<fq_control> &&at) noexcept : at_(std::move(at)) {}
-    Handle<fq_control> at_;
+    using Controller::Controller;
 };
 
 inline Control<Marked> Control<On>::mark() && noexcept {
@@ -796,34 +802,39 @@ struct NoReport {
 };
 
 namespace detail {
-// Returns what a call writes for a trace: call(bytes, length, out, room, &replayed).
-template <class Call>
-[[nodiscard]] std::variant<std::string, NoReport> written(std::string_view trace, Call call) {
-    const auto *bytes = reinterpret_cast<const std::uint8_t *>(trace.data());
+// Returns what a call writes for some bytes, call(bytes, length, out, room, &ran), or what `refusal` makes of its status and of `ran`.
+template <class Ran, class Call, class Refusal>
+[[nodiscard]] auto written(std::string_view bytes, Ran ran, Call call, Refusal refusal) -> std::variant<std::string, decltype(refusal(0u, ran))> {
+    const auto *from = reinterpret_cast<const std::uint8_t *>(bytes.data());
     std::string out(4096, '\0');
-    fq_replayed replayed = FQ_REPLAYED_INIT;
-    const auto write = [&] { return call(bytes, trace.size(), reinterpret_cast<std::uint8_t *>(out.data()), out.size(), &replayed); };
+    const auto write = [&] { return call(from, bytes.size(), reinterpret_cast<std::uint8_t *>(out.data()), out.size(), &ran); };
     std::uint32_t said = write();
     if (said == FQ_NO_ROOM) {
-        out.resize(replayed.length);
+        out.resize(ran.length);
         said = write();
     }
-    if (said != FQ_OK) return NoReport{said, replayed.fault, replayed.row};
-    out.resize(replayed.length);
+    if (said != FQ_OK) return refusal(said, ran);
+    out.resize(ran.length);
     return out;
+}
+
+template <class Call>
+[[nodiscard]] std::variant<std::string, NoReport> replayed(std::string_view trace, Call call) {
+    const fq_replayed none = FQ_REPLAYED_INIT;
+    return written(trace, none, call, [](std::uint32_t said, const fq_replayed &ran) { return NoReport{said, ran.fault, ran.row}; });
 }
 } // namespace detail
 
 // Replays a whole trace on one thread (napi_replay --mode=serial), and returns its report.
 [[nodiscard]] inline std::variant<std::string, NoReport> replay(std::string_view trace, const fq_settings &settings = FQ_DEFAULT_SETTINGS) {
-    return detail::written(trace, [&](auto... to) { return fq_replay(&settings, to...); });
+    return detail::replayed(trace, [&](auto... to) { return fq_replay(&settings, to...); });
 }
 
 // Adds to a trace the runs that the kernel would make with these settings, at most `restarts` after a softirq row (fq_raise), and
 // returns the trace. Its replay is the raised replay. With more than 100000 rows it fails with fault 9.
 [[nodiscard]] inline std::variant<std::string, NoReport> raise_runs(std::string_view trace, const fq_settings &settings = FQ_DEFAULT_SETTINGS,
                                                                     std::uint32_t restarts = FQ_UNTIL_EMPTY) {
-    return detail::written(trace, [&](auto... to) { return fq_raise(&settings, restarts, to...); });
+    return detail::replayed(trace, [&](auto... to) { return fq_raise(&settings, restarts, to...); });
 }
 
 // The settings of the machine, at first the defaults of napi_machine.
@@ -844,21 +855,11 @@ struct MachineFault {
 
 // Runs the machine on arrivals (napi_machine), and returns its report.
 [[nodiscard]] inline std::variant<std::string, MachineFault> machine(std::string_view arrivals, const fq_machine_settings &settings = MachineSettings()) {
-    const auto *bytes = reinterpret_cast<const std::uint8_t *>(arrivals.data());
-    std::string report(4096, '\0');
-    fq_machine_ran ran{};
-    ran.size = sizeof ran;
-    const auto run = [&] {
-        return fq_machine(&settings, bytes, arrivals.size(), reinterpret_cast<std::uint8_t *>(report.data()), report.size(), &ran);
-    };
-    std::uint32_t said = run();
-    if (said == FQ_NO_ROOM) {
-        report.resize(ran.length);
-        said = run();
-    }
-    if (said != FQ_OK) return MachineFault{said, ran.setting, ran.fault, ran.row, ran.message};
-    report.resize(ran.length);
-    return report;
+    fq_machine_ran none{};
+    none.size = sizeof none;
+    return detail::written(
+        arrivals, none, [&](auto... to) { return fq_machine(&settings, to...); },
+        [](std::uint32_t said, const fq_machine_ran &ran) { return MachineFault{said, ran.setting, ran.fault, ran.row, ran.message}; });
 }
 
 } // namespace fintaqush
