@@ -25,7 +25,9 @@ ABI = TOP / "scripts/abi.json"
 FIRST = "1.0"  # the version of calls that don't say one
 BANNER = "---- "
 # What isn't part of a declaration's text: macros that say no more than its comment, or that differ by compiler, and a script's marks.
-OMITTED = re.compile(r"\b(?:FQ_CHECKED(?:_AT\([^)]*\))?|FQ_NONNULL|FQ_RESTRICT|FQ_NUMBER|static inline) |^ */\* scripts/[^\n]*\n", re.M)
+OMITTED = re.compile(
+    r"\b(?:FQ_CHECKED(?:_AT\([^)]*\))?|FQ_NONNULL|FQ_RESTRICT|FQ_NUMBER|static inline) |^ */\* scripts/[^\n]*\n", re.M
+)
 COMMENT_OR_MACRO = re.compile(
     r"/\*(?P<comment>.*?)\*/|^#define (?P<macro>FQ_\w+) [^\n]*?(?= */\*|$)|(?P<blank>\n[ \t]*(?=\n))", re.S | re.M
 )
