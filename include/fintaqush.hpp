@@ -1,4 +1,4 @@
-// Fintaqush for C++17: the calls of fintaqush.h with the state of a seat in its type, so that a call that the state doesn't allow
+// Fintaqush for C++17: the calls of fintaqush.h with the state of a caller in its type, so that a call that the state doesn't allow
 // doesn't compile. Header only. Of the objects only a SerialNapi can be copied. Nothing throws except the standard containers if memory runs
 // out, and the callback of List::run.
 // What fintaqush.h requires of its caller holds here too. A destructor abandons its object (fq_abandon): an instance whose
@@ -241,7 +241,7 @@ using End = std::variant<Ended, Polling>;
 
 namespace detail {
 // A caller in any state.
-class Seat {
+class AnyCaller {
 public:
     // Returns the state word, a sum of FQ_BIT_..
     [[nodiscard]] std::uint64_t word() {
@@ -258,12 +258,12 @@ public:
     }
 
 protected:
-    explicit Seat(Handle<fq_seat> &&at) noexcept : at_(std::move(at)) {}
+    explicit AnyCaller(Handle<fq_seat> &&at) noexcept : at_(std::move(at)) {}
     Handle<fq_seat> at_;
 };
 
 // A caller that polls, or busy polls.
-class Poller : public Seat {
+class Poller : public AnyCaller {
 public:
     // Removes the ring's next packets, at most the weight, and writes them to out; returns how many.
     [[nodiscard]] std::size_t poll(Packets &out, Weight weight = Weight()) {
@@ -275,12 +275,12 @@ public:
     [[nodiscard]] Counts counts() const { return at_.counts(); }
 
 protected:
-    using Seat::Seat;
+    using AnyCaller::AnyCaller;
 };
 } // namespace detail
 
 // A caller that owns nothing.
-class [[nodiscard]] Caller : public detail::Seat {
+class [[nodiscard]] Caller : public detail::AnyCaller {
 public:
     [[nodiscard]] Scheduled schedule() && noexcept;
     [[nodiscard]] Took take(Kind kind) && noexcept;
@@ -308,7 +308,7 @@ private:
     friend class Polling;
     friend struct Shared;
     friend struct Bare;
-    using Seat::Seat;
+    using AnyCaller::AnyCaller;
     Requested request_by(const fq_card &calls) {
         std::uint32_t next = FQ_NEXT_GONE;
         const Status said = fq_seat_request(at_.raw(), &calls, &next);
@@ -317,7 +317,7 @@ private:
 };
 
 // A caller that was granted the instance, and has to queue it.
-class [[nodiscard]] Granted : public detail::Seat {
+class [[nodiscard]] Granted : public detail::AnyCaller {
 public:
     [[nodiscard]] Caller hand(Kind kind) && noexcept {
         detail::made(fq_seat_hand(at_.raw(), kind));
@@ -327,7 +327,7 @@ public:
 private:
     friend class Caller;
     friend class Polling;
-    using Seat::Seat;
+    using AnyCaller::AnyCaller;
 };
 
 // A caller that polls the instance.
