@@ -12,7 +12,8 @@ from ._report import Device, Report, Transmit, Turn, raise_runs, replay
 from ._shared import Answers, Caller, Control, Input, shared
 
 __version__ = VERSION
-__all__ = ["Answers", "Application", "ArrivalsFault", "Caller", "Cards", "Control", "Counts", "Device", "DeviceShown", "DeviceState", "Driver",
-           "Fault", "Input", "Kind", "Limit", "List", "MachineReport", "Napi", "Next", "Packet", "Processor", "Queue", "Report", "Ring",
-           "RunReport", "SettingFault", "Status", "Times", "Todo", "TraceFault", "Transmit", "Turn", "TxRing", "TxState",
-           "Waits", "What", "Word", "machine", "raise_runs", "replay", "shared"]
+__all__ = ["Answers", "Application", "ArrivalsFault", "Caller", "Cards", "Control", "Counts", "Device", "DeviceShown",
+           "DeviceState", "Driver", "Fault", "Input", "Kind", "Limit", "List", "MachineReport", "Napi", "Next",
+           "Packet", "Processor", "Queue", "Report", "Ring", "RunReport", "SettingFault", "Status", "Times", "Todo",
+           "TraceFault", "Transmit", "Turn", "TxRing", "TxState", "Waits", "What", "Word", "machine", "raise_runs",
+           "replay", "shared"]
