@@ -360,8 +360,8 @@ FQ_CHECKED enum fq_status fq_count(const struct fq_handle *FQ_RESTRICT handle, s
 
 /* The state of a ring, or of its input. */
 struct fq_ring_shown {
-    uint64_t put;  /* the packets put so far, a count that saturates; minus the packets of fq_count, it is the number in the ring */
-    size_t places; /* the ring's capacity in packets */
+    uint64_t put;    /* the packets put so far, a count that saturates; minus the packets of fq_count, it is the number in the ring */
+    size_t capacity; /* in packets */
 };
 
 /* Sets *shown to the state of a ring, or of its input. Returns FQ_OK; FQ_BAD_HANDLE, and *shown is unchanged. */

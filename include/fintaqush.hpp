@@ -1,4 +1,4 @@
-// Fintaqush for C++17: the calls of fintaqush.h with the state of a seat in its type, so that a call that the state doesn't allow
+// Fintaqush for C++17: the calls of fintaqush.h with the state of a caller in its type, so that a call that the state doesn't allow
 // doesn't compile. Header only. Of the objects only a SerialNapi can be copied. Nothing throws except the standard containers if memory runs
 // out, and the callback of List::run.
 // What fintaqush.h requires of its caller holds here too. A destructor abandons its object (fq_abandon): an instance whose
@@ -241,7 +241,7 @@ using End = std::variant<Ended, Polling>;
 
 namespace detail {
 // A caller in any state.
-class Seat {
+class AnyCaller {
 public:
     // Returns the state word, a sum of FQ_BIT_..
     [[nodiscard]] std::uint64_t word() {
@@ -258,12 +258,12 @@ public:
     }
 
 protected:
-    explicit Seat(Handle<fq_seat> &&at) noexcept : at_(std::move(at)) {}
+    explicit AnyCaller(Handle<fq_seat> &&at) noexcept : at_(std::move(at)) {}
     Handle<fq_seat> at_;
 };
 
 // A caller that polls, or busy polls.
-class Poller : public Seat {
+class Poller : public AnyCaller {
 public:
     // Removes the ring's next packets, at most the weight, and writes them to out; returns how many.
     [[nodiscard]] std::size_t poll(Packets &out, Weight weight = Weight()) {
@@ -275,12 +275,12 @@ public:
     [[nodiscard]] Counts counts() const { return at_.counts(); }
 
 protected:
-    using Seat::Seat;
+    using AnyCaller::AnyCaller;
 };
 } // namespace detail
 
 // A caller that owns nothing.
-class [[nodiscard]] Caller : public detail::Seat {
+class [[nodiscard]] Caller : public detail::AnyCaller {
 public:
     [[nodiscard]] Scheduled schedule() && noexcept;
     [[nodiscard]] Took take(Kind kind) && noexcept;
@@ -310,7 +310,7 @@ private:
     friend class Control;
     friend struct Shared;
     friend struct Bare;
-    using Seat::Seat;
+    using AnyCaller::AnyCaller;
     Requested request_by(const fq_card &calls) {
         std::uint32_t next = FQ_NEXT_GONE;
         const Status said = fq_seat_request(at_.raw(), &calls, &next);
@@ -319,7 +319,7 @@ private:
 };
 
 // A caller that was granted the instance, and has to queue it.
-class [[nodiscard]] Granted : public detail::Seat {
+class [[nodiscard]] Granted : public detail::AnyCaller {
 public:
     [[nodiscard]] Caller hand(Kind kind) && noexcept {
         detail::made(fq_seat_hand(at_.raw(), kind));
@@ -329,7 +329,7 @@ public:
 private:
     friend class Caller;
     friend class Polling;
-    using Seat::Seat;
+    using AnyCaller::AnyCaller;
 };
 
 // A caller that polls the instance.
@@ -438,6 +438,15 @@ struct Off {};
 struct On {};
 struct Marked {};
 
+namespace detail {
+// A controller in any state.
+class Controller {
+protected:
+    explicit Controller(Handle<fq_control> &&at) noexcept : at_(std::move(at)) {}
+    Handle<fq_control> at_;
+};
+} // namespace detail
+
 // The controller of an instance, by its state.
 template <class State>
 class Control;
@@ -446,7 +455,7 @@ template <>
 class Control<Marked>;
 
 template <>
-class [[nodiscard]] Control<On> {
+class [[nodiscard]] Control<On> : detail::Controller {
 public:
     [[nodiscard]] Control<Marked> mark() && noexcept;
     // Disables the instance (napi_disable): yields the processor while a caller owns it.
@@ -454,12 +463,11 @@ public:
 
 private:
     friend class Control<Off>;
-    explicit Control(Handle<fq_control> &&at) noexcept : at_(std::move(at)) {}
-    Handle<fq_control> at_;
+    using Controller::Controller;
 };
 
 template <>
-class [[nodiscard]] Control<Off> {
+class [[nodiscard]] Control<Off> : detail::Controller {
 public:
     // Enables the instance (napi_enable). Request a poll once after it (Caller::request), or enable by open: an earlier request isn't
     // polled.
@@ -484,12 +492,11 @@ private:
     friend class Control<Marked>;
     friend struct Shared;
     friend struct Bare;
-    explicit Control(Handle<fq_control> &&at) noexcept : at_(std::move(at)) {}
-    Handle<fq_control> at_;
+    using Controller::Controller;
 };
 
 template <>
-class [[nodiscard]] Control<Marked> {
+class [[nodiscard]] Control<Marked> : detail::Controller {
 public:
     // Takes the instance if no caller owns it; otherwise returns the controller unchanged.
     [[nodiscard]] std::variant<Control<Marked>, Control<Off>> try_take() && noexcept {
@@ -499,8 +506,7 @@ public:
 
 private:
     friend class Control<On>;
-    explicit Control(Handle<fq_control> &&at) noexcept : at_(std::move(at)) {}
-    Handle<fq_control> at_;
+    using Controller::Controller;
 };
 
 inline Control<Marked> Control<On>::mark() && noexcept {
@@ -806,34 +812,39 @@ struct NoReport {
 };
 
 namespace detail {
-// Returns what a call writes for a trace: call(bytes, length, out, room, &replayed).
-template <class Call>
-[[nodiscard]] std::variant<std::string, NoReport> written(std::string_view trace, Call call) {
-    const auto *bytes = reinterpret_cast<const std::uint8_t *>(trace.data());
+// Returns what a call writes for some bytes, call(bytes, length, out, room, &ran), or what `refusal` makes of its status and of `ran`.
+template <class Ran, class Call, class Refusal>
+[[nodiscard]] auto written(std::string_view bytes, Ran ran, Call call, Refusal refusal) -> std::variant<std::string, decltype(refusal(0u, ran))> {
+    const auto *from = reinterpret_cast<const std::uint8_t *>(bytes.data());
     std::string out(4096, '\0');
-    fq_replayed replayed = FQ_REPLAYED_INIT;
-    const auto write = [&] { return call(bytes, trace.size(), reinterpret_cast<std::uint8_t *>(out.data()), out.size(), &replayed); };
+    const auto write = [&] { return call(from, bytes.size(), reinterpret_cast<std::uint8_t *>(out.data()), out.size(), &ran); };
     std::uint32_t said = write();
     if (said == FQ_NO_ROOM) {
-        out.resize(replayed.length);
+        out.resize(ran.length);
         said = write();
     }
-    if (said != FQ_OK) return NoReport{said, replayed.fault, replayed.row};
-    out.resize(replayed.length);
+    if (said != FQ_OK) return refusal(said, ran);
+    out.resize(ran.length);
     return out;
+}
+
+template <class Call>
+[[nodiscard]] std::variant<std::string, NoReport> replayed(std::string_view trace, Call call) {
+    const fq_replayed none = FQ_REPLAYED_INIT;
+    return written(trace, none, call, [](std::uint32_t said, const fq_replayed &ran) { return NoReport{said, ran.fault, ran.row}; });
 }
 } // namespace detail
 
 // Replays a whole trace on one thread (napi_replay --mode=serial), and returns its report.
 [[nodiscard]] inline std::variant<std::string, NoReport> replay(std::string_view trace, const fq_settings &settings = FQ_DEFAULT_SETTINGS) {
-    return detail::written(trace, [&](auto... to) { return fq_replay(&settings, to...); });
+    return detail::replayed(trace, [&](auto... to) { return fq_replay(&settings, to...); });
 }
 
 // Adds to a trace the runs that the kernel would make with these settings, at most `restarts` after a softirq row (fq_raise), and
 // returns the trace. Its replay is the raised replay. With more than 100000 rows it fails with fault 9.
 [[nodiscard]] inline std::variant<std::string, NoReport> raise_runs(std::string_view trace, const fq_settings &settings = FQ_DEFAULT_SETTINGS,
                                                                     std::uint32_t restarts = FQ_UNTIL_EMPTY) {
-    return detail::written(trace, [&](auto... to) { return fq_raise(&settings, restarts, to...); });
+    return detail::replayed(trace, [&](auto... to) { return fq_raise(&settings, restarts, to...); });
 }
 
 // The settings of the machine, at first the defaults of napi_machine.
@@ -854,21 +865,11 @@ struct MachineFault {
 
 // Runs the machine on arrivals (napi_machine), and returns its report.
 [[nodiscard]] inline std::variant<std::string, MachineFault> machine(std::string_view arrivals, const fq_machine_settings &settings = MachineSettings()) {
-    const auto *bytes = reinterpret_cast<const std::uint8_t *>(arrivals.data());
-    std::string report(4096, '\0');
-    fq_machine_ran ran{};
-    ran.size = sizeof ran;
-    const auto run = [&] {
-        return fq_machine(&settings, bytes, arrivals.size(), reinterpret_cast<std::uint8_t *>(report.data()), report.size(), &ran);
-    };
-    std::uint32_t said = run();
-    if (said == FQ_NO_ROOM) {
-        report.resize(ran.length);
-        said = run();
-    }
-    if (said != FQ_OK) return MachineFault{said, ran.setting, ran.fault, ran.row, ran.message};
-    report.resize(ran.length);
-    return report;
+    fq_machine_ran none{};
+    none.size = sizeof none;
+    return detail::written(
+        arrivals, none, [&](auto... to) { return fq_machine(&settings, to...); },
+        [](std::uint32_t said, const fq_machine_ran &ran) { return MachineFault{said, ran.setting, ran.fault, ran.row, ran.message}; });
 }
 
 } // namespace fintaqush

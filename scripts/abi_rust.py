@@ -46,11 +46,7 @@ TYPES = {
 }
 NOT_RUST = {"fq_card", "fq_word"}  # Rust has a trait, and an atomic
 ALL = "Clone, Copy, Debug, Default, PartialEq, Eq"
-DERIVES = {
-    "fq_handle": "Debug",
-    "fq_dql": "Debug, Default",
-    "fq_napi": "Clone, Debug, PartialEq, Eq",
-}
+DERIVES = {"fq_handle": "Debug", "fq_dql": "Debug, Default", "fq_napi": "Clone, Debug, PartialEq, Eq"}
 # The results after which nothing has changed, so that they are errors in Rust.
 FAILING = ("FQ_NOT_THERE", "FQ_BUSY", "FQ_FULL", "FQ_STOPPED", "FQ_MORE_THAN_SENT", "FQ_NOT_DUE")
 CODE = re.compile(r"`[^`]*`|(?P<code>\*?\b(?:\w+->)?\w*_\w*(?:\.\.)?|\*\w+|\w+->\w+|\w+\(\w+\))|(?P<sign>[\[\]<>*])")

@@ -1,6 +1,7 @@
 #!/usr/bin/env python3
 """tests/abi.py: the C header and the exports of the crates have the same calls, with the same types of parameters and results, and the same
-structs, member by member; a handle of one kind of object is to the crates the one handle of all kinds. The header is what scripts/header.py read of it; the exports are the functions `extern "C"` and the structs
+structs, member by member. The handle of each kind of object is to the crates the one handle of all kinds, and it is const exactly if the
+export only reads the object. The header is what scripts/header.py read of it; the exports are the functions `extern "C"` and the structs
 `repr(C)` of the crates' sources. It prints each difference. With --planted, or --planted-in-header, which needs clang, it plants faults in
 copies of the sources, or of the header, and prints those that it doesn't find. With --python it prints C that compiles only if the package
 for Python has the header's structs and numbers.

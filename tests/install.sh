@@ -161,7 +161,7 @@ subcommands_work() {
         diff made.csv "$top/tests/tools/soft-tcp.csv" && "$f" traffic | "$1/napi_serial" > report &&
         echo '1.000000 02:00:00:00:00:02 > 02:00:00:00:00:01, ethertype IPv4 (0x0800), length 60: UDP' | "$f" from-pcap - captured &&
         "$f" costs "$top/tests/tools/soft-gso-23.txt" --words > words && "$f" costs "$top/tests/tools/recorded-apart.rec" --json > json && "$f" traffic --arrivals > arrivals &&
-        [ "$("$f" what-if arrivals --budget 16,64 | wc -l)" = 3 ] && { "$f" raise "$trace" --buget 3; [ "$?" = 2 ]; }
+        [ "$("$f" what-if arrivals --budget 16,64 | wc -l)" = 3 ] && { "$f" raise "$trace" --buget 3; [ "$?" = 64 ]; }
 }
 
 # programs_work BIN: subcommands that are programs print what these do, and replay explains an error, like the launcher of a

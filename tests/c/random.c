@@ -266,8 +266,8 @@ static void show_ring(void) {
     struct fq_ring_shown shown = {7, 8};
     const bool has = takes_puts(&objects[i]);
     want("show of a ring", fq_ring_show(&handles[i].ring, &shown), has ? FQ_OK : FQ_BAD_HANDLE);
-    if (has) hold("what it shows", shown.put == objects[i].ring->put && shown.places == objects[i].ring->places);
-    else hold("what stays", shown.put == 7 && shown.places == 8);
+    if (has) hold("what it shows", shown.put == objects[i].ring->put && shown.capacity == objects[i].ring->places);
+    else hold("what stays", shown.put == 7 && shown.capacity == 8);
 }
 
 /* ---- seats */

@@ -120,7 +120,7 @@ static void rings() {
     want(!Ring::make(0) && !Ring::make(65537), "a ring of no places, or too many");
     want(ring && ring->put(1, 10) && ring->put_all(burst, 3) == 3 && !ring->put(5, 50), "a ring of four");
     want(ring->poll(out, Weight::of<1>()) == 1 && out[0].number == 1 && ring->counts().bytes == 10, "its first packet");
-    want(ring->shown().put == 4 && ring->shown().places == 4, "what it shows");
+    want(ring->shown().put == 4 && ring->shown().capacity == 4, "what it shows");
     is_out = true;
     want(!std::move(*ring).split() && ring->shown().put == 4, "a split without memory leaves the ring");
     is_out = false;

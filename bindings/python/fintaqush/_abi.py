@@ -185,7 +185,7 @@ class Totals(ctypes.Structure):
 
 
 class RingShown(ctypes.Structure):
-    _fields_ = [("put", u64), ("places", size)]
+    _fields_ = [("put", u64), ("capacity", size)]
 
 
 class TxShown(ctypes.Structure):

@@ -264,7 +264,7 @@ class TestShared(Refusals):
         self.refused(Status.BAD_CAPACITY, shared, 0)
 
     def test_threads(self):
-        """Each packet is polled once and in order: one thread has the input and the seat of an interrupt handler, another one polls."""
+        """Each packet is polled once and in order: one thread has the input and the caller of an interrupt handler, another one polls."""
         input, control, (interrupts, poller) = shared(64)
         polled, due, packets = [], threading.Semaphore(0), 2000
 

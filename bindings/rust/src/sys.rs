@@ -330,8 +330,8 @@ pub struct fq_totals {
 pub struct fq_ring_shown {
     /// The packets put so far, a count that saturates; minus the packets of `fq_count`, it is the number in the ring.
     pub put: u64,
-    /// The ring's capacity in packets.
-    pub places: usize,
+    /// In packets.
+    pub capacity: usize,
 }
 
 /// The state of a transmit ring.

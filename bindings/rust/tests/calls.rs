@@ -804,7 +804,7 @@ fn polls_are_counted_of_whoever_has_them() {
     let (asked, ended) = (interrupts.answers(), poller.answers());
     assert_eq!((asked.granted, asked.missed, asked.released), (1, 0, 0));
     assert_eq!((ended.granted, ended.released, ended.again), (0, 1, 0));
-    assert_eq!((input.shown().put, input.shown().places), (1, 4));
+    assert_eq!((input.shown().put, input.shown().capacity), (1, 4));
     let mut busy = poller.busy().unwrap();
     busy.poll(Weight::MAX, &mut batch);
     assert_eq!((busy.counts().polls, busy.look() & FQ_BIT_QUEUED), (2, 0));
@@ -820,7 +820,7 @@ fn a_ring_ends_with_its_totals() {
     let mut batch = Batch::new();
     assert_eq!(numbers(ring.poll(Weight::new(1).unwrap(), &mut batch)), [1]);
     assert_eq!(ring.counts().polls, 1);
-    assert_eq!((ring.shown().put, ring.shown().places), (2, 4));
+    assert_eq!((ring.shown().put, ring.shown().capacity), (2, 4));
     let totals = ring.finish();
     assert_eq!(
         (totals.put, totals.polled, totals.left, totals.bytes),
