@@ -41,7 +41,7 @@ major=${version%%.*}
 
 guide=share/doc/fintaqush # the pages for users of the library, and the examples
 pages=(C.md GUIDE.md LIMITS.md)
-examples=("$top"/examples/c/*)
+examples=("$top"/examples/c/* "$top"/examples/driver/driver.h)
 library_files=("$libdir"/{libfintaqush.a,"libfintaqush.so.$version","libfintaqush.so.$major",libfintaqush.so,pkgconfig/fintaqush.pc}
     "$libdir"/cmake/Fintaqush/{FintaqushConfig,FintaqushConfigVersion}.cmake include/{fintaqush.h,fintaqush.hpp,fintaqush_tsan.h}
     share/man/man3/fintaqush.3 "${pages[@]/#/$guide/}" "${examples[@]/#"$top"/$guide}")
@@ -75,7 +75,7 @@ if [ -n "$is_uninstall" ]; then
         rmdir "$package" 2> /dev/null || true
     done
     rm -rf "$to/$home/$package"/{commands/,}__pycache__ # Python's, of these files
-    rmdir "$to/$libdir/cmake/Fintaqush" "$to/$guide"/{examples/c,examples,} "$to/$home/$package"/{commands,} \
+    rmdir "$to/$libdir/cmake/Fintaqush" "$to/$guide"/{examples/c,examples/driver,examples,} "$to/$home/$package"/{commands,} \
         "$to/$home"/{tools,scripts,programs,docs,examples} "$to/$home" 2> /dev/null || true
     exit 0
 fi

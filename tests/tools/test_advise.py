@@ -192,7 +192,7 @@ class Advise(InFolder):
         for packets, changes, words, why in refused:
             done = self.advised(file_of("".join(self.card()), **{**head, **changes}), "--capture", self.captured(*packets), *words, status=1)
             self.assertIn(why, done.stderr)
-        self.assertEqual(run("advise", self.folder / "x.rec", "--capture", self.folder / "capture.pcap", "--verify").returncode, 2)
+        self.assertEqual(run("advise", self.folder / "x.rec", "--capture", self.folder / "capture.pcap", "--verify").returncode, 64)
 
     def test_a_card(self) -> None:
         """Without a sender, packets that polls take arrived with the interrupt: the waits of test_the_recorded_setting without waking, 3300 ns."""
@@ -415,8 +415,8 @@ class Advise(InFolder):
 
     def test_words_that_it_refuses(self) -> None:
         for words in (["--goal", "speed"], ["--max-drops", "-1"], ["--p99-below", "0"], ["--plot", "x.pdf"], ["--packets", "1"]):
-            self.assertEqual(run("advise", self.write("x.rec", file_of(quiet())), *words).returncode, 2, words)
-        self.assertEqual(run("advise").returncode, 2)
+            self.assertEqual(run("advise", self.write("x.rec", file_of(quiet())), *words).returncode, 64, words)
+        self.assertEqual(run("advise").returncode, 64)
         self.assertIn("there is no such file", run("advise", self.folder / "none").stderr)
         self.assertIn("--device vb7: it has vb1", self.advised(file_of(quiet()), "--device", "vb7", status=1).stderr)
         self.assertIn("there is no such folder", self.advised(file_of(quiet()), "--plot", self.folder / "none/x.png", status=1).stderr)

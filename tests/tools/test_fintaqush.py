@@ -72,14 +72,14 @@ class Fintaqush(InFolder):
         ):
             done = call(*words, folder=self.folder)
             self.assertEqual((done.stderr, done.returncode), wanted)
-        self.fails("fintaqush raise: error: unrecognized arguments: --buget", "raise", "x", "--buget", status=2)
+        self.fails("fintaqush raise: error: unrecognized arguments: --buget", "raise", "x", "--buget", status=64)
 
     def test_a_subcommand_that_does_not_exist(self) -> None:
         for name, near in (("plto", "plot"), ("from", "from-ftrace or from-pcap"), ("whatif", "what-if"), ("Steps", "steps")):
-            said = self.fails(f"fintaqush: there is no subcommand '{name}': is {near} ", name, status=2)
+            said = self.fails(f"fintaqush: there is no subcommand '{name}': is {near} ", name, status=64)
             self.assertEqual(said.count("\n"), 1)
         self.assertNotIn("\x1b", run("\x1b[31m").stderr)
-        self.assertEqual((call().returncode, run("").returncode, run("--bad").returncode), (2, 2, 2))
+        self.assertEqual((call().returncode, run("").returncode, run("--bad").returncode), (64, 64, 64))
 
     def test_from_any_folder_and_by_a_link(self) -> None:
         (self.folder / "link").symlink_to(COMMAND)
@@ -104,7 +104,7 @@ class Fintaqush(InFolder):
             expected = process(SERIES, *own, text=text)
             self.assertEqual((expected.returncode, call("series", *words, text=text).stdout), (0, expected.stdout))
         for wrong in (["--every", "0"], ["--restarts", "1"], ["--rows", "--polls"], ["--rows", "--every", "2"]):
-            self.assertEqual(run("series", *wrong, text=text).returncode, 2)
+            self.assertEqual(run("series", *wrong, text=text).returncode, 64)
 
     @HAS_MACHINE
     def test_the_machine(self) -> None:

@@ -151,8 +151,8 @@ class Plot(InFolder):
         self.assertIn("nothing to draw", self.plot(self.HEAD + "1,0,1,on,0,0,0,0,,,,,,,\n").stderr)
         self.assertIn("there is no device 3; these are: 1", self.plot(self.ROWS, "--device", "3").stderr)
         self.assertIn("line 2: not a line of a series", self.plot(self.HEAD + "a,b\n").stderr)
-        self.assertEqual(self.plot(self.ROWS, "--out", "picture.jpg").returncode, 2)
-        self.assertEqual(self.plot(self.ROWS, "--budget", "3").returncode, 2)
+        self.assertEqual(self.plot(self.ROWS, "--out", "picture.jpg").returncode, 64)
+        self.assertEqual(self.plot(self.ROWS, "--budget", "3").returncode, 64)
         for wrong, why in (("--buget", "'--buget' is no option: is --budget meant, a whole number, 1..=65535?\n"),
                            ("--unit", "'--unit' is no option\n")):
             for more in (NO_WORDS, ["--raise"]):
@@ -160,7 +160,7 @@ class Plot(InFolder):
                 self.assertEqual((done.stderr, done.returncode), (f"fintaqush plot: usage fault 64: {why}", 1))
         self.assertIn("the series hasn't all rows", run("plot", TOP / "examples/bursts.csv", "--every", "2", "--raise", "--json").stderr)
         self.assertIn("--beside: No closing quotation", run("plot", TOP / "examples/bursts.csv", "--beside", "'").stderr)
-        self.assertEqual(run("plot").returncode, 2)
+        self.assertEqual(run("plot").returncode, 64)
 
     def test_what_a_title_says(self) -> None:
         """The number of squeezed runs with each setting, and the range of the limit."""

@@ -78,7 +78,7 @@ class Refused(InFolder):
     def test_words(self) -> None:
         for words in (NO_WORDS, ["--device", "lo"], ["--out", "x"], ["0", "--device", "lo", "--out", "x"], ["5", "6", "--device", "lo", "--out", "x"],
                       ["--device", "lo", "--out", "x", "--buffer", "0"], ["--device", "lo", "--out", "x", "--processors", "3-1"]):
-            self.assertIn("usage: fintaqush record", self.refused(*words, status=2))
+            self.assertIn("usage: fintaqush record", self.refused(*words, status=64))
 
     def test_without_root_it_says_so_at_once(self) -> None:
         front = [] if os.geteuid() else ["unshare", "-U"]  # run without root

@@ -134,7 +134,7 @@ total devices 3 runs 2 polls 7 work 80 squeezed 2
             self.assertEqual((done.returncode, done.stderr.count("fintaqush sweep: --fail-if")), (status, status // 3), condition)
         self.assertIn("fintaqush sweep: --fail-if 'squeezed>0': squeezed is 1 with trace ", self.sweep("--resume", "--fail-if", "squeezed>0").stderr)
         for condition in ("squeezed", "squeezed>0us", "nothing>0", "squeezed>", "squeezed>1e3"):
-            self.assertEqual(self.sweep("--fail-if", condition).returncode, 2, condition)
+            self.assertEqual(self.sweep("--fail-if", condition).returncode, 64, condition)
 
     def test_two_calls_on_one_file_lose_no_row(self) -> None:
         """Each replays other windows, at the same time; the file has the rows of both, each once."""
@@ -394,7 +394,7 @@ for job in range(first, last + 1):
         for words in (["--budget", "64,x"], ["--part", "4/3"], NO_WORDS, ["--budget", "0"], ["--weight", "65"], ["--jobs", "0"],
                       ["--restarts", "3"], ["--window", "65536"]):
             done = run("sweep", *([self.folder] if words else []), *words, "--out", self.out)
-            self.assertEqual((done.returncode, self.out.exists()), (2, False), words)
+            self.assertEqual((done.returncode, self.out.exists()), (64, False), words)
         self.assertIn("no such trace", run("sweep", self.folder / "none", "--program", REPLAY).stderr)
         self.assertIn("not a program", run("sweep", self.folder, "--program", "/dev/null", "--out", self.out).stderr)
         self.assertIn("no such folder", run("sweep", self.folder, "--out", self.folder / "none/rows").stderr)

@@ -50,7 +50,7 @@ class FromFtrace(InFolder):
           <idle>-0     [001]   100.000100: net_dev_xmit:         dev=veth0 skbaddr=0xffff888 len=90 rc=0
           <idle>-0     [001]   100.002100: softirq_entry:        vec=3 [action=NET_RX]
           <idle>-0     [001]   100.002200: napi_poll:            napi poll on napi struct 0xffff9 for device veth1 work 1 budget 64
-""", "--pair", "veth0:veth1", "--places", 16)
+""", "--pair", "veth0:veth1", "--capacity", 16)
         self.assertEqual(rows, ["0,1,open,16", "0,2,open,16", "0,1,rx,90", "2,0,softirq,0"])
         self.assertEqual(work, ["polls 1 work 1"])
 
@@ -464,7 +464,7 @@ class Traffic(InFolder):
 
     def test_words_that_it_refuses(self) -> None:
         for words in (["--mix", "busy=1"], ["--mix", "rx=1"], ["--bytes", "9:1"], ["--devices", "17"], ["--rate", "0"]):
-            self.assertEqual(run("traffic", *words).returncode, 2)
+            self.assertEqual(run("traffic", *words).returncode, 64)
         self.assertIn("more than 100000 packets", run("traffic", "--rate", "9999999", "--seconds", "99999").stderr)
 
 
@@ -496,8 +496,8 @@ class CompareRuns(InFolder):
 
     def test_refusals(self) -> None:
         trace = self.write("burst.csv", self.BURST)
-        self.assertEqual(run("compare", trace, "--budget", "1").returncode, 2)
-        self.assertEqual(run("compare", trace, "--", "--budget", "0").returncode, 2)
+        self.assertEqual(run("compare", trace, "--budget", "1").returncode, 64)
+        self.assertEqual(run("compare", trace, "--", "--budget", "0").returncode, 64)
         self.assertIn("trace fault 1 BadHeader row 0", run("compare", "-", "--", text="x\n").stderr)
 
 

@@ -144,7 +144,7 @@ class WhatIf(InFolder):
         self.assertEqual((done.returncode, out.read_text()), (1, told))
         self.assertIn("exists and isn't overwritten", done.stderr)
         for more in (["--resume"], ["--part", "1/2"]):
-            self.assertEqual(run("what-if", *words, "--out", self.folder / "other", *more).returncode, 2)
+            self.assertEqual(run("what-if", *words, "--out", self.folder / "other", *more).returncode, 64)
 
     def test_json_keys_are_identifiers(self) -> None:
         """Also with generated traffic and a searched load; each object has the format's version."""
@@ -190,7 +190,7 @@ class WhatIf(InFolder):
                 self.assertEqual(done.returncode, 0, done.stderr)
                 self.assertTrue(end.read(100).startswith(begins))
         self.assertTrue(run("what-if", self.arrivals, "--budget", "1,300").stdout.startswith("budget,"))
-        self.assertEqual(run("what-if", self.arrivals, "--csv", "--table").returncode, 2)
+        self.assertEqual(run("what-if", self.arrivals, "--csv", "--table").returncode, 64)
 
     def test_what_follows(self) -> None:
         """Rings of 1 and 256 of bursts of five packets; an order that depends on the costs (test_the_band_of_costs); budgets."""
@@ -323,8 +323,8 @@ class WhatIf(InFolder):
         for words in (["--budget", "65536"], ["--load", "0"], ["--load", "1e3"], ["--weight", "0"], ["--slice", "1"], ["--longest", "1"], ["--threaded", "2"], ["--band", "91"], ["--band", "20", "--part", "1/2"], ["--budget", "1,,2"], ["--plot", "x.pdf"], ["--resume"],
                       ["--until", "drop"], ["--until", "p99=x"], ["--until", "drops", "--load", "1,2"], ["--until", "drops", "--out", "x"], ["--seeds", "2"], ["--traffic", "--rate 1"],
                       ["--until", "drops", "--plot", "x.png"]):
-            self.assertEqual(run("what-if", self.arrivals, *words).returncode, 2, words)
-        self.assertEqual(run("what-if").returncode, 2)
+            self.assertEqual(run("what-if", self.arrivals, *words).returncode, 64, words)
+        self.assertEqual(run("what-if").returncode, 64)
         self.assertIn("there is no such file", run("what-if", self.folder / "none").stderr)
         self.assertIn("a regular file", run("what-if", "-", text="").stderr)
         self.arrivals.write_text(HEADER + "1,1,60\n0,1,60\n")

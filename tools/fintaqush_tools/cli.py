@@ -77,7 +77,7 @@ END = """
   --version          print the version
   -h, --help         this text
 
-Exit status: 0 success; 1 error, with a message; 2 bad usage; 3 a condition of --fail-if holds; 130 or 143 interrupted.
+Exit status: 0 success; 1 error, with a message; 3 a condition of --fail-if holds; 64 bad usage; 130 or 143 interrupted.
 `replay`, `series` and `machine` have more.
 """
 
@@ -126,7 +126,7 @@ def about(asked: str) -> int:
         print(*manual.page_of_command(GROUPS), sep="\n")
     else:
         say(unknown(asked) if asked else "no subcommand; fintaqush --help lists them")
-        return 2
+        return errors.BAD_USAGE
     return 0
 
 

@@ -9,7 +9,7 @@ from collections.abc import Iterator, Sequence
 from fintaqush_tools.options import Parser
 from fintaqush_tools.places import version
 
-STATUS = "0 success; 1 error, with a message; 2 bad usage;{} 130 or 143 interrupted."
+STATUS = "0 success; 1 error, with a message;{} 64 bad usage; 130 or 143 interrupted."
 FAILED = " 3 a condition of \\-\\-fail\\-if holds;"
 Groups = Sequence[tuple[str, Sequence[tuple[str, str, str]]]]
 

@@ -8,7 +8,7 @@ import sys
 from collections.abc import Callable, Sequence
 from typing import IO, Any, NoReturn
 
-from fintaqush_tools.errors import Refusal
+from fintaqush_tools.errors import BAD_USAGE, Refusal
 from fintaqush_tools.places import version
 from fintaqush_tools.progress import Program
 from fintaqush_tools.settings import MOST, USUAL
@@ -43,7 +43,8 @@ class Parser(argparse.ArgumentParser):
     def error(self, message: str) -> NoReturn:
         if self.raises:
             raise Refusal(message)
-        super().error(message)
+        self.print_usage(sys.stderr)
+        self.exit(BAD_USAGE, f"{self.prog}: error: {message}\n")
 
 
 def parser_of(text: str, **others: Any) -> Parser:

@@ -11,10 +11,8 @@ pub use crate::sys::fq_machine_settings as MachineSettings;
 impl Default for MachineSettings {
     /// Returns the defaults of `napi_machine`.
     fn default() -> MachineSettings {
-        let size = std::mem::size_of::<MachineSettings>();
-        // SAFETY: all members are integers, for which 0 is a value.
-        let mut settings: MachineSettings = unsafe { std::mem::zeroed() };
-        match calls::machine_default(&mut settings, size) {
+        let mut settings = MachineSettings::INIT;
+        match calls::machine_default(&mut settings) {
             sys::FQ_OK => settings,
             said => crate::fault::unexpected("machine_default", said),
         }
@@ -67,14 +65,7 @@ impl Error for MachineFault {}
 /// ```
 pub fn machine(arrivals: &[u8], settings: &MachineSettings) -> Result<Vec<u8>, MachineFault> {
     let mut report = vec![0; 4096];
-    let mut ran = sys::fq_machine_ran {
-        size: std::mem::size_of::<sys::fq_machine_ran>(),
-        length: 0,
-        row: 0,
-        fault: 0,
-        setting: 0,
-        message: [0; 64],
-    };
+    let mut ran = sys::fq_machine_ran::INIT;
     loop {
         let said = calls::machine(settings, arrivals, &mut report, &mut ran);
         match said {

@@ -27,6 +27,14 @@ pub extern "C" fn fq_version(to: &mut [u8]) -> usize
     write(b"1.1.0", to)
 }
 
+/// Returns the library's version as a number, as FQ_VERSION_NUMBER of the header.
+#[unsafe(no_mangle)]
+pub extern "C" fn fq_version_number() -> u32
+    ensures { result ≡ 10100 }
+{
+    10100
+}
+
 /// Writes the name of a status in the same way; "?" for an unknown number.
 #[unsafe(no_mangle)]
 pub extern "C" fn fq_status_text(status: u32, to: &mut [u8]) -> usize

@@ -217,7 +217,7 @@ class Trace:
         self.unpolled, self.by_backlog = (self.ends_without_polls(), Counter())
         # For each device: packets that wait; packets that were polled before their event.
         self.known, self.owed = (Counter(), Counter())
-        self.open_devices(words.places, look_at_threads(self.pollings, self.devices))
+        self.open_devices(words.capacity, look_at_threads(self.pollings, self.devices))
         if self.kind == BY_PAIR:
             self.count_within(events)
         else:
@@ -274,9 +274,9 @@ class Trace:
             "ends (or an XDP program at the one that receives), and the event napi/napi_poll has to be recorded"
         )
 
-    def open_devices(self, places: int, by_thread: set[str]) -> None:
+    def open_devices(self, capacity: int, by_thread: set[str]) -> None:
         for device, name in enumerate(self.devices, 1):
-            self.add(self.start, device, "open", places)
+            self.add(self.start, device, "open", capacity)
             if name in by_thread:
                 self.add(self.start, device, "threaded", 1)
             self.notes.append(f"device {device} is {name}" + (", polled by a thread" if name in by_thread else ""))
@@ -583,7 +583,7 @@ def parser() -> Parser:
         help="a device that receives and isn't in a pair; may be given many times (those of fintaqush record, or all)",
     )
     parser.add_argument(
-        "--places",
+        "--capacity",
         type=number(1, 65536),
         default=256,
         metavar="N",

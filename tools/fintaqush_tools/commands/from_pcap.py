@@ -267,7 +267,7 @@ def rows_of(words: Words, packets: Packets, names: Sequence[str], places: Mappin
         for place in places[kind]
     )
     rows = chain(
-        ((0, place, "open", words.places) for place in range(1, len(names) + 1)), with_runs(arrivals, words.delay)
+        ((0, place, "open", words.capacity) for place in range(1, len(names) + 1)), with_runs(arrivals, words.delay)
     )
     return some_rows(rows, words.rows) if words.rows else rows
 
@@ -361,7 +361,7 @@ def parser() -> Parser:
     )
     parser.add_argument("--unit", choices=TICKS, default="ms", help="the unit of times (ms)")
     parser.add_argument(
-        "--places", type=number(1, 65536), default=256, metavar="N", help="packets that each ring holds (256)"
+        "--capacity", type=number(1, 65536), default=256, metavar="N", help="packets that each ring holds (256)"
     )
     return parser
 

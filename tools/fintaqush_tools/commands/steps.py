@@ -80,7 +80,7 @@ class Side:
         self.settings, self.is_raised = {**USUAL, **settings}, is_raised
         self.lines = read_series(run_program(made, ["--polls", *["--raise"] * is_raised, *as_options(settings)], text))
         self.rows = records_of(text)
-        self.places = {device: value for _, device, event, value in self.rows if event == "open"}
+        self.capacities = {device: value for _, device, event, value in self.rows if event == "open"}
         self.keys = keys_of(self.lines, self.rows)
 
     def squeezed(self) -> int | None:
@@ -96,7 +96,7 @@ class Side:
         entry = {
             "device": line["device"],
             "state": state,
-            "places": self.places[line["device"]],
+            "capacity": self.capacities[line["device"]],
             "left": line["waiting"],
             **{name: line[name] for name in ("arrived", "dropped", "polled")},
             "flags": flags,

@@ -106,7 +106,7 @@ def rows_of(words: Words) -> list[Row]:
         moment = int(time * ticks)
         rows.append((moment, device, "rx", mix.size()))
         rows += mix.rows(moment, device)
-    opened = [(0, device, "open", words.places) for device in range(1, words.devices + 1)]
+    opened = [(0, device, "open", words.capacity) for device in range(1, words.devices + 1)]
     return [*opened, *with_runs(rows, words.delay)]
 
 
@@ -163,7 +163,7 @@ def parser() -> Parser:
     parser.add_argument(
         "--bytes", type=sizes, default=(60, 1500), metavar="A:B", help="smallest and largest packet, in bytes (60:1500)"
     )
-    parser.add_argument("--places", type=number(1, 65536), default=256, help="packets that each ring holds (256)")
+    parser.add_argument("--capacity", type=number(1, 65536), default=256, help="packets that each ring holds (256)")
     parser.add_argument(
         "--delay",
         type=number(0, 10**9),
