@@ -12,7 +12,7 @@ use Rattle.text_io.specs.Given.{Text, number_within, or_usual}
 use Rattle.machine_model.specs.declared.settings.{MachineOption.MachineOption, MachineSettings.MachineSettings}
 use Rattle.machine_model.specs.declared.settings.TheConstants.{OPTION_COUNT}
 use Rattle.machine_model.specs.Options.{OptionRule, machine_options, option_defaults, flag_number, rule}
-use Rattle.machine_model.specs.Options.{AreInRange, IsFirstOut, IsOption, IsOptionInRange, number_with, values_of, values_with}
+use Rattle.machine_model.specs.Options.{AreInRange, IsOption, IsOptionInRange, IsRejected, excludes, number_with, values_of, values_with}
 
 -- ---- lists
 
@@ -140,10 +140,12 @@ one_more P values i v l before here k o d m = elim (cases_eq k i) [
 -- ---- arguments
 
 pub asked_is : (r : Result MachineSettings ℕ) (values : List ℕ) → IfOk r (λ s. values_of s ≡ values)
-    → IfErr r (λ number. IsFirstOut values number) → AreInRange values → option_map values_of (result_ok r) ≡ Some values
-asked_is (Ok s) values ok err h = ap Some ok
-asked_is (Err n) values ok err h =
-    absurd (err.out no_option 0 (in_range_at values (n - 1) no_option 0 h (omega (arith, err.numbered.0, err.numbered.1, length_options))))
+    → IfOk r (λ s. excludes values ≡ false) → IfErr r (λ number. IsRejected values number) → AreInRange values
+    → option_map values_of (result_ok r) ≡ (if excludes values then None else Some values)
+asked_is (Ok s) values ok fit err h = rw fit (ap Some ok)
+asked_is (Err n) values ok fit (inl out) h =
+    absurd (out.out no_option 0 (in_range_at values (n - 1) no_option 0 h (omega (arith, out.numbered.0, out.numbered.1, length_options))))
+asked_is (Err n) values ok fit (inr both) h = rw both.1.0 refl
 
 abbrev nothing : Option (List ℕ)
 nothing = None
