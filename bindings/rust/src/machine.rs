@@ -43,7 +43,10 @@ impl fmt::Display for MachineFault {
     fn fmt(&self, f: &mut fmt::Formatter<'_>) -> fmt::Result {
         match self {
             MachineFault::Arrivals { message, .. } => f.write_str(message),
-            MachineFault::Setting(number) => write!(f, "setting {number} is out of its range, or excludes another"),
+            MachineFault::Setting(number) => write!(
+                f,
+                "setting {number} is out of its range, or excludes another"
+            ),
             MachineFault::Refused(fault) => fault.fmt(f),
         }
     }
