@@ -1,5 +1,5 @@
 -- Law: the interrupts of a card are at least `rx-gap` apart.
-use Rattle.std.proofs.Common.{◌≡◌, ℕ, ◌+◌, ◌-◌, ◌*◌, ◌<◌, ◌≤◌, ◌^◌, Bool, true, false, Option, Some, None, List, [], ◌∷◌, ◌++◌, refl}
+use Rattle.std.proofs.Common.{◌≡◌, ◌∙◌, ℕ, ◌+◌, ◌-◌, ◌*◌, ◌<◌, ◌≤◌, ◌^◌, Bool, true, false, Option, Some, None, List, [], ◌∷◌, ◌++◌, refl}
 use Rattle.std.proofs.Common.{arith, drop, length}
 use Rattle.std.proofs.lemmas.{Bool.{eqb-true, leb-false, leb-true}, Grind.common_steps}
 use Rattle.std.specs.Prelude.{◌==◌, ◌&&◌, if◌then◌else◌, is_some, nat_le, not}
@@ -7,9 +7,9 @@ use Rattle.machine_model.specs.declared.settings.MachineSettings.{MachineSetting
 use Rattle.device_places.specs.Places.{at}
 use Rattle.machine.specs.{Gaps.InterruptsAreApart, Lives.{MachineEvent, behind, next, packet}}
 use Rattle.machine_model.specs.declared.device.{Phase.Phase, Line.{Line, TheVariants.{Quiet, Coalescing, Raised, Masked}}}
-use Rattle.machine_model.specs.Device.{QueueView, after_napi_timer, after_packet, asks, card_timer, coalesced, expired, gap_end, handled}
-use Rattle.machine_model.specs.Device.{has_room, interrupted, is_card_first, is_fired, is_masked, is_masked_line, is_raised, notified}
-use Rattle.machine_model.specs.Device.{queue_completed, queue_polled, unmasked_line, without_next}
+use Rattle.machine_model.specs.Device.{QueueView, after_napi_timer, after_packet, asks, asks_later, card_handled, card_timer, coalesced, expired}
+use Rattle.machine_model.specs.Device.{gap_end, handled, has_room, interrupted, is_at_once, is_card_first, is_fired, is_masked, is_masked_line}
+use Rattle.machine_model.specs.Device.{is_raised, notified, queue_completed, queue_polled, timer_handled, unmasked_line, without_next}
 use Rattle.machine_model.specs.{Devices.asks_at, Processor.{ProcessorView, is_polling, step, upcoming}, Waits.saturated}
 use Rattle.machine.proofs.TableFacts.{IfThere, map_at}
 use Rattle.machine.proofs.{EndFacts.{Keeps, ends-at}, FateFacts.{Steady, at-arrives, made_at, steady-life}}
@@ -54,20 +54,21 @@ some-last : (gap moment : ℕ) (asserted : Option ℕ) → nat_le (gap_end gap a
 some-last gap moment None waits = absurd (let less = leb-false 0 moment waits in omega (arith, less))
 some-last gap moment (Some last) waits = refl
 
-packet-line : (gap moment count : ℕ) (asserted : Option ℕ) (line : Line) (now : Bool) → nat_le (gap_end gap asserted) moment ≡ now
+packet-line : (gap moment until count : ℕ) (asserted : Option ℕ) (line : Line) (now : Bool)
+    → (now ≡ true → gap_end gap asserted ≤ moment) → (now ≡ false → (is_some asserted ≡ true) × (gap_end gap asserted ≡ until))
     → is_masked_line line ≡ false → Few gap asserted (count + up line) → Waits gap asserted line
-    → (let l = if now then Raised else coalesced (gap_end gap asserted) line in
+    → (let l = if now then Raised else coalesced until line in
     let a = if now && not (is_raised line) then Some moment else asserted in
     Few gap a (count + up l) × Waits gap a l)
-packet-line gap moment count asserted Quiet true is clear few waits =
-    (few-more gap asserted count moment few (leb-true (gap_end gap asserted) moment is), tt)
-packet-line gap moment count asserted Quiet false is clear few waits = (few, (some-last gap moment asserted is, refl))
-packet-line gap moment count asserted (Coalescing until) true is clear few waits =
-    (few-more gap asserted count moment few (leb-true (gap_end gap asserted) moment is), tt)
-packet-line gap moment count asserted (Coalescing until) false is clear few waits = (few, waits)
-packet-line gap moment count asserted Raised true is clear few waits = (few, tt)
-packet-line gap moment count asserted Raised false is clear few waits = (few, tt)
-packet-line gap moment count asserted Masked now is clear few waits = cc clear
+packet-line gap moment until count asserted Quiet true over later clear few waits =
+    (few-more gap asserted count moment few (over refl), tt)
+packet-line gap moment until count asserted Quiet false over later clear few waits = (few, later refl)
+packet-line gap moment until count asserted (Coalescing other) true over later clear few waits =
+    (few-more gap asserted count moment few (over refl), tt)
+packet-line gap moment until count asserted (Coalescing other) false over later clear few waits = (few, waits)
+packet-line gap moment until count asserted Raised true over later clear few waits = (few, tt)
+packet-line gap moment until count asserted Raised false over later clear few waits = (few, tt)
+packet-line gap moment until count asserted Masked now over later clear few waits = cc clear
 
 packet-apart : (moment : ℕ) (s : MachineSettings) (d : QueueView) → (s.rx_gap == 0) ≡ false → Apart s.rx_gap d
     → Apart s.rx_gap (after_packet moment s d)
@@ -80,14 +81,26 @@ packet-apart moment s d some h = by (has_room d) (is_masked d.phase) refl
     f : QueueView
     f = record e { ring = d.ring ++ moment ∷ [] }
 
+    end : ℕ
+    end = gap_end s.rx_gap d.asserted
+
+    over : (none now : Bool) → none ≡ false → (if none then now else nat_le end moment) ≡ true → end ≤ moment
+    over true now gap is = cc gap
+    over false now gap is = leb-true end moment is
+
+    later : (none now : Bool) (until : ℕ) → none ≡ false → (if none then now else nat_le end moment) ≡ false
+        → (is_some d.asserted ≡ true) × (end ≡ (if none then until else end))
+    later true now until gap is = cc gap
+    later false now until gap is = (some-last s.rx_gap moment d.asserted is, refl)
+
     by : (room masked : Bool) → is_masked d.phase ≡ masked
         → Apart s.rx_gap (if not room then record e { counts = record e.counts { dropped = saturated (d.counts.dropped + 1) } }
         else (if masked then f else notified moment s f))
     by false masked is = h
     by true true is = h
     by true false is =
-        rw some (packet-line s.rx_gap moment d.counts.interrupts d.asserted d.phase.line (nat_le (gap_end s.rx_gap d.asserted) moment) refl is
-        h.0 h.1)
+        packet-line s.rx_gap moment (asks_later moment s d) d.counts.interrupts d.asserted d.phase.line (is_at_once moment s d)
+        (over (s.rx_gap == 0) _ some) (later (s.rx_gap == 0) _ _ some) is h.0 h.1
 
 -- ---- timers and interrupts
 
@@ -113,24 +126,30 @@ expired-apart gap d h =
 one-up : (phase : Phase) → asks phase ≡ true → is_fired phase ≡ false → up phase.line ≡ 1
 one-up phase asked calm = grind (arith, common_steps)
 
+counted : (gap : ℕ) (d : QueueView) → asks d.phase ≡ true → is_fired d.phase ≡ false → Apart gap d
+    → Few gap d.asserted (saturated (d.counts.interrupts + 1) + 0)
+counted gap d asked calm h =
+    few-less gap d.asserted (saturated (d.counts.interrupts + 1) + 0) (d.counts.interrupts + up d.phase.line)
+    (omega (arith, one-up d.phase asked calm)) h.0
+
 interrupted-apart : (gap : ℕ) (polling : Bool) (d : QueueView) → asks d.phase ≡ true → Apart gap d → Apart gap (interrupted polling d)
 unfolding interrupted
-interrupted-apart gap polling d asked h = by polling (is_fired d.phase) refl
+interrupted-apart gap true d asked h = by (is_fired d.phase) refl
   where
-    counted : is_fired d.phase ≡ false → Few gap d.asserted (saturated (d.counts.interrupts + 1) + 0)
-    counted calm =
-        few-less gap d.asserted (saturated (d.counts.interrupts + 1) + 0) (d.counts.interrupts + up d.phase.line)
-        (omega (arith, one-up d.phase asked calm)) h.0
-
-    by : (polling fired : Bool) → is_fired d.phase ≡ fired
-        → (let e = record d { phase = handled polling d.phase } in
+    by : (fired : Bool) → is_fired d.phase ≡ fired
+        → (let e = record d { phase = if fired then timer_handled d.phase else card_handled d.phase } in
         let counts = record d.counts { interrupts = saturated (d.counts.interrupts + 1) } in
         Apart gap (if fired then e else record e { frames = 0; counts = counts }))
-    by true true is = rw is h
-    by true false is = rw is (counted is, tt)
-    by false true is =
-        (few-less gap d.asserted (d.counts.interrupts + 0) (d.counts.interrupts + up d.phase.line) (omega arith) h.0, tt)
-    by false false is = (counted is, tt)
+    by true is = h
+    by false is = (counted gap d asked is h, tt)
+interrupted-apart gap false d asked h = by (is_fired d.phase) refl
+  where
+    by : (fired : Bool) → is_fired d.phase ≡ fired
+        → (let e = record d { phase = handled false d.phase } in
+        let counts = record d.counts { interrupts = saturated (d.counts.interrupts + 1) } in
+        Apart gap (if fired then e else record e { frames = 0; counts = counts }))
+    by true is = (few-less gap d.asserted (d.counts.interrupts + 0) (d.counts.interrupts + up d.phase.line) (omega arith) h.0, tt)
+    by false is = (counted gap d asked is h, tt)
 
 apart-steady : (gap : ℕ) → Steady (λ o. IfThere (Apart gap) o)
 unfolding map_at
@@ -185,7 +204,7 @@ next-apart gap true d h = by (length d.taken == 0)
 apart-ends : (gap : ℕ) (p : ProcessorView) → is_polling p.settings ≡ true → Keeps (λ o. IfThere (Apart gap) o) p
 unfolding map_at
 apart-ends gap p polling = record {
-  raised = λ lone o h. cc (polling, lone);
+  raised = λ lone o h. absurd (cc (polling, lone));
   next = λ backlog o plain polls h. first backlog o h;
   delivered = λ came o h. second came o h;
   polled = λ given o h. third given o h;
@@ -227,7 +246,7 @@ apart-on s n (next ∷ earlier) polling some =
     let goes = goes-on s earlier in
     let before = apart-on s n earlier polling some in
     life-happens (steady-life s (λ o. IfThere (Apart s.rx_gap) o) (apart-steady s.rx_gap) n) (upcoming p) p goes before before
-    (λ is. ends-at (λ o. IfThere (Apart s.rx_gap) o) n p (apart-ends s.rx_gap p (rw (same-polling s p goes.rests.settings) polling)) before)
+    (λ is. ends-at (λ o. IfThere (Apart s.rx_gap) o) n p (apart-ends s.rx_gap p (same-polling s p goes.rests.settings ∙ polling)) before)
 
 pub interrupts-are-apart : InterruptsAreApart
 interrupts-are-apart s events n last d polling there asserted small = by (s.rx_gap == 0) refl
