@@ -394,7 +394,9 @@ class Processor {
     void end_interrupt_without_polling() {
         Device &device = *devices[busy];
         deliver(device, device.ring.take());
-        raised = (raised & ~(1ull << busy)) | static_cast<uint64_t>(device.ring.size() > 0) << busy;
+        if (!device.ring.size()) return;
+        raised |= 1ull << busy;
+        timers.unset(2 * busy);
     }
 
     void begin_run() {

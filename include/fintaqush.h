@@ -121,7 +121,7 @@ enum fq_status FQ_NUMBER {
     FQ_BAD_TRACE = 120,        /* replay, raise: the bytes are not a trace, or a row of it can't be processed */
     FQ_BAD_DEVICE = 121,       /* the driver has no device with this number */
     FQ_BAD_SIZE = 122,         /* a struct's size is not one that the library knows */
-    FQ_BAD_SETTING = 123,      /* machine: a setting of the machine is out of its range */
+    FQ_BAD_SETTING = 123,      /* machine: a setting of the machine is out of its range, or excludes another */
     FQ_BAD_ARRIVALS = 124      /* machine: the bytes are not arrivals */
 };
 
@@ -862,6 +862,7 @@ struct fq_machine_settings {
     uint32_t use_time;          /* time that the application takes for a packet, 0 to 1000000000 ns (2000) */
     uint32_t wake;              /* time to wake an idle processor, which counts as interrupt time, 0 to 1000000000 ns (0) */
     uint32_t heedless;          /* 1: the driver unmasks the queue whatever napi_complete_done returns (vmxnet3, tg3, be2net, mana), 0 to 1 (0) */
+    uint32_t rx_gap;            /* least time between two interrupts of a card (ethtool -C rx-usecs of igb, ixgbe, e1000, e1000e, in us there); not with rx-nsecs or rx-frames, 0 to 1000000000 ns (0) */
     /* scripts/options.py: end */
 };
 
@@ -871,7 +872,7 @@ struct fq_machine_ran {
     size_t length;    /* the length of the report in bytes, even if there is no room for it; 0 if there is none */
     uint64_t row;     /* the row that the fault of the arrivals names, counted from 1; 0 if it names none */
     uint32_t fault;   /* the number of that fault, 1 to 8; 0 if they have none */
-    uint32_t setting; /* the first setting that is out of its range: 1 for processors, 2 for queues and so on; 0 if none is */
+    uint32_t setting; /* the first setting that is out of its range, or rx_gap if it excludes another: 1 for processors, 2 for queues and so on; 0 if none is rejected */
     char message[64]; /* the message of the fault of the arrivals, as napi_machine prints it, with a terminating 0; otherwise empty */
 };
 

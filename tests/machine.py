@@ -106,7 +106,7 @@ def examples(program: str) -> list[str]:
         is_right = all(part in out for part in of["contains"]) and of["report"] in ([], out.splitlines())
         wrong += [] if is_right else [f"{of['options'][0]}\n{out}"]
         count += 1
-    return wrong if count >= 5 and count + left_out == 12 else [f"there are {count} examples, and {left_out} are left out", *wrong]
+    return wrong if count >= 5 and count + left_out == 14 else [f"there are {count} examples, and {left_out} are left out", *wrong]
 
 
 # ---- random arrivals with random options

@@ -302,7 +302,8 @@ def end_interrupt(processor: Processor, device: Device) -> None:
 def end_interrupt_without_polling(processor: Processor, device: Device) -> None:
     """Without polling, each interrupt delivers one packet."""
     deliver(processor, device, device.ring.popleft())
-    device.raised = bool(device.ring)
+    if device.ring:
+        device.raised, device.card_timer = True, None
 
 
 def go_on_with_run(processor: Processor) -> bool:

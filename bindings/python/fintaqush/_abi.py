@@ -269,6 +269,7 @@ class MachineSettings(ctypes.Structure):
         ("use_time", u32),
         ("wake", u32),
         ("heedless", u32),
+        ("rx_gap", u32),
     ]
 
 

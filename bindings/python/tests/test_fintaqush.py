@@ -516,6 +516,8 @@ class TestMachine(Refusals):
         for name, value in (("weight", 65), ("backlog", 2), ("wake", 10**9 + 1), ("processors", 0)):
             with self.assertRaisesRegex(SettingFault, f"^FQ_BAD_SETTING: {name}$"):
                 machine(self.ARRIVALS, **{name: value})
+        with self.assertRaisesRegex(SettingFault, "^FQ_BAD_SETTING: rx_gap$"):
+            machine(self.ARRIVALS, rx_gap=20000, rx_frames=2)
         for values in ((self.ARRIVALS.decode(), {}), (self.ARRIVALS, {"size": 96}), (self.ARRIVALS, {"use": 1})):
             with self.assertRaises(TypeError):
                 machine(values[0], **values[1])

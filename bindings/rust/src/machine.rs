@@ -31,7 +31,7 @@ pub enum MachineFault {
         /// The message of the error, as `napi_machine` prints it.
         message: String,
     },
-    /// The setting with this number is out of its range: 1 for `processors`, 2 for `queues`, and so on.
+    /// The setting with this number is out of its range, or excludes another: 1 for `processors`, 2 for `queues`, and so on.
     Setting(u32),
     /// The call failed with [`OUT_OF_MEMORY`](Fault::OUT_OF_MEMORY), or because `size` isn't that of the struct.
     Refused(Fault),
@@ -41,7 +41,10 @@ impl fmt::Display for MachineFault {
     fn fmt(&self, f: &mut fmt::Formatter<'_>) -> fmt::Result {
         match self {
             MachineFault::Arrivals { message, .. } => f.write_str(message),
-            MachineFault::Setting(number) => write!(f, "setting {number} is out of its range"),
+            MachineFault::Setting(number) => write!(
+                f,
+                "setting {number} is out of its range, or excludes another"
+            ),
             MachineFault::Refused(fault) => fault.fmt(f),
         }
     }

@@ -77,7 +77,7 @@ pub const FQ_BAD_TRACE: u32 = 120;
 pub const FQ_BAD_DEVICE: u32 = 121;
 /// A struct's size is not one that the library knows.
 pub const FQ_BAD_SIZE: u32 = 122;
-/// Machine: a setting of the machine is out of its range.
+/// Machine: a setting of the machine is out of its range, or excludes another.
 pub const FQ_BAD_SETTING: u32 = 123;
 /// Machine: the bytes are not arrivals.
 pub const FQ_BAD_ARRIVALS: u32 = 124;
@@ -570,6 +570,9 @@ pub struct fq_machine_settings {
     /// 1: the driver unmasks the queue whatever `napi_complete_done` returns (vmxnet3, tg3, be2net, mana), 0 to 1
     /// (0).
     pub heedless: u32,
+    /// Least time between two interrupts of a card (ethtool -C rx-usecs of igb, ixgbe, e1000, e1000e, in us there);
+    /// not with rx-nsecs or rx-frames, 0 to 1000000000 ns (0).
+    pub rx_gap: u32,
 }
 
 impl fq_machine_settings {
@@ -598,6 +601,7 @@ impl fq_machine_settings {
         use_time: 0,
         wake: 0,
         heedless: 0,
+        rx_gap: 0,
     };
 }
 
@@ -613,7 +617,8 @@ pub struct fq_machine_ran {
     pub row: u64,
     /// The number of that fault, 1 to 8; 0 if they have none.
     pub fault: u32,
-    /// The first setting that is out of its range: 1 for processors, 2 for queues and so on; 0 if none is.
+    /// The first setting that is out of its range, or `rx_gap` if it excludes another: 1 for processors, 2 for queues
+    /// and so on; 0 if none is rejected.
     pub setting: u32,
     /// The message of the fault of the arrivals, as `napi_machine` prints it, with a terminating 0; otherwise empty.
     pub message: [c_char; 64],

@@ -1049,6 +1049,12 @@ fn the_machine_reports_what_its_program_does() {
         ..settings
     };
     assert_eq!(machine(arrivals, &late), Err(MachineFault::Setting(21)));
+    let both = MachineSettings {
+        rx_gap: 20_000,
+        rx_nsecs: 1,
+        ..settings
+    };
+    assert_eq!(machine(arrivals, &both), Err(MachineFault::Setting(23)));
     let many: String = (0..4000)
         .map(|i| format!("{i},{},60\n", i % 64 + 1))
         .collect();

@@ -169,7 +169,7 @@ fn refusal_message(status: u32) -> &'static [u8]
         120 => b"the bytes are not a trace, or a row of it can't be processed",
         121 => b"the driver has no device with this number",
         122 => b"a struct's size is not one that the library knows",
-        123 => b"a setting of the machine is out of its range",
+        123 => b"a setting of the machine is out of its range, or excludes another",
         124 => b"the bytes are not arrivals",
         _ => b"?",
     }
