@@ -8,6 +8,7 @@ import emulation
 from fintaqush_tools import card_costs, predicting
 from fintaqush_tools.card_costs import CardTimes
 from fintaqush_tools.commands import costs
+from fintaqush_tools.instances import ANY
 from fintaqush_tools.receiving import Receiving
 from fintaqush_tools.recording import Event, Head, check_lost, events_in
 from fintaqush_tools.timeline import Timeline
@@ -77,10 +78,7 @@ class Seen:
     def add_arrivals(self, frames: Iterable[Frame], stamps: list[tuple[int, ...]], read: set[int]) -> None:
         ahead = ahead_of(stamps)
         for time, number in sorted(frame for frame in frames if stamps[0][0] <= frame[0] <= stamps[-1][2]):
-            self.receiving.sent.append(time - ahead)
-            self.receiving.has_come.append(number in read)
-            self.receiving.sent_on.append(0)
-            self.receiving.sent_by.append("card")
+            self.receiving.append_packet(time - ahead, number in read, 0, "card", ANY)
 
     def add(self, event: Event) -> None:
         self.receiving.add(event)
