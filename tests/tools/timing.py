@@ -207,8 +207,8 @@ def reads_of(events: list[Event], device: str) -> tuple[list[int], list[int], li
     return uses, found, lone
 
 
-def wakes_of(events: list[Event], device: str) -> Iterator[int]:
-    """Yields the time from each run's cause (a packet, or a timer's due time) to its beginning, minus the interrupt."""
+def wakes_of(events: list[Event], device: str) -> Iterator[tuple[int, bool]]:
+    """Yields the time from each run's cause (a packet, or a timer's due time) to its beginning, minus the interrupt, and whether it was a timer."""
     came = [time for time, _, _, _, said in events if re.match(r"net_dev_xmit: dev=va7 .*rc=0$", said)]
     taken = last = 0
     for place, (time, cpu, _, _, said) in enumerate(events):
@@ -223,9 +223,9 @@ def wakes_of(events: list[Event], device: str) -> Iterator[int]:
             took, _ = before_run(events, at) or (0, False)
             if expired and expired[4].startswith("hrtimer"):
                 due = next(group_in(r"expires=(\d+)", each[4]) for each in events[:at][::-1] if each[4].startswith("hrtimer_start"))
-                yield begin[0] - int(due) - took
+                yield begin[0] - int(due) - took, True
             elif found[1] != "0" and last <= came[taken] <= begin[0] and had_other(events, cpu, came[taken], at):
-                yield begin[0] - came[taken] - took
+                yield begin[0] - came[taken] - took, False
         taken, last = taken + int(found[1]), time
 
 
