@@ -191,7 +191,7 @@ class Advise(InFolder):
         return path
 
     CAPTURED: dict[str, object] = {"sender": "", "pair": "", "began.realtime": REAL, "began.monotonic": MONOTONIC, "device.vb1.address": ADDRESS}
-    BEGINS = [10**12 + 400_000 * place + COSTS["wake"] - MONOTONIC for place in range(80)]  # of the interrupts
+    BEGINS = range(10**12 + COSTS["wake"] - MONOTONIC, 10**12 + COSTS["wake"] - MONOTONIC + 80 * 400_000, 400_000)  # of the interrupts
 
     def arriving(self, works: Sequence[int]) -> list[tuple[int, str]]:
         """Returns packets that arrive 700 ns before the interrupts."""
