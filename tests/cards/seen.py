@@ -1,8 +1,9 @@
 """What a recording of an emulated card shows: costs, arrivals at the card, and measured values."""
 
 import struct
-from collections.abc import Iterable, Iterator
+from collections.abc import Iterable, Iterator, Sequence
 from pathlib import Path
+from statistics import fmean
 
 import emulation
 from fintaqush_tools import card_costs, predicting
@@ -56,6 +57,12 @@ def ahead_of(stamps: list[tuple[int, ...]]) -> int:
     return ahead
 
 
+def middle_of(waits: Sequence[float]) -> int:
+    """Returns the mean of the middle 4 % of sorted waits. The median itself may lie at a gap of some us between waits, and then jumps over it when a
+    few packets of thousands wait longer."""
+    return round(fmean(waits[48 * len(waits) // 100 : -(-52 * len(waits) // 100)]))
+
+
 class Seen:
     """What a recording shows, with the arrivals at the card."""
 
@@ -77,7 +84,10 @@ class Seen:
             self.receiving.append_packet(time - ahead, number in read, 0, "card", ANY)
 
     def measured(self, packet: float) -> Measured:
-        return {**predicting.measured_of(self.receiving, self.head, packet=packet), "interrupts": self.interrupts}
+        values = predicting.measured_of(self.receiving, self.head, packet=packet)
+        for name, pairs in (("delivered_p50", self.receiving.delivered(packet)), ("used_p50", self.receiving.used())):
+            values |= {name: middle_of(sorted(end - time for time, end in pairs))} if name in values else {}
+        return {**values, "interrupts": self.interrupts}
 
     def costs(self) -> dict[str, int]:
         """Returns the costs by `fintaqush costs`, with the interrupt from the arrival at the card."""

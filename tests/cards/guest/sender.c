@@ -15,7 +15,7 @@
 #include <sys/socket.h>
 #include <time.h>
 
-enum { MOST = 235, SIZE = 142, HEADERS = 42, FROM = 1024, TO = 9000, TICKS = 20000000 };
+enum { MOST = 235, SIZE = 142, HEADERS = 42, FROM = 1024, TO = 9000 };
 
 static unsigned char frames[MOST][SIZE];
 static struct mmsghdr all[MOST];
@@ -64,7 +64,7 @@ int main(int words, char **word) {
     srand48(atoi(word[9]));
     for (int i = 0; i < MOST; i++) make(i);
     mlockall(MCL_CURRENT);
-    uint64_t at = (now() / TICKS + 2) * TICKS; // so that the ticks come at the same places in each recording
+    uint64_t at = now() + 20000000;
     for (int i = 0; i < count; i++, at += period) {
         int many = paced ? slots : 1 + (int)(drand48() * (2 * slots - 1));
         if (many > MOST) many = MOST;
