@@ -16,7 +16,7 @@ from fintaqush_tools.card_costs import CardTimes
 from fintaqush_tools.commands import costs
 from fintaqush_tools.fits import Cost
 from fintaqush_tools.options import Words
-from fintaqush_tools.recording import Head, events_of
+from fintaqush_tools.recording import events_of
 from fintaqush_tools.timeline import Timeline
 
 Found = tuple[int, int, str, int, str]  # time, processor, task, its number, text

@@ -126,7 +126,7 @@ def is_deferred(options: Mapping[str, int]) -> bool:
 def candidates(
     head: Head, device: str, options: dict[str, int], has_program: bool, has_timer: bool
 ) -> list[dict[str, int]]:
-    """Returns all settings to try, the recorded one first. Unless the cost of NAPI's timer is known, deferral isn't compared with none."""
+    """Returns all settings to try, the recorded one first. Deferral is compared with none only if a timer's cost is known."""
     places: list[dict[str, int]] = [{}, {"apart": 0}, {"apart": 1}] if has_program else [{}]
     rings: list[dict[str, int]] = [{}, *({"ring": ring} for ring in rings_of(head, device, options))]
     tried = [options]

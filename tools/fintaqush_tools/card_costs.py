@@ -91,6 +91,10 @@ class CardTimes:
             self.woken_uses.append(event.time - self.poll_end)
 
 
+def told_half(cost: Cost) -> str:
+    return f"half of them from {cost.middle[0]:.0f} to {cost.middle[1]:.0f}"
+
+
 def take_cost(times: CardTimes) -> Optional[Cost]:
     """Returns the cost of taking a packet from the ring and passing it to GRO, without the stack's part."""
     return cost_of(times.takes, "pairs of packets")
@@ -102,8 +106,8 @@ def app_wake_cost(times: CardTimes, use: Optional[Cost]) -> Optional[Cost]:
 
 
 def wakes_by(times: Timeline, kind: str) -> tuple[list[int], int]:
-    """Returns the times of the wake-ups by `packets` or by `timers`, and how many of them waited while another task had the processor. These count
-    if a program reads, which is such a task, or if there are too few others."""
+    """Returns the times of the wake-ups by `packets` or by `timers`, and how many of them waited while another task had the
+    processor. These count if a program reads, which is such a task, or if there are too few others."""
     idle, busy = times.wakes[kind], times.busy_wakes[kind]
     return (idle + busy, len(busy)) if times.reads.tasks or len(idle) < FEWEST else (idle, 0)
 
@@ -150,9 +154,6 @@ def known_costs(
     """
     found = {"take": take_cost(times), "app-wake": app_wake_cost(times, use)}
     costs = {**{name: cost for name, cost in found.items() if cost}, **timer_costs(timeline)}
-    told = [
-        f"{name} {cost.interval()}: {cost.count} {cost.source}, half of them from {cost.middle[0]:.0f} to {cost.middle[1]:.0f}"
-        for name, cost in costs.items()
-    ]
+    told = [f"{name} {cost.interval()}: {cost.count} {cost.source}, {told_half(cost)}" for name, cost in costs.items()]
     at = f", at a gro_flush_timeout of {' and '.join(map(str, timeouts))} ns"
     return costs, [line + at if timeouts and line.startswith("timer") else line for line in told]

@@ -32,8 +32,9 @@ def numeric(value: Any) -> float:
 
 
 def settings_of(costs: Mapping[str, int], options: Options) -> Options:
-    """Returns the machine's options. `costs` may have `app-wake-apart`, the wake-up of a program that has its own processor. If the machine has no
-    costs of NAPI's timer, they are those of interrupts with deferral, with which nearly all are timers."""
+    """Returns the machine's options. `costs` may have `app-wake-apart`, the wake-up of a program with a processor of its own. If
+    the machine has no costs of NAPI's timer, they are those of interrupts if there is deferral, because nearly all are timers then.
+    """
     values = {name: costs[name] for name in COSTS if name in costs}
     if options.get("apart") and "app-wake-apart" in costs:
         values["app-wake"] = costs["app-wake-apart"]

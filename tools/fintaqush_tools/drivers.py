@@ -343,8 +343,8 @@ def options_of(head: Head, device: str) -> dict[str, int]:
 
 
 def coalescing_of(head: Head, device: str, choices: Sequence[int]) -> list[dict[str, int]]:
-    """Returns the machine's option for each of these rx-usecs, without those that the recorded device's driver doesn't take, or whose effect isn't
-    known. What an unknown driver takes isn't known, so they are all a card's timer."""
+    """Returns the machine's option for each of these rx-usecs, without those that the recorded device's driver doesn't take, or
+    whose effect isn't known. What an unknown driver takes isn't known, so they are all a card's timer."""
     driver = driver_in(head, device)
     if not driver:
         return [{"rx-nsecs": 1000 * usecs} for usecs in choices]

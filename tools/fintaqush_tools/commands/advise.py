@@ -78,8 +78,8 @@ TOLD = {
     "poll_percent": "polls, % of the time",
 }
 NO_TIMER = (
-    "deferral isn't compared with none, because the recording has too few of NAPI's timers to know their cost: record again with "
-    "napi_defer_hard_irqs 2 and a gro_flush_timeout of 100000"
+    "deferral isn't compared with none, because the recording has too few of NAPI's timers to know their cost: record "
+    "again with napi_defer_hard_irqs 2 and a gro_flush_timeout of 100000"
 )
 UNKNOWN = "no wait was measured, because which packet was in which poll isn't known"
 
@@ -213,7 +213,7 @@ class Advice:
             self.choose(len(first.splitlines()) - 1)
 
     def take_interrupt(self) -> None:
-        """Takes the cost of an interrupt from the arrivals of a capture, if softirqs poll: it begins before its handler."""
+        """Takes the cost of an interrupt from a capture's arrivals, if softirqs poll: it begins before its handler."""
         seen = self.recording.seen
         cost = card_costs.arrival_interrupt_cost(seen.sent, seen.entries[seen.processor])
         if cost and not seen.is_by_thread:

@@ -31,7 +31,15 @@ from collections.abc import Iterator, Mapping, Sequence
 from statistics import median
 from typing import Any, Optional
 
-from fintaqush_tools.card_costs import CardTimes, is_by_scheduler, known_costs, timeouts_of, timer_costs, wakes_by
+from fintaqush_tools.card_costs import (
+    CardTimes,
+    is_by_scheduler,
+    known_costs,
+    timeouts_of,
+    timer_costs,
+    told_half,
+    wakes_by,
+)
 from fintaqush_tools.errors import Refusal
 from fintaqush_tools.files import check_input
 from fintaqush_tools.fits import FEWEST, Cost, Line, cost_line, cost_of, halves_of, shift_of
@@ -65,10 +73,6 @@ class Times(Timeline):
     def add(self, event: Event) -> None:
         super().add(event)
         self.card.add(event)
-
-
-def told_half(cost: Cost) -> str:
-    return f"half of them from {cost.middle[0]:.0f} to {cost.middle[1]:.0f}"
 
 
 def polls_of(times: Timeline, head: Head) -> Told:
@@ -128,7 +132,9 @@ def interrupts_of(times: Timeline) -> Told:
         ]
     # The others came by chance.
     kinds = {name: took for name, took in times.handlers.items() if name != TIMER and len(took) > RARE * count}
-    names = ", ".join(f"{shown(each)} ({len(kinds[each])})" for each in sorted(kinds, key=lambda name: -len(kinds[name])))
+    names = ", ".join(
+        f"{shown(each)} ({len(kinds[each])})" for each in sorted(kinds, key=lambda name: -len(kinds[name]))
+    )
     cost = cost_of([each for took in kinds.values() for each in took], f"handlers of {names}")
     if cost:
         return {"interrupt": cost}, [
@@ -167,7 +173,9 @@ def wakes_of(times: Timeline) -> Told:
     processor = times.processor()
     if processor is not None and 2 * times.sent_on[processor] > times.came:
         more.append("the packets are sent on this processor, which doesn't sleep then")
-    return {"wake": cost}, [f"wake {cost.interval()}: " + "; ".join([f"{cost.count} by packets, {told_half(cost)}", *more])]
+    return {"wake": cost}, [
+        f"wake {cost.interval()}: " + "; ".join([f"{cost.count} by packets, {told_half(cost)}", *more])
+    ]
 
 
 def reads_of(times: Timeline) -> Told:

@@ -124,8 +124,8 @@ def is_drained(pipe: int, file: IO[bytes]) -> bool:
 
 
 def wait(instance: Instance, words: Words, drain: Callable[[], bool]) -> bool:
-    """Waits for the end of the recording. It sleeps as long as no buffer can become half full, because its work would delay what is recorded;
-    then it empties them. Returns whether it ended early because one was nearly full nevertheless."""
+    """Waits for the end of the recording. It sleeps as long as no buffer can become half full, because its work would delay what
+    is recorded; then it empties them. Returns whether it ended early because one was nearly full nevertheless."""
     until, size = time.monotonic() + words.seconds, words.buffer * MEGABYTE
     with Progress("recording", lambda: float(min(1, 1 - (until - time.monotonic()) / words.seconds))):
         while (now := time.monotonic()) < until:
