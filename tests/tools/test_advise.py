@@ -201,7 +201,8 @@ class Advise(InFolder):
         """Every other poll takes one packet, 2400 ns after its arrival: an interrupt takes 1700 in its handler. Before the first one no softirq is known."""
         told = self.told(file_of("".join(self.card((1, 5))), **self.CAPTURED), "--capture", self.captured(*self.arriving((1, 5))), "--goal", "cpu")
         cost = told["costs"]["interrupt"]
-        self.assertEqual((cost["value"], cost["count"], told["options"]["interrupt"]), (2400, 39, 2400))
+        self.assertEqual((cost["value"], cost["count"], told["options"]["interrupt"], told["options"]["wake"]), (2400, 39, 2400, 0))
+        self.assertFalse(any("wake-up" in note for note in told["notes"]), told["notes"])
 
     def test_a_capture(self) -> None:
         """Its packets arrive 700 ns before the interrupt that asks for their poll. Those to other addresses and after the recording don't count."""

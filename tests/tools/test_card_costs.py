@@ -178,7 +178,7 @@ class Recorded(unittest.TestCase):
         self.same(found["timer-wake"], list(timer_wakes_in(events, "eth0")), "timer-wake")
         self.assertNotIn("app-wake", card_costs.known_costs(times, timeline, None)[0])
         lines = {name: next(line for line in told if line.startswith(f"{name} ")) for name in ("take", "app-wake", "timer", "timer-wake")}
-        self.assertEqual([line.endswith(", at a gro_flush_timeout of 100000 ns") for line in lines.values()], [False, False, True, True])
+        self.assertEqual([" at a gro_flush_timeout of 100000 ns, " in line for line in lines.values()], [False, False, True, True])
         takes = statistics.median(takes_in(events, "eth0"))
         self.assertRegex(lines["take"], rf"^take {takes:.0f} ns \(\d+ to \d+\): \d+ pairs of packets, half of them from \d+ to \d+$")
         both = sum(map(len, timeline.handlers.values()))

@@ -10,6 +10,7 @@ from __future__ import annotations
 import bisect
 import re
 from collections.abc import Iterable, Sequence
+from dataclasses import replace
 from typing import Optional
 
 from fintaqush_tools.fits import FEWEST, Cost, cost_of
@@ -153,7 +154,9 @@ def known_costs(
     packet's use if the program reads on the processor that polls; `timeouts` are the recorded gro_flush_timeout, in ns.
     """
     found = {"take": take_cost(times), "app-wake": app_wake_cost(times, use)}
-    costs = {**{name: cost for name, cost in found.items() if cost}, **timer_costs(timeline)}
+    costs = {name: cost for name, cost in found.items() if cost}
+    at = f" at a gro_flush_timeout of {' and '.join(map(str, timeouts))} ns" if timeouts else ""
+    for name, cost in timer_costs(timeline).items():
+        costs[name] = replace(cost, source=f"{cost.source}{at}")
     told = [f"{name} {cost.interval()}: {cost.count} {cost.source}, {told_half(cost)}" for name, cost in costs.items()]
-    at = f", at a gro_flush_timeout of {' and '.join(map(str, timeouts))} ns"
-    return costs, [line + at if timeouts and line.startswith("timer") else line for line in told]
+    return costs, told

@@ -48,6 +48,7 @@ from fintaqush_tools.choosing import GOALS, Choice, Options, Predictions, Values
 from fintaqush_tools.commands import costs, record
 from fintaqush_tools.errors import Refusal, unfinished, unlink, why
 from fintaqush_tools.files import WholeFile, check_regular, check_target
+from fintaqush_tools.fits import Cost
 from fintaqush_tools.machine import COSTS, identifier, option_words
 from fintaqush_tools.options import Parser, Words, add_program, number, parser_of, require_end
 from fintaqush_tools.pictures import ENDS, Curve, Picture, check_library, picture_bytes
@@ -218,7 +219,10 @@ class Advice:
         cost = card_costs.arrival_interrupt_cost(seen.sent, seen.entries[seen.processor])
         if cost and not seen.is_by_thread:
             self.told["costs"]["interrupt"] = cost.as_object()
-            line = f"interrupt {cost.interval()}: {cost.count} {cost.source}, from the arrival to the softirq"
+            self.told["costs"]["wake"] = Cost(0, 0, 0, cost.count, "a part of the interrupt").as_object()
+            line = (
+                f"interrupt {cost.interval()}: {cost.count} {cost.source}, from the arrival to the softirq, with waking"
+            )
             self.told["text"] = [line, *(each for each in self.told["text"] if not each.startswith("interrupt"))]
 
     def chosen_end(self) -> str:
