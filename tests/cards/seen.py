@@ -85,9 +85,12 @@ class Seen:
 
     def measured(self, packet: float) -> Measured:
         values = predicting.measured_of(self.receiving, self.head, packet=packet)
-        for name, pairs in (("delivered_p50", self.receiving.delivered(packet)), ("used_p50", self.receiving.used())):
-            values |= {name: middle_of(sorted(end - time for time, end in pairs))} if name in values else {}
-        return {**values, "interrupts": self.interrupts}
+        pairs: dict[str, Sequence[tuple[int, float]]] = {
+            "delivered_p50": self.receiving.delivered(packet),
+            "used_p50": self.receiving.used(),
+        }
+        middles = {name: middle_of(sorted(end - time for time, end in some)) for name, some in pairs.items() if some}
+        return {**values, **middles, "interrupts": self.interrupts}
 
     def costs(self) -> dict[str, int]:
         """Returns the costs by `fintaqush costs`, with the interrupt from the arrival at the card."""

@@ -27,6 +27,7 @@ from tooltest import HAS_MACHINE, HERE, Done, InFolder, keys_of, run, skip_witho
 from fintaqush_tools import advice, choosing, predicting
 from fintaqush_tools.commands import advise
 from fintaqush_tools.errors import Refusal
+from fintaqush_tools.machine import OPTIONS
 from fintaqush_tools.receiving import Receiving
 from fintaqush_tools.recorded import Recording
 from fintaqush_tools.recording import events_of
@@ -617,7 +618,7 @@ class Coalescing(unittest.TestCase):
     def tried(self, driver: str, usecs: int, has: Sequence[str] = ("rx-gap", "rx-nsecs")) -> list[tuple[int, int]]:
         """Returns rx-gap and rx-nsecs of each setting, the recorded one first."""
         head = {"device.eth0.driver": driver, "device.eth0.ethtool.coalesce.rx-usecs": str(usecs), "polled": "eth0"}
-        options = {**advice.OPTIONS, **dict.fromkeys(has, (0, 10**9, 0))}
+        options = {**OPTIONS, **dict.fromkeys(has, (0, 10**9, 0))}
         with unittest.mock.patch.object(advice, "OPTIONS", {name: each for name, each in options.items() if name in has or not name.startswith("rx-")}):
             now = advice.options_of(head, "eth0", 0)
             tried = advice.candidates(head, "eth0", now, False, True)

@@ -168,7 +168,7 @@ class Buffer(tracing.Instance):
 
     def __init__(self, rate: float, speed: float = 20) -> None:
         super().__init__("")
-        self.rate, self.speed, self.now, self.level, self.most = rate * record.MEGABYTE, speed * record.MEGABYTE, 0.0, 0.0, 0.0
+        self.rate, self.speed, self.now, self.level, self.most = rate * tracing.MEGABYTE, speed * tracing.MEGABYTE, 0.0, 0.0, 0.0
         self.checks = self.pieces = 0
 
     def monotonic(self) -> float:
@@ -177,7 +177,7 @@ class Buffer(tracing.Instance):
     def sleep(self, seconds: float) -> None:
         self.now += seconds
         self.level += self.rate * seconds
-        self.most = max(self.most, self.level / record.MEGABYTE)
+        self.most = max(self.most, self.level / tracing.MEGABYTE)
 
     def statistics(self) -> Iterator[tuple[int, int]]:
         self.checks += 1
@@ -211,7 +211,7 @@ class Waits(unittest.TestCase):
         """10 MB come in a second and 20 can be read; from half of 8 MB they are read at once."""
         buffer = Buffer(10)
         self.assertFalse(self.waited(buffer, 20, 8))
-        self.assertTrue(buffer.now >= 20 and 100 <= buffer.pieces * record.PIECE / record.MEGABYTE <= 200, buffer.pieces)
+        self.assertTrue(buffer.now >= 20 and 100 <= buffer.pieces * record.PIECE / tracing.MEGABYTE <= 200, buffer.pieces)
         self.assertTrue(4 <= buffer.most <= 5, buffer.most)
 
     def test_it_ends_before_a_buffer_is_full(self) -> None:
