@@ -2,12 +2,13 @@
 
 import struct
 from collections.abc import Iterable, Iterator, Sequence
+from math import sqrt
 from pathlib import Path
-from statistics import fmean
 
 import emulation
 from fintaqush_tools import card_costs, predicting
 from fintaqush_tools.commands import costs
+from fintaqush_tools.fits import WIDE
 from fintaqush_tools.instances import ANY
 from fintaqush_tools.receiving import Receiving
 from fintaqush_tools.recording import Head, check_lost, events_in
@@ -57,10 +58,11 @@ def ahead_of(stamps: list[tuple[int, ...]]) -> int:
     return ahead
 
 
-def middle_of(waits: Sequence[float]) -> int:
-    """Returns the mean of the middle 4 % of sorted waits. The median itself may lie at a gap of some us between waits, and then jumps over it when a
-    few packets of thousands wait longer."""
-    return round(fmean(waits[48 * len(waits) // 100 : -(-52 * len(waits) // 100)]))
+def known_median(waits: Sequence[float]) -> tuple[float, float]:
+    """Returns between which of these sorted waits their median is, but for a chance of 5 %: 1.96 standard deviations of its rank to each side. Where
+    there is a gap between waits, a few packets of thousands decide on which side the median is."""
+    half, far = len(waits) / 2, WIDE / 2 * sqrt(len(waits))
+    return waits[max(0, int(half - far))], waits[min(len(waits) - 1, int(half + far))]
 
 
 class Seen:
@@ -89,8 +91,11 @@ class Seen:
             "delivered_p50": self.receiving.delivered(packet),
             "used_p50": self.receiving.used(),
         }
-        middles = {name: middle_of(sorted(end - time for time, end in some)) for name, some in pairs.items() if some}
-        return {**values, **middles, "interrupts": self.interrupts}
+        for name, some in pairs.items():
+            if some:
+                known = known_median(sorted(end - time for time, end in some))
+                values |= {f"{name}_low": round(known[0]), f"{name}_high": round(known[1])}
+        return {**values, "interrupts": self.interrupts}
 
     def costs(self) -> dict[str, int]:
         """Returns the costs by `fintaqush costs`, with the interrupt from the arrival at the card."""

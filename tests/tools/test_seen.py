@@ -44,10 +44,10 @@ class Seen(InFolder):
         measured = self.read((-1000, 9), (1000, 1), (2000, 2), (2002, 3), (9001, 9)).measured(4000)
         self.assertEqual((measured["sent"], measured["dropped"]), (3, 0))
 
-    def test_the_middle(self) -> None:
-        """Of 100 waits the middle 4 are the 49th to the 52nd: one more beyond a gap moves their mean by a quarter of the gap."""
-        self.assertEqual([seen.middle_of([0] * count + [100] * (100 - count)) for count in (48, 49, 50, 52)], [100, 75, 50, 0])
-        self.assertEqual([seen.middle_of(each) for each in ([7], [1, 5], [1, 5, 90])], [7, 3, 5])
+    def test_what_chance_leaves_open(self) -> None:
+        """Of 100 waits the rank of the median has a deviation of 5, so it is 9.8 to each side: from the 41st wait to the 60th."""
+        self.assertEqual(seen.known_median(range(100)), (40, 59))
+        self.assertEqual([seen.known_median(each) for each in ([7], [1, 5])], [(7, 7), (1, 5)])
 
 
 if __name__ == "__main__":
