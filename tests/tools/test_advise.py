@@ -27,6 +27,7 @@ from tooltest import HAS_MACHINE, HERE, Done, InFolder, keys_of, run, skip_witho
 from fintaqush_tools import advice, choosing, predicting
 from fintaqush_tools.commands import advise
 from fintaqush_tools.errors import Refusal
+from fintaqush_tools.machine import OPTIONS
 from fintaqush_tools.receiving import Receiving
 from fintaqush_tools.recorded import Recording
 from fintaqush_tools.recording import events_of
@@ -45,8 +46,9 @@ def file_of(made: Made | str, **changes: object) -> str:
     return "fintaqush-recording 1\n" + "".join(f"{name} {value}\n" for name, value in head.items() if value != "") + "trace\n" + text
 
 
-def quiet(reader: int = 5, count: int = 80, works: Sequence[int] = (5, 15)) -> Made:
-    """Returns bursts of 5 and 15 packets, alternating, 400 us apart, each in one poll. The program reads on another processor, or on the same one."""
+def quiet(reader: int = 5, count: int = 80, works: Sequence[int] = (5, 15), flush: int = 0) -> Made:
+    """Returns bursts of 5 and 15 packets, alternating, 400 us apart, each in one poll. The program reads on another processor, or on the same one.
+    With a flush time NAPI's timer polls once after each burst."""
     made = Made(**COSTS)
     made.reader = reader
     made.switch(made.time - 9000, timing.POLLER, "other-5", "swapper/3-0")
@@ -54,9 +56,17 @@ def quiet(reader: int = 5, count: int = 80, works: Sequence[int] = (5, 15)) -> M
     made.switch(made.time - 7000, reader, "server-60", "swapper/9-0")
     for place in range(count):
         begin, work = made.time, works[place % len(works)]
-        made.read(made.softirq_round([work]), work)
+        end = made.softirq_round([work])
+        made.read(end, work)
+        if flush:
+            made.timer_round(end, flush)
         made.time = begin + 400_000
     return made
+
+
+def deferred() -> str:
+    """Returns the recording of these bursts with a deferral of 1 x 100 us."""
+    return file_of(quiet(flush=100_000), **{"device.vb1.napi_defer_hard_irqs": 1, "device.vb1.gro_flush_timeout": 100_000})
 
 
 def overloaded(count: int = 40, ring: int = 50) -> Made:
@@ -106,19 +116,28 @@ class Advise(InFolder):
 
     def test_nothing_to_change(self) -> None:
         """Each other setting delays packets."""
-        done = self.advised(file_of(quiet()), "--goal", "p99")
+        done = self.advised(deferred(), "--goal", "p99")
         self.assertIn("the fit for the 99th percentile of waits is good\n", done.stdout)
         self.assertIn("advice: change nothing, since no setting is notably better for the 99th percentile of waits\n", done.stdout)
         self.assertNotIn("to set it", done.stdout)
         rows = [tuple(line.split()[-7:]) for line in done.stdout.split("  setting ")[1].split("\nadvice:")[0].splitlines()[1:]]
         self.assertEqual((len(set(rows)), len(rows)), (8, 8))  # equal results are one row
-        self.assertRegex(done.stdout, r"threaded 0, napi_defer_hard_irqs 0, gro_flush_timeout 0, the program apart; 1 more ")
+        self.assertRegex(done.stdout, r"threaded 0, napi_defer_hard_irqs 1, gro_flush_timeout 100000, the program apart; \d+ more ")
         self.assertIn("not modelled: GRO's merging of packets; ", done.stdout)
         self.assertIn("net.core.netdev_budget isn't tried", done.stdout)
 
+    def test_deferral_needs_a_timer_of_the_recording(self) -> None:
+        """Without timers their cost is unknown: no setting with deferral is tried. With timers all are, also those without deferral."""
+        for text, timeouts in ((file_of(quiet()), {0}), (deferred(), {0, 20_000, 50_000, 100_000, 200_000, 500_000})):
+            told = self.told(text)
+            self.assertEqual({each["options"]["gro_flush_timeout"] for each in told["tried"]}, timeouts)
+            self.assertEqual(any(note.startswith("deferral isn't compared with none") for note in told["notes"]), timeouts == {0})
+        values = {row["name"]: (row["measured"], row["predicted"]) for row in told["check"]}
+        self.assertEqual((values["polls"], told["costs"]["timer"]["value"], told["costs"]["timer_wake"]["value"]), ((160, 160), 1700, 3300))
+
     def test_less_processor_time(self) -> None:
         """With a timer of 500 us, bursts 400 us apart share some polls, and only the first interrupt is left."""
-        told = self.told(file_of(quiet()), "--goal", "cpu")
+        told = self.told(deferred(), "--goal", "cpu")
         self.assertEqual({name: told["advised"]["options"][name] for name in ("threaded", "defer_hard_irqs", "gro_flush_timeout")},
                          {"threaded": 0, "defer_hard_irqs": 2, "gro_flush_timeout": 500000})
         self.assertEqual(told["set"], ["ip netns exec receiver sh -c 'echo 2 > /sys/class/net/vb1/napi_defer_hard_irqs'",
@@ -128,7 +147,7 @@ class Advise(InFolder):
         cheap, dear = told["advised"]["costs_80"]["kernel_percent"], told["advised"]["costs_120"]["kernel_percent"]
         self.assertLess(cheap, told["advised"]["values"]["kernel_percent"])
         self.assertGreater(dear, told["advised"]["values"]["kernel_percent"])
-        limited = self.told(file_of(quiet()), "--goal", "cpu", "--p99-below", "200")
+        limited = self.told(deferred(), "--goal", "cpu", "--p99-below", "200")
         self.assertLess(limited["advised"]["costs_120"]["used_p99"], 200_000)
         self.assertEqual(limited["advised"]["options"]["gro_flush_timeout"] in (0, 100000, 50000, 20000), True)
 
@@ -145,10 +164,10 @@ class Advise(InFolder):
         self.assertIn("note: processor 1 was idle for 90 % of the recording; what waking the program there takes isn't in the recording unless it was apart\n", done.stdout)
         self.assertNotIn("taskset", self.advised(file_of(quiet(reader=timing.POLLER)), "--goal", "p50").stdout)
 
-    def card(self) -> list[str]:
+    def card(self, works: Sequence[int] = (5, 15)) -> list[str]:
         """Returns quiet's recording as that of a card: the packets that polls take, and no sender's."""
         lines: list[str] = []
-        for line in quiet().text().splitlines(True):
+        for line in quiet(works=works).text().splitlines(True):
             found = re.search(r" (\d+)\.(\d{9}): napi_poll: .* work (\d+) ", line)
             for place in range(int(found[3]) if found else 0):
                 assert found
@@ -172,12 +191,24 @@ class Advise(InFolder):
         path.write_bytes(text)
         return path
 
+    CAPTURED: dict[str, object] = {"sender": "", "pair": "", "began.realtime": REAL, "began.monotonic": MONOTONIC, "device.vb1.address": ADDRESS}
+    BEGINS = range(10**12 + COSTS["wake"] - MONOTONIC, 10**12 + COSTS["wake"] - MONOTONIC + 80 * 400_000, 400_000)  # of the interrupts
+
+    def arriving(self, works: Sequence[int]) -> list[tuple[int, str]]:
+        """Returns packets that arrive 700 ns before the interrupts."""
+        return [(begin - 700, self.ADDRESS) for place, begin in enumerate(self.BEGINS) for _ in range(works[place % 2])]
+
+    def test_an_interrupt_from_its_arrival(self) -> None:
+        """Every other poll takes one packet, 2400 ns after its arrival: an interrupt takes 1700 in its handler. Before the first one no softirq is known."""
+        told = self.told(file_of("".join(self.card((1, 5))), **self.CAPTURED), "--capture", self.captured(*self.arriving((1, 5))), "--goal", "cpu")
+        cost = told["costs"]["interrupt"]
+        self.assertEqual((cost["value"], cost["count"], told["options"]["interrupt"], told["options"]["wake"]), (2400, 39, 2400, 0))
+        self.assertFalse(any("wake-up" in note for note in told["notes"]), told["notes"])
+
     def test_a_capture(self) -> None:
         """Its packets arrive 700 ns before the interrupt that asks for their poll. Those to other addresses and after the recording don't count."""
-        head = {"sender": "", "pair": "", "began.realtime": self.REAL, "began.monotonic": self.MONOTONIC, "device.vb1.address": self.ADDRESS}
-        text = file_of("".join(self.card()), **head)
-        begins = [10**12 + 400_000 * place + COSTS["wake"] - self.MONOTONIC for place in range(80)]
-        packets = [(begin - 700, self.ADDRESS) for place, begin in enumerate(begins) for _ in range((5, 15)[place % 2])]
+        head = self.CAPTURED
+        text, begins, packets = file_of("".join(self.card()), **head), self.BEGINS, self.arriving((5, 15))
         others = [(begin, "02:00:00:00:00:09") for begin in begins] + [(2 * 10**9, self.ADDRESS)] * 50 + [(5000, "33:33:00:00:00:01")] * 20
         told = self.told(text, "--capture", self.captured(*packets, *others), "--goal", "p50")
         values = {row["name"]: row["measured"] for row in told["check"]}
@@ -372,20 +403,20 @@ class Advise(InFolder):
             self.assertTrue(any(note.startswith(each) for note in told["notes"]), each)
 
     def test_a_verdict(self) -> None:
-        """Before, 80 polls of 2600 ns and 410 per packet took 1.7 % of 31.6 ms. If half of the packets come, they take less; if the recording is
+        """Before, 160 polls of 2600 ns and 410 per packet took 2.3 % of 31.7 ms. If half of the packets come, they take less; if the recording is
         the same, the advice didn't hold."""
         def verified(again: Made, *words: str, status: int = 0) -> Done:
             second = self.write("again.rec", file_of(again))
             with unittest.mock.patch.object(advise, "record_again", lambda told: Recording(str(second), told.words).read()), \
                     unittest.mock.patch.object(advice.Machine, "with_changes", lambda *_: contextlib.nullcontext()), unittest.mock.patch("os.geteuid", lambda: 0):
-                return self.advised(file_of(quiet()), "--goal", "cpu", "--verify", *words, status=status)
+                return self.advised(deferred(), "--goal", "cpu", "--verify", *words, status=status)
 
         # 80 polls of 2600 + 410 * 1 and * 7 ns
-        self.assertRegex(verified(quiet(works=(1, 7))).stdout, r"\npolls, % of the time: 1\.7 before, 1\.1 with the advised settings \(-37 %\), [\d.]+ predicted\n$")
+        self.assertRegex(verified(quiet(works=(1, 7))).stdout, r"\npolls, % of the time: 2\.3 before, 1\.1 with the advised settings \(-54 %\), [\d.]+ predicted\n$")
         told = json.loads(verified(quiet(works=(1, 7)), "--json").stdout)
-        self.assertEqual((told["verdict"]["name"], round(told["verdict"]["before"], 2), round(told["verdict"]["measured"], 2)), ("poll_percent", 1.7, 1.07))
-        done = verified(quiet(), status=1)
-        self.assertIn("\npolls, % of the time: 1.7 before, 1.7 with the advised settings (+0 %)", done.stdout)
+        self.assertEqual((told["verdict"]["name"], round(told["verdict"]["before"], 2), round(told["verdict"]["measured"], 2)), ("poll_percent", 2.35, 1.07))
+        done = verified(quiet(flush=100_000), status=1)
+        self.assertIn("\npolls, % of the time: 2.3 before, 2.3 with the advised settings (+0 %)", done.stdout)
         self.assertEqual(done.stderr, "fintaqush advise: applying the settings, and recording again during traffic\n"
                          "fintaqush advise: the advised settings weren't better than those of before, which are set again\n")
 
@@ -554,13 +585,68 @@ class MadeUp(choosing.Predictions):
 
 
 class Costs(unittest.TestCase):
-    def test_the_cost_of_a_timer(self) -> None:
-        """The machine has one cost for interrupts and timers: with deferral that of a timer, if it is known."""
-        costs = {"interrupt": 300, "timer": 4000, "poll": 1, "packet": 2}
-        deferral = {"defer-hard-irqs": 2, "gro-flush-timeout": 20000}
-        self.assertEqual(choosing.settings_of(costs, deferral), {"interrupt": 4000, "poll": 1, "packet": 2, **deferral})
-        self.assertEqual(choosing.settings_of(costs, {"ring": 9}), {"interrupt": 300, "poll": 1, "packet": 2, "ring": 9})
-        self.assertEqual(choosing.settings_of({"interrupt": 300}, deferral)["interrupt"], 300)
+    """What napi_machine gets, with the costs that it has."""
+
+    MEASURED = {"interrupt": 300, "poll": 1, "packet": 20, "wake": 7, "timer": 4000, "timer-wake": 900, "take": 30, "app-wake": 5, "app-wake-apart": 60}
+    DEFERRAL = {"defer-hard-irqs": 2, "gro-flush-timeout": 20000}
+
+    def settings(self, has: Sequence[str], options: choosing.Options) -> choosing.Options:
+        with unittest.mock.patch.object(choosing, "COSTS", has):
+            return choosing.settings_of(self.MEASURED, options)
+
+    def test_a_machine_with_one_cost_for_interrupts_and_timers(self) -> None:
+        """With deferral it is that of a timer, if that is known."""
+        has = ("interrupt", "poll", "packet", "wake")
+        self.assertEqual(self.settings(has, self.DEFERRAL), {"interrupt": 4000, "poll": 1, "packet": 20, "wake": 900, **self.DEFERRAL})
+        self.assertEqual(self.settings(has, {"ring": 9}), {"interrupt": 300, "poll": 1, "packet": 20, "wake": 7, "ring": 9})
+        self.assertEqual(choosing.settings_of({"interrupt": 300}, self.DEFERRAL)["interrupt"], 300)
+
+    def test_a_machine_with_both(self) -> None:
+        """Taking a packet is a part of its cost."""
+        has = ("interrupt", "packet", "wake", "take", "timer", "timer-wake")
+        wanted = {"interrupt": 300, "packet": 20, "wake": 7, "take": 20, "timer": 4000, "timer-wake": 900}
+        self.assertEqual(self.settings(has, self.DEFERRAL), {**wanted, **self.DEFERRAL})
+
+    def test_the_program_is_woken_on_either_processor(self) -> None:
+        for options, woken in (({"apart": 0}, 5), ({"apart": 1}, 60)):
+            self.assertEqual(self.settings(("app-wake",), options), {"app-wake": woken, **options})
+
+
+class Coalescing(unittest.TestCase):
+    """Which rx-usecs are tried, and how they are set."""
+
+    def tried(self, driver: str, usecs: int, has: Sequence[str] = ("rx-gap", "rx-nsecs")) -> list[tuple[int, int]]:
+        """Returns rx-gap and rx-nsecs of each setting, the recorded one first."""
+        head = {"device.eth0.driver": driver, "device.eth0.ethtool.coalesce.rx-usecs": str(usecs), "polled": "eth0"}
+        options = {**OPTIONS, **dict.fromkeys(has, (0, 10**9, 0))}
+        with unittest.mock.patch.object(advice, "OPTIONS", {name: each for name, each in options.items() if name in has or not name.startswith("rx-")}):
+            now = advice.options_of(head, "eth0", 0)
+            tried = advice.candidates(head, "eth0", now, False, True)
+            self.changes = advice.Machine(head, "eth0", 0).changes(tried[-1], now)
+        return list(dict.fromkeys((each.get("rx-gap", 0), each.get("rx-nsecs", 0)) for each in tried))
+
+    def test_a_driver_is_offered_what_it_takes(self) -> None:
+        """e1000 sets the least time between interrupts in units of 256 ns. ixgbe takes 10, 25, 50 and 100, virtio only 0, and tg3 not even that."""
+        self.assertEqual(self.tried("e1000", 0), [(0, 0), (9984, 0), (24832, 0), (49920, 0), (99840, 0)])
+        self.assertEqual([(each.kind, each.name, each.value, each.before) for each in self.changes if each.kind == "coalesce"], [("coalesce", "rx-usecs", 100, 0)])
+        self.assertEqual(self.tried("ixgbe", 30), [(30000, 0), (0, 0), (10000, 0), (25000, 0), (50000, 0), (100000, 0)])
+        self.assertEqual(self.tried("virtio_net", 20), [(0, 20000), (0, 0)])
+        self.assertEqual(self.tried("tg3", 20), [(0, 0)])
+
+    def test_a_driver_that_is_unknown(self) -> None:
+        self.assertEqual(self.tried("qlcnic", 20), [(0, 20000), (0, 0), (0, 10000), (0, 25000), (0, 50000), (0, 100000)])
+
+    def test_a_mode_is_set_again(self) -> None:
+        """At rx-usecs 3 igb chooses the time itself."""
+        self.tried("igb", 3)
+        self.assertEqual([(each.value, each.before) for each in self.changes if each.kind == "coalesce"], [(100, 3)])
+
+    def test_a_machine_without_the_option(self) -> None:
+        """It has no least time between interrupts, which is a note, and no other one is tried."""
+        self.assertEqual(self.tried("e1000", 250, ("rx-nsecs",)), [(0, 0)])
+        head = {"device.eth0.driver": "e1000", "device.eth0.ethtool.coalesce.rx-usecs": "250", "polled": "eth0"}
+        with unittest.mock.patch.object(advice, "OPTIONS", {"latched": (0, 2, 0), "gro-batch": (0, 64, 0)}):
+            self.assertEqual(list(advice.unmodelled_in(head, "eth0")), ["this napi_machine lacks --rx-gap 249856 of e1000"])
 
 
 class Choices(unittest.TestCase):

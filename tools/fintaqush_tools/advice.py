@@ -10,7 +10,7 @@ from collections.abc import Iterator, Mapping, Sequence
 from dataclasses import dataclass
 from typing import Any
 
-from fintaqush_tools import observed
+from fintaqush_tools import drivers, observed
 from fintaqush_tools.errors import Refusal
 from fintaqush_tools.machine import OPTIONS
 from fintaqush_tools.processes import ran
@@ -21,7 +21,8 @@ VETH_RING = 256  # entries of veth's ring, which ethtool doesn't report
 SOCKET = 65536  # packets: a recording doesn't have the socket buffer's size in packets, so this holds all
 FLUSHES = (0, 20_000, 50_000, 100_000, 200_000, 500_000)  # ns
 DEFERRALS = 2
-COALESCED = (0, 10_000, 25_000, 50_000, 100_000)  # ns; igb and e1000e take none from 4 to 9 us
+COALESCED = (0, 10, 25, 50, 100)  # us
+COALESCING = ("rx-nsecs", "rx-gap")  # the options that rx-usecs sets
 LARGER = (1, 2, 4, 8, 16)
 NOT_MODELLED = (
     "GRO's merging of packets",
@@ -44,6 +45,11 @@ def number_in(head: Head, key: str, default: int) -> int:
 def within_range(option: str, value: int) -> int:
     low, high, _ = OPTIONS[option]
     return max(low, min(high, value))
+
+
+def usecs_of(time: int) -> int:
+    """Returns the rx-usecs that set a time of the machine, in ns: some drivers set it only nearly."""
+    return (time + 500) // 1000
 
 
 def options_of(head: Head, device: str, is_apart: int, processors: int = 1) -> dict[str, int]:
@@ -75,10 +81,14 @@ def options_of(head: Head, device: str, is_apart: int, processors: int = 1) -> d
                 "defer-hard-irqs": of_device("napi_defer_hard_irqs", 0),
                 "gro-flush-timeout": of_device("gro_flush_timeout", 0),
                 "threaded": min(1, of_device("threaded", 0)),
-                "rx-nsecs": 1000 * of_device("ethtool.coalesce.rx-usecs", 0),
-                "rx-frames": of_device("ethtool.coalesce.rx-frames", 0),
             }
         )
+        timer = {
+            "rx-nsecs": 1000 * drivers.usecs_in(head, device),
+            "rx-frames": of_device("ethtool.coalesce.rx-frames", 0),
+        }
+        own = drivers.options_of(head, device) or timer
+        options.update({name: value for name, value in own.items() if name in OPTIONS})
     return {name: within_range(name, value) for name, value in options.items()}
 
 
@@ -88,6 +98,9 @@ def unmodelled_in(head: Head, device: str) -> Iterator[str]:
         yield "busy polling is on (net.core.busy_read, busy_poll)"
     if head.get(f"device.{device}.ethtool.coalesce.adaptive-rx") == "on":
         yield "adaptive coalescing is on (ethtool -C adaptive-rx)"
+    own = drivers.options_of(head, device) if head.get("polled") != BACKLOG else {}
+    if lacking := [f"--{name} {value}" for name, value in own.items() if value and name not in OPTIONS]:
+        yield f"this napi_machine lacks {' '.join(lacking)} of {drivers.name_in(head, device)}"
     before, after = map(int, head.get("udp.RcvbufErrors", "0 0").split())
     if after > before:
         yield f"{after - before} packets were dropped at a full socket (see net.core.rmem_max and SO_RCVBUF)"
@@ -106,19 +119,32 @@ def rings_of(head: Head, device: str, options: Mapping[str, int]) -> list[int]:
     return sorted({min(most, now * times) for times in LARGER})
 
 
-def candidates(head: Head, device: str, options: dict[str, int], has_program: bool) -> list[dict[str, int]]:
-    """Returns all settings to try, the recorded one first."""
+def is_deferred(options: Mapping[str, int]) -> bool:
+    return bool(options.get("defer-hard-irqs") and options.get("gro-flush-timeout"))
+
+
+def candidates(
+    head: Head, device: str, options: dict[str, int], has_program: bool, has_timer: bool
+) -> list[dict[str, int]]:
+    """Returns all settings to try, the recorded one first. Deferral is compared with none only if a timer's cost is known."""
     places: list[dict[str, int]] = [{}, {"apart": 0}, {"apart": 1}] if has_program else [{}]
     rings: list[dict[str, int]] = [{}, *({"ring": ring} for ring in rings_of(head, device, options))]
     tried = [options]
     for changes in itertools.product(*of_interrupts(head, device, options), places, rings):
         chosen = {**options, **{name: value for change in changes for name, value in change.items()}}
-        is_both = (
-            chosen.get("gro-flush-timeout") and chosen.get("rx-nsecs") and chosen["rx-nsecs"] != options.get("rx-nsecs")
+        is_both = chosen.get("gro-flush-timeout") and any(
+            chosen.get(name) and chosen[name] != options.get(name) for name in COALESCING
         )
-        if chosen not in tried and not is_both:
+        is_known = has_timer or is_deferred(chosen) == is_deferred(options)
+        if chosen not in tried and not is_both and is_known:
             tried.append(chosen)
     return tried
+
+
+def has_deferral(head: Head, device: str, options: Mapping[str, int]) -> bool:
+    """Returns whether deferral can be set; a backlog has none."""
+    attributes = {f"device.{device}.napi_defer_hard_irqs", f"device.{device}.gro_flush_timeout"}
+    return not options.get("backlog") and attributes <= head.keys()
 
 
 def of_interrupts(head: Head, device: str, options: Mapping[str, int]) -> list[list[dict[str, int]]]:
@@ -127,7 +153,7 @@ def of_interrupts(head: Head, device: str, options: Mapping[str, int]) -> list[l
     coalescing: list[dict[str, int]] = [{}]
     threads: list[dict[str, int]] = [{}]
     if not options.get("backlog"):
-        if {f"device.{device}.napi_defer_hard_irqs", f"device.{device}.gro_flush_timeout"} <= head.keys():
+        if has_deferral(head, device, options):
             deferrals += [
                 {"defer-hard-irqs": DEFERRALS if flush else 0, "gro-flush-timeout": flush} for flush in FLUSHES
             ]
@@ -139,7 +165,9 @@ def of_interrupts(head: Head, device: str, options: Mapping[str, int]) -> list[l
             f"device.{device}.ethtool.coalesce.rx-usecs" in head
             and head.get(f"device.{device}.ethtool.coalesce.adaptive-rx") != "on"
         ):
-            coalescing += [{"rx-nsecs": time} for time in COALESCED]
+            coalescing += [
+                each for each in drivers.coalescing_of(head, device, COALESCED) if each.keys() <= OPTIONS.keys()
+            ]
     return [deferrals, coalescing, threads]
 
 
@@ -192,8 +220,9 @@ class Machine:
             changes.append(Change("sysctl", "netdev_max_backlog", chosen["ring"] - 1, now["ring"] - 1))
         elif is_new("ring"):
             changes.append(Change("ring", "rx", chosen["ring"], now["ring"]))
-        if is_new("rx-nsecs"):
-            changes.append(Change("coalesce", "rx-usecs", chosen["rx-nsecs"] // 1000, now["rx-nsecs"] // 1000))
+        for name in filter(is_new, COALESCING):
+            before = drivers.usecs_in(self.head, self.device)
+            changes.append(Change("coalesce", "rx-usecs", usecs_of(chosen[name]), before))
         if is_new("apart"):
             changes.append(
                 Change(

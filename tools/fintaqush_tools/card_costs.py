@@ -10,15 +10,17 @@ from __future__ import annotations
 import bisect
 import re
 from collections.abc import Iterable, Sequence
+from dataclasses import replace
 from typing import Optional
 
-from fintaqush_tools.fits import Cost, cost_of
+from fintaqush_tools.fits import FEWEST, Cost, cost_of
 from fintaqush_tools.recording import POLLED, Event, Head
 from fintaqush_tools.timeline import RETURNED, SHORT_SWITCH, SWITCH, TIMER, Timeline
 
 GIVEN = re.compile(r"dev=(\S+) ")
 TO_GRO = {"napi_gro_receive_entry", "napi_gro_frags_entry"}  # a driver passes a packet to GRO
 QUIET = 200_000  # ns without a poll before an arrival, after which the card and the processor are idle
+SLOW = 100_000  # ns: a wake-up that takes longer waits for the scheduler, if another task had the processor
 SOON = 10_000  # ns from such an arrival to the softirq that its interrupt requests
 
 
@@ -90,6 +92,10 @@ class CardTimes:
             self.woken_uses.append(event.time - self.poll_end)
 
 
+def told_half(cost: Cost) -> str:
+    return f"half of them from {cost.middle[0]:.0f} to {cost.middle[1]:.0f}"
+
+
 def take_cost(times: CardTimes) -> Optional[Cost]:
     """Returns the cost of taking a packet from the ring and passing it to GRO, without the stack's part."""
     return cost_of(times.takes, "pairs of packets")
@@ -100,12 +106,26 @@ def app_wake_cost(times: CardTimes, use: Optional[Cost]) -> Optional[Cost]:
     return cost_of(times.woken_uses, "single packets", use.value) if use else None
 
 
+def wakes_by(times: Timeline, kind: str) -> tuple[list[int], int]:
+    """Returns the times of the wake-ups by `packets` or by `timers`, and how many of them waited while another task had the
+    processor. These count if a program reads, which is such a task, or if there are too few others."""
+    idle, busy = times.wakes[kind], times.busy_wakes[kind]
+    return (idle + busy, len(busy)) if times.reads.tasks or len(idle) < FEWEST else (idle, 0)
+
+
+def is_by_scheduler(cost: Cost, busy: int) -> bool:
+    """Returns whether most of these wake-ups waited for another task, and for so long that the scheduler decided it."""
+    return 2 * busy > cost.count and cost.value > SLOW
+
+
 def timer_costs(times: Timeline) -> dict[str, Cost]:
     """Returns `timer`, the cost of the handler of NAPI's timer, and `timer-wake`, that of waking an idle processor by it. Both grow with the
     time that the processor slept, so `timeouts_of` has to be printed with them."""
+    took, busy = wakes_by(times, "timers")
+    wake = cost_of(took, "timers on an idle processor")
     found = {
         "timer": cost_of(times.handlers.get(TIMER, []), "handlers of NAPI's timer"),
-        "timer-wake": cost_of(times.wakes.get("timers", []), "timers on an idle processor"),
+        "timer-wake": None if wake and is_by_scheduler(wake, busy) else wake,
     }
     return {name: cost for name, cost in found.items() if cost}
 
@@ -114,12 +134,6 @@ def timeouts_of(head: Head, devices: Iterable[str]) -> list[int]:
     """Returns the gro_flush_timeout of the recorded devices, in ns, without 0."""
     texts = (head.get(f"device.{device}.gro_flush_timeout", "") for device in devices)
     return sorted({int(text) for text in texts if text.isdigit()} - {0})
-
-
-def packet_interrupt_cost(times: Timeline) -> Optional[Cost]:
-    """Returns the cost of the interrupts that packets request, without those of NAPI's timer, if both kinds were recorded."""
-    kinds = {name: took for name, took in times.handlers.items() if name != TIMER}
-    return cost_of([each for took in kinds.values() for each in took], "handlers without NAPI's timer")
 
 
 def arrival_interrupt_cost(arrivals: Sequence[int], softirqs: Sequence[int]) -> Optional[Cost]:
@@ -140,7 +154,9 @@ def known_costs(
     packet's use if the program reads on the processor that polls; `timeouts` are the recorded gro_flush_timeout, in ns.
     """
     found = {"take": take_cost(times), "app-wake": app_wake_cost(times, use)}
-    costs = {**{name: cost for name, cost in found.items() if cost}, **timer_costs(timeline)}
-    told = [f"{name} {cost.interval()}: {cost.count} {cost.source}" for name, cost in costs.items()]
-    at = f", at a gro_flush_timeout of {' and '.join(map(str, timeouts))} ns"
-    return costs, [line + at if timeouts and line.startswith("timer") else line for line in told]
+    costs = {name: cost for name, cost in found.items() if cost}
+    at = f" at a gro_flush_timeout of {' and '.join(map(str, timeouts))} ns" if timeouts else ""
+    for name, cost in timer_costs(timeline).items():
+        costs[name] = replace(cost, source=f"{cost.source}{at}")
+    told = [f"{name} {cost.interval()}: {cost.count} {cost.source}, {told_half(cost)}" for name, cost in costs.items()]
+    return costs, told

@@ -32,17 +32,25 @@ def numeric(value: Any) -> float:
 
 
 def settings_of(costs: Mapping[str, int], options: Options) -> Options:
-    """Returns the machine's options. It has one cost for interrupts and timers, and with deferral nearly all are timers."""
-    is_deferred = options.get("defer-hard-irqs") and options.get("gro-flush-timeout")
-    timer = {"interrupt": costs["timer"]} if is_deferred and "timer" in costs else {}
-    return {**{name: costs[name] for name in COSTS if name in costs}, **timer, **options}
+    """Returns the machine's options. `costs` may have `app-wake-apart`, the wake-up of a program with a processor of its own. If
+    the machine has no costs of NAPI's timer, they are those of interrupts if there is deferral, because nearly all are timers then.
+    """
+    values = {name: costs[name] for name in COSTS if name in costs}
+    if options.get("apart") and "app-wake-apart" in costs:
+        values["app-wake"] = costs["app-wake-apart"]
+    if options.get("defer-hard-irqs") and options.get("gro-flush-timeout"):
+        for name, of_timer in (("interrupt", "timer"), ("wake", "timer-wake")):
+            values |= {name: costs[of_timer]} if of_timer in costs and of_timer not in COSTS else {}
+    if "take" in values:
+        values["take"] = min(values["take"], values["packet"])
+    return {**values, **options}
 
 
 class Predictions:
     """Runs napi_machine for several settings at once."""
 
     def __init__(self, made: str, costs: dict[str, int], arrivals: str, devices: Collection[int]) -> None:
-        """`costs` has that of a NAPI timer too. `devices` are those whose waits count."""
+        """`costs` are those of `settings_of`. `devices` are those whose waits count."""
         self.made, self.costs, self.arrivals, self.devices = made, costs, arrivals.encode(), devices
 
     def report(self, options: Options, percent: int = 100) -> str:

@@ -32,12 +32,23 @@ from dataclasses import asdict, dataclass
 from pathlib import Path
 from typing import Any, Optional
 
-from fintaqush_tools import blame, predicting
-from fintaqush_tools.advice import NOT_MODELLED, Change, Machine, candidates, options_of, unmodelled_in
+from fintaqush_tools import blame, card_costs, drivers, predicting
+from fintaqush_tools.advice import (
+    COALESCING,
+    NOT_MODELLED,
+    Change,
+    Machine,
+    candidates,
+    has_deferral,
+    options_of,
+    unmodelled_in,
+    usecs_of,
+)
 from fintaqush_tools.choosing import GOALS, Choice, Options, Predictions, Values, settings_of
 from fintaqush_tools.commands import costs, record
 from fintaqush_tools.errors import Refusal, unfinished, unlink, why
 from fintaqush_tools.files import WholeFile, check_regular, check_target
+from fintaqush_tools.fits import Cost
 from fintaqush_tools.machine import COSTS, identifier, option_words
 from fintaqush_tools.options import Parser, Words, add_program, number, parser_of, require_end
 from fintaqush_tools.pictures import ENDS, Curve, Picture, check_library, picture_bytes
@@ -51,7 +62,11 @@ from fintaqush_tools.texts import aligned, as_rows, shown
 FEWEST = 1000  # packets
 SHOWN = 8  # settings in the table
 FORMAT = 1  # version of the object that --json prints
-NAMES = {"defer-hard-irqs": "napi_defer_hard_irqs", "gro-flush-timeout": "gro_flush_timeout", "rx-nsecs": "rx-usecs"}
+NAMES = {
+    "defer-hard-irqs": "napi_defer_hard_irqs",
+    "gro-flush-timeout": "gro_flush_timeout",
+    **dict.fromkeys(COALESCING, "rx-usecs"),
+}
 TOLD = {
     "dropped": "dropped",
     "polls": "polls",
@@ -63,6 +78,10 @@ TOLD = {
     "used_p99": "wait to the end of use, p99, us",
     "poll_percent": "polls, % of the time",
 }
+NO_TIMER = (
+    "deferral isn't compared with none, because the recording has too few of NAPI's timers to know their cost: record "
+    "again with napi_defer_hard_irqs 2 and a gro_flush_timeout of 100000"
+)
 UNKNOWN = "no wait was measured, because which packet was in which poll isn't known"
 
 
@@ -84,7 +103,7 @@ def named(options: Options, varied: Sequence[str]) -> str:
         elif name == "apart":
             parts.append(f"the program {'apart' if value else 'with the polls'}")
         else:
-            parts.append(f"{NAMES.get(name, name)} {value // 1000 if name == 'rx-nsecs' else value}")
+            parts.append(f"{NAMES.get(name, name)} {usecs_of(value) if name in COALESCING else value}")
     return ", ".join(parts)
 
 
@@ -97,7 +116,7 @@ def varied_in(tried: Sequence[Options]) -> list[str]:
     """Returns the options that have several values, except for a timer without deferral."""
     return [
         name
-        for name in ("threaded", "defer-hard-irqs", "gro-flush-timeout", "rx-nsecs", "ring", "apart")
+        for name in ("threaded", "defer-hard-irqs", "gro-flush-timeout", *COALESCING, "ring", "apart")
         if len({options.get(name, 0) for options in tried}) > 1
     ]
 
@@ -178,6 +197,8 @@ class Advice:
         times = costs.timeline_for(head, [] if has_one else [recording.device])
         recording.read(times)
         self.told = costs.object_after(times, head)
+        if words.capture:
+            self.take_interrupt()
         self.costs = self.settled({name.replace("_", "-"): cost["value"] for name, cost in self.told["costs"].items()})
         self.processors = recording.layout.processors
         self.options = options_of(head, recording.device, self.told["apart"], len(self.processors))
@@ -191,6 +212,18 @@ class Advice:
         self.predictions, self.choice = Predictions(made, self.costs, first, majors), None
         if self.grade in ("good", "fair"):
             self.choose(len(first.splitlines()) - 1)
+
+    def take_interrupt(self) -> None:
+        """Takes the cost of an interrupt from a capture's arrivals, if softirqs poll: it begins before its handler."""
+        seen = self.recording.seen
+        cost = card_costs.arrival_interrupt_cost(seen.sent, seen.entries[seen.processor])
+        if cost and not seen.is_by_thread:
+            self.told["costs"]["interrupt"] = cost.as_object()
+            self.told["costs"]["wake"] = Cost(0, 0, 0, cost.count, "a part of the interrupt").as_object()
+            line = (
+                f"interrupt {cost.interval()}: {cost.count} {cost.source}, from the arrival to the softirq, with waking"
+            )
+            self.told["text"] = [line, *(each for each in self.told["text"] if not each.startswith("interrupt"))]
 
     def chosen_end(self) -> str:
         """Returns where waits end, used or delivered. With several processors they end with the delivery, because the machine has a program on
@@ -255,6 +288,7 @@ class Advice:
         """Notes what the recording lacks."""
         recording, words = self.recording, self.words
         self.notes += [f"{each}, which isn't modelled" for each in unmodelled_in(recording.head, recording.device)]
+        self.notes += drivers.notes_on(recording.head, recording.device)
         if recording.by and not words.capture:
             self.notes.append(
                 f"arrivals are when polls took the packets ({recording.by}), so waits in the card's ring before the interrupt aren't in these values; "
@@ -285,13 +319,19 @@ class Advice:
                     else ""
                 )
                 self.notes.append(f"the cost of {what} is unknown and counts as 0{needs}")
-        known = {name: costs.get(name, costs.get("wake", 0) if name == "app-wake" else 0) for name in COSTS}
-        return {**known, "timer": costs.get("timer", known["interrupt"])}
+        known = {name: costs.get(name, 0) for name in COSTS}
+        timer = {"timer": costs.get("timer", known["interrupt"]), "timer-wake": costs.get("timer-wake", known["wake"])}
+        woken = costs.get("app-wake", known["wake"]) if self.told["apart"] else known["wake"]
+        own = 0 if self.told["apart"] else known["app-wake"]  # on the processor that polls
+        return {**known, **timer, "app-wake": own, "app-wake-apart": woken}
 
     def choose(self, packets: int) -> None:
         """Tries all settings."""
         has_program = self.end == "used" and self.machine.other_processor() is not None
-        tried = candidates(self.recording.head, self.recording.device, self.options, has_program)
+        head, device, has_timer = self.recording.head, self.recording.device, "timer" in self.told["costs"]
+        tried = candidates(head, device, self.options, has_program, has_timer)
+        if not has_timer and has_deferral(head, device, self.options):
+            self.notes.append(NO_TIMER)
         self.varied, self.packets = varied_in(tried), packets
         self.choice = Choice(self.words, self.end, self.predictions, tried)
         if self.choice.best:
