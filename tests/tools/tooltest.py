@@ -3,7 +3,6 @@ napi_machine, also for the tools."""
 
 from __future__ import annotations
 
-import atexit
 import contextlib
 import io
 import os
@@ -22,6 +21,7 @@ from typing import IO, Any, TypeVar
 HERE = Path(__file__).resolve().parent
 TOP = HERE.parent.parent
 sys.path += [str(TOP / "tests"), str(TOP / "tools"), str(TOP / "bench")]
+import machine  # noqa: E402
 import needs  # noqa: E402
 
 from fintaqush_tools import cli, errors  # noqa: E402
@@ -35,11 +35,7 @@ REPLAY = os.environ.get("PROGRAM") or str(TOP / "crates/napi_replay/out/napi_rep
 SERIES = os.environ.get("SERIES") or str(TOP / "crates/napi_series/out/napi_series")
 MACHINE = os.environ.get("MACHINE") or str(TOP / "crates/napi_machine/out/napi_machine")
 if not os.path.exists(MACHINE) and shutil.which("g++"):
-    # If napi_machine isn't built, the tools are tested with the bench's C++ program in its place.
-    built = tempfile.mkdtemp()
-    atexit.register(shutil.rmtree, built)
-    MACHINE = f"{built}/machine"
-    subprocess.run(["g++", "-std=c++17", "-O2", TOP / "bench/machine.cc", "-o", MACHINE], check=True)
+    MACHINE = machine.plain()  # if napi_machine isn't built, the tools are tested with the bench's program in its place
 PROGRAMS = {"PROGRAM": REPLAY, "SERIES": SERIES, "MACHINE": MACHINE}
 HAS_MACHINE = unittest.skipUnless(os.path.exists(MACHINE), "g++")
 HEADER = "moment,device,event,value\n"
