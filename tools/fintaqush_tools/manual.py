@@ -11,7 +11,7 @@ from fintaqush_tools.places import version
 
 STATUS = "0 success; 1 error, with a message; 2 bad usage;{} 130 or 143 interrupted."
 FAILED = " 3 a condition of \\-\\-fail\\-if holds;"
-Groups = Sequence[tuple[str, Sequence[tuple[str, str, str]]]]
+Groups = Sequence[tuple[str, Sequence[Sequence[str]]]]
 
 
 def plain(text: str) -> str:
@@ -64,17 +64,13 @@ def page_of(parser: Parser) -> list[str]:
 
 def described(parser: Parser) -> list[tuple[list[str], str, list[str], str]]:
     """Returns for each option its names, its value, its choices, and its description."""
-    formatter = argparse.HelpFormatter(parser.prog)
-    return [
-        (
-            list(action.option_strings),
-            str(action.metavar or action.dest.upper()) if action.nargs != 0 else "",
-            list(map(str, action.choices or [])),
-            " ".join(formatter._expand_help(action).split()),
-        )
-        for action in shown_actions(parser)
-        if action.option_strings
-    ]
+    formatter, found = argparse.HelpFormatter(parser.prog), []
+    for action in shown_actions(parser):
+        if action.option_strings:
+            value = str(action.metavar or action.dest.upper()) if action.nargs != 0 else ""
+            choices, what = list(map(str, action.choices or [])), " ".join(formatter._expand_help(action).split())
+            found.append((list(action.option_strings), value, choices, what))
+    return found
 
 
 def page_of_command(groups: Groups) -> list[str]:
@@ -91,7 +87,7 @@ def page_of_command(groups: Groups) -> list[str]:
     ]
     for title, group in groups:
         lines += [f".SH {plain(title.upper())}"]
-        for name, _, what in group:
+        for name, what in group:
             lines += [".TP", f".BR fintaqush\\-{plain(name)} (1)", plain(what)]
     more = ".BR napi_replay (1), napi_series (1), napi_machine (1), fintaqush (3)"
     return [*lines, ".SH EXIT STATUS", STATUS.format(FAILED), ".SH SEE ALSO", more]
