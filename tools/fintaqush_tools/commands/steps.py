@@ -113,7 +113,7 @@ class Side:
         """Returns the page's entry for a row with these devices before and after it; `told` are those that the page has before it."""
         step = Step(self.rows[key[0] - 1], line, *devices)
         marks = {"squeezed": line["squeezed"], "dropped": step.is_dropped}
-        entry = {"said": step.said, **{name: 1 for name, is_so in marks.items() if is_so}}
+        entry: dict[str, Any] = {"said": step.said, **{name: 1 for name, is_so in marks.items() if is_so}}
         if line["lines"]:
             entry["polls"] = self.polls(line["lines"], dict(told))
         return {**entry, **changed(line["list"], devices[1], told)}
