@@ -55,13 +55,8 @@ MEANINGS = {
     "QUEUED": "it is on the poll list (a mark of this project)",
     "TO_THREAD": "its thread has to take it (a mark of this project)",
 }
-# How a poll ended; the kernel's function is napi_complete_done for the first two, and napi_poll.
-ENDINGS = {
-    "complete": "complete",
-    "again": "a request was missed: poll again",
-    "repoll": "its whole weight: repoll",
-    "absent": "not taken",
-}
+# How a poll ended, where its name doesn't say it.
+ENDINGS = {"again": "a request was missed: poll again", "repoll": "its whole weight: repoll", "absent": "not taken"}
 
 
 class Side:
@@ -125,7 +120,8 @@ class Side:
         for number, line in enumerate(lines, 1):
             work += line["work"]
             rule = "napi_complete_done" if line["ended"] in ("complete", "again") else "napi_poll"
-            poll = {"device": line["device"], "packets": line["work"], "ending": ENDINGS[line["ended"]], "rule": rule}
+            ending = ENDINGS.get(line["ended"], line["ended"])
+            poll = {"device": line["device"], "packets": line["work"], "ending": ending, "rule": rule}
             left = {"budget": max(0, self.settings["budget"] - work), "window": self.settings["window"] - number}
             polls.append({**poll, **left, **changed(line["list"], {line["device"]: self.device_of(line)}, told)})
         return polls
