@@ -1,7 +1,7 @@
 """Checks of a program of the receiving machine (napi_machine, or bench/machine.cc), for tests/machine.sh: what it prints is what the
 plain program (bench/machine.cc) prints, or what queueing theory or a recording of Linux says. PLAIN=FILE names a build of the plain one.
 
-    python3 -B tests/machine.py examples|random|one_queue|faults|texts|options|ends|queue|livelock|recorded PROGRAM [SEED COUNT]
+    python3 -B tests/machine.py examples|random|one_queue|faults|texts|options|ends|queue|livelock|recorded|simulator PROGRAM [SEED COUNT]
     python3 -B tests/machine.py simulated REPORT FILE
 """
 
@@ -21,6 +21,8 @@ import tempfile
 import time
 from collections import Counter
 from collections.abc import Callable, Iterable, Iterator, Sequence
+
+from finding import group_in
 
 TOP = pathlib.Path(__file__).resolve().parent.parent
 HEADER, FLOWS = "moment,device,bytes", "moment,device,bytes,flow"
@@ -276,46 +278,28 @@ def one_queue(program: str, seed: str = "1", count: str = "60") -> list[str]:
 # ---- what is rejected
 
 def faults(program: str) -> list[str]:
-    """Each error of the rows with its message and status, and with nothing written; in a row that has several the lowest one."""
-    wrong: list[str] = []
-    good = "0,1,60\n"
-    for rows, number, name, row in (
-            (None, 1, "BadHeader", 0), ("moment,device,event,value\n", 1, "BadHeader", 0), ("moment,device,bytes,2\n", 1, "BadHeader", 0),
-            ("moment,device,bytes,flow\n", 1, "BadHeader", 0), (" moment,device,bytes\n", 1, "BadHeader", 0),
-            ("0,1\n", 2, "BadFields", 2), ("0,1,60,\n", 2, "BadFields", 2), ("x,1,60,60\n", 2, "BadFields", 2),
-            ("x,1,60\n", 3, "BadNumber", 2), (",1,60\n", 3, "BadNumber", 2), ("0,+1,60\n", 3, "BadNumber", 2),
-            ("0,1,6e1\n", 3, "BadNumber", 2), ("0,1, 60\n", 3, "BadNumber", 2), (f"{'0' * 21},1,60\n", 3, "BadNumber", 2),
-            ("x,0,0\n", 3, "BadNumber", 2),
-            ("0,0,60\n", 5, "OutOfRange", 2), ("0,129,60\n", 5, "OutOfRange", 2), ("0,1,0\n", 5, "OutOfRange", 2),
-            ("0,1,65536\n", 5, "OutOfRange", 2), (f"{2**62},1,60\n", 5, "OutOfRange", 2), (f"{'9' * 20},1,60\n", 5, "OutOfRange", 2),
-            (f"7,1,60\n{2**64 + 7},1,60\n", 5, "OutOfRange", 3), ("7,1,60\n6,1,60\n", 8, "Falls", 3),
-            ("7,1,60\n6,0,60\n", 5, "OutOfRange", 3), ("7,1,60\n6,128,60\n0,x,60\n", 8, "Falls", 3)):
-        text = "" if rows is None else rows if number == 1 else f"{HEADER}\n{good}{rows}"
-        for arguments in (["--processors", "2"], ["--processors=2", "--budget=0"]):
-            wrong += not_faulty(program, arguments, text, f"arrivals fault {number} {name} row {row}\n")
-    return wrong + faults_of_flows(program)
-
-
-def faults_of_flows(program: str) -> list[str]:
-    """With --queues above 1 a fourth column, and queues that are within the processor's 64."""
-    wrong: list[str] = []
-    for rows, number, name, row in (
-            (f"{HEADER}\n0,1,60\n", 1, "BadHeader", 0), (f"{FLOWS}\n0,1,60\n", 2, "BadFields", 1),
-            (f"{FLOWS}\n0,1,60,1,\n", 2, "BadFields", 1), (f"{FLOWS}\n0,1,60,\n", 3, "BadNumber", 1),
-            (f"{FLOWS}\n0,1,60,x\n", 3, "BadNumber", 1),
-            (f"{FLOWS}\n0,1,60,{'1' * 21}\n", 3, "BadNumber", 1), (f"{FLOWS}\n0,1,60,0\n0,22,60,1\n", 5, "OutOfRange", 2),
-            (f"{FLOWS}\n5,22,60,0\n4,22,60,1\n", 5, "OutOfRange", 2),
-            (f"{FLOWS}\n5,22,60,0\n4,22,60,0\n", 8, "Falls", 2)):
-        wrong += not_faulty(program, ["--queues", "3"], rows, f"arrivals fault {number} {name} row {row}\n")
-    same(program, ["--queues", "3"], f"{FLOWS}\n0,22,60,0\n0,1,60,{'9' * 20}\n0,1,60,{2**64 + 1}\n0,1,60,{'2'.zfill(20)}\n")
+    """Each error of the rows with its message and status, and with nothing written; in a row that has several the lowest one. With --queues above 1
+    there is a fourth column, and queues are within the processor's 64."""
+    good, many, two = f"{HEADER}\n0,1,60\n", ["--queues", "3"], (["--processors", "2"], ["--processors=2", "--budget=0"])
+    bare = ["", "moment,device,event,value\n", "moment,device,bytes,2\n", f"{FLOWS}\n", f" {HEADER}\n"]
+    fields, numbers = ["0,1", "0,1,60,", "x,1,60,60"], ["x,1,60", ",1,60", "0,+1,60", "0,1,6e1", "0,1, 60", f"{'0' * 21},1,60", "x,0,0"]
+    ranges = ["0,0,60", "0,129,60", "0,1,0", "0,1,65536", f"{2**62},1,60", f"{'9' * 20},1,60"]
+    later = [(5, "OutOfRange", f"7,1,60\n{2**64 + 7},1,60"), (8, "Falls", "7,1,60\n6,1,60"), (5, "OutOfRange", "7,1,60\n6,0,60"),
+             (8, "Falls", "7,1,60\n6,128,60\n0,x,60")]
+    cases = [(words, text, 1, "BadHeader", 0) for words in two for text in bare]
+    for number, name, rows in ((2, "BadFields", fields), (3, "BadNumber", numbers), (5, "OutOfRange", ranges)):
+        cases += [(words, f"{good}{row}\n", number, name, 2) for words in two for row in rows]
+    cases += [(words, f"{good}{rows}\n", number, name, 3) for words in two for number, name, rows in later]
+    cases += [(many, f"{HEADER}\n0,1,60\n", 1, "BadHeader", 0)]
+    for number, name, row, text in ((2, "BadFields", 1, "0,1,60"), (2, "BadFields", 1, "0,1,60,1,"), (3, "BadNumber", 1, "0,1,60,"), (3, "BadNumber", 1, "0,1,60,x"),
+                                    (3, "BadNumber", 1, f"0,1,60,{'1' * 21}"), (5, "OutOfRange", 2, "0,1,60,0\n0,22,60,1"),
+                                    (5, "OutOfRange", 2, "5,22,60,0\n4,22,60,1"), (8, "Falls", 2, "5,22,60,0\n4,22,60,0")):
+        cases.append((many, f"{FLOWS}\n{text}\n", number, name, row))
+    same(program, many, f"{FLOWS}\n0,22,60,0\n0,1,60,{'9' * 20}\n0,1,60,{2**64 + 1}\n0,1,60,{'2'.zfill(20)}\n")
     same(program, ["--queues", "64", "--processors", "2"], f"{FLOWS}\n0,2,60,63\n0,1,60,64\n")
-    return wrong
-
-
-def not_faulty(program: str, arguments: Sequence[str], text: str, line: str) -> list[str]:
-    wanted = "", line, 2
-    printed = ran(program, arguments, text)
-    return [f"{text!r} gives {printed}, and not {wanted}"] * (printed != wanted)
+    wanted = [("", f"arrivals fault {number} {name} row {row}\n", 2) for _, _, number, name, row in cases]
+    seen = [ran(program, words, text) for words, text, *_ in cases]
+    return [f"{case[1]!r} gives {printed}, and not {one}" for case, printed, one in zip(cases, seen, wanted) if printed != one]
 
 
 def texts(program: str) -> list[str]:
@@ -517,6 +501,27 @@ def wait_fields(waits: list[int]) -> str:
     return f"mean {sum(waits) // len(waits)} {' '.join(f'wait{name} {wait}' for name, wait in shares.items())} most {max(waits)}"
 
 
+# ---- simulations
+
+EACH = "--use 0 --wake 0 --ring 256 --budget 300 --weight 64 --time-limit 1000000000 --interrupt 4000 --poll 1000 --packet 1000".split()
+COUNTS = "polled", "dropped", "interrupts", "runs", "squeezed"
+
+
+def simulator(program: str) -> list[str]:
+    """The simulator of docs/GUIDE.md (examples/c/simulator.cpp) has the program's counts for the same arrivals and costs: 20000 packets of each of
+    four cards, at each gap between them."""
+    wanted = []
+    gaps = group_in(r"for \((?:const )?Time gap : \{([\d, ]+)\}\)", (TOP / "examples/c/simulator.cpp").read_text())
+    for gap in map(int, gaps.split(",")):
+        rows = sorted((1000 + card * gap // 4 + place * gap, card + 1, 60) for card in range(4) for place in range(20000))
+        told = ran(program, EACH, text_of(rows))[0].splitlines()
+        counts = {**values(next(line for line in told if line.startswith("processor"))), **values(told[-1].removeprefix("total "))}
+        wanted.append([counts[name] for name in COUNTS])
+    lines = (TOP / "examples/c/simulator.stdout").read_text().splitlines()
+    shown = [[int(group_in(rf"(\d+) {name}", line)) for name in COUNTS] for line in lines]
+    return [f"the simulator counts {shown}, and the program {wanted}"] * (shown != wanted or len(shown) < 3)
+
+
 def simulated(report: str, waited: str) -> list[str]:
     """Compares a report of the machine with that of a simulation of the same arrivals, which has each wait in place of their percentiles,
     and no total."""
@@ -531,7 +536,7 @@ def simulated(report: str, waited: str) -> list[str]:
 
 
 CHECKS: dict[str, Callable[..., list[str]]] = {"examples": examples, "random": random_arrivals, "one_queue": one_queue, "faults": faults, "texts": texts,
-          "options": options, "ends": ends, "queue": queue, "livelock": livelock, "recorded": recorded, "simulated": simulated}
+          "options": options, "ends": ends, "queue": queue, "livelock": livelock, "recorded": recorded, "simulator": simulator, "simulated": simulated}
 
 if __name__ == "__main__":
     found = CHECKS[sys.argv[1]](*sys.argv[2:])

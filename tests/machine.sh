@@ -29,7 +29,7 @@ check 'its faults' of_machine faults "$program"
 check 'its texts' of_machine texts "$program"
 check 'its options' of_machine options "$program"
 check 'its ends' of_machine ends "$program"
-check 'the simulator of docs/GUIDE.md counts the same' python3 -B "$top/tests/simulator.py" "$program"
+check 'the simulator of docs/GUIDE.md counts the same' of_machine simulator "$program"
 check 'the mean of M/D/1' of_machine queue "$program"
 check 'livelock by interrupts, and what coalescing leaves to the application' of_machine livelock "$program"
 of_machine recorded "$program" > "$scratch/recorded" 2>&1

@@ -167,7 +167,8 @@ class Surroundings(InFolder):
             calls += [("plot", [TRACE, "--out", old, "--force"], "SERIES"), ("advise", [HERE / "recorded-apart.rec", "--plot", old], "MACHINE")]
         for number in (signal.SIGINT, signal.SIGTERM, signal.SIGHUP):
             for tool, words, program in calls:
-                said = self.ended(number, tool, *words, **{program: held})
+                programs: dict[str, Any] = {program: held}
+                said = self.ended(number, tool, *words, **programs)
                 self.assertTrue(said.count("\n") == 1 or tool == "sweep", said)
                 (self.folder / "rows").unlink(missing_ok=True)
                 self.assertEqual((old.read_text(), self.names()), ("old\n", before), tool)
@@ -177,8 +178,9 @@ class Surroundings(InFolder):
         os.mkfifo(self.folder / "fifo.csv")
         for tool, words in [*READERS.items(), ("raise", ["--out", "out"])]:
             child = self.start(tool, "fifo.csv", *words)
-            end = self.opened(child, "fifo.csv")
+            end, until = self.opened(child, "fifo.csv"), time.monotonic() + MOST_SECONDS
             while child.poll() is None:
+                self.assertLess(time.monotonic(), until)
                 child.send_signal(signal.SIGINT)
                 time.sleep(0.001)
             os.close(end)
