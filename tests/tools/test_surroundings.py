@@ -8,6 +8,7 @@ import os
 import signal
 import subprocess
 import time
+import unittest.mock
 from collections.abc import Callable
 from pathlib import Path
 from typing import Any
@@ -17,7 +18,7 @@ from finding import group_in
 from tooltest import (HEADER, HERE, MACHINE, MOST_SECONDS, NO_WORDS, PROGRAMS, REPLAY, START, TOP, InFolder, call, failing, limited, process, process_to,
                       run, run_to, started)
 
-from fintaqush_tools import files
+from fintaqush_tools import errors, files
 from fintaqush_tools.cli import MODULES
 
 TRACE = TOP / "examples/bursts.csv"
@@ -172,6 +173,13 @@ class Surroundings(InFolder):
                 self.assertTrue(said.count("\n") == 1 or tool == "sweep", said)
                 (self.folder / "rows").unlink(missing_ok=True)
                 self.assertEqual((old.read_text(), self.names()), ("old\n", before), tool)
+
+    def test_a_signal_that_is_deferred(self) -> None:
+        """One that comes while a program is being started ends the tool after that."""
+        with unittest.mock.patch.multiple(errors.Signals, is_over=False, waiting=0, is_deferred=False):
+            errors.Signals.defer()
+            errors.Signals.take(signal.SIGTERM)
+            self.assertRaises(errors.Interrupted, errors.Signals.resume)
 
     def test_more_interruptions_disturb_nothing(self) -> None:
         """One signal per millisecond, from when it reads a FIFO until it has ended: one line, and its exit status."""
