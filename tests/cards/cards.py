@@ -10,8 +10,8 @@
     cards.py memory              whether there is enough memory for them; the exit status is 1 if not
 
 Costs and arrivals come from one recording of each card, and the costs of NAPI's timer from a second one, because the first has no timers. The
-plain model of the machine predicts the settings from these, and its values are compared with the measured ones. PROGRAM, a build of
-napi_machine, has to print the model's bytes; settings that need an option which it lacks are skipped. The last line is
+plain program of the machine predicts the settings from these, and its values are compared with the measured ones. PROGRAM, a build of
+napi_machine, has to print the same bytes; settings that need an option which it lacks are skipped. The last line is
 `N passed, M failed, K skipped`.
 """
 
@@ -31,7 +31,6 @@ sys.path[:0] = [str(TOP / "tools"), str(TOP / "tests"), str(HERE)]
 
 import emulation  # noqa: E402
 import machine  # noqa: E402
-import machine_model  # noqa: E402
 from emulation import Setting  # noqa: E402
 from fintaqush_tools import drivers, predicting  # noqa: E402
 from fintaqush_tools.machine import values_of  # noqa: E402
@@ -197,13 +196,12 @@ def words_of(options: Options) -> list[str]:
 
 def needed_by(options: Options) -> set[str]:
     """Returns the options that differ from their defaults, without which the machine prints another report."""
-    defaults = {name: row[2] for name, row in machine_model.OPTIONS.items()}
-    return {name for name, value in options.items() if value != defaults[name]}
+    return {name for name, value in options.items() if value != machine.OPTIONS[name][2]}
 
 
 @functools.lru_cache(None)
 def modelled(words: tuple[str, ...], arrivals: str) -> str:
-    return str(machine_model.machine(words, arrivals))
+    return machine.ran(machine.plain(), words, arrivals)[0]
 
 
 def by_model(options: Options, arrivals: str) -> str:

@@ -17,20 +17,7 @@ from pathlib import Path
 from typing import Any
 
 from finding import group_in
-from tooltest import (
-    HAS_MACHINE,
-    MACHINE,
-    PROGRAMS,
-    SERIES,
-    TOP,
-    Done,
-    InFolder,
-    process,
-    process_to,
-    run,
-    skip_without,
-    started,
-)
+from tooltest import HAS_MACHINE, MACHINE, PROGRAMS, SERIES, TOP, Done, InFolder, process, process_to, run, skip_without, started
 
 from fintaqush_tools.cli import MODULES
 

@@ -1,4 +1,4 @@
-"""Tests of fintaqush what-if. Expected values are computed by hand, or by the plain model of the machine."""
+"""Tests of fintaqush what-if. Expected values are computed by hand, or by the plain program of the machine."""
 
 from __future__ import annotations
 
@@ -10,7 +10,7 @@ import re
 from fractions import Fraction
 from typing import Any
 
-import machine_model
+import machine
 from tooltest import HAS_MACHINE, MACHINE, NO_WORDS, START, InFolder, process, run, skip_without
 
 HEADER = "moment,device,bytes\n"
@@ -30,8 +30,8 @@ class WhatIf(InFolder):
         return list(csv.DictReader(io.StringIO(done.stdout)))
 
     def modelled(self, text: str, *words: str) -> dict[str, str]:
-        """Returns the values of a row, by the plain model."""
-        lines = [line.split() for line in machine_model.machine(list(words), text).splitlines()]
+        """Returns the values of a row, by the plain program."""
+        lines = [line.split() for line in machine.ran(machine.plain(), words, text)[0].splitlines()]
         of = {kind: [dict(zip(line[skip::2], map(int, line[skip + 1 :: 2]))) for line in lines if line[0] == kind]
               for kind, skip in (("device", 0), ("processor", 0), ("time", 0), ("application", 0), ("total", 1))}
         told: dict[str, int | str] = {name: of["total"][0][name] for name in ("arrived", "dropped", "refused", "used")}
@@ -63,7 +63,7 @@ class WhatIf(InFolder):
                                                     "used_per_second")], ["1", "1", "18", "20", "50.00", "40.00", "10.00", "0.00", "1", "50000000"])
 
     def test_each_option(self) -> None:
-        """Every option of the machine is a dimension; the rows are those of the plain model."""
+        """Every option of the machine is a dimension; the rows are those of the plain program."""
         for words in (["--gro-flush-timeout", "30000", "--defer-hard-irqs", "3"], ["--threaded", "1", "--wake", "2000"], ["--backlog", "1", "--ring", "2"],
                       ["--rx-nsecs", "9000", "--rx-frames", "3"], ["--apart", "1", "--app-wake", "2500"], ["--time-limit", "5000"], ["--socket", "3"],
                       ["--window", "1"]):
@@ -207,14 +207,14 @@ class WhatIf(InFolder):
         self.assertIn("no setting here changes the 99th percentile of waits to the end of use", told)
 
     def lost_at(self, load: str, *words: str) -> tuple[int, int]:
-        """Returns the drops in the plain model for these arrivals at a load, and its 99th percentile of waits."""
+        """Returns the drops in the plain program for these arrivals at a load, and its 99th percentile of waits."""
         rows = (line.split(",") for line in self.arrivals.read_text().split()[1:])
         scaled = HEADER + "".join(f"{int(int(moment) // Fraction(load))},{device},{size}\n" for moment, device, size in rows)
         told = self.modelled(scaled, *words)
         return int(told["dropped"]) + int(told["refused"]), int(told["used_p99"])
 
     def test_the_load_at_which_it_breaks(self) -> None:
-        """A packet every 10 us, and a ring of one: in the plain model one load holds and the other breaks, and they are at most 1 % apart."""
+        """A packet every 10 us, and a ring of one: in the plain program one load holds and the other breaks, and they are at most 1 % apart."""
         self.arrivals.write_text(HEADER + "".join(f"{10_000 * place},1,60\n" for place in range(300)))
         words = ["--ring", "1", "--interrupt", "1000", "--poll", "1000", "--packet", "1000", "--use", "0"]
         row, = self.rows(*words, "--until", "drops")
@@ -241,7 +241,7 @@ class WhatIf(InFolder):
         self.assertEqual(sorted(name for name in self.names() if name != "arrivals.csv"), [])
 
     def test_made_traffic_over_seeds(self) -> None:
-        """The median, the minimum and the maximum of the plain model's values for each seed's arrivals; one row per setting."""
+        """The median, the minimum and the maximum of the plain program's values for each seed's arrivals; one row per setting."""
         words = ["--kind", "poisson", "--rate", "100000", "--seconds", "0.01"]
         of = [run("traffic", "--arrivals", *words, "--seed", seed).stdout for seed in (1, 2, 3)]
         told = self.repeated(" ".join(words), "--seeds", "3", "--threaded", "0,1")

@@ -3,6 +3,7 @@ at once on all processors, or by GNU parallel on many machines. Existing rows ar
 
 from __future__ import annotations
 
+import argparse
 import contextlib
 import csv
 import errno
@@ -23,7 +24,7 @@ from typing import IO, Any
 
 from fintaqush_tools.errors import Refusal, unfinished, why
 from fintaqush_tools.files import check_target, write_whole
-from fintaqush_tools.options import Parser, Words, add_program, number, pair
+from fintaqush_tools.options import Parser, Words, add_program, as_options, number, pair
 from fintaqush_tools.places import TOP
 from fintaqush_tools.processes import begun, read_now
 from fintaqush_tools.progress import Program, Progress, can_be_shown, say, share_of
@@ -50,20 +51,13 @@ def sum_of(file: IO[bytes]) -> str:
 
 def add_words(parser: Parser, what: str, out: dict[str, Any]) -> None:
     """Adds the options of a tool that makes rows."""
-    import argparse
-
     parser.add_argument("--out", **out)
     parser.add_argument("--resume", action="store_true", help="continue an existing file")
-    parser.add_argument(
-        "--part",
-        type=pair("/", "3/16"),
-        metavar="K/N",
-        help="only part K of N: every Nth row from the Kth on, for a job array",
-    )
+    text = "only part K of N: every Nth row from the Kth on, for a job array"
+    parser.add_argument("--part", type=pair("/", "3/16"), metavar="K/N", help=text)
     parser.add_argument("--jobs", type=number(1, 999999), help="programs to run at once (one per processor)")
-    parser.add_argument(
-        "--sshloginfile", help="GNU parallel's file of machines; without it all replays run on this machine"
-    )
+    text = "GNU parallel's file of machines; without it all replays run on this machine"
+    parser.add_argument("--sshloginfile", help=text)
     add_program(parser, what)
     parser.add_argument("--play", nargs="+", help=argparse.SUPPRESS)
 
@@ -142,10 +136,8 @@ class Combinations:
         try:
             return self.row_of(made, key), ""
         except (Refusal, OSError, UnicodeError, MemoryError) as error:
-            return (
-                None,
-                f"{shown(key[0])} {' '.join(f'--{name} {value}' for name, value in zip(self.key[2:], key[2:]))}: {why(error)}",
-            )
+            words = as_options(dict(zip(self.key[2:], key[2:])))
+            return None, f"{' '.join([shown(key[0]), *words])}: {why(error)}"
 
     def line_of(self, row: Row) -> str:
         """Formats a row as a line of the file."""
@@ -171,32 +163,15 @@ class Combinations:
         process that fails is tried again, on another machine if there are several."""
         jobs = words.jobs or os.cpu_count() or 1
         some = max(1, min(32, len(keys) // (4 * jobs)))
-        command = [
-            "parallel",
-            "--will-cite",
-            "--line-buffer",
-            "--quote",
-            "--retries",
-            TRIES,
-            "--jobs",
-            words.jobs or "100%",
-            "--max-args",
-            some,
-            "--workdir",
-            os.getcwd(),
-            "--sshloginfile",
-            words.sshloginfile,
-            f"{TOP}/fintaqush",
-            self.tool,
-            "--program",
-            made,
-            "--play",
-        ]
+        options = {"retries": TRIES, "jobs": words.jobs or "100%", "max-args": some, "workdir": os.getcwd()}
+        options["sshloginfile"] = words.sshloginfile
+        command = ["parallel", "--will-cite", "--line-buffer", "--quote", *as_options(options)]
+        command += [f"{TOP}/fintaqush", self.tool, "--program", made, "--play"]
         with tempfile.TemporaryFile() as lines:
             # a file, because a pipe that is full in both directions would deadlock
             lines.write(b"".join(os.fsencode(f"{','.join(key[1:])},{key[0]}\n") for key in keys))
             lines.seek(0)
-            with begun(list(map(str, command)), set(), stdin=lines, stdout=subprocess.PIPE) as process:
+            with begun(command, set(), stdin=lines, stdout=subprocess.PIPE) as process:
                 try:
                     for raw in process.stdout or ():
                         line = raw.decode("utf-8", "surrogateescape")
@@ -210,11 +185,10 @@ class Combinations:
         """Makes the rows on this machine, with a pool of threads that each run a program."""
 
         def tries(key: Key) -> tuple[Row | None, str]:
-            for left in range(TRIES - 1, -1, -1):
-                row, told = self.try_row(made, key)
-                if row or not left:
-                    return row, told
-            return None, ""
+            row, told = self.try_row(made, key)
+            for _ in range(TRIES - 1):
+                row, told = (row, told) if row else self.try_row(made, key)
+            return row, told
 
         pool = ThreadPoolExecutor(words.jobs or os.cpu_count())
         try:
@@ -244,21 +218,19 @@ class Combinations:
         rows = list(csv.DictReader(lines[1:], self.columns))
         for place, row in enumerate(rows, 2):
             if None in row or None in row.values():
-                raise Refusal(
-                    f"{shown(path)}: row {place} isn't a row of {self.tool}: `sed -i {place}d {shlex.quote(shown(path))}` removes it, and "
-                    "--resume makes the missing rows"
+                removes = (
+                    f"`sed -i {place}d {shlex.quote(shown(path))}` removes it, and --resume makes the missing rows"
                 )
+                raise Refusal(f"{shown(path)}: row {place} isn't a row of {self.tool}: {removes}")
         return {self.key_of(row): row for row in rows}
 
     def repaired_head(self, path: str, lines: Sequence[str]) -> str:
         """Returns the command that repairs a damaged first line, if the second one is a row."""
         rows = list(csv.reader(lines[1:2]))
-        is_row = bool(rows) and len(rows[0]) == len(self.columns)
-        return (
-            f"; if only its first line is damaged: `sed -i '1c {self.head.strip()}' {shlex.quote(shown(path))}` repairs it"
-            if is_row
-            else ""
-        )
+        if not rows or len(rows[0]) != len(self.columns):
+            return ""
+        command = f"sed -i '1c {self.head.strip()}' {shlex.quote(shown(path))}"
+        return f"; if only its first line is damaged: `{command}` repairs it"
 
     def append(self, path: str, row: Row) -> None:
         """Appends a row. An incomplete line that a killed call left is removed."""

@@ -18,29 +18,23 @@ MOVED = 0.05  # share of an instance's packets on processors other than its main
 class Layout:
     """The devices of a recording: one for each instance on each processor that polled it."""
 
-    numbers: dict[tuple[Place, int], int]
-    devices: list[int]
-    packets: Counter[int]
-    on: defaultdict[Place, Counter[int]]
-
     def __init__(self, seen: Receiving) -> None:
         self.seen = seen
         self.processors = sorted(set(seen.on))
         self.deliveries = seen.deliveries()
         cpus = self.cpus_of_packets()
-        self.on = defaultdict(Counter)
+        self.on: defaultdict[Place, Counter[int]] = defaultdict(Counter)
         for place, cpu in zip(seen.sent_to, cpus):
             self.on[seen.place_of(place)][cpu] += 1
-        self.numbers, counts = {}, Counter[int]()
+        self.numbers, counts = dict[tuple[Place, int], int](), Counter[int]()
         for place, on in self.on.items():
             for cpu in sorted(on):
                 self.numbers[place, cpu] = self.processors.index(cpu) + 1 + len(self.processors) * counts[cpu]
                 counts[cpu] += 1
-        if len(self.processors) > MOST_PROCESSORS or max(counts.values(), default=0) > MOST_INSTANCES:
-            raise Refusal(
-                f"{len(self.processors)} processors poll up to {max(counts.values())} instances each, and napi_machine has at most "
-                f"{MOST_PROCESSORS} processors of {MOST_INSTANCES}"
-            )
+        count, most = len(self.processors), max(counts.values(), default=0)
+        if count > MOST_PROCESSORS or most > MOST_INSTANCES:
+            has = f"napi_machine has at most {MOST_PROCESSORS} processors of {MOST_INSTANCES}"
+            raise Refusal(f"{count} processors poll up to {most} instances each, and {has}")
         self.devices = [self.numbers[seen.place_of(place), cpu] for place, cpu in zip(seen.sent_to, cpus)]
         self.packets = Counter(self.devices)
 

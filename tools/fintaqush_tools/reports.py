@@ -13,34 +13,23 @@ from fintaqush_tools.errors import Refusal
 from fintaqush_tools.texts import is_number
 
 # docs/FORMATS.md, "The state word".
-BITS = {
-    0: "SCHED",
-    1: "MISSED",
-    2: "DISABLE",
-    3: "NPSVC",
-    6: "IN_BUSY_POLL",
-    8: "THREADED",
-    9: "SCHED_THREADED",
-    32: "QUEUED",
-    33: "TO_THREAD",
-}
+FLAGS = "SCHED MISSED DISABLE NPSVC IN_BUSY_POLL THREADED SCHED_THREADED QUEUED TO_THREAD".split()
+BITS = dict(zip((0, 1, 2, 3, 6, 8, 9, 32, 33), FLAGS))
 
 # The lines of a report; in threads mode `device` and `total` have fewer fields, and in version 2 `napi` also has `held`.
-SHAPES = [
-    shape.split()
-    for shape in (
-        "softirq ROW polls N work N squeezed FLAG",
-        "kthread ROW device N polls N work N",
-        "busy ROW device N polls N work N",
-        "device DEVICE STATE arrived N dropped N polled N bytes N left N polls N",
-        "device DEVICE arrived N bytes N",
-        "napi DEVICE granted N missed N disabled N again N released N word N",
-        "napi DEVICE granted N missed N disabled N again N released N word N held N",
-        "tx DEVICE sent N held N done N denied N limit N avail Z stopped FLAG",
-        "total devices N runs N polls N work N squeezed N",
-        "total devices N",
-    )
-]
+LINES = """\
+softirq ROW polls N work N squeezed FLAG
+kthread ROW device N polls N work N
+busy ROW device N polls N work N
+device DEVICE STATE arrived N dropped N polled N bytes N left N polls N
+device DEVICE arrived N bytes N
+napi DEVICE granted N missed N disabled N again N released N word N
+napi DEVICE granted N missed N disabled N again N released N word N held N
+tx DEVICE sent N held N done N denied N limit N avail Z stopped FLAG
+total devices N runs N polls N work N squeezed N
+total devices N
+"""
+SHAPES = [line.split() for line in LINES.splitlines()]
 STATES = {"FLAG": ("0", "1"), "STATE": ("on", "off", "pending")}
 NUMBERS = ("N", "Z", "ROW", "DEVICE")  # of which Z may be negative
 ROWS = ("softirq", "kthread", "busy")

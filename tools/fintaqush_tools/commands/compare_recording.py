@@ -38,9 +38,7 @@ def work_of(text: str) -> list[int]:
 # What notes say of a row's packets: the replay may poll so many more than the kernel, or fewer.
 MORE = re.compile(r"packets that arrived while it was under way and stand before it: (\d{1,9});")
 OTHERS = re.compile(r"polls in it of devices that are in no pair: (\d{1,9})(?:, of (\d{1,9}) packets)?")
-FEWER = re.compile(
-    r"packets that it polled and that were sent after it or before the recording, by their events: (\d{1,9})"
-)
+FEWER = re.compile(r"packets that it polled and that were sent after it .*, by their events: (\d{1,9})")
 WEIGHT = 64  # packets that a poll takes at most
 
 
@@ -81,9 +79,9 @@ def differences(
             explained.append(f"row {row}: work {work}, the kernel {theirs}: {why}")
         carried += change
     if carried > last:
-        unexplained.append(
-            f"after row {source}: {carried} packets that the kernel never polled: OTHER THAN THE KERNEL, and the notes explain at most {last}"
-        )
+        at_most = f"and the notes explain at most {last}"
+        never = f"{carried} packets that the kernel never polled"
+        unexplained.append(f"after row {source}: {never}: OTHER THAN THE KERNEL, {at_most}")
     return explained, unexplained
 
 
@@ -96,21 +94,15 @@ def first_of(lines: list[str], most: int, what: str) -> list[str]:
 def check_arrivals(name: str, report: Sequence[Mapping[str, Any]]) -> None:
     """Fails if a trace has no arrival."""
     if not any(line.get("arrived") for line in report):
-        raise Refusal(
-            f"{shown(name)}.csv: it has no arrivals, so there is nothing to compare: see fintaqush from-ftrace for the events to record"
-        )
+        see = "see fintaqush from-ftrace for the events to record"
+        raise Refusal(f"{shown(name)}.csv: it has no arrivals, so there is nothing to compare: {see}")
 
 
 def parser() -> Parser:
     parser = parser_of(__doc__)
     parser.add_argument("name", help="the name of the files, without the extension")
-    parser.add_argument(
-        "--lines",
-        type=number(0, 10**6),
-        default=10,
-        metavar="N",
-        help="print at most N differing rows of each kind (10)",
-    )
+    what = "print at most N differing rows of each kind (10)"
+    parser.add_argument("--lines", type=number(0, 10**6), default=10, metavar="N", help=what)
     add_settings(parser)
     add_program(parser)
     return parser

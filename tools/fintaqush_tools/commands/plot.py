@@ -144,9 +144,8 @@ class Picture:
         """Reduces levels to what is visible: for each pixel the lowest and the highest value, including the value before it."""
         found, seen = dict(self.bins(points)), []
         levels: list[Point] = []
-        for place, _ in self.bins(
-            [(self.span[0] + (self.span[1] - self.span[0]) * pixel / self.width,) for pixel in range(self.width)]
-        ):
+        step = (self.span[1] - self.span[0]) / self.width
+        for place, _ in self.bins([(self.span[0] + step * pixel,) for pixel in range(self.width)]):
             here = levels[-1:] + [point[1:] for point in found.get(place, [])]
             levels = here or levels
             seen.append([of(values) for values in zip(*here) for of in (min, max)])
@@ -157,28 +156,27 @@ class Picture:
         points = [(point[0], point[column]) for point in points]
         if self.has_room(points):
             return [curve(kind, color, name, points)]
-        between = [
-            (place, min(value for _, value in found), max(value for _, value in found))
-            for place, found in self.bins(points)
-        ]
+        between = self.ends(points)
         if kind == "area":
-            return [
-                curve("area", "pale", "", [(place, high) for place, _, high in between]),
-                curve("area", color, name, [(place, low) for place, low, _ in between]),
-            ]
+            highs, lows = ([(point[0], point[column]) for point in between] for column in (2, 1))
+            return [curve("area", "pale", "", highs), curve("area", color, name, lows)]
         return [curve("between", color, name, between)]
+
+    def ends(self, points: Sequence[Point]) -> list[Point]:
+        """Combines points per pixel: the lowest of their first values, and the highest of their last ones."""
+        return [
+            (at, min(each[1] for each in found), max(each[-1] for each in found)) for at, found in self.bins(points)
+        ]
 
     def sums(self, points: Sequence[Point]) -> tuple[str, list[Curve]]:
         """Returns the work of the runs, and of the squeezed ones, summed per pixel if there isn't a pixel per run."""
         label = "packets"
         if not self.has_room(points):
             points = [
-                (place, sum(run[1] for run in found), sum(run[2] for run in found))
-                for place, found in self.bins(points)
+                (at, sum(run[1] for run in found), sum(run[2] for run in found)) for at, found in self.bins(points)
             ]
-            label = (
-                f"packets in {(self.span[1] - self.span[0]) / self.width:.3g} {'ms' if self.axis == 'ms' else 'rows'}"
-            )
+            step, unit = (self.span[1] - self.span[0]) / self.width, "ms" if self.axis == "ms" else "rows"
+            label = f"packets in {step:.3g} {unit}"
         squeezed = [(point[0], point[2]) for point in points if point[2]]
         curves = [curve("bars", "blue", "work of a run", [point[:2] for point in points])]
         if squeezed:
@@ -187,11 +185,7 @@ class Picture:
 
     def waits(self, points: Sequence[Point]) -> list[Curve]:
         """Returns how long the packets of each run had waited, combined per pixel if there isn't a pixel per run."""
-        if not self.has_room(points):
-            points = [
-                (place, min(run[1] for run in found), max(run[2] for run in found))
-                for place, found in self.bins(points)
-            ]
+        points = points if self.has_room(points) else self.ends(points)
         return [
             curve("bars", "pale", "longest wait of a run", [(place, longest) for place, _, longest in points]),
             curve("bars", "black", "shortest", [(place, shortest) for place, shortest, _ in points]),
@@ -201,16 +195,12 @@ class Picture:
         """Returns the panels of a series by kind: y label, curves, and their visible values."""
         panels: dict[str, Panel] = {}
         if series.limits:
-            curves = self.level(series.limits, 2, "grey", "bytes in flight", "area") + self.level(
-                series.limits, 1, "blue", "limit", "step"
-            )
+            curves = self.level(series.limits, 2, "grey", "bytes in flight", "area")
+            curves += self.level(series.limits, 1, "blue", "limit", "step")
             panels["limits"] = (f"bytes, device {series.device}", curves, self.seen(series.limits))
         if series.work:
-            panels["waiting"] = (
-                "packets",
-                self.level(series.waiting, 1, "grey", "packets that wait", "area"),
-                self.seen(series.waiting),
-            )
+            waiting = self.level(series.waiting, 1, "grey", "packets that wait", "area")
+            panels["waiting"] = ("packets", waiting, self.seen(series.waiting))
             panels["work"] = (*self.sums(series.work), None)
         if series.waits:
             panels["waits"] = ("rows", self.waits(series.waits), None)
@@ -244,9 +234,8 @@ def together(row: Sequence[tuple[Panel, float]]) -> list[tuple[Panel, float, str
     if len(row) == 1 or first[1:] == last[1:]:
         return [(first, top, "the same with both settings" if len(row) > 1 else "")]
     if first[2] and last[2] and [len(each) for each in first[2]] == [len(each) for each in last[2]]:
-        apart = max(
-            (abs(one - other) for mine, theirs in zip(first[2], last[2]) for one, other in zip(mine, theirs)), default=0
-        )
+        pairs = [pair for mine, theirs in zip(first[2], last[2]) for pair in zip(mine, theirs)]
+        apart = max((abs(one - other) for one, other in pairs), default=0)
         if apart * 10 <= top:
             return [(first, top, f"alike with both settings, at most {apart} apart")]
     return [(panel, top, "") for panel, top in row]
@@ -254,11 +243,8 @@ def together(row: Sequence[tuple[Panel, float]]) -> list[tuple[Panel, float, str
 
 def title_of(name: str, all_series: Sequence[Series], headings: Sequence[str]) -> str:
     """Returns the title: for each replay the number of squeezed runs, and the range of the limit."""
-    told = [
-        " with ".join(filter(None, (series.squeezes, heading)))
-        for heading, series in zip(headings, all_series)
-        if series.squeezes
-    ]
+    both = [(series.squeezes, heading) for heading, series in zip(headings, all_series) if series.squeezes]
+    told = [" with ".join(filter(None, each)) for each in both]
     limits = [point[1] for series in all_series for point in series.limits]
     if limits:
         told.append(f"the limit of device {all_series[0].device} is {min(limits):,} to {max(limits):,} bytes")
@@ -275,11 +261,8 @@ def described(words: Words, all_rows: Sequence[Sequence[Line]], name: str, headi
             heading = headings[place] if len(row) == len(headings) > 1 else told
             panels.append({"label": label, "heading": heading, "top": top * 1.08 + 1, "curves": curves})
     low, high = picture.span
-    return {
-        "title": title_of(name, all_series, headings),
-        "axis": {"label": picture.axis, "low": low, "high": high, "whole": True},
-        "panels": panels,
-    }
+    axis = {"label": picture.axis, "low": low, "high": high, "whole": True}
+    return {"title": title_of(name, all_series, headings), "axis": axis, "panels": panels}
 
 
 def draw(words: Words, all_rows: Sequence[Sequence[Line]], name: str, headings: Sequence[str]) -> None:
@@ -333,22 +316,17 @@ def parser() -> Parser:
     parser.add_argument("--force", action="store_true", help="replace an existing picture")
     parser.add_argument("--beside", metavar="OPTIONS", help="a second replay with these options, below the first")
     add_raise(parser)
-    parser.add_argument(
-        "--device",
-        type=number(1, MOST_DEVICES),
-        metavar="N",
-        help="the device whose limit is drawn (the one with the most such rows)",
-    )
+    what = "the device whose limit is drawn (the one with the most such rows)"
+    parser.add_argument("--device", type=number(1, MOST_DEVICES), metavar="N", help=what)
     parser.add_argument("--rows", type=pair(":", "100:200", low=0), metavar="A:B", help="only these rows")
     parser.add_argument("--time", action="store_true", help="times on the axis instead of rows")
     parser.add_argument("--size", type=size_of, default=(720, 220), help="the size of a panel in pixels (720x220)")
     parser.add_argument("--waits", action="store_true", help="draw how many rows the packets of each run had waited")
-    parser.add_argument(
-        "--dark", action="store_true", help="a dark .png (an .svg and an .html follow the reader's mode)"
-    )
-    parser.add_argument(
-        "--json", action="store_true", help="print what would be drawn as a JSON object, and draw nothing"
-    )
+    for name, what in (
+        ("--dark", "a dark .png (an .svg and an .html follow the reader's mode)"),
+        ("--json", "print what would be drawn as a JSON object, and draw nothing"),
+    ):
+        parser.add_argument(name, action="store_true", help=what)
     return parser
 
 
@@ -364,7 +342,5 @@ def main(given: Sequence[str]) -> None:
         if replay_args or words.beside is not None or words.raised or words.waits:
             options.error("--series is drawn as it is: it takes no words of a replay")
         return draw(words, [read_series(read_bytes(words.series).decode())], shown(Path(words.series).name), [""])
-    drawn = list(replays(words, replay_args))
-    return draw(
-        words, [rows for rows, _ in drawn], shown(Path(words.trace).name), [shown(heading) for _, heading in drawn]
-    )
+    all_rows, headings = zip(*replays(words, replay_args))
+    return draw(words, all_rows, shown(Path(words.trace).name), list(map(shown, headings)))

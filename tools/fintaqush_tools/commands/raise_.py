@@ -22,12 +22,8 @@ def parser() -> Parser:
     parser = parser_of(__doc__)
     parser.add_argument("trace", help="the trace; - for standard input")
     add_settings(parser)
-    parser.add_argument(
-        "--restarts",
-        type=number(0, 99999),
-        metavar="N",
-        help="add at most N runs after a row (until the list is empty)",
-    )
+    what = "add at most N runs after a row (until the list is empty)"
+    parser.add_argument("--restarts", type=number(0, 99999), metavar="N", help=what)
     add_out(parser, "trace")
     add_program(parser, "napi_series")
     return parser
