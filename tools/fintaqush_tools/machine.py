@@ -149,11 +149,3 @@ def option_words(settings: Mapping[str, Any]) -> list[str]:
     return [
         word for name, value in settings.items() if int(value) != OPTIONS[name][2] for word in (f"--{name}", str(value))
     ]
-
-
-def with_costs(settings: Mapping[str, Any], percent: int) -> dict[str, Any]:
-    """Returns the settings with each cost scaled to `percent`."""
-    return {
-        name: min(OPTIONS[name][1], (int(value) * percent + 50) // 100) if name in COSTS else value
-        for name, value in settings.items()
-    }

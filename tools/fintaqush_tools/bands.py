@@ -1,0 +1,83 @@
+"""The band in which a measured value is nine times of ten: for advise and the tests; what-if takes from here how costs are varied.
+
+The doubt of the costs is twice the error of the recorded setting's median waits, at least 10 % and at most 50 %. A band holds the predictions
+with all costs lower and higher by the doubt, or at the ends of a cost's confidence interval if that is wider; and the prediction plus twice what
+was missed at the recorded setting: times and few packets by the difference, all else by the ratio. Both of its ends are 3 % further, because
+recordings of one setting differ.
+
+Twice, because what the model lacks may take longer with another setting; tests/tools/test_bands.py counts how many recorded values are within.
+"""
+
+from __future__ import annotations
+
+from collections.abc import Iterable, Mapping, Sequence
+from typing import Any
+
+from fintaqush_tools.machine import COSTS, OPTIONS
+from fintaqush_tools.predicting import FEW, MEASURED, Compared
+
+Costs = Mapping[str, int]  # in ns, by the names of the machine's options, and `timer`
+Interval = tuple[float, float]
+
+DOUBT = 20  # % of the costs, if no recording says more
+LEAST, MOST = 10, 50  # % of the costs
+TIMES = 2  # how much further than at the recorded setting a prediction may be off
+ALIKE = 0.03  # relative difference between recordings of one setting
+# ns that a NAPI timer takes longer than an interrupt, at most, if no timer was recorded; with its wake-up 3 to 8 us were measured.
+TIMER = 10_000
+LIKE = {"lost": "dropped", "kernel_percent": "poll_percent"}  # predicted values whose error is that of another one
+
+
+def with_costs(settings: Mapping[str, Any], percent: int) -> dict[str, Any]:
+    """Returns the settings with each cost scaled to `percent`."""
+    return {
+        name: min(OPTIONS["poll"][1], (int(value) * percent + 50) // 100) if name in (*COSTS, "timer") else value
+        for name, value in settings.items()
+    }
+
+
+def doubt_of(rows: Iterable[Compared]) -> int:
+    """Returns the doubt of the costs in %, by the values of the recorded setting."""
+    errors = [abs(measured / value - 1) for name, measured, value, _ in rows if name.endswith("_p50") and value]
+    return max(LEAST, min(MOST, round(100 * TIMES * max(errors)))) if errors else DOUBT
+
+
+class Doubt:
+    """What a recording leaves open: other costs that it may have, and how far its own setting was missed.
+
+    `sides` are these costs, each with a description.
+    """
+
+    sides: list[tuple[str, dict[str, int]]]
+
+    def __init__(self, costs: Costs, rows: Sequence[Compared], intervals: Mapping[str, Interval] | None = None) -> None:
+        """`rows` compare the recorded setting with its prediction. `intervals` has the ends of each cost; without those of polls and packets
+        only their sum is known, of which each has the half in `costs`."""
+        self.rows = {row[0]: row for row in rows}
+        self.percent = doubt_of(rows)
+        self.sides = []
+        for what, percent, end in (("lower", 100 - self.percent, min), ("higher", 100 + self.percent, max)):
+            side = with_costs(costs, percent)
+            for name, interval in (intervals or {}).items():
+                side[name] = round(end(side[name], *interval))
+            self.sides.append((f"costs {self.percent} % {what}", side))
+        if "timer" not in costs:
+            self.sides[1][1]["timer"] = costs.get("interrupt", 0) + TIMER
+        if intervals is not None and "packet" not in intervals:
+            for what, name, other in (("packets", "poll", "packet"), ("polls", "packet", "poll")):
+                self.sides.append((f"{what} that cost nothing", {**costs, name: 2 * costs[name], other: 0}))
+
+    def moved(self, name: str, value: float) -> float:
+        """Returns a predicted value if it is missed further than at the recorded setting."""
+        row = self.rows.get(LIKE.get(name, name))
+        if not row:
+            return value
+        name, measured, predicted, _ = row
+        if MEASURED[name][0] == "us" or predicted < FEW and name != "poll_percent":
+            return value + TIMES * (measured - predicted)
+        return value * (1 + TIMES * (measured / predicted - 1)) if predicted else value
+
+    def band(self, name: str, value: float, others: Iterable[float]) -> Interval:
+        """Returns the band of a predicted value; `others` are its predictions with the costs of `sides`."""
+        ends = [value, *others, self.moved(name, value)]
+        return max(0.0, min(ends) * (1 - ALIKE)), max(ends) * (1 + ALIKE)
