@@ -1,6 +1,6 @@
 """The band in which a measured value is nine times of ten: for advise and the tests; what-if takes from here how costs are varied.
 
-The doubt of the costs is twice the error of the recorded setting's median waits, at least 10 % and at most 50 %. A band holds the predictions
+The doubt of the costs is twice the error of the recorded setting's median waits, at least 15 % and at most 50 %. A band holds the predictions
 with all costs lower and higher by the doubt, or at the ends of a cost's confidence interval if that is wider; and the prediction plus twice what
 was missed at the recorded setting: times and few packets by the difference, all else by the ratio. Both of its ends are 3 % further, because
 recordings of one setting differ.
@@ -20,7 +20,7 @@ Costs = Mapping[str, int]  # in ns, by the names of the machine's options, and `
 Interval = tuple[float, float]
 
 DOUBT = 20  # % of the costs, if no recording says more
-LEAST, MOST = 10, 50  # % of the costs
+LEAST, MOST = 15, 50  # % of the costs; those of three like recordings differed by 15 %
 TIMES = 2  # how much further than at the recorded setting a prediction may be off
 ALIKE = 0.03  # relative difference between recordings of one setting
 # ns that a NAPI timer takes longer than an interrupt, at most, if no timer was recorded; with its wake-up 3 to 8 us were measured.
@@ -40,6 +40,11 @@ def doubt_of(rows: Iterable[Compared]) -> int:
     """Returns the doubt of the costs in %, by the values of the recorded setting."""
     errors = [abs(measured / value - 1) for name, measured, value, _ in rows if name.endswith("_p50") and value]
     return max(LEAST, min(MOST, round(100 * TIMES * max(errors)))) if errors else DOUBT
+
+
+def timer_of(costs: Costs) -> int:
+    """Returns the cost of a NAPI timer, which counts as an interrupt if none was recorded."""
+    return costs.get("timer", costs.get("interrupt", 0))
 
 
 class Doubt:
@@ -62,7 +67,7 @@ class Doubt:
                 side[name] = round(end(side[name], *interval))
             self.sides.append((f"costs {self.percent} % {what}", side))
         if "timer" not in costs:
-            self.sides[1][1]["timer"] = costs.get("interrupt", 0) + TIMER
+            self.sides[1][1]["timer"] = timer_of(costs) + TIMER
         if intervals is not None and "packet" not in intervals:
             for what, name, other in (("packets", "poll", "packet"), ("polls", "packet", "poll")):
                 self.sides.append((f"{what} that cost nothing", {**costs, name: 2 * costs[name], other: 0}))
