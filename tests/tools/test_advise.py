@@ -24,8 +24,7 @@ import timing
 from timing import Made
 from tooltest import HAS_MACHINE, HERE, Done, InFolder, keys_of, run, skip_without
 
-from fintaqush_tools import advice, choosing, predicting
-from fintaqush_tools.commands import advise
+from fintaqush_tools import advice, choosing, predicting, verifying
 from fintaqush_tools.errors import Refusal
 from fintaqush_tools.receiving import Receiving
 from fintaqush_tools.recorded import Recording
@@ -374,22 +373,54 @@ class Advise(InFolder):
             self.assertTrue(any(note.startswith(each) for note in told["notes"]), each)
 
     def test_a_verdict(self) -> None:
-        """Before, 80 polls of 2600 ns and 410 per packet took 1.7 % of 31.6 ms. If half of the packets come, they take less; if the recording is
-        the same, the advice didn't hold."""
-        def verified(again: Made, *words: str, status: int = 0) -> Done:
-            second = self.write("again.rec", file_of(again))
-            with unittest.mock.patch.object(advise, "record_again", lambda told: Recording(str(second), told.words).read()), \
-                    unittest.mock.patch.object(advice.Machine, "with_changes", lambda *_: contextlib.nullcontext()), unittest.mock.patch("os.geteuid", lambda: 0):
-                return self.advised(file_of(quiet()), "--goal", "cpu", "--verify", *words, status=status)
+        """80 polls of 2600 ns and 410 per packet take 0.34 of 7.9 ms with 1 or 7 packets, and 0.27 with 1 or 3. Each setting is recorded three times
+        in turn, today's first. The advice holds if all of its recordings are below all of today's."""
+        often = 100_000
 
-        # 80 polls of 2600 + 410 * 1 and * 7 ns
-        self.assertRegex(verified(quiet(works=(1, 7))).stdout, r"\npolls, % of the time: 1\.7 before, 1\.1 with the advised settings \(-37 %\), [\d.]+ predicted\n$")
-        told = json.loads(verified(quiet(works=(1, 7)), "--json").stdout)
-        self.assertEqual((told["verdict"]["name"], round(told["verdict"]["before"], 2), round(told["verdict"]["measured"], 2)), ("poll_percent", 1.7, 1.07))
-        done = verified(quiet(), status=1)
-        self.assertIn("\npolls, % of the time: 1.7 before, 1.7 with the advised settings (+0 %)", done.stdout)
-        self.assertEqual(done.stderr, "fintaqush advise: applying the settings, and recording again during traffic\n"
-                         "fintaqush advise: the advised settings weren't better than those of before, which are set again\n")
+        def verified(*works: tuple[int, int], status: int = 0, words: Sequence[str] = ()) -> Done:
+            given = [self.write(f"{place}.rec", file_of(quiet(works=each, period=often))) for place, each in enumerate(works)]
+            state = {"is_changed": False}
+
+            def record_again(_: Any, told: Any) -> Recording:
+                self.assertEqual(state["is_changed"], len(given) % 2 == 1)
+                return Recording(str(given.pop(0)), told).read()
+
+            @contextlib.contextmanager
+            def with_changes(_: Any, changes: Sequence[advice.Change]) -> Any:
+                self.assertTrue(changes)
+                state["is_changed"] = True
+                yield
+                state["is_changed"] = False
+
+            with unittest.mock.patch.object(verifying, "record_again", record_again), unittest.mock.patch("os.geteuid", lambda: 0), \
+                    unittest.mock.patch.object(advice.Machine, "with_changes", with_changes):
+                done = self.advised(file_of(quiet(works=(1, 7), period=often)), "--goal", "cpu", "--verify", *words, status=status)
+            self.assertEqual(given, [])
+            return done
+
+        high, low = (1, 7), (1, 3)
+        # 80 * 2600 + 320 or 160 * 410 ns, of the time from the first packet to the end of the last poll: 79 * 100 us + 5000 + 2600 + 7 or 3 * 410
+        shares = [f"{100 * (80 * 2600 + count * 410) / (7_900_000 + 7600 + most * 410):.1f}" for count, most in ((320, 7), (160, 3))]
+        self.assertEqual(shares, ["4.3", "3.5"])
+        done = verified(high, low, high, low, high, low)
+        self.assertIn("\npolls, % of the time: 4.3 (4.3 to 4.3) today, 3.5 (3.5 to 3.5) with the advised settings: -19 %, better in all recordings\n", done.stdout)
+        self.assertRegex(done.stdout, r"\npredicted for these packets: [\d.]+, nine times of ten [\d.]+ to [\d.]+, which (holds|does not hold) the measured median\n$")
+        self.assertEqual(done.stderr.splitlines(), [f"fintaqush advise: recording today's settings and the advised ones during traffic, {number} of 3" for number in (1, 2, 3)])
+        told = json.loads(verified(high, low, high, low, high, low, words=["--json"]).stdout)["verdict"]
+        self.assertEqual((told["name"], told["verdict"], [[f"{each:.1f}" for each in told[name]] for name in ("today", "advised")]),
+                         ("poll_percent", "better", [["4.3"] * 3, ["3.5"] * 3]))
+        for works, what in (((high, low, high, high, high, low), "which is within their noise"), ((low, high) * 3, "worse in all recordings")):
+            done = verified(*works, status=1)
+            self.assertIn(what, done.stdout)
+            self.assertIn("fintaqush advise: the advised settings weren't better than today's, which are set again\n", done.stderr)
+
+    def test_a_verdict_without_values(self) -> None:
+        """A value that couldn't be measured in one of the recordings proves nothing."""
+        verdict = verifying.Verdict("used_p99", [50_000, 51_000], [20_000, 21_000, 22_000], 24_000, (20_500, 30_000))
+        self.assertEqual((verdict.judgement(), verdict.lines()), ("unknown", [
+            "wait to the end of use, p99, us: 50.5 (50.0 to 51.0) today, 21.0 (20.0 to 22.0) with the advised settings: -58 %, measured in too few recordings, of 3 each",
+            "predicted for these packets: 24.0, nine times of ten 20.5 to 30.0, which holds the measured median"]))
+        self.assertEqual(verifying.Verdict("used_p99", [], [9], 1, (1, 1)).lines(), ["the advice isn't verified: wait to the end of use, p99, us wasn't measured"])
 
     @skip_without("matplotlib")
     def test_the_picture(self) -> None:

@@ -49,6 +49,7 @@ from fintaqush_tools.verifying import Verdict
 
 FEWEST = 1000  # packets
 SHOWN = 8  # settings in the table
+VAGUE = 4  # ratio of a band's ends above which a value counts as unknown
 FORMAT = 1  # version of the object that --json prints
 NAMES = {"defer-hard-irqs": "napi_defer_hard_irqs", "gro-flush-timeout": "gro_flush_timeout", "rx-nsecs": "rx-usecs"}
 UNKNOWN = "no wait was measured, because which packet was in which poll isn't known"
@@ -140,7 +141,7 @@ class Advice:
         self.note_tasks()
         self.note_recording()
         self.predictions, self.choice = Predictions(made, self.costs, first, majors), None
-        self.predictions.doubt = self.doubt()
+        self.predictions.doubt = self.doubt
         if self.grade in ("good", "fair"):
             self.choose(len(first.splitlines()) - 1)
 
@@ -201,6 +202,7 @@ class Advice:
         ]
         self.grade = max(grades, key=("good", "fair", "poor").index) if self.is_measured() else "unknown"
 
+    @property
     def doubt(self) -> Doubt:
         """Returns how far the costs are in doubt, and what else the recording leaves open."""
         known = self.told["costs"] if self.told["is_separated"] else {
@@ -271,6 +273,7 @@ class Advice:
             self.best, self.values = self.choice.best
             self.sides = self.predictions.sides_of(self.best)
             self.notes += self.choice.warnings(self.best, self.sides, self.predictions.sides_of(self.options))
+            self.notes += self.unknown()
             self.changes = self.machine.changes(self.best, self.options)
             self.notes += self.machine.notes_on(self.changes)
         else:
@@ -282,6 +285,18 @@ class Advice:
         lower, upper = ({name: band[end] for name, band in bands.items()} for end in (0, 1))
         whole = {name for name, value in self.values.items() if isinstance(value, int)}
         return tuple({name: round(value) if name in whole else round(value, 2) for name, value in side.items()} for side in (lower, upper))
+
+    def unknown(self) -> Iterator[str]:
+        """Yields what the band of the goal's value leaves open."""
+        name = predicting.name_of(self.words.goal, self.end)
+        if name not in self.values or name not in self.measured:
+            return
+        low, high = self.predictions.band(name, self.values, self.sides)
+        before, *ends = (told_value(name, each) for each in (self.measured[name], low, high))
+        if high > VAGUE * low:
+            yield f"{TOLD[name]} isn't known within a factor of {VAGUE}: from {' to '.join(ends)}"
+        if self.best != self.options and low <= self.measured[name] <= high:
+            yield f"today's {TOLD[name]}, {before}, is in the band of the advised setting: only --verify shows whether that is better"
 
     # ---- text for people
 
@@ -303,6 +318,7 @@ class Advice:
             "unknown": f": {UNKNOWN}",
             "poor": f": {self.worst()}",
         }.get(self.grade, "")
+        yield f"costs may be {self.doubt.percent} % lower or higher (--band {self.doubt.percent} of what-if)"
         for processor, others in self.others.items():
             if others:
                 yield self.disturbed(others, f"processor {processor}")
@@ -411,6 +427,7 @@ class Advice:
             "goal": self.words.goal,
             "check": objects_in(self.check, self.measured["sent"]),
             "fit": self.grade,
+            "costs_doubt_percent": self.doubt.percent,
             "other_tasks": as_rows("task", "share", self.others[seen.processor]),
             "blame": self.blame,
             "other_tasks_of_program": as_rows("task", "share", self.others_apart),
@@ -576,6 +593,7 @@ def main(given: Sequence[str]) -> int:
     if advice.grade == "poor":
         raise Refusal(
             f"{shown(words.recording)}: the prediction of the recorded setting is poor ({advice.worst()}), so there is no advice for this goal"
+            + "".join(f"; {line}" for line in advice.blame)
         )
     if not holds:
         raise Refusal("the advised settings weren't better than today's, which are set again")
