@@ -346,6 +346,8 @@ class Advise(InFolder):
         self.assertEqual(told["blame"], ["of the waits to delivery 65 % passed while another task had the processor (cc1 65 %), and of the slowest one in 100 64 % (cc1 64 %): no "
                                          "setting that is tried here changes that; priorities and other processors for these tasks do"])
         self.assertEqual(self.told(file_of(quiet()))["blame"], [])
+        poor = self.advised(file_of(text, **{"device.vb1.threaded": 1, "program": "", "program.pids": "", "device.vb1.ethtool.ring.rx": 1}), status=1)
+        self.assertIn(f"so there is no advice for this goal; {told['blame'][0]}\n", poor.stderr)
 
     def test_other_tasks_beside_the_program(self) -> None:
         """The program reads on a separate processor: another task has 10 of 42 ms there."""
@@ -364,6 +366,22 @@ class Advise(InFolder):
         for kept, ending in cases:
             text = "".join(line for place, line in enumerate(lines) if place in kept or "sys_recvmsg" not in line)
             self.assertIn(f"the cost of a packet's use is unknown and counts as 0{ending}", self.told(file_of(text))["notes"])
+
+    def test_a_use_that_is_not_predicted(self) -> None:
+        """Another task has the program's processor, so each read comes 300 us later: waits end with the delivery then, which is predicted. If the
+        ring dropped nothing but the head's is full, that isn't either, and the fit is poor."""
+        lines = []
+        for line in quiet().text().splitlines(True):
+            found = re.search(r"\[005\].* (\d+)\.(\d{9}): ", line)
+            time = int(found[1]) * 10**9 + int(found[2]) + 300_000 if found else 0
+            lines.append(line.replace(f"{found[1]}.{found[2]}", f"{time // 10**9}.{time % 10**9:09}") if found else line)
+        text = "".join(sorted(lines, key=lambda line: group_in(r" (\d+\.\d{9}): ", line)))
+        told = self.told(file_of(text), "--goal", "p50")
+        self.assertEqual((told["fit"], {row["name"] for row in told["check"] if "used" in row["name"]}), ("fair", set()))
+        self.assertTrue(any(note.startswith("the end of use isn't predicted (wait to the end of use, p50, us: -") for note in told["notes"]), told["notes"])
+        self.assertEqual({each["options"]["apart"] for each in told["tried"]}, {1})
+        done = self.advised(file_of(text, **{"device.vb1.ethtool.ring.rx": 1}), "--goal", "p50", status=1)
+        self.assertIn("is poor: dropped: +", done.stdout)
 
     def test_what_is_set_and_not_modelled(self) -> None:
         told = self.told(file_of(quiet(), **{"sysctl.net.core.busy_read": 50, "device.vb1.ethtool.coalesce.adaptive-rx": "on", "udp.RcvbufErrors": "3 10",
