@@ -254,6 +254,22 @@ class Advise(InFolder):
         self.assertRegex(done.stdout, r"\n +1 +33 % +80 +80 +8\.[48] +8\.[48] +9\.7 +9\.6\n +3 +67 % +80 +80 +9\.7 +9\.6 +13\.8 +13\.7\n")
         self.assertIn("processor 3 limits: it has 67 % of the packets and a 99th percentile of 13.8 us; the others have up to 9.7 us\n", done.stdout)
 
+    def test_packets_that_the_processor_sent_itself(self) -> None:
+        """It sends 20 or 10 packets, 1 us apart, and polls them then: they arrive when the softirq begins, so each burst is one poll, as recorded. The
+        k-th waits 2600 + 410 k ns; the median of all is k = 8."""
+        made = Made(**COSTS)
+        for burst in range(80):
+            begin, work = made.time, 20 - 10 * (burst % 2)
+            for packet in range(work):
+                made.event(begin + 1000 * packet, timing.POLLER, "sender-7", "net_dev_xmit: dev=va1 skbaddr=0 len=100 rc=0")
+            made.event(begin + 1000 * work, timing.POLLER, "sender-7", "softirq_entry: vec=3 [action=NET_RX]")
+            made.event(made.polled(begin + 1000 * work, "sender-7", work), timing.POLLER, "sender-7", "softirq_exit: vec=3 [action=NET_RX]")
+            made.time = begin + 400_000
+        told = self.told(file_of(made, program="", **{"program.pids": ""}), "--goal", "p50")
+        values = {row["name"]: (row["measured"], row["predicted"]) for row in told["check"]}
+        self.assertEqual([values[name] for name in ("polls", "runs", "delivered_p50", "delivered_p99")], [(80, 80), (80, 80), (5880, 5880), (10800, 10800)])
+        self.assertEqual((told["fit"], {each["options"]["threaded"] for each in told["tried"]}), ("good", {0}))
+
     def test_an_instance_that_moves(self) -> None:
         """From the 41st poll on another processor polls: each is a device of the arrivals, with half of the packets."""
         text = file_of("".join(line.replace("[003]", "[002]") if place > len(quiet().lines) // 2 else line for place, line in enumerate(quiet().text().splitlines(True))))

@@ -106,12 +106,14 @@ def rings_of(head: Head, device: str, options: Mapping[str, int]) -> list[int]:
     return sorted({min(most, now * times) for times in LARGER})
 
 
-def candidates(head: Head, device: str, options: dict[str, int], has_program: bool) -> list[dict[str, int]]:
-    """Returns all settings to try, the recorded one first."""
+def candidates(
+    head: Head, device: str, options: dict[str, int], has_program: bool, is_sent_here: bool = False
+) -> list[dict[str, int]]:
+    """Returns all settings to try, the recorded one first. `is_sent_here` is whether the processor that polls sends the packets."""
     places: list[dict[str, int]] = [{}, {"apart": 0}, {"apart": 1}] if has_program else [{}]
     rings: list[dict[str, int]] = [{}, *({"ring": ring} for ring in rings_of(head, device, options))]
     tried = [options]
-    for changes in itertools.product(*of_interrupts(head, device, options), places, rings):
+    for changes in itertools.product(*of_interrupts(head, device, options, is_sent_here), places, rings):
         chosen = {**options, **{name: value for change in changes for name, value in change.items()}}
         is_both = (
             chosen.get("gro-flush-timeout") and chosen.get("rx-nsecs") and chosen["rx-nsecs"] != options.get("rx-nsecs")
@@ -121,7 +123,9 @@ def candidates(head: Head, device: str, options: dict[str, int], has_program: bo
     return tried
 
 
-def of_interrupts(head: Head, device: str, options: Mapping[str, int]) -> list[list[dict[str, int]]]:
+def of_interrupts(
+    head: Head, device: str, options: Mapping[str, int], is_sent_here: bool
+) -> list[list[dict[str, int]]]:
     """Returns the settings of deferral, of coalescing and of threads to try; a backlog has none."""
     deferrals: list[dict[str, int]] = [{}]
     coalescing: list[dict[str, int]] = [{}]
@@ -132,9 +136,9 @@ def of_interrupts(head: Head, device: str, options: Mapping[str, int]) -> list[l
                 {"defer-hard-irqs": DEFERRALS if flush else 0, "gro-flush-timeout": flush} for flush in FLUSHES
             ]
         if f"device.{device}.threaded" in head and options.get("processors", 1) == 1:
-            # Without a thread a veth pair's sender polls, on its own processor.
-            stays = head.get("sender") and options["threaded"]
-            threads += [{"threaded": 1}] if stays else [{"threaded": 0}, {"threaded": 1}]
+            # Without a thread a veth pair's sender polls, on its own processor; then what waking a thread takes isn't known.
+            stays = is_sent_here or head.get("sender") and options["threaded"]
+            threads += [] if stays else [{"threaded": 0}, {"threaded": 1}]
         if (
             f"device.{device}.ethtool.coalesce.rx-usecs" in head
             and head.get(f"device.{device}.ethtool.coalesce.adaptive-rx") != "on"

@@ -5,6 +5,7 @@ from __future__ import annotations
 
 import bisect
 from collections import Counter, defaultdict
+from collections.abc import Sequence
 
 from fintaqush_tools.errors import Refusal
 from fintaqush_tools.instances import Place
@@ -24,9 +25,9 @@ class Layout:
     on: defaultdict[Place, Counter[int]]
 
     def __init__(self, seen: Receiving) -> None:
-        self.seen = seen
+        self.seen, self.own_packets = seen, 0
         self.processors = sorted(set(seen.on))
-        self.deliveries = seen.deliveries()
+        self.deliveries = seen.known = seen.deliveries()
         cpus = self.cpus_of_packets()
         self.on = defaultdict(Counter)
         for place, cpu in zip(seen.sent_to, cpus):
@@ -43,6 +44,26 @@ class Layout:
             )
         self.devices = [self.numbers[seen.place_of(place), cpu] for place, cpu in zip(seen.sent_to, cpus)]
         self.packets = Counter(self.devices)
+        self.delay_arrivals(cpus)
+
+    def delay_arrivals(self, cpus: Sequence[int]) -> None:
+        """Lets a packet that its polling processor sent arrive when the next softirq begins there, or its poll if that is earlier: the sender has
+        the processor until then."""
+        seen = self.seen
+        if not seen.senders or seen.is_by_thread:
+            return
+        began = {packet: seen.begun[poll] for matched in self.deliveries.values() for packet, poll, _ in matched}
+        for packet, (time, cpu) in enumerate(zip(seen.sent, cpus)):
+            if seen.sent_on[packet] == cpu:
+                entries = seen.entries[cpu]
+                at = bisect.bisect_left(entries, time)
+                entry = entries[at] if at < len(entries) else time
+                seen.sent[packet] = max(time, min(entry, began.get(packet) or entry))
+                self.own_packets += 1
+
+    def is_sent_here(self) -> bool:
+        """Returns whether the processors that poll sent most of the packets."""
+        return 2 * self.own_packets > len(self.devices)
 
     def cpus_of_packets(self) -> list[int]:
         """Returns the processor of each packet: of the poll that took it, or of the next poll of its instance."""

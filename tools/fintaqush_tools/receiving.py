@@ -67,6 +67,7 @@ class Receiving:
     received: dict[str, list[Received]]
     taken: defaultdict[int, list[Received]]
     packets_of: Counter[Place]
+    known: Optional[dict[Place, list[tuple[int, int, int]]]]
 
     def __init__(
         self, polled: set[str], senders: set[str], receivers: Iterable[str] = (), routes: Optional[Routes] = None
@@ -93,7 +94,7 @@ class Receiving:
         # By processor: when its softirqs began; its NAPI timers.
         self.entries, self.timers = (defaultdict(lambda: array("Q")), Counter())
         self.reads, self.reading = [], {}  # for each read its end, and the beginning of the next read by that task
-        self.mark, self.tasks = {}, Tasks()
+        self.mark, self.tasks, self.known = {}, Tasks(), None
 
     def add(self, event: Event) -> None:
         """Processes the next event of the recording."""
@@ -297,7 +298,10 @@ class Receiving:
         return found if at <= len(came) and agree(times) else []
 
     def deliveries(self) -> dict[Place, list[tuple[int, int, int]]]:
-        """Returns the matched packets of each instance. Returns nothing if polls of several instances count as those of one."""
+        """Returns the matched packets of each instance; those that are known already, because arrivals may have been delayed since then. Returns
+        nothing if polls of several instances count as those of one."""
+        if self.known is not None:
+            return self.known
         if not self.ended or ANY in self.places and len(set(self.sent_by)) != 1:
             return {}
         came = self.came_by_place()

@@ -253,7 +253,7 @@ class Advice:
     def settled(self, costs: Mapping[str, int]) -> dict[str, int]:
         """Returns all costs; an unknown cost counts as 0, with a note."""
         for name, what in (("interrupt", "an interrupt"), ("wake", "a wake-up"), ("use", "a packet's use")):
-            if name not in costs:
+            if name not in costs and not (name == "wake" and self.recording.layout.is_sent_here()):
                 needs = (
                     ": record with --program, so that waits are those to the end of use"
                     if name == "use" and not self.told["reads"]
@@ -261,12 +261,15 @@ class Advice:
                 )
                 self.notes.append(f"the cost of {what} is unknown and counts as 0{needs}")
         known = {name: costs.get(name, costs.get("wake", 0) if name == "app-wake" else 0) for name in COSTS}
+        if self.recording.layout.is_sent_here():
+            known["wake"] = 0  # these packets arrive when the softirq begins
         return {**known, **({"timer": costs["timer"]} if "timer" in costs else {})}
 
     def choose(self, packets: int) -> None:
         """Tries all settings."""
         has_program = self.end == "used" and self.machine.other_processor() is not None
-        tried = candidates(self.recording.head, self.recording.device, self.options, has_program)
+        recording = self.recording
+        tried = candidates(recording.head, recording.device, self.options, has_program, recording.layout.is_sent_here())
         self.varied, self.packets = varied_in(tried), packets
         self.choice = Choice(self.words, self.end, self.predictions, tried)
         if self.choice.best:
@@ -282,9 +285,9 @@ class Advice:
     def ends(self) -> tuple[Values, Values]:
         """Returns the lower and the upper ends of the bands of the advised setting."""
         bands = {name: self.predictions.band(name, self.values, self.sides) for name in self.values}
-        lower, upper = ({name: band[end] for name, band in bands.items()} for end in (0, 1))
-        whole = {name for name, value in self.values.items() if isinstance(value, int)}
-        return tuple({name: round(value) if name in whole else round(value, 2) for name, value in side.items()} for side in (lower, upper))
+        places = {name: 0 if isinstance(value, int) else 2 for name, value in self.values.items()}
+        lower, upper = ({name: round(band[end], places[name]) for name, band in bands.items()} for end in (0, 1))
+        return lower, upper
 
     def unknown(self) -> Iterator[str]:
         """Yields what the band of the goal's value leaves open."""
@@ -510,8 +513,8 @@ def verified(advice: Advice) -> tuple[list[Compared], float, Verdict]:
     options = {**advice.best, "processors": len(middle.layout.processors)}
     values = predictions.of(options)
     band = predictions.band(name, values, predictions.sides_of(options))
-    values_of = [[each[name] for each, _ in some] for some in (before, after)]
-    return advice.compared(measured, values), measured["sent"], Verdict(name, *values_of, values[name], band)
+    of_goal = [[each[name] for each, _ in some] for some in (before, after)]
+    return advice.compared(measured, values), measured["sent"], Verdict(name, of_goal[0], of_goal[1], values[name], band)
 
 
 def print_verified(advice: Advice) -> bool:
