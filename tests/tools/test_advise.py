@@ -254,6 +254,44 @@ class Advise(InFolder):
         self.assertRegex(done.stdout, r"\n +1 +33 % +80 +80 +8\.[48] +8\.[48] +9\.7 +9\.6\n +3 +67 % +80 +80 +9\.7 +9\.6 +13\.8 +13\.7\n")
         self.assertIn("processor 3 limits: it has 67 % of the packets and a 99th percentile of 13.8 us; the others have up to 9.7 us\n", done.stdout)
 
+    def uneven(self) -> Made:
+        """Returns three instances: those of the queues 0 and 2 get 5 or 15 packets each at a time, and processor 3 polls both in one softirq; that of
+        queue 1 gets 5 packets 133 us later, on processor 1."""
+        made = Made(**COSTS)
+        for burst in range(120):
+            begin = made.time
+            for cpu, later, queues, count in ((timing.POLLER, 0, (0, 2), (5, 15)[burst % 2]), (1, 133_000, (1,), 5)):
+                since = len(made.lines)
+                for queue in queues:
+                    for packet in range(count):
+                        packed = f"dev=va1 skbaddr={burst:03x}{queue}{packet:x}"
+                        made.event(begin + later, timing.SENDER, "sender-7", f"net_dev_start_xmit: {packed.replace(' ', f' queue_mapping={queue} ')} vlan_tagged=0")
+                        made.event(begin + later, timing.SENDER, "sender-7", f"net_dev_xmit: {packed} len=100 rc=0")
+                time = made.handler(begin + later + COSTS["wake"], "call_function_single")
+                made.event(time, timing.POLLER, "<idle>-0", "softirq_entry: vec=3 [action=NET_RX]")
+                for queue in queues:
+                    time = made.polled(time, "<idle>-0", count)
+                    made.lines[-1] = time, made.lines[-1][1].replace("struct 0 ", f"struct a{queue} ")
+                made.event(time, timing.POLLER, "<idle>-0", "softirq_exit: vec=3 [action=NET_RX]")
+                made.lines[since:] = [(each, line.replace(f"[{timing.POLLER:03}]", f"[{cpu:03}]")) for each, line in made.lines[since:]]
+            made.time = begin + 400_000
+        return made
+
+    def test_interrupts_on_other_processors(self) -> None:
+        """Processor 3 has 80 % of the packets. A burst's last of 15 packets at the second instance waits 3300 + 2 * (1700 + 2600 + 15 * 410) ns there,
+        and half of the second part with its interrupt on processor 1. If an instance's interrupt isn't known, nothing of this is tried."""
+        head: dict[str, object] = {"program": "", "program.pids": "", **{f"device.vb1.irq.{38 + queue}.name": f"vb1-TxRx-{queue}" for queue in range(3)},
+                                   "device.vb1.irq.40.smp_affinity_list": "0-3"}
+        for place, (cpu, packets) in enumerate(((3, 1200), (1, 600), (3, 1200))):
+            head[f"instance.{place + 1}"] = f"device vb1 napi a{place} queue {place} kind receive polls 120 packets {packets} on {cpu}:120:{packets}"
+        told = self.told(file_of(self.uneven(), **head), "--goal", "p99")
+        self.assertEqual((told["now"]["delivered_p99"], told["advised"]["values"]["delivered_p99"]), (24192, 13744))
+        self.assertEqual((told["set"], told["advised"]["options"]["evened"]), (["echo 1 > /proc/irq/40/smp_affinity_list"], 1))
+        self.assertIn("irqbalance may move these interrupts back, if it runs", told["notes"])
+        self.assertIn("interrupts moved", self.advised(file_of(self.uneven(), **head), "--goal", "p99").stdout)
+        unknown = self.told(file_of(self.uneven(), **{**head, "device.vb1.irq.39.name": "vb1-tx-1"}), "--goal", "p99")
+        self.assertEqual({each["options"].get("evened", 0) for each in unknown["tried"]}, {0})
+
     def test_packets_that_the_processor_sent_itself(self) -> None:
         """It sends 20 or 10 packets, 1 us apart, and polls them then: they arrive when the softirq begins, so each burst is one poll, as recorded. The
         k-th waits 2600 + 410 k ns; the median of all is k = 8."""

@@ -147,6 +147,17 @@ def of_interrupts(
     return [deferrals, coalescing, threads]
 
 
+def interrupts_of(head: Head, device: str) -> dict[int, str]:
+    """Returns the interrupt of each queue that receives, by their names, as eth0-TxRx-3, virtio0-input.3 or mlx5_comp3@pci:.."""
+    found = {}
+    for key, name in head.items():
+        irq = re.fullmatch(rf"device\.{re.escape(device)}\.irq\.(\d+)\.name", key)
+        queue = re.search(r"(?:rx|input|comp)[^0-9]*(\d+)", name, re.I)
+        if irq and queue:
+            found[int(queue[1])] = irq[1]
+    return found
+
+
 # ---- how settings are applied
 
 
@@ -157,7 +168,7 @@ def thread_of(device: str) -> str:
 
 @dataclass
 class Change:
-    """One change of a setting; `kind` is sysctl, sysfs, ring, coalesce, threads or program."""
+    """One change of a setting; `kind` is sysctl, sysfs, ring, coalesce, threads, irq or program."""
 
     kind: str
     name: str
@@ -173,6 +184,11 @@ class Machine:
         self.head, self.device, self.netns, self.processor = head, device, head.get("netns", ""), processor
         self.idle = dict(idle or {})
         self.pids = [int(each) for each in head.get("program.pids", "").split()]
+        self.interrupts: dict[str, int] = {}  # of the setting `evened`: the processor of each interrupt
+
+    def idle_processors(self) -> list[int]:
+        """Returns the processors that were nearly always idle, the one that was for longest first."""
+        return [number for number, share in sorted(self.idle.items(), key=lambda pair: -pair[1]) if share >= IDLE]
 
     def other_processor(self) -> int | None:
         """Returns a processor for the program, other than the one that polls: the one that was idle for longest, if that is nearly always."""
@@ -198,6 +214,10 @@ class Machine:
             changes.append(Change("ring", "rx", chosen["ring"], now["ring"]))
         if is_new("rx-nsecs"):
             changes.append(Change("coalesce", "rx-usecs", chosen["rx-nsecs"] // 1000, now["rx-nsecs"] // 1000))
+        if is_new("evened"):
+            for irq, processor in self.interrupts.items():
+                before = self.head.get(f"device.{self.device}.irq.{irq}.smp_affinity_list", "")
+                changes.append(Change("irq", irq, processor, before))
         if is_new("apart"):
             changes.append(
                 Change(
@@ -212,7 +232,9 @@ class Machine:
     def notes_on(self, changes: Sequence[Change]) -> Iterator[str]:
         """Yields notes on what the commands don't show."""
         for change in changes:
-            if change.kind == "threads":
+            if change.kind == "irq" and change is changes[-1]:
+                yield "irqbalance may move these interrupts back, if it runs"
+            elif change.kind == "threads":
                 yield f"the thread is pinned to processor {change.value}, which polls now; any other one that does nothing else is as good"
             elif change.kind == "sysfs" and change.name == "threaded" and not change.value:
                 yield "without a thread the processor polls that takes the interrupt, or on which a veth pair's sender runs"
@@ -232,6 +254,7 @@ class Machine:
             if front
             else f"echo {change.value} > {attribute}",
             "threads": f"for task in $(pgrep '^{thread_of(self.device)}'); do taskset -pc {change.value} $task; done",
+            "irq": f"echo {change.value} > /proc/irq/{change.name}/smp_affinity_list",
             "ring": f"{front}ethtool -G {self.device} rx {change.value}",
             "coalesce": f"{front}ethtool -C {self.device} rx-usecs {change.value}",
             "program": f"for task in $(pgrep -x '{change.name[:COMM]}'); do taskset -apc {change.value} $task; done",
@@ -240,8 +263,9 @@ class Machine:
     def apply(self, change: Change, value: object) -> None:
         """Applies a change on this machine."""
         within = observed.within(self.netns)
-        if change.kind == "sysctl":
-            with open(f"/proc/sys/net/core/{change.name}", "w", encoding="ascii") as file:
+        if change.kind in ("sysctl", "irq"):
+            path = f"sys/net/core/{change.name}" if change.kind == "sysctl" else f"irq/{change.name}/smp_affinity_list"
+            with open(f"/proc/{path}", "w", encoding="ascii") as file:
                 file.write(f"{value}\n")
         elif change.kind == "sysfs":
             self.run([*within, "sh", "-c", WRITE, "sh", self.device, change.name, str(value)])

@@ -41,6 +41,7 @@ class Predictions:
     """Runs napi_machine for several settings at once."""
 
     doubt: Doubt  # needed for bands
+    evened: tuple[bytes, Collection[int]] = b"", ()  # arrivals and devices of the setting `evened`
 
     def __init__(self, made: str, costs: Costs, arrivals: str, devices: Collection[int]) -> None:
         """`costs` may have that of a NAPI timer too. `devices` are those whose waits count."""
@@ -53,11 +54,13 @@ class Predictions:
         return others
 
     def report(self, options: Options, costs: Costs | None = None) -> str:
-        return predicting.reported(self.made, self.arrivals, settings_of(costs or self.costs, options))
+        arrivals = self.evened[0] if options.get("evened") else self.arrivals
+        settings = settings_of(costs or self.costs, {name: options[name] for name in options if name != "evened"})
+        return predicting.reported(self.made, arrivals, settings)
 
     def of(self, options: Options, costs: Costs | None = None) -> Values:
         """Returns the results of a setting, with other costs if some are given."""
-        values = values_of(self.report(options, costs), self.devices)
+        values = values_of(self.report(options, costs), self.evened[1] if options.get("evened") else self.devices)
         return {
             **{name: numeric(value) for name, value in values.items()},
             "kernel_percent": float(values["interrupt_percent"]) + float(values["poll_percent"]),
@@ -127,7 +130,7 @@ class Choice:
 
     def changes_of(self, options: Options) -> tuple[bool, int]:
         """Returns whether a setting moves the program, and how many options it changes."""
-        changed = {name for name in options if options[name] != self.now.get(name)}
+        changed = {name for name in options if options[name] != self.now.get(name) and name != "processors"}
         return "apart" in changed, len(changed)
 
     def value(self, values: Mapping[str, Any]) -> float:

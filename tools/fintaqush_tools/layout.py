@@ -5,7 +5,7 @@ from __future__ import annotations
 
 import bisect
 from collections import Counter, defaultdict
-from collections.abc import Sequence
+from collections.abc import Mapping, Sequence
 
 from fintaqush_tools.errors import Refusal
 from fintaqush_tools.instances import Place
@@ -13,6 +13,7 @@ from fintaqush_tools.receiving import Receiving
 
 MAJOR = 1000  # packets: the waits of a device with fewer don't count if another one has so many
 MOST_PROCESSORS, MOST_INSTANCES = 64, 64  # of napi_machine, and of each processor
+UNEVEN, EVENED = 1.5, 1.2  # times the mean from which a processor's share is uneven; by how much another layout has to lower it
 MOVED = 0.05  # share of an instance's packets on processors other than its main one
 
 
@@ -89,6 +90,29 @@ class Layout:
         many = {device for device, count in self.packets.items() if count >= MAJOR}
         most = {self.processor_of(device): device for device, _ in reversed(self.packets.most_common())}
         return many or set(most.values())
+
+    def evened(self, idle: Sequence[int]) -> dict[Place, int]:
+        """Returns a processor for each instance, so that the greatest share is as low as it gets: one that polls now, or an idle one. Returns
+        nothing if shares are even, or if that isn't notably better."""
+        counts = {place: sum(on.values()) for place, on in self.on.items()}
+        known = [*self.processors, *(each for each in idle if each not in self.processors)][: len(counts)]
+        load, chosen = dict.fromkeys(known, 0), {}
+        for place, count in sorted(counts.items(), key=lambda pair: -pair[1]):
+            chosen[place] = min(known, key=lambda cpu: (load[cpu], cpu not in self.on[place], cpu))
+            load[chosen[place]] += count
+        most, mean = max(self.shares().values()), 1 / max(1, len(known))
+        is_better = most > UNEVEN * mean and most * sum(counts.values()) >= EVENED * max(load.values(), default=0)
+        return chosen if is_better and not self.moving() else {}
+
+    def numbers_on(self, chosen: Mapping[Place, int]) -> dict[int, int]:
+        """Returns for each device its number if each instance is polled by the chosen processor."""
+        ranks = {cpu: rank for rank, cpu in enumerate(sorted(set(chosen.values())))}
+        numbers, counts = {}, Counter[int]()
+        for (place, _), device in self.numbers.items():
+            cpu = chosen[place]
+            numbers[device] = ranks[cpu] + 1 + len(ranks) * counts[cpu]
+            counts[cpu] += 1
+        return numbers
 
     def waits(self, cost: float) -> dict[int, list[float]]:
         """Returns the sorted waits to delivery of each device; none if packets and polls don't match. `cost` is that of a packet in ns."""

@@ -31,7 +31,7 @@ from pathlib import Path
 from typing import Any, Optional
 
 from fintaqush_tools import blame, predicting, verifying
-from fintaqush_tools.advice import NOT_MODELLED, Change, Machine, candidates, options_of, unmodelled_in
+from fintaqush_tools.advice import NOT_MODELLED, Change, Machine, candidates, interrupts_of, options_of, unmodelled_in
 from fintaqush_tools.bands import Doubt
 from fintaqush_tools.choosing import GOALS, Choice, Options, Predictions, Values, settings_of
 from fintaqush_tools.commands import costs
@@ -70,6 +70,8 @@ def named(options: Options, varied: Sequence[str]) -> str:
         value = options.get(name, 0)
         if name == "ring" and options.get("backlog"):
             parts.append(f"netdev_max_backlog {value - 1}")
+        elif name == "evened":
+            parts.append(f"interrupts {'moved' if value else 'as they are'}")
         elif name == "apart":
             parts.append(f"the program {'apart' if value else 'with the polls'}")
         else:
@@ -86,7 +88,7 @@ def varied_in(tried: Sequence[Options]) -> list[str]:
     """Returns the options that have several values, except for a timer without deferral."""
     return [
         name
-        for name in ("threaded", "defer-hard-irqs", "gro-flush-timeout", "rx-nsecs", "ring", "apart")
+        for name in ("threaded", "defer-hard-irqs", "gro-flush-timeout", "rx-nsecs", "ring", "evened", "apart")
         if len({options.get(name, 0) for options in tried}) > 1
     ]
 
@@ -270,6 +272,8 @@ class Advice:
         has_program = self.end == "used" and self.machine.other_processor() is not None
         recording = self.recording
         tried = candidates(recording.head, recording.device, self.options, has_program, recording.layout.is_sent_here())
+        if evened := self.evened(packets):
+            tried.append(evened)
         self.varied, self.packets = varied_in(tried), packets
         self.choice = Choice(self.words, self.end, self.predictions, tried)
         if self.choice.best:
@@ -288,6 +292,20 @@ class Advice:
         places = {name: 0 if isinstance(value, int) else 2 for name, value in self.values.items()}
         lower, upper = ({name: round(band[end], places[name]) for name, band in bands.items()} for end in (0, 1))
         return lower, upper
+
+    def evened(self, packets: int) -> Options:
+        """Returns the setting that moves interrupts to other processors, if shares are uneven, and prepares its prediction."""
+        layout, queues = self.recording.layout, {each.place: each.queue for each in self.recording.own_instances()}
+        interrupts = interrupts_of(self.recording.head, self.recording.device)
+        chosen = layout.evened(self.machine.idle_processors()) if self.end == "delivered" else {}
+        if not chosen or any(queues.get(place) not in interrupts for place in chosen):
+            return {}
+        numbers = layout.numbers_on(chosen)
+        text = predicting.arrivals_of(self.recording.seen.sent, [numbers[device] for device in layout.devices])
+        first = "".join(text.splitlines(True)[: packets + 1])
+        self.predictions.evened = first.encode(), {numbers[device] for device in layout.major()}
+        self.machine.interrupts = {interrupts[queues[place] or 0]: cpu for place, cpu in chosen.items() if set(layout.on[place]) != {cpu}}
+        return {**self.options, "evened": 1, "processors": len(set(chosen.values()))}
 
     def unknown(self) -> Iterator[str]:
         """Yields what the band of the goal's value leaves open."""
@@ -510,7 +528,7 @@ def verified(advice: Advice) -> tuple[list[Compared], float, Verdict]:
     after.sort(key=lambda pair: pair[0][name])
     measured, middle = after[len(after) // 2] if after else (advice.measured_in(changed[0]), changed[0])
     predictions = advice.predictions.on_others(arrivals_in(middle, words)[0], middle.layout.major())
-    options = {**advice.best, "processors": len(middle.layout.processors)}
+    options = {**advice.best, "processors": len(middle.layout.processors), "evened": 0}
     values = predictions.of(options)
     band = predictions.band(name, values, predictions.sides_of(options))
     of_goal = [[each[name] for each, _ in some] for some in (before, after)]
