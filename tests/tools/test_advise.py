@@ -14,7 +14,7 @@ import unittest
 import unittest.mock
 from argparse import Namespace
 from array import array
-from collections import Counter
+from collections import Counter, defaultdict
 from collections.abc import Sequence
 from pathlib import Path
 from typing import Any
@@ -26,6 +26,7 @@ from tooltest import HAS_MACHINE, HERE, Done, InFolder, keys_of, run, skip_witho
 
 from fintaqush_tools import advice, choosing, predicting, verifying
 from fintaqush_tools.errors import Refusal
+from fintaqush_tools.layout import Layout
 from fintaqush_tools.receiving import Receiving
 from fintaqush_tools.recorded import Recording
 from fintaqush_tools.recording import events_of
@@ -286,11 +287,11 @@ class Advise(InFolder):
             head[f"instance.{place + 1}"] = f"device vb1 napi a{place} queue {place} kind receive polls 120 packets {packets} on {cpu}:120:{packets}"
         told = self.told(file_of(self.uneven(), **head), "--goal", "p99")
         self.assertEqual((told["now"]["delivered_p99"], told["advised"]["values"]["delivered_p99"]), (24192, 13744))
-        self.assertEqual((told["set"], told["advised"]["options"]["evened"]), (["echo 1 > /proc/irq/40/smp_affinity_list"], 1))
+        self.assertEqual((told["set"], told["advised"]["options"]["layout"]), (["echo 1 > /proc/irq/40/smp_affinity_list"], 1))
         self.assertIn("irqbalance may move these interrupts back, if it runs", told["notes"])
         self.assertIn("interrupts moved", self.advised(file_of(self.uneven(), **head), "--goal", "p99").stdout)
         unknown = self.told(file_of(self.uneven(), **{**head, "device.vb1.irq.39.name": "vb1-tx-1"}), "--goal", "p99")
-        self.assertEqual({each["options"].get("evened", 0) for each in unknown["tried"]}, {0})
+        self.assertEqual({each["options"].get("layout", 0) for each in unknown["tried"]}, {0})
 
     def test_packets_that_the_processor_sent_itself(self) -> None:
         """It sends 20 or 10 packets, 1 us apart, and polls them then: they arrive when the softirq begins, so each burst is one poll, as recorded. The
@@ -632,6 +633,44 @@ class Seen(unittest.TestCase):
         line, = predicting.check_lines([("dropped", 200, 210, 5.0)], 1000)
         self.assertRegex(line, r"^  dropped +200 +210 +\+5\.0 %$")
         self.assertEqual([each["of"] for each in predicting.objects_in([("dropped", 3, 1, -20.0), ("polls", 50, 51, 2.0)], 500)], [10, 50])
+
+
+class Layouts(unittest.TestCase):
+    """Which processor polls which packets, of two instances."""
+
+    A, B = ("eth0", "a0"), ("eth0", "a1")
+
+    def layout(self, flows: Sequence[int], more: int = 10) -> Layout:
+        """Returns a layout in which processor 1 polls 90 packets of the first instance, and processor 3 some of the second."""
+        layout = Layout.__new__(Layout)
+        layout.processors, layout.numbers = [1, 3], {(self.A, 1): 1, (self.B, 3): 2}
+        layout.devices = [1] * 90 + [2] * more
+        layout.packets = Counter(layout.devices)
+        layout.on = defaultdict(Counter, {self.A: Counter({1: 90}), self.B: Counter({3: more})})
+        layout.seen = Receiving({"eth0"}, set(), {"eth0"})
+        layout.seen.flows = array("L", flows)
+        return layout
+
+    def test_hashes_spread_equally(self) -> None:
+        """The low 7 bits of the hash choose one of 128 entries, which name the queues in turn."""
+        spread = self.layout(range(1, 101)).spread([self.A, self.B])
+        self.assertEqual((spread[:4], Counter(spread)), ([2, 1, 2, 1], {1: 50, 2: 50}))
+        self.assertEqual(self.layout([131] * 50 + [2] * 50).spread([self.A, self.B]), [2] * 50 + [1] * 50)
+
+    def test_what_spreads_nothing(self) -> None:
+        """One flow; a packet without a hash; shares that are even."""
+        for layout in (self.layout([4] * 100), self.layout([0, *range(2, 101)]), self.layout([]), self.layout(range(1, 181), more=90)):
+            self.assertEqual(layout.spread([self.A, self.B]), [])
+
+    def test_instances_on_other_processors(self) -> None:
+        """An idle processor helps only if there are more instances than processors that poll."""
+        self.assertEqual(self.layout([]).moved([7]), {})
+        both = self.layout([], more=90)
+        both.processors, both.numbers = [1], {(self.A, 1): 1, (self.B, 1): 2}
+        both.on[self.B] = Counter({1: 90})
+        self.assertEqual((both.moved([7]), both.moved([])), ({self.A: 1, self.B: 7}, {}))
+        self.assertEqual(both.numbers_on({self.A: 1, self.B: 7}), {1: 1, 2: 2})
+        self.assertEqual(both.numbers_on({self.A: 7, self.B: 7}), {1: 1, 2: 2})
 
 
 class MadeUp(choosing.Predictions):

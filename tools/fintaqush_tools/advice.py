@@ -30,6 +30,7 @@ NOT_MODELLED = (
     "RPS after a device's own polls",
     "adaptive coalescing",
 )
+MOVED, SPREAD = 1, 2  # layouts: interrupts on other processors; an equal part of the hashes for each queue
 IDLE = 0.8  # least share of the time in which a processor for the program was idle
 COMM = 15  # characters of a task's name that the kernel keeps
 WRITE = 'echo "$3" > "/sys/class/net/$1/$2"'  # device and value are arguments of the shell, never part of the command
@@ -168,7 +169,7 @@ def thread_of(device: str) -> str:
 
 @dataclass
 class Change:
-    """One change of a setting; `kind` is sysctl, sysfs, ring, coalesce, threads, irq or program."""
+    """One change of a setting; `kind` is sysctl, sysfs, ring, coalesce, threads, table, irq or program."""
 
     kind: str
     name: str
@@ -184,7 +185,8 @@ class Machine:
         self.head, self.device, self.netns, self.processor = head, device, head.get("netns", ""), processor
         self.idle = dict(idle or {})
         self.pids = [int(each) for each in head.get("program.pids", "").split()]
-        self.interrupts: dict[str, int] = {}  # of the setting `evened`: the processor of each interrupt
+        self.interrupts: dict[str, int] = {}  # the processor of each interrupt with layout MOVED
+        self.queues = 0  # that have packets with layout SPREAD
 
     def idle_processors(self) -> list[int]:
         """Returns the processors that were nearly always idle, the one that was for longest first."""
@@ -214,7 +216,9 @@ class Machine:
             changes.append(Change("ring", "rx", chosen["ring"], now["ring"]))
         if is_new("rx-nsecs"):
             changes.append(Change("coalesce", "rx-usecs", chosen["rx-nsecs"] // 1000, now["rx-nsecs"] // 1000))
-        if is_new("evened"):
+        if chosen.get("layout") == SPREAD:
+            changes.append(Change("table", "equal", self.queues, None))
+        if chosen.get("layout") == MOVED:
             for irq, processor in self.interrupts.items():
                 before = self.head.get(f"device.{self.device}.irq.{irq}.smp_affinity_list", "")
                 changes.append(Change("irq", irq, processor, before))
@@ -254,6 +258,7 @@ class Machine:
             if front
             else f"echo {change.value} > {attribute}",
             "threads": f"for task in $(pgrep '^{thread_of(self.device)}'); do taskset -pc {change.value} $task; done",
+            "table": f"{front}ethtool -X {self.device} {change.name} {change.value}",
             "irq": f"echo {change.value} > /proc/irq/{change.name}/smp_affinity_list",
             "ring": f"{front}ethtool -G {self.device} rx {change.value}",
             "coalesce": f"{front}ethtool -C {self.device} rx-usecs {change.value}",
@@ -269,6 +274,8 @@ class Machine:
                 file.write(f"{value}\n")
         elif change.kind == "sysfs":
             self.run([*within, "sh", "-c", WRITE, "sh", self.device, change.name, str(value)])
+        elif change.kind == "table":
+            raise Refusal("--verify doesn't change the card's table of hashes, because it couldn't restore it")
         elif change.kind in ("ring", "coalesce"):
             self.run(
                 [*within, "ethtool", "-G" if change.kind == "ring" else "-C", self.device, change.name, str(value)]

@@ -41,11 +41,11 @@ class Predictions:
     """Runs napi_machine for several settings at once."""
 
     doubt: Doubt  # needed for bands
-    evened: tuple[bytes, Collection[int]] = b"", ()  # arrivals and devices of the setting `evened`
-
     def __init__(self, made: str, costs: Costs, arrivals: str, devices: Collection[int]) -> None:
         """`costs` may have that of a NAPI timer too. `devices` are those whose waits count."""
-        self.made, self.costs, self.arrivals, self.devices = made, costs, arrivals.encode(), devices
+        self.made, self.costs = made, costs
+        # By the value of `layout`: the arrivals, and the devices whose waits count.
+        self.layouts: dict[int, tuple[bytes, Collection[int]]] = {0: (arrivals.encode(), devices)}
 
     def on_others(self, arrivals: str, devices: Collection[int]) -> Predictions:
         """Returns predictions by the same costs for other arrivals."""
@@ -54,13 +54,12 @@ class Predictions:
         return others
 
     def report(self, options: Options, costs: Costs | None = None) -> str:
-        arrivals = self.evened[0] if options.get("evened") else self.arrivals
-        settings = settings_of(costs or self.costs, {name: options[name] for name in options if name != "evened"})
-        return predicting.reported(self.made, arrivals, settings)
+        settings = settings_of(costs or self.costs, {name: options[name] for name in options if name != "layout"})
+        return predicting.reported(self.made, self.layouts[options.get("layout", 0)][0], settings)
 
     def of(self, options: Options, costs: Costs | None = None) -> Values:
         """Returns the results of a setting, with other costs if some are given."""
-        values = values_of(self.report(options, costs), self.evened[1] if options.get("evened") else self.devices)
+        values = values_of(self.report(options, costs), self.layouts[options.get("layout", 0)][1])
         return {
             **{name: numeric(value) for name, value in values.items()},
             "kernel_percent": float(values["interrupt_percent"]) + float(values["poll_percent"]),
@@ -70,7 +69,7 @@ class Predictions:
 
     def on(self, options: Options) -> list[dict[str, int]]:
         """Returns the results of a setting for each processor."""
-        return values_on(self.report(options), self.devices)
+        return values_on(self.report(options), self.layouts[0][1])
 
     def of_all(self, tried: Sequence[Options]) -> list[Values]:
         """Returns the results of each setting."""

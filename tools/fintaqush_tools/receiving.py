@@ -32,12 +32,12 @@ def agree(pairs: Sequence[tuple[float, float]]) -> bool:
 
 
 class Received:
-    """A packet that a poll took: when it arrived by that poll, its device, its processor, and the instance once it is known."""
+    """A packet that a poll took: when it arrived by that poll, its device, its processor, the hash of its flow, and the instance once it is known."""
 
-    __slots__ = ("time", "device", "cpu", "place")
+    __slots__ = ("time", "device", "cpu", "flow", "place")
 
-    def __init__(self, time: int, device: str, cpu: int) -> None:
-        self.time, self.device, self.cpu, self.place = time, device, cpu, ANY
+    def __init__(self, time: int, device: str, cpu: int, flow: int) -> None:
+        self.time, self.device, self.cpu, self.flow, self.place = time, device, cpu, flow, ANY
 
 
 class Receiving:
@@ -79,6 +79,7 @@ class Receiving:
         self.sent, self.has_come = (array("Q"), bytearray())
         # The processor, the device and the tasks that sent it; the instance that gets it, if that is known.
         self.sent_on, self.sent_by, self.sending, self.sent_to = (array("H"), [], set(), [])
+        self.flows = array("L")  # of a card's packets: the hash of the flow, or 0
         # The packets whose instance isn't known yet; how many packets a backlog received since its last poll.
         self.unplaced, self.moved, self.taken = {}, Counter(), defaultdict(list)
         # For each poll.
@@ -147,9 +148,9 @@ class Receiving:
             if place and address in self.unplaced:
                 self.sent_to[self.unplaced.pop(address)] = place
                 self.moved[event.cpu] += 1
-        name, _, _ = packet_of(event)
+        name, _, flow = packet_of(event)
         if name in self.receivers:
-            packet = Received(self.begins.of(event), name, event.cpu)
+            packet = Received(self.begins.of(event), name, event.cpu, flow)
             self.received[KINDS[event.name]].append(packet)
             self.taken[event.cpu].append(packet)
 
@@ -188,11 +189,12 @@ class Receiving:
             return ""
         for packet in sorted(self.received[kind], key=lambda packet: packet.time):
             self.append_packet(packet.time, True, packet.cpu, packet.device, packet.place)
+            self.flows.append(packet.flow)
         return kind
 
     def replace_arrivals(self, times: Sequence[int], device: str) -> None:
         """Takes other arrivals at the one instance that polls."""
-        count = len(times)
+        count, self.flows = len(times), array("L")
         self.sent, self.has_come = array("Q", times), bytearray(b"\1" * count)
         self.sent_on, self.sent_by = array("H", [self.processor] * count), [device] * count
         self.sent_to = [self.places[0]] * count

@@ -26,12 +26,13 @@ become lower and not all three recordings are below those of today's settings.
 from __future__ import annotations
 
 import json
+from collections import Counter
 from collections.abc import Iterator, Mapping, Sequence
 from pathlib import Path
 from typing import Any, Optional
 
 from fintaqush_tools import blame, predicting, verifying
-from fintaqush_tools.advice import NOT_MODELLED, Change, Machine, candidates, interrupts_of, options_of, unmodelled_in
+from fintaqush_tools.advice import MOVED, NOT_MODELLED, SPREAD, Change, Machine, candidates, interrupts_of, options_of, unmodelled_in
 from fintaqush_tools.bands import Doubt
 from fintaqush_tools.choosing import GOALS, Choice, Options, Predictions, Values, settings_of
 from fintaqush_tools.commands import costs
@@ -49,7 +50,9 @@ from fintaqush_tools.verifying import Verdict
 
 FEWEST = 1000  # packets
 SHOWN = 8  # settings in the table
+RARE = 10  # a device with fewer packets than one in so many of the largest one doesn't count
 VAGUE = 4  # ratio of a band's ends above which a value counts as unknown
+LAYOUTS = {0: "queues as they are", MOVED: "interrupts moved", SPREAD: "hashes spread equally"}
 FORMAT = 1  # version of the object that --json prints
 NAMES = {"defer-hard-irqs": "napi_defer_hard_irqs", "gro-flush-timeout": "gro_flush_timeout", "rx-nsecs": "rx-usecs"}
 UNKNOWN = "no wait was measured, because which packet was in which poll isn't known"
@@ -70,8 +73,8 @@ def named(options: Options, varied: Sequence[str]) -> str:
         value = options.get(name, 0)
         if name == "ring" and options.get("backlog"):
             parts.append(f"netdev_max_backlog {value - 1}")
-        elif name == "evened":
-            parts.append(f"interrupts {'moved' if value else 'as they are'}")
+        elif name == "layout":
+            parts.append(LAYOUTS[value])
         elif name == "apart":
             parts.append(f"the program {'apart' if value else 'with the polls'}")
         else:
@@ -88,7 +91,7 @@ def varied_in(tried: Sequence[Options]) -> list[str]:
     """Returns the options that have several values, except for a timer without deferral."""
     return [
         name
-        for name in ("threaded", "defer-hard-irqs", "gro-flush-timeout", "rx-nsecs", "ring", "evened", "apart")
+        for name in ("threaded", "defer-hard-irqs", "gro-flush-timeout", "rx-nsecs", "ring", "layout", "apart")
         if len({options.get(name, 0) for options in tried}) > 1
     ]
 
@@ -272,8 +275,7 @@ class Advice:
         has_program = self.end == "used" and self.machine.other_processor() is not None
         recording = self.recording
         tried = candidates(recording.head, recording.device, self.options, has_program, recording.layout.is_sent_here())
-        if evened := self.evened(packets):
-            tried.append(evened)
+        tried += self.layouts(packets)
         self.varied, self.packets = varied_in(tried), packets
         self.choice = Choice(self.words, self.end, self.predictions, tried)
         if self.choice.best:
@@ -293,19 +295,33 @@ class Advice:
         lower, upper = ({name: round(band[end], places[name]) for name, band in bands.items()} for end in (0, 1))
         return lower, upper
 
-    def evened(self, packets: int) -> Options:
-        """Returns the setting that moves interrupts to other processors, if shares are uneven, and prepares its prediction."""
-        layout, queues = self.recording.layout, {each.place: each.queue for each in self.recording.own_instances()}
-        interrupts = interrupts_of(self.recording.head, self.recording.device)
-        chosen = layout.evened(self.machine.idle_processors()) if self.end == "delivered" else {}
-        if not chosen or any(queues.get(place) not in interrupts for place in chosen):
-            return {}
-        numbers = layout.numbers_on(chosen)
-        text = predicting.arrivals_of(self.recording.seen.sent, [numbers[device] for device in layout.devices])
-        first = "".join(text.splitlines(True)[: packets + 1])
-        self.predictions.evened = first.encode(), {numbers[device] for device in layout.major()}
-        self.machine.interrupts = {interrupts[queues[place] or 0]: cpu for place, cpu in chosen.items() if set(layout.on[place]) != {cpu}}
-        return {**self.options, "evened": 1, "processors": len(set(chosen.values()))}
+    def layouts(self, packets: int) -> Iterator[Options]:
+        """Yields settings that change which processor polls which packets, if shares are uneven, and prepares their predictions."""
+        recording, layout = self.recording, self.recording.layout
+        queues = {each.place: each.queue for each in recording.own_instances()}
+        interrupts = interrupts_of(recording.head, recording.device)
+        if self.end != "delivered" or not all(place in queues for place in layout.on):
+            return
+        chosen = layout.moved(self.machine.idle_processors())
+        if chosen and all(queues[place] in interrupts for place in chosen):
+            numbers = layout.numbers_on(chosen)
+            self.add_layout(MOVED, [numbers[device] for device in layout.devices], packets)
+            moved = {place: cpu for place, cpu in chosen.items() if set(layout.on[place]) != {cpu}}
+            self.machine.interrupts = {interrupts[queues[place] or 0]: cpu for place, cpu in moved.items()}
+            yield {**self.options, "layout": MOVED, "processors": len(set(chosen.values()))}
+        known = sorted((queue, place) for place, queue in queues.items() if queue is not None)
+        if [queue for queue, _ in known] == list(range(len(queues))) and (devices := layout.spread([each for _, each in known])):
+            self.add_layout(SPREAD, devices, packets)
+            self.machine.queues = len(known)
+            yield {**self.options, "layout": SPREAD}
+
+    def add_layout(self, number: int, devices: Sequence[int], packets: int) -> None:
+        """Adds the arrivals of a layout, in which each packet has one of these devices. All waits count in it but those of rare devices."""
+        lines = predicting.arrivals_of(self.recording.seen.sent, devices).splitlines(True)
+        counts = Counter(devices)
+        rare = max(counts.values()) / RARE
+        majors = {device for device, count in counts.items() if count >= rare}
+        self.predictions.layouts[number] = "".join(lines[: packets + 1]).encode(), majors
 
     def unknown(self) -> Iterator[str]:
         """Yields what the band of the goal's value leaves open."""
@@ -528,7 +544,7 @@ def verified(advice: Advice) -> tuple[list[Compared], float, Verdict]:
     after.sort(key=lambda pair: pair[0][name])
     measured, middle = after[len(after) // 2] if after else (advice.measured_in(changed[0]), changed[0])
     predictions = advice.predictions.on_others(arrivals_in(middle, words)[0], middle.layout.major())
-    options = {**advice.best, "processors": len(middle.layout.processors), "evened": 0}
+    options = {**advice.best, "processors": len(middle.layout.processors), "layout": 0}
     values = predictions.of(options)
     band = predictions.band(name, values, predictions.sides_of(options))
     of_goal = [[each[name] for each, _ in some] for some in (before, after)]
