@@ -293,6 +293,33 @@ class Advise(InFolder):
         unknown = self.told(file_of(self.uneven(), **{**head, "device.vb1.irq.39.name": "vb1-tx-1"}), "--goal", "p99")
         self.assertEqual({each["options"].get("layout", 0) for each in unknown["tried"]}, {0})
 
+    def test_a_backlog_with_replies(self) -> None:
+        """The backlog of processor 3 has the device's packets, that of processor 2 replies, which are other traffic. Each burst of 5 or 15 is one poll,
+        of which the k-th packet waits 7600 + 410 k ns; of 20 packets 10 are the first five of their bursts."""
+        made = Made(**COSTS)
+        for burst in range(80):
+            begin, count = made.time, (5, 15)[burst % 2]
+            for cpu, later, name, napi in ((timing.POLLER, 0, "vb1", "b3"), (2, 90_000, "va1", "b2")):
+                since, addresses = len(made.lines), [f"{napi}{burst:03x}{packet:x}" for packet in range(count)]
+                for address in addresses if name == "vb1" else ():
+                    made.event(begin, timing.SENDER, "sender-7", f"net_dev_xmit: dev=va1 skbaddr={address} len=100 rc=0")
+                time = made.handler(begin + later + COSTS["wake"], "call_function_single")
+                made.event(time, timing.POLLER, "<idle>-0", "softirq_entry: vec=3 [action=NET_RX]")
+                for address in addresses:
+                    made.event(time + 10, timing.POLLER, "<idle>-0", f"netif_receive_skb: dev={name} skbaddr={address} len=86")
+                end = made.polled(time, "<idle>-0", count, "(no_device)")
+                made.event(end, timing.POLLER, "<idle>-0", "softirq_exit: vec=3 [action=NET_RX]")
+                on = f"[{cpu:03}]"
+                made.lines[since:] = [(each, line.replace(f"[{timing.POLLER:03}]", on).replace("struct 0 ", f"struct {napi} ")) for each, line in made.lines[since:]]
+            made.time = begin + 400_000
+        head: dict[str, object] = {**BACKLOG, "sysctl.net.core.netdev_max_backlog": 1000, "events": "napi/napi_poll net/netif_receive_skb"}
+        for cpu in (2, 3):
+            head[f"instance.{cpu}"] = f"device (no_device) napi b{cpu} kind receive polls 80 packets 800 on {cpu}:80:800"
+        told = self.told(file_of(made, **head), "--goal", "p50")
+        values = {row["name"]: (row["measured"], row["predicted"]) for row in told["check"]}
+        self.assertEqual([each["processor"] for each in told["processors"]], [3])
+        self.assertEqual([values[name] for name in ("polls", "delivered_p50", "delivered_p99")], [(80, 80), (9650, 9648), (13750, 13744)])
+
     def test_packets_that_the_processor_sent_itself(self) -> None:
         """It sends 20 or 10 packets, 1 us apart, and polls them then: they arrive when the softirq begins, so each burst is one poll, as recorded. The
         k-th waits 2600 + 410 k ns; the median of all is k = 8."""

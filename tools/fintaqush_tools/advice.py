@@ -110,7 +110,8 @@ def rings_of(head: Head, device: str, options: Mapping[str, int]) -> list[int]:
 def candidates(
     head: Head, device: str, options: dict[str, int], has_program: bool, is_sent_here: bool = False
 ) -> list[dict[str, int]]:
-    """Returns all settings to try, the recorded one first. `is_sent_here` is whether the processor that polls sends the packets."""
+    """Returns all settings to try, the recorded one first. `is_sent_here` is whether the processor that polls sends the
+    packets."""
     places: list[dict[str, int]] = [{}, {"apart": 0}, {"apart": 1}] if has_program else [{}]
     rings: list[dict[str, int]] = [{}, *({"ring": ring} for ring in rings_of(head, device, options))]
     tried = [options]
@@ -149,7 +150,8 @@ def of_interrupts(
 
 
 def interrupts_of(head: Head, device: str) -> dict[int, str]:
-    """Returns the interrupt of each queue that receives, by their names, as eth0-TxRx-3, virtio0-input.3 or mlx5_comp3@pci:.."""
+    """Returns the interrupt of each queue that receives, by their names, as eth0-TxRx-3, virtio0-input.3 or
+    mlx5_comp3@pci:.."""
     found = {}
     for key, name in head.items():
         irq = re.fullmatch(rf"device\.{re.escape(device)}\.irq\.(\d+)\.name", key)

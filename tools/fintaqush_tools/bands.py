@@ -1,11 +1,13 @@
-"""The band in which a measured value is nine times of ten: for advise and the tests; what-if takes from here how costs are varied.
+"""The band in which a measured value is nine times of ten: for advise and the tests; what-if takes from here how costs
+are varied.
 
-The doubt of the costs is twice the error of the recorded setting's median waits, at least 15 % and at most 50 %. A band holds the predictions
-with all costs lower and higher by the doubt, or at the ends of a cost's confidence interval if that is wider; and the prediction plus twice what
-was missed at the recorded setting: times and few packets by the difference, all else by the ratio. Both of its ends are 3 % further, because
-recordings of one setting differ.
+The doubt of the costs is twice the error of the recorded setting's median waits, at least 15 % and at most 50 %. A band
+holds the predictions with all costs lower and higher by the doubt, or at the ends of a cost's confidence interval if
+that is wider; and the prediction plus twice what was missed at the recorded setting: times and few packets by the
+difference, all else by the ratio. Both of its ends are 3 % further, because recordings of one setting differ.
 
-Twice, because what the model lacks may take longer with another setting; tests/tools/test_bands.py counts how many recorded values are within.
+Twice, because what the model lacks may take longer with another setting; tests/tools/test_bands.py counts how many
+recorded values are within.
 """
 
 from __future__ import annotations
@@ -56,8 +58,8 @@ class Doubt:
     sides: list[tuple[str, dict[str, int]]]
 
     def __init__(self, costs: Costs, rows: Sequence[Compared], intervals: Mapping[str, Interval] | None = None) -> None:
-        """`rows` compare the recorded setting with its prediction. `intervals` has the ends of each cost; without those of polls and packets
-        only their sum is known, of which each has the half in `costs`."""
+        """`rows` compare the recorded setting with its prediction. `intervals` has the ends of each cost; without those
+        of polls and packets only their sum is known, of which each has the half in `costs`."""
         self.rows = {row[0]: row for row in rows}
         self.percent = doubt_of(rows)
         self.sides = []

@@ -41,6 +41,7 @@ class Predictions:
     """Runs napi_machine for several settings at once."""
 
     doubt: Doubt  # needed for bands
+
     def __init__(self, made: str, costs: Costs, arrivals: str, devices: Collection[int]) -> None:
         """`costs` may have that of a NAPI timer too. `devices` are those whose waits count."""
         self.made, self.costs = made, costs
@@ -157,7 +158,8 @@ class Choice:
         return all(map(self.is_allowed, self.predictions.sides_of(options)))
 
     def warnings(self, best: Options, sides: Sequence[Values], today: Sequence[Values]) -> Iterator[str]:
-        """Yields warnings about the best setting; `sides` and `today` are its results and those of today's with the other costs."""
+        """Yields warnings about the best setting; `sides` and `today` are its results and those of today's with the
+        other costs."""
         if not self.has_room:
             yield "with other costs that the recording may have it exceeds the limits"
         for (what, _), values, old in zip(self.predictions.doubt.sides, sides, today):

@@ -13,7 +13,10 @@ from fintaqush_tools.receiving import Receiving
 
 MAJOR = 1000  # packets: the waits of a device with fewer don't count if another one has so many
 MOST_PROCESSORS, MOST_INSTANCES = 64, 64  # of napi_machine, and of each processor
-UNEVEN, EVENED = 1.5, 1.2  # times the mean from which a processor's share is uneven; by how much another layout has to lower it
+UNEVEN, EVENED = (
+    1.5,
+    1.2,
+)  # times the mean from which a processor's share is uneven; by how much another layout has to lower it
 TABLE = 128  # entries of a card's table from hashes to queues
 MOVED = 0.05  # share of an instance's packets on processors other than its main one
 
@@ -49,8 +52,8 @@ class Layout:
         self.delay_arrivals(cpus)
 
     def delay_arrivals(self, cpus: Sequence[int]) -> None:
-        """Lets a packet that its polling processor sent arrive when the next softirq begins there, or its poll if that is earlier: the sender has
-        the processor until then."""
+        """Lets a packet that its polling processor sent arrive when the next softirq begins there, or its poll if that
+        is earlier: the sender has the processor until then."""
         seen = self.seen
         if not seen.senders or seen.is_by_thread:
             return
@@ -93,12 +96,13 @@ class Layout:
         return many or set(most.values())
 
     def is_uneven(self, processors: int) -> bool:
-        """Returns whether a processor has a much greater share than the mean of so many, and each instance stays on its processor."""
+        """Returns whether a processor has a much greater share than the mean of so many, and each instance stays on its
+        processor."""
         return max(self.shares().values()) > UNEVEN / max(1, processors) and not self.moving()
 
     def moved(self, idle: Sequence[int]) -> dict[Place, int]:
-        """Returns a processor for each instance, one that polls now or an idle one, so that the greatest share is as low as it gets. Returns nothing
-        if shares are even, or if that isn't notably better."""
+        """Returns a processor for each instance, one that polls now or an idle one, so that the greatest share is as
+        low as it gets. Returns nothing if shares are even, or if that isn't notably better."""
         counts = {place: sum(on.values()) for place, on in self.on.items()}
         known = [*self.processors, *(each for each in idle if each not in self.processors)][: len(counts)]
         load, chosen = dict.fromkeys(known, 0), {}
@@ -122,8 +126,8 @@ class Layout:
         return numbers
 
     def spread(self, queues: Sequence[Place]) -> list[int]:
-        """Returns the device of each packet if the card's table gives each of these queues an equal part of the hashes. Returns nothing if shares
-        are even, if a packet has no hash, or if that isn't notably better."""
+        """Returns the device of each packet if the card's table gives each of these queues an equal part of the hashes.
+        Returns nothing if shares are even, if a packet has no hash, or if that isn't notably better."""
         main = {place: device for device, _ in reversed(self.packets.most_common()) for place in self.places_of(device)}
         flows = self.seen.flows
         if not self.is_uneven(len(self.processors)) or len(flows) != len(self.devices) or not all(flows):

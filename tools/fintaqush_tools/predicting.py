@@ -214,7 +214,8 @@ def told_value(name: str, value: float) -> str:
 
 
 def check_lines(rows: Sequence[Compared], packets: float) -> Iterator[str]:
-    """Yields the lines that compare the recorded settings with their prediction. A difference of few is a number, with what it was divided by."""
+    """Yields the lines that compare the recorded settings with their prediction. A difference of few is a number, with
+    what it was divided by."""
     for name, measured, value, error in rows:
         told = [told_value(name, each) for each in (measured, value)]
         base = base_of(name, measured, packets)
@@ -229,12 +230,6 @@ def check_lines(rows: Sequence[Compared], packets: float) -> Iterator[str]:
 def objects_in(rows: Sequence[Compared], packets: float) -> list[dict[str, Any]]:
     """Returns the same for a program: `of` is the number by which the difference was divided."""
     return [
-        {
-            "name": name,
-            "measured": measured,
-            "predicted": value,
-            "error": error,
-            "of": base_of(name, measured, packets),
-        }
+        {"name": name, "measured": measured, "predicted": value, "error": error, "of": base_of(name, measured, packets)}
         for name, measured, value, error in rows
     ]

@@ -32,7 +32,8 @@ def agree(pairs: Sequence[tuple[float, float]]) -> bool:
 
 
 class Received:
-    """A packet that a poll took: when it arrived by that poll, its device, its processor, the hash of its flow, and the instance once it is known."""
+    """A packet that a poll took: when it arrived by that poll, its device, its processor, the hash of its flow, and the
+    instance once it is known."""
 
     __slots__ = ("time", "device", "cpu", "flow", "place")
 
@@ -300,8 +301,8 @@ class Receiving:
         return found if at <= len(came) and agree(times) else []
 
     def deliveries(self) -> dict[Place, list[tuple[int, int, int]]]:
-        """Returns the matched packets of each instance; those that are known already, because arrivals may have been delayed since then. Returns
-        nothing if polls of several instances count as those of one."""
+        """Returns the matched packets of each instance; those that are known already, because arrivals may have been
+        delayed since then. Returns nothing if polls of several instances count as those of one."""
         if self.known is not None:
             return self.known
         if not self.ended or ANY in self.places and len(set(self.sent_by)) != 1:

@@ -1,4 +1,5 @@
-"""Records today's settings and advised ones in turn, and says whether the goal's value became lower: for advise --verify."""
+"""Records today's settings and advised ones in turn, and says whether the goal's value became lower: for advise
+--verify."""
 
 from __future__ import annotations
 
@@ -48,7 +49,8 @@ def record_again(head: Head, words: Words) -> Recording:
 def record_in_turn(
     head: Head, words: Words, machine: Machine, changes: Sequence[Change]
 ) -> tuple[list[Recording], list[Recording]]:
-    """Returns recordings of today's settings, and as many with the changes, each after one of today's: what changes with time meets both."""
+    """Returns recordings of today's settings, and as many with the changes, each after one of today's: what changes
+    with time meets both."""
     if os.geteuid() != 0:
         raise Refusal("--verify needs root")
     today, changed = [], []
@@ -62,8 +64,8 @@ def record_in_turn(
 
 @dataclass
 class Verdict:
-    """The value that the goal is about, in each recording of today's and of the advised settings in which it could be measured, and as
-    predicted for one of the latter."""
+    """The value that the goal is about, in each recording of today's and of the advised settings in which it could be
+    measured, and as predicted for one of the latter."""
 
     name: str
     today: list[float]
@@ -72,7 +74,8 @@ class Verdict:
     band: Interval
 
     def judgement(self) -> str:
-        """Returns better or worse if all recordings of one setting are below all of the other; alike if they overlap; else unknown."""
+        """Returns better or worse if all recordings of one setting are below all of the other; alike if they overlap;
+        else unknown."""
         if min(len(self.today), len(self.advised)) < TIMES:
             return "unknown"
         if max(self.advised) < min(self.today):

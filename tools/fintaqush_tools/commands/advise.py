@@ -4,11 +4,12 @@
     fintaqush advise mine.rec --goal p99
     sudo fintaqush advise mine.rec --goal p99 --verify
 
-It estimates the costs from the recording (fintaqush costs), replays the recorded settings in napi_machine and compares the result with what
-was recorded, for each processor that polled. The fit is good, fair or poor; it is unknown if the goal is a wait and no wait could be measured.
-If it is poor or unknown, there is no advice. Otherwise it tries other settings: threaded NAPI, napi_defer_hard_irqs with gro_flush_timeout,
-interrupt coalescing, sizes of rings and backlogs, and the program on an idle processor. Of settings that are equally good it advises the one
-with the fewest changes. It prints the best settings for the goal, the band in which a recording with the first one is nine times of ten, the
+It estimates the costs from the recording (fintaqush costs), replays the recorded settings in napi_machine and compares
+the result with what was recorded, for each processor that polled. The fit is good, fair or poor; it is unknown if the
+goal is a wait and no wait could be measured. If it is poor or unknown, there is no advice. Otherwise it tries other
+settings: threaded NAPI, napi_defer_hard_irqs with gro_flush_timeout, interrupt coalescing, sizes of rings and backlogs,
+and the program on an idle processor. Of settings that are equally good it advises the one with the fewest changes. It
+prints the best settings for the goal, the band in which a recording with the first one is nine times of ten, the
 commands that set it, and what isn't modelled.
 
 Goals: the 99th or 50th percentile of the wait, the kernel's processor time, or drops. A wait lasts from a packet's arrival until the program
@@ -18,9 +19,10 @@ has used it, or until its delivery if the program isn't recorded. Only settings 
 At a network card arrivals are inferred from polls. --capture names a capture that was made meanwhile (tcpdump -j adapter), of which the packets
 to the device that came during the recording are the arrivals.
 
---verify needs root. It records today's settings and the advised ones on this machine, three times each in turn, during traffic, and restores the
-old settings. It prints predicted and measured values, and by how much the goal's value became lower. The exit status is 1 if it should have
-become lower and not all three recordings are below those of today's settings.
+--verify needs root. It records today's settings and the advised ones on this machine, three times each in turn, during
+traffic, and restores the old settings. It prints predicted and measured values, and by how much the goal's value became
+lower. The exit status is 1 if it should have become lower and not all three recordings are below those of today's
+settings.
 """
 
 from __future__ import annotations
@@ -32,7 +34,17 @@ from pathlib import Path
 from typing import Any, Optional
 
 from fintaqush_tools import blame, predicting, verifying
-from fintaqush_tools.advice import MOVED, NOT_MODELLED, SPREAD, Change, Machine, candidates, interrupts_of, options_of, unmodelled_in
+from fintaqush_tools.advice import (
+    MOVED,
+    NOT_MODELLED,
+    SPREAD,
+    Change,
+    Machine,
+    candidates,
+    interrupts_of,
+    options_of,
+    unmodelled_in,
+)
 from fintaqush_tools.bands import Doubt
 from fintaqush_tools.choosing import GOALS, Choice, Options, Predictions, Values, settings_of
 from fintaqush_tools.commands import costs
@@ -175,7 +187,8 @@ class Advice:
         )
 
     def compare(self, predictions: Predictions) -> None:
-        """Compares the recorded setting with its prediction. If only the wait to the end of use is predicted badly, waits end with the delivery."""
+        """Compares the recorded setting with its prediction. If only the wait to the end of use is predicted badly,
+        waits end with the delivery."""
         self.judge(predictions)
         if self.grade != "poor" or self.end != "used":
             return
@@ -210,9 +223,11 @@ class Advice:
     @property
     def doubt(self) -> Doubt:
         """Returns how far the costs are in doubt, and what else the recording leaves open."""
-        known = self.told["costs"] if self.told["is_separated"] else {
-            name: cost for name, cost in self.told["costs"].items() if name not in ("poll", "packet")
-        }
+        known = (
+            self.told["costs"]
+            if self.told["is_separated"]
+            else {name: cost for name, cost in self.told["costs"].items() if name not in ("poll", "packet")}
+        )
         ends = {name.replace("_", "-"): (cost["low"], cost["high"]) for name, cost in known.items()}
         return Doubt(self.costs, self.check, {name: end for name, end in ends.items() if self.costs[name]})
 
@@ -296,7 +311,8 @@ class Advice:
         return lower, upper
 
     def layouts(self, packets: int) -> Iterator[Options]:
-        """Yields settings that change which processor polls which packets, if shares are uneven, and prepares their predictions."""
+        """Yields settings that change which processor polls which packets, if shares are uneven, and prepares their
+        predictions."""
         recording, layout = self.recording, self.recording.layout
         queues = {each.place: each.queue for each in recording.own_instances()}
         interrupts = interrupts_of(recording.head, recording.device)
@@ -310,13 +326,16 @@ class Advice:
             self.machine.interrupts = {interrupts[queues[place] or 0]: cpu for place, cpu in moved.items()}
             yield {**self.options, "layout": MOVED, "processors": len(set(chosen.values()))}
         known = sorted((queue, place) for place, queue in queues.items() if queue is not None)
-        if [queue for queue, _ in known] == list(range(len(queues))) and (devices := layout.spread([each for _, each in known])):
+        if [queue for queue, _ in known] == list(range(len(queues))) and (
+            devices := layout.spread([each for _, each in known])
+        ):
             self.add_layout(SPREAD, devices, packets)
             self.machine.queues = len(known)
             yield {**self.options, "layout": SPREAD}
 
     def add_layout(self, number: int, devices: Sequence[int], packets: int) -> None:
-        """Adds the arrivals of a layout, in which each packet has one of these devices. All waits count in it but those of rare devices."""
+        """Adds the arrivals of a layout, in which each packet has one of these devices. All waits count in it but those
+        of rare devices."""
         lines = predicting.arrivals_of(self.recording.seen.sent, devices).splitlines(True)
         counts = Counter(devices)
         rare = max(counts.values()) / RARE
@@ -404,6 +423,8 @@ class Advice:
                 f"processor {most} limits: it has {100 * shares[most]:.0f} % of the packets and a 99th percentile of {us(waits[most])} us; "
                 f"the others have up to {us(rest)} us"
             )
+            if self.recording.layout.is_uneven(len(shares)):
+                yield "more queues (ethtool -L) and RPS (rps_cpus) may make shares even too; what they change isn't predicted"
 
     @staticmethod
     def disturbed(others: Mapping[str, float], where: str) -> str:
@@ -483,12 +504,7 @@ class Advice:
         told: dict[str, Any] = {"now": choice.tried[0][1], "tried": tried}
         if choice.best:
             low, high = self.ends()
-            told["advised"] = {
-                "options": as_keys(self.best),
-                "values": self.values,
-                "low": low,
-                "high": high,
-            }
+            told["advised"] = {"options": as_keys(self.best), "values": self.values, "low": low, "high": high}
             told["set"] = [self.machine.line_of(change) for change in self.changes]
         return told
 
@@ -533,13 +549,14 @@ def draw(advice: Advice, choice: Choice, path: str) -> None:
 
 
 def verified(advice: Advice) -> tuple[list[Compared], float, Verdict]:
-    """Records today's settings and the advised ones. Returns what one recording of the latter measured, with what is predicted for its packets, its
-    number of packets, and the verdict."""
+    """Records today's settings and the advised ones. Returns what one recording of the latter measured, with what is
+    predicted for its packets, its number of packets, and the verdict."""
     head, words = advice.recording.head, advice.words
     today, changed = verifying.record_in_turn(head, words, advice.machine, advice.changes)
     name = predicting.name_of(words.goal, advice.end)
     before, after = (
-        [(measured, each) for each in some if name in (measured := advice.measured_in(each))] for some in (today, changed)
+        [(measured, each) for each in some if name in (measured := advice.measured_in(each))]
+        for some in (today, changed)
     )
     after.sort(key=lambda pair: pair[0][name])
     measured, middle = after[len(after) // 2] if after else (advice.measured_in(changed[0]), changed[0])
@@ -548,12 +565,17 @@ def verified(advice: Advice) -> tuple[list[Compared], float, Verdict]:
     values = predictions.of(options)
     band = predictions.band(name, values, predictions.sides_of(options))
     of_goal = [[each[name] for each, _ in some] for some in (before, after)]
-    return advice.compared(measured, values), measured["sent"], Verdict(name, of_goal[0], of_goal[1], values[name], band)
+    return (
+        advice.compared(measured, values),
+        measured["sent"],
+        Verdict(name, of_goal[0], of_goal[1], values[name], band),
+    )
 
 
 def print_verified(advice: Advice) -> bool:
-    """Verifies the advice, if that is asked for, and prints the result; as JSON with the advice. Returns false if it should have made the goal's
-    value lower, and didn't. Within limits that the recorded setting exceeds, the value may have to rise."""
+    """Verifies the advice, if that is asked for, and prints the result; as JSON with the advice. Returns false if it
+    should have made the goal's value lower, and didn't. Within limits that the recorded setting exceeds, the value may
+    have to rise."""
     choice = advice.choice
     if not (advice.words.verify and choice and choice.best and advice.changes):
         if advice.words.json:

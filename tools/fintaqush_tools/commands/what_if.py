@@ -15,8 +15,9 @@ Packets are dropped if the ring is full, and refused if the socket is. Waits las
 and to the end of its use: the 50th, 99th and 99.9th percentile, of the device or processor where it is the greatest. Shares are of all
 processors' time, in %; with --apart 1 the application's share is that of its own processor.
 
-Each combination is also run with all costs 20 % lower and 20 % higher (--band); fintaqush advise prints how far those of a recording are in doubt. A line on standard error warns if the order of two combinations
-changes within this band, because the better one then depends on the costs. --queues above 1 needs arrivals with a column `flow`.
+Each combination is also run with all costs 20 % lower and 20 % higher (--band); fintaqush advise prints a percentage for those of a
+recording. A line on standard error warns if the order of two combinations changes within this band, because the better one then depends on
+the costs. --queues above 1 needs arrivals with a column `flow`.
 
 --until searches the load at which a combination breaks, to 1 %: with drops, a packet is dropped; with p99=US, the 99th percentile of waits to
 the end of use exceeds that many us. The search assumes that a setting which holds a load also holds any lower one.
@@ -49,17 +50,7 @@ from fintaqush_tools.bands import DOUBT, with_costs
 from fintaqush_tools.combinations import Combinations, Key, Row, add_words, check_words, choices, fault_of, sum_of
 from fintaqush_tools.errors import Refusal, unfinished, unlink
 from fintaqush_tools.files import WholeFile, check_regular, check_target, write_out, write_whole
-from fintaqush_tools.machine import (
-    ARE,
-    COSTS,
-    OPTIONS,
-    VALUES,
-    WAITS,
-    help_of,
-    identifier,
-    option_words,
-    values_of,
-)
+from fintaqush_tools.machine import ARE, COSTS, OPTIONS, VALUES, WAITS, help_of, identifier, option_words, values_of
 from fintaqush_tools.options import Parser, Words, number, parser_of, require_end, wrong
 from fintaqush_tools.pictures import COLORS, ENDS, Curve, Picture, check_library, picture_bytes
 from fintaqush_tools.processes import program, ran
