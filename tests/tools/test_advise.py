@@ -129,6 +129,7 @@ class Advise(InFolder):
         self.assertEqual(advised["values"]["interrupts"], 1)
         self.assertLess(advised["values"]["kernel_percent"], told["now"]["kernel_percent"])
         self.assertTrue(advised["low"]["kernel_percent"] < advised["values"]["kernel_percent"] < advised["high"]["kernel_percent"])
+        self.assertEqual({name: type(value) for name, value in advised["low"].items()}, {name: type(value) for name, value in advised["values"].items()})
         limited = self.told(file_of(often), "--goal", "cpu", "--p99-below", "200")
         self.assertLess(limited["advised"]["high"]["used_p99"], 200_000)
         self.assertIn(limited["advised"]["options"]["gro_flush_timeout"], (0, 100000, 50000, 20000))
@@ -290,7 +291,8 @@ class Advise(InFolder):
         self.assertEqual((told["set"], told["advised"]["options"]["layout"]), (["echo 1 > /proc/irq/40/smp_affinity_list"], 1))
         self.assertIn("irqbalance may move these interrupts back, if it runs", told["notes"])
         self.assertIn("interrupts moved", self.advised(file_of(self.uneven(), **head), "--goal", "p99").stdout)
-        unknown = self.told(file_of(self.uneven(), **{**head, "device.vb1.irq.39.name": "vb1-tx-1"}), "--goal", "p99")
+        head["device.vb1.irq.39.name"] = "vb1-tx-1"
+        unknown = self.told(file_of(self.uneven(), **head), "--goal", "p99")
         self.assertEqual({each["options"].get("layout", 0) for each in unknown["tried"]}, {0})
 
     def test_a_backlog_with_replies(self) -> None:
@@ -428,6 +430,8 @@ class Advise(InFolder):
         self.assertEqual(told["blame"], ["of the waits to delivery 65 % passed while another task had the processor (cc1 65 %), and of the slowest one in 100 64 % (cc1 64 %): no "
                                          "setting that is tried here changes that; priorities and other processors for these tasks do"])
         self.assertEqual(self.told(file_of(quiet()))["blame"], [])
+        deferred = file_of(text, **{"device.vb1.threaded": 1, "device.vb1.napi_defer_hard_irqs": 2, "device.vb1.gro_flush_timeout": 1000, "program": "", "program.pids": ""})
+        self.assertNotIn("while another task", run("advise", self.write("x.rec", deferred), "--goal", "drops").stdout)
         poor = self.advised(file_of(text, **{"device.vb1.threaded": 1, "program": "", "program.pids": "", "device.vb1.ethtool.ring.rx": 1}), status=1)
         self.assertIn(f"so there is no advice for this goal; {told['blame'][0]}\n", poor.stderr)
 

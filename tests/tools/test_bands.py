@@ -12,6 +12,7 @@ from tooltest import HAS_MACHINE, MACHINE, TOP
 sys.path += [str(TOP / "tests/live"), str(TOP / "tests/cards")]
 import cards
 import live
+import rig
 
 from fintaqush_tools import bands, predicting
 from fintaqush_tools.bands import Doubt
@@ -21,6 +22,10 @@ from fintaqush_tools.machine import values_of
 Values = Mapping[str, Any]
 Predict = Callable[[Mapping[str, int], Any], Values]  # with these costs, for that setting
 Case = tuple[Mapping[str, int], Predict, Any, Values, Any, list[Values]]  # costs, .., recorded setting, what it measured, another one, its values
+
+
+def middle_wait(values: Values) -> float:
+    return float(values.get("used_p50", 0))
 
 
 def of_veth() -> Iterator[Case]:
@@ -35,7 +40,7 @@ def of_veth() -> Iterator[Case]:
         def predict(costs: Mapping[str, int], setting: Any, arrivals: str = kept["arrivals"]) -> Values:
             return predicting.predicted(MACHINE, arrivals, settings_of(costs, live.options_of(setting)))
 
-        own = sorted(kept["measured"][group.base.name], key=lambda values: values.get("used_p50", 0))[1]
+        own = sorted(kept["measured"][group.base.name], key=middle_wait)[1]
         for case in group.cases:
             yield kept["costs"], predict, group.base, own, case.setting, kept["measured"][case.setting.name]
 
@@ -55,6 +60,10 @@ def of_cards() -> Iterator[Case]:
             yield costs, predict, card.base, kept["measured"][card.base.name], setting, [kept["measured"][setting.name]]
 
 
+def timeout_of(setting: Any) -> int:
+    return int(setting.gro_flush_timeout if isinstance(setting, rig.Setting) else setting.deferral[1])
+
+
 def within(case: Case, is_fixed: bool = False) -> Iterator[bool]:
     """Yields for each measured value whether it is in its band, or between the predictions with costs 20 % lower and higher."""
     costs, predict, base, own, setting, measured = case
@@ -64,7 +73,7 @@ def within(case: Case, is_fixed: bool = False) -> Iterator[bool]:
     for each in measured:
         for name, value, *_ in predicting.compared(each, values):
             known = [values[name], *(other[name] for other in others)]
-            low, high = (min(known), max(known)) if is_fixed else doubt.band(name, known[0], known[1:])
+            low, high = (min(known), max(known)) if is_fixed else doubt.band(name, known[0], known[1:], timeout_of(setting))
             yield low <= value <= high
 
 
@@ -89,10 +98,10 @@ class Bands(unittest.TestCase):
         self.assertEqual([doubt(13), doubt(-13), doubt(2, -13), doubt(1), doubt(80), doubt()], [26, 26, 26, 15, 50, 20])
 
     def test_other_costs(self) -> None:
-        """A cost's interval counts if it is wider; a timer that wasn't recorded may cost more than an interrupt by 10 us."""
+        """A cost's interval counts if it is wider; a timer that wasn't recorded may cost more than an interrupt by 5 us."""
         doubt = Doubt({"interrupt": 1000, "poll": 2000, "packet": 500}, [], {"poll": (100, 2100), "packet": (450, 900)})
         self.assertEqual(doubt.sides, [("costs 20 % lower", {"interrupt": 800, "poll": 100, "packet": 400}),
-                                       ("costs 20 % higher", {"interrupt": 1200, "poll": 2400, "packet": 900, "timer": 11000})])
+                                       ("costs 20 % higher", {"interrupt": 1200, "poll": 2400, "packet": 900, "timer": 6000})])
         known = Doubt({"interrupt": 1000, "timer": 3000}, [])
         self.assertEqual([side["timer"] for _, side in known.sides], [2400, 3600])
 
@@ -108,3 +117,11 @@ class Bands(unittest.TestCase):
             self.assertAlmostEqual(doubt.moved(name, value), moved)
         self.assertEqual([round(end, 6) for end in doubt.band("polls", 1000, [990, 1010])], [892.4, 1040.3])
         self.assertEqual(doubt.band("dropped", 0, [0, 0]), (0, 10.3))
+
+    def test_a_timer_that_was_not_recorded(self) -> None:
+        """A packet that waits for it may be delivered 30 us later, and polls every 60 us may come every 90 us; and 3 % more."""
+        doubt, known = Doubt({"poll": 1}, []), Doubt({"timer": 1}, [])
+        for of, timeout, waits, polls in ((known, 60_000, 113.3, 87.3), (doubt, 0, 113.3, 87.3), (doubt, 60_000, 144.2, 58.2)):
+            self.assertAlmostEqual(of.band("used_p50", 100_000, [90_000, 110_000], timeout)[1], 1000 * waits)
+            self.assertAlmostEqual(of.band("polls", 100, [90, 110], timeout)[0], polls)
+        self.assertEqual(doubt.band("dropped", 100, [100], 60_000), (97, 103))

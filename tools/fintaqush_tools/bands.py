@@ -15,7 +15,7 @@ from __future__ import annotations
 from collections.abc import Iterable, Mapping, Sequence
 from typing import Any
 
-from fintaqush_tools.machine import COSTS, OPTIONS
+from fintaqush_tools.machine import COSTS, OPTIONS, WAITS
 from fintaqush_tools.predicting import FEW, MEASURED, Compared
 
 Costs = Mapping[str, int]  # in ns, by the names of the machine's options, and `timer`
@@ -25,8 +25,10 @@ DOUBT = 20  # % of the costs, if no recording says more
 LEAST, MOST = 15, 50  # % of the costs; those of three like recordings differed by 15 %
 TIMES = 2  # how much further than at the recorded setting a prediction may be off
 ALIKE = 0.03  # relative difference between recordings of one setting
-# ns that a NAPI timer takes longer than an interrupt, at most, if no timer was recorded; with its wake-up 3 to 8 us were measured.
-TIMER = 10_000
+# If no NAPI timer was recorded: ns that its handler may take longer than an interrupt's, of which 3 to 6 us were
+# measured; and by which its polls may be late, because waking a processor after a long idle time took 16 to 40 us.
+TIMER, LATE = 5_000, 30_000
+POLLS = ("polls", "runs", "timers")  # which a late timer makes fewer
 LIKE = {"lost": "dropped", "kernel_percent": "poll_percent"}  # predicted values whose error is that of another one
 
 
@@ -68,7 +70,8 @@ class Doubt:
             for name, interval in (intervals or {}).items():
                 side[name] = round(end(side[name], *interval))
             self.sides.append((f"costs {self.percent} % {what}", side))
-        if "timer" not in costs:
+        self.lacks_timer = "timer" not in costs
+        if self.lacks_timer:
             self.sides[1][1]["timer"] = timer_of(costs) + TIMER
         if intervals is not None and "packet" not in intervals:
             for what, name, other in (("packets", "poll", "packet"), ("polls", "packet", "poll")):
@@ -84,7 +87,17 @@ class Doubt:
             return value + TIMES * (measured - predicted)
         return value * (1 + TIMES * (measured / predicted - 1)) if predicted else value
 
-    def band(self, name: str, value: float, others: Iterable[float]) -> Interval:
-        """Returns the band of a predicted value; `others` are its predictions with the costs of `sides`."""
+    def band(self, name: str, value: float, others: Iterable[float], timeout: int = 0) -> Interval:
+        """Returns the band of a predicted value; `others` are its predictions with the costs of `sides`. `timeout` is that
+        of NAPI's timer in ns, if polls wait for it."""
         ends = [value, *others, self.moved(name, value)]
+        if timeout and self.lacks_timer:
+            late = (
+                max(ends) + LATE
+                if name in WAITS
+                else min(ends) * timeout / (timeout + LATE)
+                if name in POLLS
+                else value
+            )
+            ends.append(late)
         return max(0.0, min(ends) * (1 - ALIKE)), max(ends) * (1 + ALIKE)

@@ -30,10 +30,14 @@ def numeric(value: Any) -> float:
     return float(value) if isinstance(value, str) else int(value)
 
 
+def timeout_of(options: Mapping[str, int]) -> int:
+    """Returns the timeout of NAPI's timer in ns, or 0 if polls don't wait for it."""
+    return options.get("gro-flush-timeout", 0) if options.get("defer-hard-irqs") else 0
+
+
 def settings_of(costs: Mapping[str, int], options: Options) -> Options:
     """Returns the machine's options. It has one cost for interrupts and timers, and with deferral nearly all are timers."""
-    is_deferred = options.get("defer-hard-irqs") and options.get("gro-flush-timeout")
-    timer = {"interrupt": costs["timer"]} if is_deferred and "timer" in costs else {}
+    timer = {"interrupt": costs["timer"]} if timeout_of(options) and "timer" in costs else {}
     return {**{name: costs[name] for name in COSTS if name in costs}, **timer, **options}
 
 
@@ -88,9 +92,9 @@ class Predictions:
         """Returns the results with the other costs that the recording may have."""
         return [self.of(options, costs) for _, costs in self.doubt.sides]
 
-    def band(self, name: str, values: Values, sides: Sequence[Values]) -> Interval:
-        """Returns the band of a value of a setting."""
-        return self.doubt.band(name, values[name], [each[name] for each in sides])
+    def band(self, name: str, options: Options, values: Values, sides: Sequence[Values]) -> Interval:
+        """Returns the band of a value of a setting; `values` and `sides` are its results."""
+        return self.doubt.band(name, values[name], [each[name] for each in sides], timeout_of(options))
 
 
 class Choice:

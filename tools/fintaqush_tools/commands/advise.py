@@ -46,7 +46,7 @@ from fintaqush_tools.advice import (
     unmodelled_in,
 )
 from fintaqush_tools.bands import Doubt
-from fintaqush_tools.choosing import GOALS, Choice, Options, Predictions, Values, settings_of
+from fintaqush_tools.choosing import GOALS, Choice, Options, Predictions, Values, settings_of, timeout_of
 from fintaqush_tools.commands import costs
 from fintaqush_tools.errors import Refusal
 from fintaqush_tools.files import WholeFile, check_regular, check_target
@@ -236,7 +236,9 @@ class Advice:
         recording = self.recording
         self.others = {processor: recording.disturbing(processor) for processor in recording.layout.processors}
         self.others_apart = {}
-        self.blame = list(blame.lines_of(recording.seen, recording.layout, recording.program_pids()))
+        self.blame = []
+        if not timeout_of(self.options):  # with deferral packets wait for the timer, whatever runs meanwhile
+            self.blame += blame.lines_of(recording.seen, recording.layout, recording.program_pids())
         if self.told["apart"]:
             self.reads_on = max(self.told["reads_on"], key=lambda each: int(each["reads"]))["processor"]
             self.others_apart = recording.disturbing(self.reads_on) if self.reads_on not in self.others else {}
@@ -305,8 +307,8 @@ class Advice:
 
     def ends(self) -> tuple[Values, Values]:
         """Returns the lower and the upper ends of the bands of the advised setting."""
-        bands = {name: self.predictions.band(name, self.values, self.sides) for name in self.values}
-        places = {name: 0 if isinstance(value, int) else 2 for name, value in self.values.items()}
+        bands = {name: self.predictions.band(name, self.best, self.values, self.sides) for name in self.values}
+        places = {name: None if isinstance(value, int) else 2 for name, value in self.values.items()}
         lower, upper = ({name: round(band[end], places[name]) for name, band in bands.items()} for end in (0, 1))
         return lower, upper
 
@@ -347,7 +349,7 @@ class Advice:
         name = predicting.name_of(self.words.goal, self.end)
         if name not in self.values or name not in self.measured:
             return
-        low, high = self.predictions.band(name, self.values, self.sides)
+        low, high = self.predictions.band(name, self.best, self.values, self.sides)
         before, *ends = (told_value(name, each) for each in (self.measured[name], low, high))
         if high > VAGUE * low:
             yield f"{TOLD[name]} isn't known within a factor of {VAGUE}: from {' to '.join(ends)}"
@@ -563,7 +565,7 @@ def verified(advice: Advice) -> tuple[list[Compared], float, Verdict]:
     predictions = advice.predictions.on_others(arrivals_in(middle, words)[0], middle.layout.major())
     options = {**advice.best, "processors": len(middle.layout.processors), "layout": 0}
     values = predictions.of(options)
-    band = predictions.band(name, values, predictions.sides_of(options))
+    band = predictions.band(name, options, values, predictions.sides_of(options))
     of_goal = [[each[name] for each, _ in some] for some in (before, after)]
     return (
         advice.compared(measured, values),
