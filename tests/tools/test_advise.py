@@ -431,7 +431,7 @@ class Advise(InFolder):
                                          "setting that is tried here changes that; priorities and other processors for these tasks do"])
         self.assertEqual(self.told(file_of(quiet()))["blame"], [])
         deferred = file_of(text, **{"device.vb1.threaded": 1, "device.vb1.napi_defer_hard_irqs": 2, "device.vb1.gro_flush_timeout": 1000, "program": "", "program.pids": ""})
-        self.assertNotIn("while another task", run("advise", self.write("x.rec", deferred), "--goal", "drops").stdout)
+        self.assertNotIn("of the waits to delivery", run("advise", self.write("x.rec", deferred), "--goal", "drops").stdout)
         poor = self.advised(file_of(text, **{"device.vb1.threaded": 1, "program": "", "program.pids": "", "device.vb1.ethtool.ring.rx": 1}), status=1)
         self.assertIn(f"so there is no advice for this goal; {told['blame'][0]}\n", poor.stderr)
 

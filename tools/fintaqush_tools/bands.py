@@ -1,8 +1,8 @@
 """The band in which a measured value is nine times of ten: for advise and the tests; what-if takes from here how costs
 are varied.
 
-The doubt of the costs is twice the error of the recorded setting's median waits, at least 15 % and at most 50 %. A band
-holds the predictions with all costs lower and higher by the doubt, or at the ends of a cost's confidence interval if
+The doubt of the costs is twice the change of all costs by which the recorded setting's median waits would have been
+predicted, at least 15 % and at most 50 %. A band holds the predictions with all costs lower and higher by the doubt, or at the ends of a cost's confidence interval if
 that is wider; and the prediction plus twice what was missed at the recorded setting: times and few packets by the
 difference, all else by the ratio. Both of its ends are 3 % further, because recordings of one setting differ.
 
@@ -40,10 +40,15 @@ def with_costs(settings: Mapping[str, Any], percent: int) -> dict[str, Any]:
     }
 
 
-def doubt_of(rows: Iterable[Compared]) -> int:
-    """Returns the doubt of the costs in %, by the values of the recorded setting."""
-    errors = [abs(measured / value - 1) for name, measured, value, _ in rows if name.endswith("_p50") and value]
-    return max(LEAST, min(MOST, round(100 * TIMES * max(errors)))) if errors else DOUBT
+def doubt_of(rows: Iterable[Compared], higher: Mapping[str, float]) -> int:
+    """Returns the doubt of the costs in %, by the values of the recorded setting. `higher` are those predicted with costs
+    `DOUBT` % higher: a wait for a timer hardly depends on them."""
+    changes = []
+    for name, measured, value, _ in rows:
+        if name.endswith("_p50") and value:
+            slope = (higher[name] - value) * 100 / DOUBT
+            changes.append(abs(measured - value) / (slope if slope > 0 else value))
+    return max(LEAST, min(MOST, round(100 * TIMES * max(changes)))) if changes else DOUBT
 
 
 def timer_of(costs: Costs) -> int:
@@ -59,11 +64,18 @@ class Doubt:
 
     sides: list[tuple[str, dict[str, int]]]
 
-    def __init__(self, costs: Costs, rows: Sequence[Compared], intervals: Mapping[str, Interval] | None = None) -> None:
-        """`rows` compare the recorded setting with its prediction. `intervals` has the ends of each cost; without those
-        of polls and packets only their sum is known, of which each has the half in `costs`."""
+    def __init__(
+        self,
+        costs: Costs,
+        rows: Sequence[Compared],
+        higher: Mapping[str, float],
+        intervals: Mapping[str, Interval] | None = None,
+    ) -> None:
+        """`rows` compare the recorded setting with its prediction, and `higher` is predicted with costs `DOUBT` % higher.
+        `intervals` has the ends of each cost; without those of polls and packets only their sum is known, of which each
+        has the half in `costs`."""
         self.rows = {row[0]: row for row in rows}
-        self.percent = doubt_of(rows)
+        self.percent = doubt_of(rows, higher)
         self.sides = []
         for what, percent, end in (("lower", 100 - self.percent, min), ("higher", 100 + self.percent, max)):
             side = with_costs(costs, percent)

@@ -45,7 +45,7 @@ from fintaqush_tools.advice import (
     options_of,
     unmodelled_in,
 )
-from fintaqush_tools.bands import Doubt
+from fintaqush_tools.bands import DOUBT, Doubt, with_costs
 from fintaqush_tools.choosing import GOALS, Choice, Options, Predictions, Values, settings_of, timeout_of
 from fintaqush_tools.commands import costs
 from fintaqush_tools.errors import Refusal
@@ -153,7 +153,9 @@ class Advice:
         self.end = self.chosen_end()
         whole, first = arrivals_in(recording, words)
         made, majors = program("napi_machine", words.program), recording.layout.major()
-        self.compare(Predictions(made, self.costs, whole, majors))
+        predictions = Predictions(made, self.costs, whole, majors)
+        self.compare(predictions)
+        self.doubt = self.doubt_by(predictions)
         self.machine = Machine(head, recording.device, recording.seen.processor, recording.seen.tasks.idle())
         self.note_tasks()
         self.note_recording()
@@ -220,8 +222,7 @@ class Advice:
         ]
         self.grade = max(grades, key=("good", "fair", "poor").index) if self.is_measured() else "unknown"
 
-    @property
-    def doubt(self) -> Doubt:
+    def doubt_by(self, predictions: Predictions) -> Doubt:
         """Returns how far the costs are in doubt, and what else the recording leaves open."""
         known = (
             self.told["costs"]
@@ -229,7 +230,8 @@ class Advice:
             else {name: cost for name, cost in self.told["costs"].items() if name not in ("poll", "packet")}
         )
         ends = {name.replace("_", "-"): (cost["low"], cost["high"]) for name, cost in known.items()}
-        return Doubt(self.costs, self.check, {name: end for name, end in ends.items() if self.costs[name]})
+        higher = predictions.of(self.options, with_costs(self.costs, 100 + DOUBT))
+        return Doubt(self.costs, self.check, higher, {name: end for name, end in ends.items() if self.costs[name]})
 
     def note_tasks(self) -> None:
         """Finds the tasks that disturbed the processors that poll, and that on which the program reads."""
@@ -376,7 +378,6 @@ class Advice:
             "unknown": f": {UNKNOWN}",
             "poor": f": {self.worst()}",
         }.get(self.grade, "")
-        yield f"costs may be {self.doubt.percent} % lower or higher (--band {self.doubt.percent} of what-if)"
         for processor, others in self.others.items():
             if others:
                 yield self.disturbed(others, f"processor {processor}")
@@ -435,6 +436,7 @@ class Advice:
         return f"other tasks used {where} too ({tasks}): the prediction assumes a processor without other tasks, because packets may wait for these"
 
     def advice_lines(self, choice: Choice) -> Iterator[str]:
+        yield f"costs may be {self.doubt.percent} % lower or higher (--band {self.doubt.percent} of what-if)"
         yield f"{len(choice.tried)} settings on {self.packets} packets, the best for {GOALS[choice.goal]} first:"
         alike: dict[tuple[str, ...], list[Options]] = {}
         for options, values in choice.order:
