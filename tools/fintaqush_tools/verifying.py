@@ -8,7 +8,7 @@ import tempfile
 from collections.abc import Sequence
 from dataclasses import asdict, dataclass
 from statistics import median
-from typing import Any, Optional
+from typing import Any
 
 from fintaqush_tools.advice import Change, Machine
 from fintaqush_tools.bands import Interval
