@@ -130,9 +130,3 @@ def share(lines: Sequence[Line], name: str) -> str:
 def option_words(settings: Mapping[str, Any]) -> list[str]:
     """Returns the command-line options of napi_machine for these settings, without those that have their default."""
     return as_options({name: value for name, value in settings.items() if int(value) != OPTIONS[name][2]})
-
-
-def with_costs(settings: Mapping[str, Any], percent: int) -> dict[str, Any]:
-    """Returns the settings with each cost scaled to `percent`."""
-    scaled = {name: (int(value) * percent + 50) // 100 for name, value in settings.items() if name in COSTS}
-    return {**settings, **{name: min(OPTIONS[name][1], value) for name, value in scaled.items()}}

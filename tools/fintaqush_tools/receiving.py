@@ -32,12 +32,13 @@ def agree(pairs: Sequence[tuple[float, float]]) -> bool:
 
 
 class Received:
-    """A packet that a poll took: when it arrived by that poll, its device, its processor, and the instance once it is known."""
+    """A packet that a poll took: when it arrived by that poll, its device, its processor, the hash of its flow, and the
+    instance once it is known."""
 
-    __slots__ = ("time", "device", "cpu", "place")
+    __slots__ = ("time", "device", "cpu", "flow", "place")
 
-    def __init__(self, time: int, device: str, cpu: int) -> None:
-        self.time, self.device, self.cpu, self.place = time, device, cpu, ANY
+    def __init__(self, time: int, device: str, cpu: int, flow: int) -> None:
+        self.time, self.device, self.cpu, self.flow, self.place = time, device, cpu, flow, ANY
 
 
 class Receiving:
@@ -67,6 +68,7 @@ class Receiving:
     received: dict[str, list[Received]]
     taken: defaultdict[int, list[Received]]
     packets_of: Counter[Place]
+    known: Optional[dict[Place, list[tuple[int, int, int]]]]
 
     def __init__(
         self, polled: set[str], senders: set[str], receivers: Iterable[str] = (), routes: Optional[Routes] = None
@@ -78,6 +80,7 @@ class Receiving:
         self.sent, self.has_come = (array("Q"), bytearray())
         # The processor, the device and the tasks that sent it; the instance that gets it, if that is known.
         self.sent_on, self.sent_by, self.sending, self.sent_to = (array("H"), [], set(), [])
+        self.flows = array("L")  # of a card's packets: the hash of the flow, or 0
         # The packets whose instance isn't known yet; how many packets a backlog received since its last poll.
         self.unplaced, self.moved, self.taken = {}, Counter(), defaultdict(list)
         # For each poll.
@@ -93,7 +96,7 @@ class Receiving:
         # By processor: when its softirqs began; its NAPI timers.
         self.entries, self.timers = (defaultdict(lambda: array("Q")), Counter())
         self.reads, self.reading = [], {}  # for each read its end, and the beginning of the next read by that task
-        self.mark, self.tasks = {}, Tasks()
+        self.mark, self.tasks, self.known = {}, Tasks(), None
 
     def add(self, event: Event) -> None:
         """Processes the next event of the recording."""
@@ -146,9 +149,9 @@ class Receiving:
             if place and address in self.unplaced:
                 self.sent_to[self.unplaced.pop(address)] = place
                 self.moved[event.cpu] += 1
-        name, _, _ = packet_of(event)
+        name, _, flow = packet_of(event)
         if name in self.receivers:
-            packet = Received(self.begins.of(event), name, event.cpu)
+            packet = Received(self.begins.of(event), name, event.cpu, flow)
             self.received[KINDS[event.name]].append(packet)
             self.taken[event.cpu].append(packet)
 
@@ -187,11 +190,12 @@ class Receiving:
             return ""
         for packet in sorted(self.received[kind], key=lambda packet: packet.time):
             self.append_packet(packet.time, True, packet.cpu, packet.device, packet.place)
+            self.flows.append(packet.flow)
         return kind
 
     def replace_arrivals(self, times: Sequence[int], device: str) -> None:
         """Takes other arrivals at the one instance that polls."""
-        count = len(times)
+        count, self.flows = len(times), array("L")
         self.sent, self.has_come = array("Q", times), bytearray(b"\1" * count)
         self.sent_on, self.sent_by = array("H", [self.processor] * count), [device] * count
         self.sent_to = [self.places[0]] * count
@@ -297,7 +301,10 @@ class Receiving:
         return found if at <= len(came) and agree(times) else []
 
     def deliveries(self) -> dict[Place, list[tuple[int, int, int]]]:
-        """Returns the matched packets of each instance. Returns nothing if polls of several instances count as those of one."""
+        """Returns the matched packets of each instance; those that are known already, because arrivals may have been
+        delayed since then. Returns nothing if polls of several instances count as those of one."""
+        if self.known is not None:
+            return self.known
         if not self.ended or ANY in self.places and len(set(self.sent_by)) != 1:
             return {}
         came = self.came_by_place()

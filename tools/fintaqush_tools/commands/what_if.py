@@ -15,8 +15,9 @@ Packets are dropped if the ring is full, and refused if the socket is. Waits las
 and to the end of its use: the 50th, 99th and 99.9th percentile, of the device or processor where it is the greatest. Shares are of all
 processors' time, in %; with --apart 1 the application's share is that of its own processor.
 
-Each combination is also run with all costs 20 % lower and 20 % higher (--band). A line on standard error warns if the order of two combinations
-changes within this band, because the better one then depends on the costs. --queues above 1 needs arrivals with a column `flow`.
+Each combination is also run with all costs 20 % lower and 20 % higher (--band); fintaqush advise prints a percentage for those of a
+recording. A line on standard error warns if the order of two combinations changes within this band, because the better one then depends on
+the costs. --queues above 1 needs arrivals with a column `flow`.
 
 --until searches the load at which a combination breaks, to 1 %: with drops, a packet is dropped; with p99=US, the 99th percentile of waits to
 the end of use exceeds that many us. The search assumes that a setting which holds a load also holds any lower one.
@@ -46,11 +47,11 @@ from pathlib import Path
 from typing import Any
 
 from fintaqush_tools import breaking, repeats, tables
+from fintaqush_tools.bands import DOUBT, with_costs
 from fintaqush_tools.combinations import Combinations, Key, Row, add_words, check_words, choices, fault_of, sum_of
 from fintaqush_tools.errors import Refusal, unfinished, unlink
 from fintaqush_tools.files import WholeFile, check_regular, check_target, write_out, write_whole
-from fintaqush_tools.machine import ARE, COSTS, OPTIONS, VALUES, WAITS
-from fintaqush_tools.machine import help_of, identifier, option_words, values_of, with_costs
+from fintaqush_tools.machine import ARE, COSTS, OPTIONS, VALUES, WAITS, help_of, identifier, option_words, values_of
 from fintaqush_tools.options import Parser, Words, number, parser_of, require_end, wrong
 from fintaqush_tools.pictures import COLORS, ENDS, Curve, Picture, check_library, picture_bytes
 from fintaqush_tools.processes import program, ran
@@ -419,7 +420,7 @@ def parser() -> Parser:
     for name, (low, high, default) in OPTIONS.items():
         how: dict[str, Any] = {"type": choices(number(low, high)), "default": [str(default)], "metavar": "N,.."}
         parser.add_argument(f"--{name}", help=help_of(name), **how)
-    what = "warn if an order changes with costs N %% lower or higher (20; 0 with --out or --part)"
+    what = f"warn if an order changes with costs N %% lower or higher ({DOUBT}; 0 with --out or --part); advise prints that of a recording"
     parser.add_argument("--band", type=number(0, 90), metavar="N", help=what)
     form = parser.add_mutually_exclusive_group()
     for name, what in (
@@ -466,7 +467,7 @@ def read_words(given: Sequence[str]) -> Words:
     words = options.parse_args(given)
     check_together(options, words)
     if words.band is None:
-        words.band = 0 if words.out or words.part else 20
+        words.band = 0 if words.out or words.part else DOUBT
     words.form = words.form or ("table" if sys.stdout.isatty() else "csv")
     if words.form == "json" and words.out and (words.resume or words.part):
         options.error("with --json the file is written at the end, so --out doesn't go with --resume and --part")
