@@ -190,7 +190,7 @@ class Starts(InFolder):
 
     def test_no_environment(self) -> None:
         """Without PATH a shell finds python3 in its own folders, and Python doesn't know its own name."""
-        calls: list[list[object]] = [["--version"], ["plot", "--help"], ["raise", BURSTS, "--program", SERIES], ["replay", "--help"], ["completion", "bash"]]
+        calls: list[list[object]] = [["--version"], ["plot", "--help"], ["raise", BURSTS, "--binary", SERIES], ["replay", "--help"], ["completion", "bash"]]
         for words in calls:
             done = process("env", "-i", COMMAND, *words)
             self.assertEqual((done.stderr.count("\n") <= 1, done.returncode), (True, 0), done.stderr)

@@ -149,7 +149,7 @@ class Plot(InFolder):
         self.assertIn("not a series of napi_series", self.plot("a,b\n1,2\n").stderr)
         self.assertIn("the series has no rows", self.plot(self.HEAD).stderr)
         self.assertIn("nothing to draw", self.plot(self.HEAD + "1,0,1,on,0,0,0,0,,,,,,,\n").stderr)
-        self.assertIn("there is no device 3; these are: 1", self.plot(self.ROWS, "--device", "3").stderr)
+        self.assertIn("there is no device 3; these are: 1", self.plot(self.ROWS, "--limit-of", "3").stderr)
         self.assertIn("line 2: not a line of a series", self.plot(self.HEAD + "a,b\n").stderr)
         self.assertEqual(self.plot(self.ROWS, "--out", "picture.jpg").returncode, 2)
         self.assertEqual(self.plot(self.ROWS, "--budget", "3").returncode, 2)

@@ -261,7 +261,7 @@ class Surroundings(InFolder):
         def is_ready() -> bool:
             return out.read_text().count("\n") == 2
 
-        _, said = self.interrupted("sweep", *words, "--program", held, is_ready=is_ready)
+        _, said = self.interrupted("sweep", *words, "--binary", held, is_ready=is_ready)
         self.assertEqual(said.splitlines()[-1], "fintaqush sweep: interrupted")
         self.assertEqual([line.split(",")[2:7] for line in out.read_text().splitlines()[1:]], [["64", "64", "1024", "no", "0"]])
         self.assertTrue(out.read_text().endswith("\n"))
@@ -377,4 +377,4 @@ class Surroundings(InFolder):
 
     def test_a_program_that_is_killed(self) -> None:
         program = self.program("program", "kill -9 $$")
-        self.assertIn("ended with status -9", run("raise", "-", "--program", program, text=HEADER).stderr)
+        self.assertIn("ended with status -9", run("raise", "-", "--binary", program, text=HEADER).stderr)

@@ -275,7 +275,7 @@ class WhatIf(InFolder):
         out.write_text("\n".join(lines[:2]) + "\n")
         calls = self.folder / "calls"
         program = self.program("program", f"echo >> '{calls}'\nexec '{MACHINE}' \"$@\"")
-        self.assertEqual(self.rows("--budget", "1,2,3", "--out", out, "--resume", "--program", program), whole)
+        self.assertEqual(self.rows("--budget", "1,2,3", "--out", out, "--resume", "--binary", program), whole)
         self.assertEqual((out.read_text().splitlines(), calls.read_text()), (lines, "\n\n"))
         parts = [row for part in ("1/2", "2/2") for row in self.rows("--budget", "1,2,3,4", "--part", part)]
         self.assertEqual([row["budget"] for row in parts], ["1", "3", "2", "4"])
@@ -289,7 +289,7 @@ class WhatIf(InFolder):
         parts = [(self.folder / f"rows-{part}.csv").read_text().splitlines(True) for part in range(1, 5)]
         out = self.write("all.csv", "".join(parts[0][:1] + [line for lines in parts for line in lines[1:]]))
         none = self.program("none", "exit 1")
-        self.assertEqual(self.rows(*words, "--resume", "--out", out, "--program", none), self.rows(*words))
+        self.assertEqual(self.rows(*words, "--resume", "--out", out, "--binary", none), self.rows(*words))
 
     @skip_without("matplotlib")
     def test_the_picture(self) -> None:
@@ -333,4 +333,4 @@ class WhatIf(InFolder):
     def test_what_fails_is_no_row(self) -> None:
         for body in ("kill -9 $$", "exit 0", "echo hello", "echo 'arrivals fault 10 ReadFailed row 0' >&2; exit 2", "exit 64"):
             program = self.program("program", f"{body}")
-            self.fails("1 rows are missing", "what-if", self.arrivals, "--program", program)
+            self.fails("1 rows are missing", "what-if", self.arrivals, "--binary", program)

@@ -23,7 +23,7 @@ from typing import IO, Any
 
 from fintaqush_tools.errors import Refusal, unfinished, why
 from fintaqush_tools.files import check_target, write_whole
-from fintaqush_tools.options import Parser, Words, add_program, number, pair
+from fintaqush_tools.options import Parser, Words, add_binary, number, pair
 from fintaqush_tools.places import TOP
 from fintaqush_tools.processes import begun, read_now
 from fintaqush_tools.progress import Program, Progress, can_be_shown, say, share_of
@@ -64,7 +64,7 @@ def add_words(parser: Parser, what: str, out: dict[str, Any]) -> None:
     parser.add_argument(
         "--sshloginfile", help="GNU parallel's file of machines; without it all replays run on this machine"
     )
-    add_program(parser, what)
+    add_binary(parser, what)
     parser.add_argument("--play", nargs="+", help=argparse.SUPPRESS)
 
 
@@ -188,7 +188,7 @@ class Combinations:
             words.sshloginfile,
             f"{TOP}/fintaqush",
             self.tool,
-            "--program",
+            "--binary",
             made,
             "--play",
         ]

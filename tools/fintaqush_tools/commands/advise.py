@@ -24,7 +24,6 @@ a verdict, and restores the old settings. The exit status is 1 if the goal's val
 
 from __future__ import annotations
 
-import json
 import os
 import tempfile
 from collections.abc import Iterator, Mapping, Sequence
@@ -39,18 +38,18 @@ from fintaqush_tools.commands import costs, record
 from fintaqush_tools.errors import Refusal, unfinished, unlink, why
 from fintaqush_tools.files import WholeFile, check_regular, check_target
 from fintaqush_tools.machine import COSTS, identifier, option_words
-from fintaqush_tools.options import Parser, Words, add_program, number, parser_of, require_end
+from fintaqush_tools.options import Parser, Words, add_binary, number, parser_of, require_end
 from fintaqush_tools.pictures import ENDS, Curve, Picture, check_library, picture_bytes
 from fintaqush_tools.predicting import Compared
 from fintaqush_tools.processes import program
 from fintaqush_tools.progress import say
 from fintaqush_tools.recorded import Recording, arrivals_in
 from fintaqush_tools.recording import BACKLOG
+from fintaqush_tools.results import add_json, is_printed, write_json
 from fintaqush_tools.texts import aligned, as_rows, shown
 
 FEWEST = 1000  # packets
 SHOWN = 8  # settings in the table
-FORMAT = 1  # version of the object that --json prints
 NAMES = {"defer-hard-irqs": "napi_defer_hard_irqs", "gro-flush-timeout": "gro_flush_timeout", "rx-nsecs": "rx-usecs"}
 TOLD = {
     "dropped": "dropped",
@@ -183,7 +182,7 @@ class Advice:
         self.options = options_of(head, recording.device, self.told["apart"], len(self.processors))
         self.end = self.chosen_end()
         whole, first = arrivals_in(recording, words)
-        made, majors = program("napi_machine", words.program), recording.layout.major()
+        made, majors = program("napi_machine", words.binary), recording.layout.major()
         self.compare(Predictions(made, self.costs, whole, majors))
         self.machine = Machine(head, recording.device, recording.seen.processor, recording.seen.tasks.idle())
         self.note_tasks()
@@ -411,7 +410,6 @@ class Advice:
         seen = self.recording.seen
         options = settings_of(self.costs, self.options)
         told = {
-            "version": FORMAT,
             "recording": str(self.recording.path),
             "device": self.recording.device,
             "polled": self.recording.polled,
@@ -573,9 +571,9 @@ def parser() -> Parser:
     parser.add_argument(
         "--verify", action="store_true", help="set the advised setting, record again, compare and restore"
     )
-    parser.add_argument("--json", action="store_true", help="print the results as a JSON object")
+    add_json(parser)
     parser.add_argument("--plot", metavar="FILE", help="a picture of all settings, .png, .svg or .html")
-    add_program(parser, "napi_machine")
+    add_binary(parser, "napi_machine")
     return parser
 
 
@@ -613,10 +611,9 @@ def print_verified(advice: Advice) -> bool:
     is_verified = advice.words.verify and advice.choice and advice.choice.best and advice.changes
     rows, packets = verified(advice) if is_verified else (None, 0)
     verdict = None if rows is None else verdict_of(advice, rows)
-    if advice.words.json:
-        told = {"verified": rows and objects_in(rows, packets), "verdict": verdict and asdict(verdict)}
-        print(json.dumps({**advice.object(), **told}))
-    elif rows and verdict:
+    told = {"verified": rows and objects_in(rows, packets), "verdict": verdict and asdict(verdict)}
+    write_json(advice.words.json, "advise", [{**advice.object(), **told}])
+    if rows and verdict and not is_printed(advice.words.json):
         heading = f"{'the advised setting':36} {'measured':>12} {'predicted':>12}"
         print(heading, *check_lines(rows, packets), verdict.text(), sep="\n")
     choice = advice.choice
@@ -638,7 +635,7 @@ def main(given: Sequence[str]) -> int:
         advice = Advice(words)
     except Refusal as error:
         raise Refusal(f"{shown(words.recording)}: {error}") from None
-    if not words.json:
+    if not is_printed(words.json):
         print("\n".join(advice.lines()), flush=True)
     holds = print_verified(advice)
     if words.plot and advice.choice:

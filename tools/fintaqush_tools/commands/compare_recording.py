@@ -18,7 +18,7 @@ from typing import Any
 
 from fintaqush_tools.errors import Refusal
 from fintaqush_tools.files import read_bytes
-from fintaqush_tools.options import Parser, add_program, add_settings, number, parser_of, settings_of
+from fintaqush_tools.options import Parser, add_binary, add_settings, number, parser_of, settings_of
 from fintaqush_tools.processes import program, run_program
 from fintaqush_tools.reports import ROWS, objects_of
 from fintaqush_tools.texts import shown
@@ -112,7 +112,7 @@ def parser() -> Parser:
         help="print at most N differing rows of each kind (10)",
     )
     add_settings(parser)
-    add_program(parser)
+    add_binary(parser)
     return parser
 
 
@@ -121,7 +121,7 @@ def main(given: Sequence[str]) -> int:
     name = words.name.removesuffix(".csv")
     trace, kernel = read_bytes(f"{name}.csv"), work_of(read_bytes(f"{name}.work").decode())
     notes = noted_in(read_bytes(f"{name}.notes").decode("utf-8", "replace")) if os.path.exists(f"{name}.notes") else {}
-    report = objects_of(run_program(program("napi_serial", words.program), settings_of(words), trace))
+    report = objects_of(run_program(program("napi_serial", words.binary), settings_of(words), trace))
     rows = [(line["row"], line["work"]) for line in report if line["line"] in ROWS]
     check_arrivals(name, report)
     explained, unexplained = differences(rows, kernel, notes)

@@ -25,7 +25,6 @@ itself.
 
 from __future__ import annotations
 
-import json
 from collections.abc import Iterator, Mapping, Sequence
 from statistics import median
 from typing import Any
@@ -38,6 +37,7 @@ from fintaqush_tools.options import Parser, Words, parser_of
 from fintaqush_tools.progress import say
 from fintaqush_tools.instances import Routes
 from fintaqush_tools.recording import BACKLOG, Head, check_lost, events_in
+from fintaqush_tools.results import add_json, is_printed, write_json
 from fintaqush_tools.texts import as_rows, shown
 from fintaqush_tools.timeline import TIMER, Timeline
 
@@ -49,7 +49,6 @@ MATCHED = 0.95  # least share of the packets that must be found at both ends
 WEAK = (
     "the packet's cost can't be distinguished from 0: record more varied traffic, on a processor that does nothing else"
 )
-FORMAT = 1  # version of the object that --json prints
 ORDER = ("interrupt", "timer", "poll", "packet", "wake", "use", "app-wake")
 SLOW = 100_000  # ns: a wake-up that takes longer waits for the scheduler, if another task had the processor
 
@@ -241,7 +240,6 @@ def object_of(times: Timeline, costs: Mapping[str, Cost], told: list[str]) -> di
     """Returns all results as an object, for other tools."""
     processor = times.processor()
     return {
-        "version": FORMAT,
         "costs": {name.replace("-", "_"): cost.as_object() for name, cost in costs.items()},
         "options": options_of(costs),
         "text": told,
@@ -334,25 +332,26 @@ def parser() -> Parser:
         metavar="A:B",
         help="the two ends of a veth pair: A's packets arrive at B (the pair that fintaqush record found)",
     )
-    form = parser.add_mutually_exclusive_group()
-    form.add_argument("--words", action="store_true", help="print only the options for what-if and napi_machine")
-    form.add_argument("--json", action="store_true", help="print the results as a JSON object")
+    parser.add_argument("--words", action="store_true", help="print only the options for what-if and napi_machine")
+    add_json(parser)
     return parser
 
 
 def main(given: Sequence[str]) -> None:
-    words = parser().parse_args(given)
+    options = parser()
+    words = options.parse_args(given)
+    if words.words and is_printed(words.json):
+        options.error("--words and --json without a file each print something else")
     check_input(words.recording)
     try:
         times, head = times_in(words)
         costs, told = estimated(times, head)
     except Refusal as error:
         raise Refusal(f"{shown(words.recording)}: {error}") from None
-    if WEAK in told and (words.words or words.json):
+    if WEAK in told and (words.words or is_printed(words.json)):
         say(WEAK)
+    write_json(words.json, "costs", [object_of(times, costs, told)])
     if words.words:
         print(options_of(costs))
-    elif words.json:
-        print(json.dumps(object_of(times, costs, told)))
-    else:
+    elif not is_printed(words.json):
         print(*told, *notes_on(times), options_of(costs), sep="\n")

@@ -30,7 +30,7 @@ from fintaqush_tools import capture
 from fintaqush_tools.arrivals import SECOND, Packets, arrivals_text, check_devices, number_of, seconds
 from fintaqush_tools.errors import Refusal
 from fintaqush_tools.files import check_input, check_target, lines_in, opened, told_notes, write_all
-from fintaqush_tools.options import Parser, Words, number, pair, parser_of
+from fintaqush_tools.options import Parser, Words, add_force, number, pair, parser_of
 from fintaqush_tools.processes import lines_by
 from fintaqush_tools.texts import shown
 from fintaqush_tools.trace import MOST_DEVICES, TICKS, Row, trace_text, with_runs
@@ -309,7 +309,7 @@ def text_of(
 
 def convert(words: Words) -> None:
     for end in ("notes", "csv"):
-        check_target(f"{words.name}.{end}", replaces=False)
+        check_target(f"{words.name}.{end}", words.force)
     check_input(words.capture)
     cut: list[str] = []
     try:
@@ -321,7 +321,8 @@ def convert(words: Words) -> None:
     except Refusal as error:
         raise Refusal(f"{shown(words.capture)}: {error}") from None
     notes += [*(f"no row: {what}, {count}" for what, count in sorted(without.items()) if count), *told, *cut]
-    write_all({f"{words.name}.notes": "".join(f"{line}\n" for line in notes), f"{words.name}.csv": text})
+    texts = {f"{words.name}.notes": "".join(f"{line}\n" for line in notes), f"{words.name}.csv": text}
+    write_all(texts, words.force)
     print(f"{shown(words.name)}.csv: {len(names)} devices, {rows} rows; {told_notes(f'{words.name}.notes', notes)}")
 
 
@@ -363,6 +364,7 @@ def parser() -> Parser:
     parser.add_argument(
         "--places", type=number(1, 65536), default=256, metavar="N", help="packets that each ring holds (256)"
     )
+    add_force(parser, "NAME.csv and NAME.notes")
     return parser
 
 

@@ -29,7 +29,7 @@ from fintaqush_tools.files import check_target, read_bytes, write_whole
 from fintaqush_tools.options import (
     Parser,
     Words,
-    add_program,
+    add_binary,
     add_raise,
     add_settings,
     as_options,
@@ -257,14 +257,14 @@ def parser() -> Parser:
     )
     add_raise(parser)
     add_settings(parser)
-    add_program(parser, "napi_series")
+    add_binary(parser, "napi_series")
     return parser
 
 
 def main(given: Sequence[str]) -> None:
     words = parser().parse_args(given)
     check_target(words.out)
-    text, made = read_bytes(words.trace), program("napi_series", words.program)
+    text, made = read_bytes(words.trace), program("napi_series", words.binary)
     all_settings = [given_settings(words)] + ([words.beside] if words.beside is not None else [])
     sides = [Side(text, made, settings, words.raised) for settings in all_settings]
     rows = sides[0].rows

@@ -162,10 +162,10 @@ def main(given: Sequence[str]) -> int:
     if words.restarts and not words.raised:
         options.error("--restarts goes with --raise")
     if words.play:
-        return SWEEP.play(words.program, words.play)
+        return SWEEP.play(words.binary, words.play)
     check_words("sweep", words)
     traces_of(words.traces)
-    rows = SWEEP.make(program("napi_serial", words.program), words, keys_of(words))
+    rows = SWEEP.make(program("napi_serial", words.binary), words, keys_of(words))
     results = [
         (", ".join(f"{name} {row[name]}" for name in ("trace", "budget", "weight", "window")), row)
         for row in rows

@@ -26,6 +26,7 @@ from fintaqush_tools.places import version
 from fintaqush_tools.progress import Progress
 from fintaqush_tools.trace import MOST_DEVICES, MOST_ROWS, TICKS, Row, trace_text, with_runs
 
+FLOWS = 16  # per device, if their number isn't given
 ACTIONS = ("tx", "done", "kthread", "disable", "threaded", "busy")
 
 
@@ -184,7 +185,12 @@ def parser() -> Parser:
     parser.add_argument("--seed", type=number(0, 10**9), default=0, help="seed of the random numbers (0)")
     parser.add_argument("--arrivals", action="store_true", help="write arrivals for napi_machine instead of a trace")
     parser.add_argument(
-        "--flows", type=number(1, 10**9), metavar="N", help="with --arrivals: N flows per device, for several queues"
+        "--flows",
+        nargs="?",
+        type=number(1, 10**9),
+        const=FLOWS,
+        metavar="N",
+        help=f"with --arrivals: add a column with each packet's flow, of N per device, for several queues ({FLOWS})",
     )
     add_out(parser, "trace")
     return parser

@@ -20,7 +20,7 @@ from collections.abc import Sequence
 from fintaqush_tools.cli import module_of
 from fintaqush_tools.errors import Refusal, unfinished
 from fintaqush_tools.files import check_target
-from fintaqush_tools.options import Parser, parser_of
+from fintaqush_tools.options import Parser, add_force, parser_of
 from fintaqush_tools.places import IS_CHECKOUT, TOP
 from fintaqush_tools.progress import Program
 from fintaqush_tools.texts import aligned, shown
@@ -141,15 +141,14 @@ def steps(page: str) -> None:
 
 def parser() -> Parser:
     parser = parser_of(__doc__)
-    parser.add_argument(
-        "--out", metavar="FILE.html", help=f"another name for the page ({PAGE}; an existing one is replaced)"
-    )
+    parser.add_argument("--out", metavar="FILE.html", help=f"the page ({PAGE})")
+    add_force(parser, PAGE)
     return parser
 
 
 def main(given: Sequence[str]) -> None:
     words = parser().parse_args(given)
-    check_target(words.out or PAGE, replaces=not words.out)
+    check_target(words.out or PAGE, replaces=bool(words.out) or words.force)
     folder = tempfile.mkdtemp()
     unfinished.update(os.path.join(folder, f"mine.{end}") for end in ("csv", "notes"))
     try:
