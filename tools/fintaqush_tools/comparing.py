@@ -5,6 +5,7 @@ from __future__ import annotations
 import csv
 import io
 import math
+from collections import Counter
 from collections.abc import Callable, Iterable, Iterator, Mapping, Sequence
 from statistics import mean, stdev
 from typing import Any, NamedTuple, Optional
@@ -28,7 +29,7 @@ T95 = (12.71, 4.30, 3.18, 2.78, 2.57, 2.45, 2.36, 2.31, 2.26)  # Student's t for
 SHORT = {"p50": ("used_p50", "delivered_p50"), "p99": ("used_p99", "delivered_p99"), "p999": ("used_p999", "delivered_p999")}
 TIMES = {*WAITS, *map(identifier, IN_NS)}  # values in ns
 NO_OPTION = {"version", "tool", "arrivals", "sum", "trace_sum", "status", "fault", "raised"}
-ROW_VALUES = {*VALUES, *sweep.TOLD}
+ROW_VALUES = dict.fromkeys([*VALUES, *sweep.TOLD])  # in order
 
 
 class Value(NamedTuple):
@@ -90,8 +91,8 @@ def number(value: Any) -> float:
 def values_of_row(row: Mapping[str, Any]) -> dict[str, Value]:
     """Returns the values of a combination, with the spread over seeds if there were several."""
     values = {}
-    for name in ROW_VALUES & row.keys():
-        if row[name] not in ("", None):
+    for name in ROW_VALUES:
+        if row.get(name) not in ("", None):
             ends = [number(row[f"{name}_{end}"]) for end in ("least", "most")] if f"{name}_least" in row else [0, 0]
             values[name] = Value(number(row[name]), (ends[1] - ends[0]) / 2)
     return values
@@ -99,7 +100,7 @@ def values_of_row(row: Mapping[str, Any]) -> dict[str, Value]:
 
 def values_of_rows(rows: Sequence[Mapping[str, Any]]) -> Values:
     """Returns the values of combinations, each named by the options that vary. Those that a tool rejected have none."""
-    own = [name for name in rows[0] if name not in NO_OPTION | ROW_VALUES and not name.endswith(("_least", "_most"))]
+    own = [name for name in rows[0] if name not in NO_OPTION | ROW_VALUES.keys() and not name.endswith(("_least", "_most"))]
     varied = [name for name in own if len({str(row.get(name)) for row in rows}) > 1]
     return {
         ", ".join(f"{name} {row.get(name)}" for name in varied): values_of_row(row)
@@ -197,7 +198,7 @@ def values_in_file(path: str, device: str | None) -> Values:
             if not reader:
                 raise Refusal(f"results of {shown(objects[0]['tool'])}, which aren't compared")
             return reader(objects)
-        if ROW_VALUES & set(first.strip().split(",")):
+        if ROW_VALUES.keys() & set(first.strip().split(",")):
             return values_of_rows(list(csv.DictReader(io.StringIO(first + "".join(lines)))))
     raise Refusal(
         "neither results (--json FILE of a tool, or CSV of what-if or sweep) nor a file of fintaqush record; a trace is replayed with two "
@@ -225,6 +226,9 @@ def values_in_files(paths: Sequence[str], device: str | None) -> Values:
 
 
 # ---- what changed
+
+
+SAME, CHANCE, UNKNOWN = "the same", "within the noise", "noise unknown"
 
 
 class Change(NamedTuple):
@@ -257,10 +261,12 @@ class Change(NamedTuple):
         return self.noise is not None and abs(self.difference) <= self.noise
 
     def verdict(self) -> str:
+        if not self.difference:
+            return SAME
         if self.noise is None:
-            return "noise unknown"
+            return UNKNOWN
         if self.is_noise:
-            return "within the noise" if self.difference else "the same"
+            return CHANCE
         return "higher" if self.difference > 0 else "lower"
 
     def as_object(self) -> dict[str, Any]:
@@ -310,13 +316,14 @@ def lines_of(changes: Sequence[Change]) -> list[str]:
             change = f"{each.percent:+.1f} %" if each.percent is not None else "from 0"
             noise = "" if not each.noise else f"±{100 * each.noise / (abs(each.before.middle) or 1):.1f} %"
             told = [told_number(each.name, value.middle) for value in (each.before, each.after)]
-            rows.append([each.row, heading(each.name), *told, change, noise, each.verdict()])
-    same = len(changes) + 1 - len(rows)
-    certain = sum(not each.is_noise and each.noise is not None for each in changes if each.difference)
-    return [
-        *(aligned(rows, 2) if len(rows) > 1 else []),
-        f"{certain} values changed by more than their noise, {len(rows) - 1 - certain} by less or by an unknown part of it; {same} are the same",
-    ]
+            rows.append([each.row, heading(each.name).replace("_", " "), *told, change, noise, each.verdict()])
+    counts = Counter(each.verdict() for each in changes)
+    certain = counts["higher"] + counts["lower"]
+    summary = (
+        f"of {len(changes)} values {certain} changed by more than the noise, {counts[CHANCE]} within it, {counts[UNKNOWN]} by an unknown part of it, "
+        f"and {counts[SAME]} are the same"
+    )
+    return [*(aligned(rows, 2) if len(rows) > 1 else []), summary]
 
 
 def found_name(name: str, changes: Sequence[Change]) -> str:

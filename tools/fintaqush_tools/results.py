@@ -4,6 +4,7 @@ from __future__ import annotations
 
 import argparse
 import json
+import re
 from collections.abc import Iterable, Mapping
 from typing import Any
 
@@ -60,6 +61,17 @@ def write_json(target: str | None, tool: str, objects: Iterable[Mapping[str, Any
     """Writes results to the target of --json, if it was given."""
     if target:
         write_out(None if is_printed(target) else target, json_lines(tool, objects))
+
+
+def value_of(text: str) -> int | float | str | None:
+    """Converts a value of a row to its JSON type."""
+    return (
+        int(text)
+        if re.fullmatch("[0-9]+", text)
+        else float(text)
+        if re.fullmatch(r"[0-9]+\.[0-9]+", text)
+        else text or None
+    )
 
 
 def objects_in(text: str) -> list[dict[str, Any]]:

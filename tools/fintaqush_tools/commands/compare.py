@@ -41,9 +41,10 @@ from fintaqush_tools.options import (
 )
 from fintaqush_tools.processes import program, run_program
 from fintaqush_tools.progress import Program
+from fintaqush_tools.recording import HEAD
 from fintaqush_tools.reports import objects_of
 from fintaqush_tools.results import add_json, is_printed, write_json
-from fintaqush_tools.texts import aligned, lines_of
+from fintaqush_tools.texts import aligned, lines_of, shown
 from fintaqush_tools.thresholds import add_fail_if_changed, status_of
 from fintaqush_tools.trace import raised
 
@@ -69,7 +70,10 @@ def table(first: Replayed, second: Replayed, headings: Sequence[str]) -> list[st
 def of_replays(words: Words, second: Words) -> tuple[list[str], Values, Values]:
     """Replays a trace with two settings. Returns the table, and the values of both."""
     settings = settings_of(words), settings_of(second)
-    text, made = read_bytes(words.files[0]), program("napi_serial", words.binary)
+    text = read_bytes(words.files[0])
+    if text.startswith((b"{", HEAD.encode())):
+        raise Refusal(f"{shown(words.files[0])}: no trace, whose replays the options after -- are for: name files on both sides of it")
+    made = program("napi_serial", words.binary)
     played = [raised(text, each) if words.raised else text for each in settings]
     before, after = (values_of(objects_of(run_program(made, each, trace))) for each, trace in zip(settings, played))
     headings = [" ".join(each).replace("--", "") or "default" for each in settings]

@@ -21,6 +21,7 @@ from fintaqush_tools.files import read_bytes
 from fintaqush_tools.options import Parser, add_binary, add_settings, number, parser_of, settings_of
 from fintaqush_tools.processes import program, run_program
 from fintaqush_tools.reports import ROWS, objects_of
+from fintaqush_tools.results import add_json, is_printed, write_json
 from fintaqush_tools.texts import shown
 
 
@@ -111,6 +112,7 @@ def parser() -> Parser:
         metavar="N",
         help="print at most N differing rows of each kind (10)",
     )
+    add_json(parser)
     add_settings(parser)
     add_binary(parser)
     return parser
@@ -125,18 +127,22 @@ def main(given: Sequence[str]) -> int:
     rows = [(line["row"], line["work"]) for line in report if line["line"] in ROWS]
     check_arrivals(name, report)
     explained, unexplained = differences(rows, kernel, notes)
-    for line in [
+    is_other = bool(unexplained) or len(rows) != len(kernel)
+    differ = sum(line.startswith("row ") for line in unexplained)
+    packets, agreed = sum(work for _, work in rows), min(len(rows), len(kernel)) - len(explained) - differ
+    lines = [
         *first_of(unexplained, words.lines, "without a reason"),
         *first_of(explained, words.lines, "accounted for by notes"),
-    ]:
-        print(line)
-    is_other = bool(unexplained) or len(rows) != len(kernel)
+    ]
     if len(rows) != len(kernel):
-        print(f"{len(rows)} rows poll, and the kernel recorded {len(kernel)}: OTHER THAN THE KERNEL")
-    differ = sum(line.startswith("row ") for line in unexplained)
-    agreed = min(len(rows), len(kernel)) - len(explained) - differ
-    print(
-        f"{len(rows)} rows, {sum(work for _, work in rows)} packets; the kernel {sum(kernel)}; {agreed} rows agree, {differ} differ, {len(explained)} "
+        lines.append(f"{len(rows)} rows poll, and the kernel recorded {len(kernel)}: OTHER THAN THE KERNEL")
+    lines.append(
+        f"{len(rows)} rows, {packets} packets; the kernel {sum(kernel)}; {agreed} rows agree, {differ} differ, {len(explained)} "
         f"others are accounted for by notes: " + ("other than the kernel" if is_other else "as the kernel")
     )
+    if not is_printed(words.json):
+        print(*lines, sep="\n")
+    told = {"rows": len(rows), "kernel_rows": len(kernel), "packets": packets, "kernel_packets": sum(kernel)}
+    counts = {"agreed": agreed, "differ": differ, "noted": len(explained), "is_as_kernel": not is_other}
+    write_json(words.json, "compare-recording", [{**told, **counts, "unexplained": unexplained}])
     return int(is_other)

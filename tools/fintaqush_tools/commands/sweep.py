@@ -32,6 +32,7 @@ from fintaqush_tools.options import Parser, Words, add_raise, number, parser_of
 from fintaqush_tools.processes import program, ran
 from fintaqush_tools.progress import say
 from fintaqush_tools.reports import objects_of
+from fintaqush_tools.results import add_json, value_of, write_json
 from fintaqush_tools.settings import MOST, USUAL
 from fintaqush_tools.texts import shown
 from fintaqush_tools.thresholds import add_fail_if, status_of
@@ -149,6 +150,7 @@ def parser() -> Parser:
         help="with --raise: add at most N runs after a row (until the list is empty)",
     )
     add_fail_if(parser, TOLD[:-1])
+    add_json(parser, "the rows")
     add_words(parser, "napi_serial or napi_replay", {"default": "sweep.csv", "help": "the file of rows (sweep.csv)"})
     return parser
 
@@ -166,6 +168,9 @@ def main(given: Sequence[str]) -> int:
     check_words("sweep", words)
     traces_of(words.traces)
     rows = SWEEP.make(program("napi_serial", words.binary), words, keys_of(words))
+    names = ("trace", "sum")  # which are no numbers
+    objects = ({name: row[name] if name in names else value_of(str(row[name])) for name in row} for row in rows)
+    write_json(words.json, "sweep", objects)
     results = [
         (", ".join(f"{name} {row[name]}" for name in ("trace", "budget", "weight", "window")), row)
         for row in rows

@@ -63,7 +63,7 @@ from fintaqush_tools.options import Parser, Words, number, parser_of, require_en
 from fintaqush_tools.pictures import COLORS, ENDS, Curve, Picture, check_library, picture_bytes
 from fintaqush_tools.processes import program, ran
 from fintaqush_tools.progress import Progress, say
-from fintaqush_tools.results import add_json, is_printed, write_json
+from fintaqush_tools.results import add_json, is_printed, value_of, write_json
 from fintaqush_tools.texts import shown
 from fintaqush_tools.thresholds import Condition, add_fail_if, status_of
 
@@ -257,17 +257,6 @@ def varied_in(rows: Sequence[Row]) -> dict[str, list[str]]:
     """Returns the options that have several values in these rows, with the values in order."""
     values = {name: list(dict.fromkeys(str(row[name]) for row in rows)) for name in VARIED}
     return {name: each for name, each in values.items() if len(each) > 1}
-
-
-def value_of(text: str) -> int | float | str | None:
-    """Converts a value of a row to its JSON type."""
-    return (
-        int(text)
-        if re.fullmatch("[0-9]+", text)
-        else float(text)
-        if re.fullmatch(r"[0-9]+\.[0-9]+", text)
-        else text or None
-    )
 
 
 def columns_of(rows: Sequence[Row]) -> list[str]:
