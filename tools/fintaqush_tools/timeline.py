@@ -4,7 +4,7 @@ from __future__ import annotations
 
 import re
 from collections import Counter, defaultdict, deque
-from collections.abc import Iterable
+from collections.abc import Callable, Iterable
 from typing import Any, Optional
 
 from fintaqush_tools.errors import Refusal
@@ -243,6 +243,7 @@ class Timeline:
     places: list[int]
     handlers: defaultdict[str, list[int]]
     where: Counter[int]
+    looks: dict[str, Optional[Callable[[Processor, Event], None]]]
 
     def __init__(
         self,
@@ -266,33 +267,41 @@ class Timeline:
         )  # by instance; and packets whose instance isn't known yet
         self.came, self.dropped, self.given, self.unmatched, self.sent_on = 0, 0, 0, 0, Counter()
         self.reads = Reads()
+        self.looks = {}  # by the name of an event, what handles it
         self.tasks, self.first, self.last = defaultdict(Counter), 0, 0
 
     def add(self, event: Event) -> None:
-        self.is_coarse = self.is_coarse and event.time % 1000 == 0
-        self.first = self.first or event.time
-        self.last = event.time
-        processor, name = self.on[event.cpu], event.name
-        if name.startswith("softirq_"):
-            self.softirq(processor, event)
-        elif name.startswith("hrtimer_"):
-            self.timer(processor, event)
-        elif name.startswith("sys_enter_"):
-            self.reads.enter(processor, event)
-        elif name.startswith("sys_exit_"):
-            self.reads.leave(processor, event)
-        elif name.rpartition("_")[0] in HANDLERS:
-            self.handler(processor, event)
-        elif name == "napi_poll":
-            self.poll(processor, event)
-        elif name == "sched_switch":
-            self.switch(processor, event)
-        elif name == "net_dev_xmit":
-            self.packet(event)
-        elif name == "net_dev_start_xmit":
-            self.routes.start(event)
-        elif name == "netif_receive_skb" and self.unplaced:
-            self.receive(event)
+        time = event.time
+        if self.is_coarse and time % 1000:
+            self.is_coarse = False
+        self.first = self.first or time
+        self.last = time
+        try:
+            look = self.looks[event.name]
+        except KeyError:
+            look = self.looks[event.name] = self.look_at(event.name)
+        if look:
+            look(self.on[event.cpu], event)
+
+    def look_at(self, name: str) -> Optional[Callable[[Processor, Event], None]]:
+        """Returns what handles the events of this name."""
+        if name.startswith("hrtimer_"):
+            return self.timer
+        if name.startswith("sys_enter_"):
+            return self.reads.enter
+        if name.startswith("sys_exit_"):
+            return self.reads.leave
+        if name.rpartition("_")[0] in HANDLERS:
+            return self.handler
+        return {
+            "softirq_entry": self.softirq,
+            "softirq_exit": self.softirq,
+            "napi_poll": self.poll,
+            "sched_switch": self.switch,
+            "net_dev_xmit": self.packet,
+            "net_dev_start_xmit": lambda _, event: self.routes.start(event),
+            "netif_receive_skb": self.receive,
+        }.get(name)
 
     def handler(self, processor: Processor, event: Event) -> None:
         """Handles the beginning or end of a handler: of a card's interrupt, of one between processors, or of the local timer."""
@@ -330,7 +339,7 @@ class Timeline:
 
     def softirq(self, processor: Processor, event: Event) -> None:
         """Handles NET_RX: it begins, requested by the last handler, or ends."""
-        if event.name == "softirq_raise" or int(event.parts(SOFTIRQ)[0]) != NET_RX:
+        if int(event.parts(SOFTIRQ)[0]) != NET_RX:
             return
         if event.name == "softirq_entry":
             processor.softirq = event.time, processor.by_handlers.until(event.time)
@@ -347,10 +356,7 @@ class Timeline:
         processor.is_first, processor.by, processor.ended = True, asked, None
 
     def switch(self, processor: Processor, event: Event) -> None:
-        found = SWITCH.match(event.said) or SHORT_SWITCH.match(event.said)
-        if not found:
-            raise Refusal(f"line {event.line}: sched_switch says {event.said[:60]!r}, an unknown format")
-        task, state, name, pid = found.groups()
+        task, state, name, pid = event.parts(SWITCH, SHORT_SWITCH)
         self.has_tasks = True
         if processor.task[0]:
             self.tasks[event.cpu][processor.task[0]] += event.time - processor.task[2]
@@ -360,7 +366,7 @@ class Timeline:
             processor.thread = event.time, processor.above_tasks.until(event.time)
             self.begin(processor, event.time)
 
-    def packet(self, event: Event) -> None:
+    def packet(self, _: Processor, event: Event) -> None:
         """Handles a sent packet, which arrives at a device."""
         sender, _, code = event.parts(SENT)
         if sender not in self.routes.receivers:
@@ -376,8 +382,10 @@ class Timeline:
         else:
             self.unplaced[packet] = event.time, event.cpu
 
-    def receive(self, event: Event) -> None:
+    def receive(self, _: Processor, event: Event) -> None:
         """Handles a packet that the current poll of a backlog took."""
+        if not self.unplaced:
+            return
         place, packet = self.routes.of_received(event)
         if place and packet in self.unplaced:
             self.waiting[place].packets.append(self.unplaced.pop(packet))
