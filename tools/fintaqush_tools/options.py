@@ -10,7 +10,7 @@ from collections.abc import Callable, Sequence
 from typing import IO, Any, NoReturn
 
 from fintaqush_tools.errors import Refusal
-from fintaqush_tools.places import version
+from fintaqush_tools.places import version, with_pages
 from fintaqush_tools.progress import Program
 from fintaqush_tools.settings import MOST, USUAL
 from fintaqush_tools.texts import is_number, nearest, shown
@@ -76,7 +76,7 @@ def parser_of(text: str, **others: Any) -> Parser:
         "formatter_class": argparse.RawDescriptionHelpFormatter,
         "allow_abbrev": False,
     }
-    parser = Parser(description=text, **{**how, **others})
+    parser = Parser(description=with_pages(text), **{**how, **others})
     told = f"{parser.prog} of Fintaqush {version()}"
     parser.add_argument(
         "--version", action=Printed, nargs=0, const=told, dest=argparse.SUPPRESS, help="print the version"

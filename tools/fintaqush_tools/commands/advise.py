@@ -47,6 +47,7 @@ from fintaqush_tools.recorded import Recording, arrivals_in
 from fintaqush_tools.recording import BACKLOG
 from fintaqush_tools.results import add_json, is_printed, write_json
 from fintaqush_tools.texts import aligned, as_rows, shown
+from fintaqush_tools.thresholds import add_fail_if, status_of
 
 FEWEST = 1000  # packets
 SHOWN = 8  # settings in the table
@@ -572,6 +573,8 @@ def parser() -> Parser:
         "--verify", action="store_true", help="set the advised setting, record again, compare and restore"
     )
     add_json(parser)
+    times = [name for name, (unit, _) in predicting.MEASURED.items() if unit == "us"]
+    add_fail_if(parser, ["p99", "p50", *predicting.MEASURED], ["p99", "p50", *times])
     parser.add_argument("--plot", metavar="FILE", help="a picture of all settings, .png, .svg or .html")
     add_binary(parser, "napi_machine")
     return parser
@@ -650,4 +653,7 @@ def main(given: Sequence[str]) -> int:
         raise Refusal(
             f"{shown(words.recording)}: {UNKNOWN}, so there is no advice for this goal; --goal cpu and --goal drops need no wait"
         )
-    return 0 if advice.choice and advice.choice.best else 1
+    if not (advice.choice and advice.choice.best):
+        return 1
+    waits = {each: advice.measured.get(f"{advice.end}_{each}", 0) for each in ("p50", "p99")}
+    return status_of(words.fail_if, [("", {**advice.measured, **waits})])

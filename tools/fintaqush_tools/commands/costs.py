@@ -39,6 +39,7 @@ from fintaqush_tools.instances import Routes
 from fintaqush_tools.recording import BACKLOG, Head, check_lost, events_in
 from fintaqush_tools.results import add_json, is_printed, write_json
 from fintaqush_tools.texts import as_rows, shown
+from fintaqush_tools.thresholds import add_fail_if, status_of
 from fintaqush_tools.timeline import TIMER, Timeline
 
 Told = tuple[dict[str, Cost], list[str]]  # costs by their names, and lines about them
@@ -334,10 +335,12 @@ def parser() -> Parser:
     )
     parser.add_argument("--words", action="store_true", help="print only the options for what-if and napi_machine")
     add_json(parser)
+    names = [name.replace("-", "_") for name in ORDER]
+    add_fail_if(parser, names, names)
     return parser
 
 
-def main(given: Sequence[str]) -> None:
+def main(given: Sequence[str]) -> int:
     options = parser()
     words = options.parse_args(given)
     if words.words and is_printed(words.json):
@@ -355,3 +358,4 @@ def main(given: Sequence[str]) -> None:
         print(options_of(costs))
     elif not is_printed(words.json):
         print(*told, *notes_on(times), options_of(costs), sep="\n")
+    return status_of(words.fail_if, [("", {name.replace("-", "_"): cost.value for name, cost in costs.items()})])

@@ -71,7 +71,7 @@ VARIED = ["load", *OPTIONS]
 KEY = ["arrivals", "sum", *VARIED]
 # Faults of arrivals; a failed read or a failed allocation isn't one.
 FAULT = re.compile(r"arrivals fault (?!10 )\d+ \w+ row \d+$")
-HEADER = b"moment,device,bytes"
+HEADER, TRACE = b"moment,device,bytes", b"moment,device,event"
 MOST_CURVES = len(COLORS)
 SHORT = {"p50": "used_p50", "p99": "used_p99", "p999": "used_p999"}  # names for --fail-if
 making = threading.Lock()
@@ -592,6 +592,9 @@ def check_arrivals(words: Words) -> None:
     check_regular(words.arrivals, reason)
     if "\n" in words.arrivals or "\r" in words.arrivals:
         raise Refusal(f"{shown(words.arrivals)}: {reason}")
+    with open(words.arrivals, "rb") as file:
+        if file.readline(1000).startswith(TRACE):
+            raise Refusal(f"{shown(words.arrivals)}: a trace, whose runs are given; arrivals are made by --arrivals of from-pcap, from-ftrace or traffic")
     if any(int(each) > 1 for each in words.queues) and not has_flows(words.arrivals):
         raise Refusal(
             f"{shown(words.arrivals)}: there is no column flow, which --queues above 1 needs: moment,device,bytes,flow, as from-pcap, from-ftrace and "
