@@ -102,26 +102,37 @@ def status_for(words: Words, changes: Sequence[Change]) -> int:
     return status
 
 
-def parser() -> Parser:
-    parser = parser_of(__doc__, usage="%(prog)s BEFORE AFTER | BEFORE .. -- AFTER .. | TRACE [OPTION ..] -- [OPTION ..]")
+USAGE = "%(prog)s BEFORE AFTER | BEFORE .. -- AFTER .. | TRACE [OPTION ..] -- [OPTION ..]"
+ANYWHERE = ("device", "json", "out")  # options that may be on both sides of --, as --fail-if may
+
+
+def add_both(parser: Parser) -> None:
+    """Adds what may be on both sides of --."""
     parser.add_argument("files", nargs="*", metavar="FILE", help="results, recordings, or a trace; - for standard input")
     parser.add_argument("--device", metavar="NAME", help="one of several recorded devices")
     add_fail_if_changed(parser)
     add_json(parser, "the changes")
-    add_raise(parser, "to both replays ")
     add_out(parser, "table")
-    add_binary(parser)
     add_settings(parser)
+
+
+def parser() -> Parser:
+    parser = parser_of(__doc__, usage=USAGE)
+    add_both(parser)
+    add_raise(parser, "to both replays ")
+    add_binary(parser)
     return parser
 
 
 def sides_of(options: Parser, given: Sequence[str]) -> tuple[Words, Words, list[list[str]]]:
     """Parses the options before and after --. Returns also the files of each side, or none if a trace is replayed."""
-    second = parser_of("", prog=Program.name, add_help=False)
-    second.add_argument("files", nargs="*")
-    add_settings(second)
+    second = parser_of("", prog=Program.name, usage=USAGE, add_help=False)
+    add_both(second)
     place = given.index("--") if "--" in given else len(given)
     words, after = options.parse_args(given[:place]), second.parse_args(given[place + 1 :])
+    words.fail_if += after.fail_if
+    for name in ANYWHERE:
+        setattr(words, name, getattr(words, name) or getattr(after, name))
     if place == len(given) and len(words.files) == 2:
         sides = [words.files[:1], words.files[1:]]
     elif after.files:
