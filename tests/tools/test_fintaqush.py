@@ -32,7 +32,7 @@ from tooltest import (
     started,
 )
 
-from fintaqush_tools.cli import MODULES
+from fintaqush_tools.cli import MODULES, module_of
 
 COMMAND = TOP / "fintaqush"
 BURSTS = TOP / "examples/bursts.csv"
@@ -144,8 +144,32 @@ class Fintaqush(InFolder):
         self.assertIn("With 16 there are 793 runs, of which 312 are squeezed; with 300 there are 528, and 0 are squeezed.", printed)
         self.assertRegex(printed, r"dropped 3 packets")  # as recorded
         self.assertEqual(re.findall(r"^ +(\d+) +(yes|no) ", printed, re.M), [(str(size), apart) for size in (6, 12, 48) for apart in ("no", "yes")])
-        why = "fintaqush try: fintaqush-try.html exists and isn't overwritten\n"
-        self.fails(why, "try", "--out", "fintaqush-try.html", folder=self.folder)
+        why = "fintaqush try: fintaqush-try.html exists and isn't overwritten; --force replaces it\n"
+        self.fails(why, "try", folder=self.folder)
+
+
+class Options(InFolder):
+    """The options that all subcommands have in common, and messages about wrong ones."""
+
+    def test_messages_are_short(self) -> None:
+        """One line of usage, whatever the subcommand's options are, and one with the error, which has the nearest option."""
+        for name, words, near in (("what-if", ["--budgte", "3"], ": is --budget meant?"), ("record", ["--device", "lo", "--out", "x", "--progam=y"], ": is --program meant?"),
+                                  ("plot", ["--series", "a", "b", "--json"], ""), ("traffic", ["--xyz"], "")):
+            done = run(name, *words)
+            usage, error = done.stderr.splitlines()
+            self.assertEqual((done.returncode, usage[:17], error.startswith(f"fintaqush {name}: error: ")), (2, "usage: fintaqush ", True))
+            self.assertTrue(error.endswith(near), error)
+
+    def test_each_option_means_one_thing(self) -> None:
+        """The same name has the same form in all subcommands, but for what FILE and NAME are."""
+        forms: dict[str, set[tuple[object, ...]]] = {}
+        for name in MODULES:
+            for action in module_of(name).parser()._actions:
+                for option in set(action.option_strings) & {"--program", "--binary", "--flows", "--device", "--force", "--json", "--quiet"}:
+                    is_flag = action.nargs == 0 or action.const is not None
+                    forms.setdefault(option, set()).add((is_flag, str(action.metavar).partition("|")[0] if not is_flag else ""))
+        self.assertEqual({option: len(each) for option, each in forms.items()}, dict.fromkeys(forms, 1), forms)
+        self.assertEqual(set(forms), {"--program", "--binary", "--flows", "--device", "--force", "--json", "--quiet"})
 
 
 class Starts(InFolder):

@@ -129,12 +129,14 @@ class Plot(InFolder):
 
     @skip_without("matplotlib")
     def test_a_picture_that_is_there(self) -> None:
-        """It is replaced only with --force; this is checked before the replay, which would fail here."""
-        old = self.write("picture.svg", "old\n")
-        done = run("plot", TOP / "examples/bursts.csv", "--out", old, SERIES="/bin/false")
+        """One that isn't named is replaced only with --force; this is checked before the replay, which would fail here."""
+        old = self.write("plot.png", "old\n")
+        done = run("plot", TOP / "examples/bursts.csv", folder=self.folder, SERIES="/bin/false")
         self.assertEqual((done.stderr, done.returncode, old.read_text()),
-                         (f"fintaqush plot: {old} exists: --force replaces it, --out names another file\n", 1, "old\n"))
-        self.assertIn("/bin/false ended with status 1", run("plot", TOP / "examples/bursts.csv", "--force", "--out", old, SERIES="/bin/false").stderr)
+                         ("fintaqush plot: plot.png exists and isn't overwritten; --force replaces it\n", 1, "old\n"))
+        for words in (["--force"], ["--out", old]):
+            done = run("plot", TOP / "examples/bursts.csv", *words, folder=self.folder, SERIES="/bin/false")
+            self.assertIn("/bin/false ended with status 1", done.stderr)
 
     def test_a_missing_library_is_told_before_any_work(self) -> None:
         old = self.write("picture.svg", "old")

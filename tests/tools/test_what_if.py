@@ -11,7 +11,7 @@ from fractions import Fraction
 from typing import Any
 
 import machine_model
-from tooltest import HAS_MACHINE, MACHINE, NO_WORDS, START, InFolder, process, run, skip_without
+from tooltest import HAS_MACHINE, MACHINE, NO_WORDS, START, TOP, InFolder, process, run, skip_without
 
 HEADER = "moment,device,bytes\n"
 
@@ -136,21 +136,25 @@ class WhatIf(InFolder):
         self.assertEqual((told[0]["arrived"], isinstance(told[0]["use_percent"], float)), (300, True))
 
     def test_json_in_a_file(self) -> None:
-        words: list[object] = [self.arrivals, "--budget", "2,300", "--json", "--band", "0"]
-        told, out = run("what-if", *words).stdout, self.folder / "q.json"
-        done = run("what-if", *words, "--out", out)
-        self.assertEqual((done.returncode, done.stdout, out.read_text(), len(told.splitlines())), (0, "", told, 2), done.stderr)
-        done = run("what-if", *words, "--out", out)
-        self.assertEqual((done.returncode, out.read_text()), (1, told))
-        self.assertIn("exists and isn't overwritten", done.stderr)
-        for more in (["--resume"], ["--part", "1/2"]):
-            self.assertEqual(run("what-if", *words, "--out", self.folder / "other", *more).returncode, 2)
+        """With a file the results are printed too, as CSV or as a table; without it only JSON is."""
+        words: list[object] = [self.arrivals, "--budget", "2,300", "--band", "0"]
+        told, out = run("what-if", *words, "--json").stdout, self.folder / "q.json"
+        for form in (NO_WORDS, ["--table"]):
+            done = run("what-if", *words, *form, "--json", out)
+            self.assertEqual((done.returncode, done.stdout, out.read_text(), len(told.splitlines())), (0, run("what-if", *words, *form).stdout, told, 2), done.stderr)
+        for more in (["--csv"], ["--table"], ["--out", self.folder / "other"]):
+            self.assertEqual(run("what-if", *words, *more, "--json").returncode, 2)
+        searched = run("what-if", self.arrivals, "--until", "drops", "--ring", "8", "--json", out)
+        self.assertEqual((searched.returncode, json.loads(out.read_text())["until"]), (0, "drops"), searched.stderr)
+
+    def test_a_trace_is_named(self) -> None:
+        self.fails("bursts.csv: a trace, whose runs are given; arrivals are made by --arrivals of", "what-if", TOP / "examples/bursts.csv")
 
     def test_json_keys_are_identifiers(self) -> None:
         """Also with generated traffic and a searched load; each object has the format's version."""
         calls: list[list[object]] = [[self.arrivals], [self.arrivals, "--until", "drops", "--ring", "8"], ["--traffic", "--rate 1000", "--seeds", "2"]]
         for words in calls:
-            done = run("what-if", "--json", *words)
+            done = run("what-if", *words, "--json")
             self.assertEqual(done.returncode, 0, done.stderr)
             told = json.loads(done.stdout)
             self.assertEqual((told["version"], [name for name in told if not name.isidentifier()]), (1, []))
