@@ -6,8 +6,9 @@ import gzip
 import json
 import unittest
 from pathlib import Path
+from typing import Any
 
-from tooltest import HAS_MACHINE, HERE, TOP, InFolder, run
+from tooltest import HAS_MACHINE, HERE, NO_WORDS, TOP, InFolder, run
 
 from fintaqush_tools import comparing, results
 from fintaqush_tools.comparing import Value
@@ -62,7 +63,7 @@ class Files(InFolder):
 
     def test_rows_are_matched_by_their_options(self) -> None:
         """By those that vary, whichever order they have; ranges over seeds are noise."""
-        rows = [{"arrivals": "a", "ring": ring, "budget": 300, "used_p99": wait, "used_p99_least": wait - 2, "used_p99_most": wait + 2, "status": 0, "fault": None}
+        rows: list[dict[str, Any]] = [{"arrivals": "a", "ring": ring, "budget": 300, "used_p99": wait, "used_p99_least": wait - 2, "used_p99_most": wait + 2, "status": 0, "fault": None}
                 for ring, wait in ((1, 100), (2, 200))]
         before = self.result("a", "what-if", *rows)
         after = self.result("b", "what-if", *({**row, "used_p99": 2 * int(str(row["used_p99"]))} for row in reversed(rows)))
@@ -81,7 +82,7 @@ class Files(InFolder):
         self.fails("not the results of --json", "compare", good, self.write("e", "{\n"))
         self.fails("no file before --, to compare b.csv with", "compare", "--", "b.csv", status=2)
         self.fails("no trace, whose replays", "compare", good, "--")
-        for words in (["a", "b", "c"], ["a", "b", "--raise"], ["a", "--budget", "1", "--", "b"], []):
+        for words in (["a", "b", "c"], ["a", "b", "--raise"], ["a", "--budget", "1", "--", "b"], NO_WORDS):
             self.fails("fintaqush compare: error: ", "compare", *words, status=2)
 
     def test_recordings(self) -> None:

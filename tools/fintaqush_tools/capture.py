@@ -219,7 +219,13 @@ def read(
                     break
                 time, length, at, _, link = record
                 told[0] = at
-                add(time, link, data[at + link.begin : at + link.end], flow_of(data, record) if with_flows else 0, length)
+                add(
+                    time,
+                    link,
+                    data[at + link.begin : at + link.end],
+                    flow_of(data, record) if with_flows else 0,
+                    length,
+                )
         except (Strange, struct.error):
             return False
     return True

@@ -14,10 +14,10 @@ from fintaqush_tools.commands import costs, sweep
 from fintaqush_tools.errors import Refusal
 from fintaqush_tools.machine import IN_NS, VALUES, WAITS, identifier
 from fintaqush_tools.options import Words
-from fintaqush_tools.predicting import percentile, percentiles_of
+from fintaqush_tools.predicting import percentiles_of
 from fintaqush_tools.receiving import Receiving
 from fintaqush_tools.recorded import Recording
-from fintaqush_tools.recording import HEAD, opened, parts_of
+from fintaqush_tools.recording import HEAD, opened
 
 from fintaqush_tools.results import objects_in
 from fintaqush_tools.tables import cell, heading
@@ -26,7 +26,11 @@ from fintaqush_tools.texts import aligned, shown
 PARTS = 10  # of a recording, between which values vary
 FEWEST = 1000  # packets, below which the parts say nothing about a 99th percentile
 T95 = (12.71, 4.30, 3.18, 2.78, 2.57, 2.45, 2.36, 2.31, 2.26)  # Student's t for 95 %, by the degrees of freedom from 1
-SHORT = {"p50": ("used_p50", "delivered_p50"), "p99": ("used_p99", "delivered_p99"), "p999": ("used_p999", "delivered_p999")}
+SHORT = {
+    "p50": ("used_p50", "delivered_p50"),
+    "p99": ("used_p99", "delivered_p99"),
+    "p999": ("used_p999", "delivered_p999"),
+}
 TIMES = {*WAITS, *map(identifier, IN_NS)}  # values in ns
 NO_OPTION = {"version", "tool", "arrivals", "sum", "trace_sum", "status", "fault", "raised"}
 ROW_VALUES = dict.fromkeys([*VALUES, *sweep.TOLD])  # in order
@@ -100,7 +104,9 @@ def values_of_row(row: Mapping[str, Any]) -> dict[str, Value]:
 
 def values_of_rows(rows: Sequence[Mapping[str, Any]]) -> Values:
     """Returns the values of combinations, each named by the options that vary. Those that a tool rejected have none."""
-    own = [name for name in rows[0] if name not in NO_OPTION | ROW_VALUES.keys() and not name.endswith(("_least", "_most"))]
+    own = [
+        name for name in rows[0] if name not in NO_OPTION | ROW_VALUES.keys() and not name.endswith(("_least", "_most"))
+    ]
     varied = [name for name in own if len({str(row.get(name)) for row in rows}) > 1]
     return {
         ", ".join(f"{name} {row.get(name)}" for name in varied): values_of_row(row)
@@ -136,7 +142,12 @@ READERS: dict[str, Callable[[Sequence[Line]], Values]] = {
 # ---- recordings
 
 
-def values_in(seen: Receiving, packet: float, span: tuple[float, float]) -> dict[str, float]:
+Waits = dict[
+    str, Sequence[tuple[int, float]]
+]  # to delivery and to the end of use: for each packet when it was sent, and when the wait ended
+
+
+def values_in(seen: Receiving, waits: Waits, span: tuple[float, float]) -> dict[str, float]:
     """Returns what was measured between two times: of packets that were sent then, and of polls that ended then."""
     begin, end = span
     sent = [has_come for time, has_come in zip(seen.sent, seen.has_come) if begin <= time < end]
@@ -152,7 +163,7 @@ def values_in(seen: Receiving, packet: float, span: tuple[float, float]) -> dict
         "packets_per_poll": sum(work for work, _ in polls) / max(1, len(polls)),
         "poll_percent": 100 * sum(took for _, took in polls) / (end - begin) / max(1, len(set(seen.on))),
     }
-    for name, pairs in (("delivered", seen.delivered(packet)), ("used", seen.used())):
+    for name, pairs in waits.items():
         values |= percentiles_of(name, (each for each in pairs if begin <= each[0] < end))
     return values
 
@@ -166,14 +177,14 @@ def of_recording(path: str, device: str | None) -> Values:
         told = costs.object_after(times, recording.head)["costs"]
     except Refusal:  # too few polls
         told = {}
-    packet = told.get("packet", {}).get("value", 0)
+    waits: Waits = {"delivered": seen.delivered(told.get("packet", {}).get("value", 0)), "used": seen.used()}
     if not seen.sent:
         raise Refusal("no arrival is in it, so nothing can be compared")
     begin, end = min(seen.sent), max(*seen.sent, *seen.ended) + 1
-    whole = values_in(seen, packet, (begin, end))
+    whole = values_in(seen, waits, (begin, end))
     step = (end - begin) / PARTS
     parts = [
-        values_in(seen, packet, (begin + place * step, begin + (place + 1) * step))
+        values_in(seen, waits, (begin + place * step, begin + (place + 1) * step))
         for place in range(PARTS if len(seen.sent) >= FEWEST else 0)
     ]
     values = {}
@@ -328,9 +339,9 @@ def lines_of(changes: Sequence[Change]) -> list[str]:
 
 def found_name(name: str, changes: Sequence[Change]) -> str:
     """Returns the value that a condition names: p99 is that to the end of use, or to delivery. Fails if there is none."""
-    names = list(dict.fromkeys(each.as_object()["name"] for each in changes))
-    for each in (name, *SHORT.get(name, ())):
+    names: list[str] = list(dict.fromkeys(each.as_object()["name"] for each in changes))
+    wanted: list[str] = [name, *SHORT.get(name, ())]
+    for each in wanted:
         if each in names:
             return each
     raise Refusal(f"--fail-if: there is no {shown(name)} on both sides; these are: {' '.join(names)}")
-

@@ -133,9 +133,7 @@ class Threads(dict[str, tuple[str, int]]):
             self.names[named[1]] = named[0]
 
 
-def event_of(
-    number: int, found: re.Match[str], threads: Threads, forms: dict[str, tuple[str, str]]
-) -> Event:
+def event_of(number: int, found: re.Match[str], threads: Threads, forms: dict[str, tuple[str, str]]) -> Event:
     """Returns the event of a line that the pattern of all forms matches, and keeps its form: by the word before what an event says, its name, and
     the mark after which that begins."""
     task, pid, cpu, flags, whole, fraction, name, call, is_exit, said = found.groups()
@@ -154,7 +152,8 @@ def event_of(
 
 def events_of(lines: Iterable[str], lost: list[str], first: int = 1) -> Generator[Event, None, int]:
     """Yields the events of these lines, and returns their number; `first` is the number of the first line. If the kernel lost events, a note is
-    added to `lost`. Lines with times in ns, as fintaqush record writes them, are split at spaces, which is five times faster than the pattern."""
+    added to `lost`. Lines with times in ns, as fintaqush record writes them, are split at spaces, which is five times faster than the pattern.
+    """
     threads, forms, cpus, new, count = Threads(), dict[str, tuple[str, str]](), Processors(), tuple.__new__, 0
     for number, line in enumerate(lines, first):
         try:

@@ -14,9 +14,7 @@ from fintaqush_tools.progress import say
 FAILED = 3  # the exit status
 SIGNS = {">=": operator.ge, "<=": operator.le, "==": operator.eq, "!=": operator.ne, ">": operator.gt, "<": operator.lt}
 UNITS = {"ns": 1, "us": 1000, "ms": 10**6, "s": 10**9}  # in ns, the unit of results
-CONDITION = re.compile(
-    rf"([a-z]\w*) *({'|'.join(SIGNS)}) *([+-]?)(\d{{1,15}}(?:\.\d{{1,9}})?) *({'|'.join(UNITS)}|%)?"
-)
+CONDITION = re.compile(rf"([a-z]\w*) *({'|'.join(SIGNS)}) *([+-]?)(\d{{1,15}}(?:\.\d{{1,9}})?) *({'|'.join(UNITS)}|%)?")
 
 
 NONE: dict[str, Any] = {}

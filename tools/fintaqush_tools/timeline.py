@@ -7,7 +7,6 @@ from collections import Counter, defaultdict, deque
 from collections.abc import Callable, Iterable
 from typing import Any, Optional
 
-from fintaqush_tools.errors import Refusal
 from fintaqush_tools.instances import Place, Routes
 from fintaqush_tools.recording import BACKLOG, NET_RX, POLLED, SENT, SOFTIRQ, Event, is_by_thread
 
@@ -368,7 +367,7 @@ class Timeline:
 
     def packet(self, _: Processor, event: Event) -> None:
         """Handles a sent packet, which arrives at a device."""
-        sender, _, code = event.parts(SENT)
+        sender, _size, code = event.parts(SENT)
         if sender not in self.routes.receivers:
             return
         self.sent_on[event.cpu] += 1

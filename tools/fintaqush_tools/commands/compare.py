@@ -72,7 +72,9 @@ def of_replays(words: Words, second: Words) -> tuple[list[str], Values, Values]:
     settings = settings_of(words), settings_of(second)
     text = read_bytes(words.files[0])
     if text.startswith((b"{", HEAD.encode())):
-        raise Refusal(f"{shown(words.files[0])}: no trace, whose replays the options after -- are for: name files on both sides of it")
+        raise Refusal(
+            f"{shown(words.files[0])}: no trace, whose replays the options after -- are for: name files on both sides of it"
+        )
     made = program("napi_serial", words.binary)
     played = [raised(text, each) if words.raised else text for each in settings]
     before, after = (values_of(objects_of(run_program(made, each, trace))) for each, trace in zip(settings, played))
@@ -108,7 +110,9 @@ ANYWHERE = ("device", "json", "out")  # options that may be on both sides of --,
 
 def add_both(parser: Parser) -> None:
     """Adds what may be on both sides of --."""
-    parser.add_argument("files", nargs="*", metavar="FILE", help="results, recordings, or a trace; - for standard input")
+    parser.add_argument(
+        "files", nargs="*", metavar="FILE", help="results, recordings, or a trace; - for standard input"
+    )
     parser.add_argument("--device", metavar="NAME", help="one of several recorded devices")
     add_fail_if_changed(parser)
     add_json(parser, "the changes")
@@ -144,7 +148,9 @@ def sides_of(options: Parser, given: Sequence[str]) -> tuple[Words, Words, list[
     if sides and (words.raised or given_settings(words) or given_settings(after)):
         options.error("the options of a replay are for a trace, and two files are compared as they are")
     if not sides and (len(words.files) != 1 or place == len(given)):
-        options.error("two files, or files before and after --, or a trace with the options of the second replay after --")
+        options.error(
+            "two files, or files before and after --, or a trace with the options of the second replay after --"
+        )
     return words, after, sides
 
 

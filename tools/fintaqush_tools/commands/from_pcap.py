@@ -10,10 +10,10 @@ of `tcpdump -tt -n -e`, also as .gz. A device is an interface, by its number if 
 -Q inout. A capture of one interface lacks the direction. Then packets from the interface's own address are outgoing, if exactly one address
 takes part in all unicast packets, as sender and as receiver; if two do, the tool fails, and --to has to name one; otherwise all packets count as
 arrivals. --to names devices, in order: interfaces of the capture, or the link addresses that receive, each with the broadcasts that others
-send. NAME.notes lists them, and the packets without a row. A capture doesn't record when the softirq ran: --delay is the time from the first waiting packet to it.
-fintaqush raise adds the runs that a small budget or weight would cause. Arrivals have no multicasts, because a card accepts only those that it
-was configured for. With --flows they have a column for the queues of napi_machine: a CRC of the packet's addresses and ports, in place of a
-card's hash, and of the addresses alone for fragments; 0 for packets without addresses.
+send. NAME.notes lists them, and the packets without a row. A capture doesn't record when the softirq ran: --delay is the time from the first
+waiting packet to it. fintaqush raise adds the runs that a small budget or weight would cause. Arrivals have no multicasts, because a card accepts
+only those that it was configured for. With --flows they have a column for the queues of napi_machine: a CRC of the packet's addresses and ports,
+in place of a card's hash, and of the addresses alone for fragments; 0 for packets without addresses.
 """
 
 from __future__ import annotations
@@ -92,7 +92,8 @@ def unpacked(path: str) -> Iterator[tuple[IO[bytes], bytes]]:
         if head[:2] == GZIP:
             packed = stack.enter_context(whole(file, head))
             try:
-                file = stack.enter_context(whole(stack.enter_context(gzip.GzipFile(fileobj=packed))))
+                text: Any = stack.enter_context(gzip.GzipFile(fileobj=packed))
+                file = stack.enter_context(whole(text))
             except (EOFError, zlib.error, gzip.BadGzipFile) as error:
                 raise Refusal(f"it isn't whole: {error}") from None
             head = file.read(4)
@@ -169,7 +170,9 @@ def packets_in(words: Words, cut: list[str]) -> tuple[Packets, Counter[str]]:
         links: list[str] = []
         found = packets_of(by_tcpdump(words.count, file, cut, links), words.count, words.flows, is_both_ways)
         if links and not found[0].times:
-            raise Refusal(f"its link type is {links[0]}; captures of Ethernet, of raw IP and of `tcpdump -i any` are read")
+            raise Refusal(
+                f"its link type is {links[0]}; captures of Ethernet, of raw IP and of `tcpdump -i any` are read"
+            )
         return found
 
 

@@ -468,14 +468,7 @@ def parser() -> Parser:
     )
     add_fail_if(parser, [*SHORT, *VALUES], [*SHORT, *WAITS])
     parser.add_argument("--plot", metavar="FILE", help="a picture, .png, .svg or .html")
-    add_words(
-        parser,
-        "napi_machine",
-        {
-            "metavar": "FILE",
-            "help": "a CSV file of rows with all options and results",
-        },
-    )
+    add_words(parser, "napi_machine", {"metavar": "FILE", "help": "a CSV file of rows with all options and results"})
     return parser
 
 
@@ -508,9 +501,7 @@ def read_words(given: Sequence[str]) -> Words:
         words.band = 0 if words.out or words.part else 20
     if is_printed(words.json) and (words.form or words.out):
         options.error("--json without a file prints only JSON; --json FILE goes with --table, --csv and --out")
-    words.form = words.form or (
-        "json" if is_printed(words.json) else "table" if sys.stdout.isatty() else "csv"
-    )
+    words.form = words.form or ("json" if is_printed(words.json) else "table" if sys.stdout.isatty() else "csv")
     return words
 
 
@@ -594,7 +585,9 @@ def check_arrivals(words: Words) -> None:
         raise Refusal(f"{shown(words.arrivals)}: {reason}")
     with open(words.arrivals, "rb") as file:
         if file.readline(1000).startswith(TRACE):
-            raise Refusal(f"{shown(words.arrivals)}: a trace, whose runs are given; arrivals are made by --arrivals of from-pcap, from-ftrace or traffic")
+            raise Refusal(
+                f"{shown(words.arrivals)}: a trace, whose runs are given; arrivals are made by --arrivals of from-pcap, from-ftrace or traffic"
+            )
     if any(int(each) > 1 for each in words.queues) and not has_flows(words.arrivals):
         raise Refusal(
             f"{shown(words.arrivals)}: there is no column flow, which --queues above 1 needs: moment,device,bytes,flow, as from-pcap, from-ftrace and "
