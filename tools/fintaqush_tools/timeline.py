@@ -8,7 +8,7 @@ from collections.abc import Callable, Iterable
 from typing import Any, Optional
 
 from fintaqush_tools.instances import Place, Routes
-from fintaqush_tools.recording import BACKLOG, NET_RX, POLLED, SENT, SOFTIRQ, Event, is_by_thread
+from fintaqush_tools.recording import BACKLOG, MOST_KNOWN, NET_RX, POLLED, SENT, SOFTIRQ, Event, fields_in, is_by_thread
 
 Handler = list[Any]  # its name, its beginning, and whether napi_watchdog ran in it
 
@@ -19,7 +19,7 @@ SWITCH = re.compile(
 SHORT_SWITCH = re.compile(r".*:(\d{1,9}) \[-?\d+\] (\S+) ==> (.*):(\d{1,9}) \[-?\d+\]")  # trace-cmd's form
 EXPIRES = re.compile(r"hrtimer=(\S+) .*\bexpires=(\d{1,20})")
 EXPIRED = re.compile(r"hrtimer=(\S+) .*\bnow=(\d{1,20})")
-RETURNED = re.compile(r"0x([0-9a-f]{1,16})$")
+RETURNED = re.compile(r"(?:.*\b)?0x([0-9a-f]{1,16})$")
 WATCHDOG = "napi_watchdog"
 TIMER = f"the timer of {WATCHDOG}"
 # Interrupts between processors, which may start a softirq or a thread; and all interrupts with an entry and an exit event.
@@ -38,6 +38,22 @@ HANDLERS = BETWEEN | {
 SOON = 50_000  # ns, from the end of an interrupt to the softirq that it requested
 SAME_CLOCK = 1_000_000  # ns
 EARLY = 100_000  # ns by which a poll may precede its sender's event, which follows the sending
+
+
+Switched = tuple[int, bool, str, int, bool]
+switches: dict[str, Switched] = {}  # what task switches say, which they say again and again
+
+
+def switched(event: Event) -> Switched:
+    """Returns the task that leaves a processor, whether it sleeps, the next task's name and number, and whether it is a NAPI thread."""
+    try:
+        return switches[event.said]
+    except KeyError:
+        task, state, name, pid = event.parts(SWITCH, SHORT_SWITCH)
+    if len(switches) >= MOST_KNOWN:
+        switches.clear()
+    switches[event.said] = int(task), not state.startswith("R"), name, int(pid), name.startswith("napi/")
+    return switches[event.said]
 
 
 class Taken:
@@ -136,13 +152,13 @@ class Reads:
     def leave(self, processor: Processor, event: Event) -> None:
         """Handles the return of a read."""
         by_recv = event.name.startswith("sys_exit_recv")
-        found, called = RETURNED.search(event.said), self.called.pop(event.pid, None)
+        found, called = fields_in(RETURNED, event.said), self.called.pop(event.pid, None)
         if by_recv and not self.is_by_recv and self.count:  # its reads by other calls weren't packets
             self.forget()
         self.is_by_recv = self.is_by_recv or by_recv
-        if self.is_by_recv and not by_recv or not found or not 0 < int(found[1], 16) < 1 << 31:
+        if self.is_by_recv and not by_recv or not found or not 0 < int(found[0], 16) < 1 << 31:
             return
-        packets = int(found[1], 16) if event.name.endswith("recvmmsg") else 1
+        packets = int(found[0], 16) if event.name.endswith("recvmmsg") else 1
         self.count += packets
         self.on[event.cpu] += 1
         slept, is_in_call = self.slept.pop(event.pid, (None, False))
@@ -355,15 +371,16 @@ class Timeline:
         processor.is_first, processor.by, processor.ended = True, asked, None
 
     def switch(self, processor: Processor, event: Event) -> None:
-        task, state, name, pid = event.parts(SWITCH, SHORT_SWITCH)
+        task, is_sleep, name, pid, is_napi = switched(event)
+        time, last = event.time, processor.task
         self.has_tasks = True
-        if processor.task[0]:
-            self.tasks[event.cpu][processor.task[0]] += event.time - processor.task[2]
-        self.reads.leave_processor(int(task), event.time, not state.startswith("R"))
-        processor.before, processor.task, processor.thread = processor.task, (name, int(pid), event.time), None
-        if name.startswith("napi/"):
-            processor.thread = event.time, processor.above_tasks.until(event.time)
-            self.begin(processor, event.time)
+        if last[0]:
+            self.tasks[event.cpu][last[0]] += time - last[2]
+        self.reads.leave_processor(task, time, is_sleep)
+        processor.before, processor.task, processor.thread = last, (name, pid, time), None
+        if is_napi:
+            processor.thread = time, processor.above_tasks.until(time)
+            self.begin(processor, time)
 
     def packet(self, _: Processor, event: Event) -> None:
         """Handles a sent packet, which arrives at a device."""

@@ -96,22 +96,24 @@ def what_if(folder: str) -> None:
     print(
         f"    $ {command()} what-if mine.csv --backlog 1 --ring 7,13,49 --apart 0,1 $({command()} costs {shlex.quote(recording)} --words)"
     )
-    rows = map(
-        json.loads,
-        ask(
-            "what-if",
-            f"{arrivals}.csv",
-            "--backlog",
-            "1",
-            "--ring",
-            "7,13,49",
-            "--apart",
-            "0,1",
-            *costs,
-            "--json",
-            "--band",
-            "0",
-        ).splitlines(),
+    rows = list(
+        map(
+            json.loads,
+            ask(
+                "what-if",
+                f"{arrivals}.csv",
+                "--backlog",
+                "1",
+                "--ring",
+                "7,13,49",
+                "--apart",
+                "0,1",
+                *costs,
+                "--json",
+                "--band",
+                "0",
+            ).splitlines(),
+        )
     )
     lines = [["netdev_max_backlog", "program apart", "dropped", "median wait us", "99th percentile us"]]
     for row in rows:
@@ -119,8 +121,9 @@ def what_if(folder: str) -> None:
         lines.append([str(row["ring"] - 1), "yes" if row["apart"] else "no", str(row["dropped"]), *waits])
     show("\n".join(aligned(lines)))
     print(
-        "   (The table has some of its columns; waits are from a packet's arrival to the end of its use by the program,\n"
-        "   and waking a program that is apart is taken as free, because this recording doesn't have it.)\n"
+        f"   (With 6 it predicts {rows[0]['dropped']} dropped, and {dropped} were: so few depend on single packets. The table has\n"
+        "   some of its columns; waits are from a packet's arrival to the end of its use by the program, and waking a program\n"
+        "   that is apart is taken as free, because this recording doesn't have it.)\n"
         f"   Next, as root on the machine that receives: {command()} record 5 --device eth0 --program server --out mine.rec,\n"
         f"   then {command()} advise mine.rec, which says what to set.\n"
     )
