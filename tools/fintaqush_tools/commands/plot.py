@@ -287,8 +287,8 @@ def draw(words: Words, all_rows: Sequence[Sequence[Line]], name: str, headings: 
     write_json(words.json, "plot", [picture])
     if is_printed(words.json):
         return
-    with WholeFile(words.out or PICTURE) as new:
-        Path(new).write_bytes(picture_bytes(picture, words.out or PICTURE, words.size, words.dark))
+    with WholeFile(words.out) as new:
+        Path(new).write_bytes(picture_bytes(picture, words.out, words.size, words.dark))
 
 
 def replays(words: Words, replay_args: list[str]) -> Iterator[tuple[list[Line], str]]:
@@ -310,8 +310,8 @@ def replays(words: Words, replay_args: list[str]) -> Iterator[tuple[list[Line], 
 
 def check_picture(words: Words) -> None:
     """Fails, before any work, if the picture can't be drawn, or would replace another one that wasn't named."""
-    check_library(words.out or PICTURE)
-    check_target(words.out or PICTURE, replaces=bool(words.out) or words.force)
+    check_library(words.out)
+    check_target(words.out, words.is_named or words.force)
 
 
 def size_of(text: str) -> tuple[int, int]:
@@ -350,6 +350,7 @@ def parser() -> Parser:
 def main(given: Sequence[str]) -> None:
     options = parser()
     words, replay_args = options.parse_known_args(given)
+    words.is_named, words.out = bool(words.out), words.out or PICTURE
     require_end(options, "--out", words.out, ENDS)
     if bool(words.trace) == bool(words.series):
         options.error("a trace or --series, one of them")
