@@ -66,7 +66,8 @@ class Files(InFolder):
         rows: list[dict[str, Any]] = [{"arrivals": "a", "ring": ring, "budget": 300, "used_p99": wait, "used_p99_least": wait - 2, "used_p99_most": wait + 2, "status": 0, "fault": None}
                 for ring, wait in ((1, 100), (2, 200))]
         before = self.result("a", "what-if", *rows)
-        after = self.result("b", "what-if", *({**row, "used_p99": 2 * int(str(row["used_p99"]))} for row in reversed(rows)))
+        twice: list[dict[str, Any]] = [{**row, "used_p99": 2 * row["used_p99"]} for row in reversed(rows)]
+        after = self.result("b", "what-if", *twice)
         told = list(map(json.loads, self.succeeds("compare", before, after, "--json").splitlines()))
         self.assertEqual([(each["row"], each["before"], each["after"], round(each["noise"], 2)) for each in told], [("ring 1", 100, 200, 2.83), ("ring 2", 200, 400, 2.83)])
         self.assertEqual(run("compare", before, after, "--fail-if", "p99>+99%").returncode, 3)

@@ -134,7 +134,8 @@ class Plot(InFolder):
         done = run("plot", TOP / "examples/bursts.csv", folder=self.folder, SERIES="/bin/false")
         self.assertEqual((done.stderr, done.returncode, old.read_text()),
                          ("fintaqush plot: plot.png exists and isn't overwritten; --force replaces it\n", 1, "old\n"))
-        for words in (["--force"], ["--out", old]):
+        cases: list[list[object]] = [["--force"], ["--out", old]]
+        for words in cases:
             done = run("plot", TOP / "examples/bursts.csv", *words, folder=self.folder, SERIES="/bin/false")
             self.assertIn("/bin/false ended with status 1", done.stderr)
 

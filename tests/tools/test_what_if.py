@@ -142,7 +142,8 @@ class WhatIf(InFolder):
         for form in (NO_WORDS, ["--table"]):
             done = run("what-if", *words, *form, "--json", out)
             self.assertEqual((done.returncode, done.stdout, out.read_text(), len(told.splitlines())), (0, run("what-if", *words, *form).stdout, told, 2), done.stderr)
-        for more in (["--csv"], ["--table"], ["--out", self.folder / "other"]):
+        others: list[list[object]] = [["--csv"], ["--table"], ["--out", self.folder / "other"]]
+        for more in others:
             self.assertEqual(run("what-if", *words, *more, "--json").returncode, 2)
         searched = run("what-if", self.arrivals, "--until", "drops", "--ring", "8", "--json", out)
         self.assertEqual((searched.returncode, json.loads(out.read_text())["until"]), (0, "drops"), searched.stderr)

@@ -396,6 +396,13 @@ def parser() -> Parser:
     parser.add_argument(
         "-c", dest="count", type=number(1, 10**9), metavar="N", help="the first N packets of the capture"
     )
+    add_times(parser)
+    add_force(parser, "NAME.csv and NAME.notes")
+    return parser
+
+
+def add_times(parser: Parser) -> None:
+    """Adds the options of a trace."""
     parser.add_argument(
         "--delay",
         type=number(0, 10**9),
@@ -407,8 +414,6 @@ def parser() -> Parser:
     parser.add_argument(
         "--places", type=number(1, 65536), default=256, metavar="N", help="packets that each ring holds (256)"
     )
-    add_force(parser, "NAME.csv and NAME.notes")
-    return parser
 
 
 def main(given: Sequence[str]) -> None:

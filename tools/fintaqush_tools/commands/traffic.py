@@ -164,6 +164,12 @@ def parser() -> Parser:
     parser.add_argument(
         "--bytes", type=sizes, default=(60, 1500), metavar="A:B", help="smallest and largest packet, in bytes (60:1500)"
     )
+    add_output(parser)
+    return parser
+
+
+def add_output(parser: Parser) -> None:
+    """Adds the options of what is written."""
     parser.add_argument("--places", type=number(1, 65536), default=256, help="packets that each ring holds (256)")
     parser.add_argument(
         "--delay",
@@ -193,7 +199,6 @@ def parser() -> Parser:
         help=f"with --arrivals: add a column with each packet's flow, of N per device, for several queues ({FLOWS})",
     )
     add_out(parser, "trace")
-    return parser
 
 
 def check_words(options: Parser, words: Words) -> None:

@@ -96,24 +96,9 @@ def what_if(folder: str) -> None:
     print(
         f"    $ {command()} what-if mine.csv --backlog 1 --ring 7,13,49 --apart 0,1 $({command()} costs {shlex.quote(recording)} --words)"
     )
+    varied = ["--backlog", "1", "--ring", "7,13,49", "--apart", "0,1"]
     rows = list(
-        map(
-            json.loads,
-            ask(
-                "what-if",
-                f"{arrivals}.csv",
-                "--backlog",
-                "1",
-                "--ring",
-                "7,13,49",
-                "--apart",
-                "0,1",
-                *costs,
-                "--json",
-                "--band",
-                "0",
-            ).splitlines(),
-        )
+        map(json.loads, ask("what-if", f"{arrivals}.csv", *varied, *costs, "--band", "0", "--json").splitlines())
     )
     lines = [["netdev_max_backlog", "program apart", "dropped", "median wait us", "99th percentile us"]]
     for row in rows:
