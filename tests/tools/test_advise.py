@@ -590,7 +590,7 @@ class Advise(InFolder):
     def test_a_program_that_fails(self) -> None:
         for body in ("kill -9 $$", "exit 0", "echo hello", "exit 64"):
             program = self.program("program", f"{body}")
-            done = self.advised(file_of(quiet()), "--program", program, status=1)
+            done = self.advised(file_of(quiet()), "--binary", program, status=1)
             self.assertEqual((done.stdout, done.stderr.count("\n")), ("", 1), done.stderr)
 
 

@@ -209,7 +209,7 @@ class Surroundings(InFolder):
         """Finished rows are in the file, line by line, and the next call resumes with it."""
         held, out = self.held(f"[ \"$2\" = 300 ] || exec '{REPLAY}' \"$@\""), self.folder / "rows"
         words = [TRACE, "--budget", "64,300", "--jobs", "1", "--out", out]
-        self.ended(signal.SIGINT, "sweep", *words, "--program", held, is_ready=lambda: out.read_text().count("\n") == 2)
+        self.ended(signal.SIGINT, "sweep", *words, "--binary", held, is_ready=lambda: out.read_text().count("\n") == 2)
         self.assertEqual([line.split(",")[2:7] for line in out.read_text().splitlines()[1:]], [["64", "64", "1024", "no", "0"]])
         self.assertTrue(out.read_text().endswith("\n"))
         self.assertEqual(run("sweep", *words, "--resume").returncode, 0)
@@ -304,4 +304,4 @@ class Surroundings(InFolder):
 
     def test_a_program_that_is_killed(self) -> None:
         program = self.program("program", "kill -9 $$")
-        self.assertIn("ended with status -9", run("raise", "-", "--program", program, text=HEADER).stderr)
+        self.assertIn("ended with status -9", run("raise", "-", "--binary", program, text=HEADER).stderr)

@@ -11,7 +11,7 @@ from fractions import Fraction
 from typing import Any
 
 import machine
-from tooltest import HAS_MACHINE, MACHINE, NO_WORDS, START, InFolder, process, run, skip_without
+from tooltest import HAS_MACHINE, MACHINE, NO_WORDS, START, TOP, InFolder, process, run, skip_without
 
 HEADER = "moment,device,bytes\n"
 
@@ -136,21 +136,26 @@ class WhatIf(InFolder):
         self.assertEqual((told[0]["arrived"], isinstance(told[0]["use_percent"], float)), (300, True))
 
     def test_json_in_a_file(self) -> None:
-        words: list[object] = [self.arrivals, "--budget", "2,300", "--json", "--band", "0"]
-        told, out = run("what-if", *words).stdout, self.folder / "q.json"
-        done = run("what-if", *words, "--out", out)
-        self.assertEqual((done.returncode, done.stdout, out.read_text(), len(told.splitlines())), (0, "", told, 2), done.stderr)
-        done = run("what-if", *words, "--out", out)
-        self.assertEqual((done.returncode, out.read_text()), (1, told))
-        self.assertIn("exists and isn't overwritten", done.stderr)
-        for more in (["--resume"], ["--part", "1/2"]):
-            self.assertEqual(run("what-if", *words, "--out", self.folder / "other", *more).returncode, 2)
+        """With a file the results are printed too, as CSV or as a table; without it only JSON is."""
+        words: list[object] = [self.arrivals, "--budget", "2,300", "--band", "0"]
+        told, out = run("what-if", *words, "--json").stdout, self.folder / "q.json"
+        for form in (NO_WORDS, ["--table"]):
+            done = run("what-if", *words, *form, "--json", out)
+            self.assertEqual((done.returncode, done.stdout, out.read_text(), len(told.splitlines())), (0, run("what-if", *words, *form).stdout, told, 2), done.stderr)
+        others: list[list[object]] = [["--csv"], ["--table"], ["--out", self.folder / "other"]]
+        for more in others:
+            self.assertEqual(run("what-if", *words, *more, "--json").returncode, 2)
+        searched = run("what-if", self.arrivals, "--until", "drops", "--ring", "8", "--json", out)
+        self.assertEqual((searched.returncode, json.loads(out.read_text())["until"]), (0, "drops"), searched.stderr)
+
+    def test_a_trace_is_named(self) -> None:
+        self.fails("bursts.csv: a trace, whose runs are given; arrivals are made by --arrivals of", "what-if", TOP / "examples/bursts.csv")
 
     def test_json_keys_are_identifiers(self) -> None:
         """Also with generated traffic and a searched load; each object has the format's version."""
         calls: list[list[object]] = [[self.arrivals], [self.arrivals, "--until", "drops", "--ring", "8"], ["--traffic", "--rate 1000", "--seeds", "2"]]
         for words in calls:
-            done = run("what-if", "--json", *words)
+            done = run("what-if", *words, "--json")
             self.assertEqual(done.returncode, 0, done.stderr)
             told = json.loads(done.stdout)
             self.assertEqual((told["version"], [name for name in told if not name.isidentifier()]), (1, []))
@@ -275,7 +280,7 @@ class WhatIf(InFolder):
         out.write_text("\n".join(lines[:2]) + "\n")
         calls = self.folder / "calls"
         program = self.program("program", f"echo >> '{calls}'\nexec '{MACHINE}' \"$@\"")
-        self.assertEqual(self.rows("--budget", "1,2,3", "--out", out, "--resume", "--program", program), whole)
+        self.assertEqual(self.rows("--budget", "1,2,3", "--out", out, "--resume", "--binary", program), whole)
         self.assertEqual((out.read_text().splitlines(), calls.read_text()), (lines, "\n\n"))
         parts = [row for part in ("1/2", "2/2") for row in self.rows("--budget", "1,2,3,4", "--part", part)]
         self.assertEqual([row["budget"] for row in parts], ["1", "3", "2", "4"])
@@ -289,7 +294,7 @@ class WhatIf(InFolder):
         parts = [(self.folder / f"rows-{part}.csv").read_text().splitlines(True) for part in range(1, 5)]
         out = self.write("all.csv", "".join(parts[0][:1] + [line for lines in parts for line in lines[1:]]))
         none = self.program("none", "exit 1")
-        self.assertEqual(self.rows(*words, "--resume", "--out", out, "--program", none), self.rows(*words))
+        self.assertEqual(self.rows(*words, "--resume", "--out", out, "--binary", none), self.rows(*words))
 
     @skip_without("matplotlib")
     def test_the_picture(self) -> None:
@@ -333,4 +338,4 @@ class WhatIf(InFolder):
     def test_what_fails_is_no_row(self) -> None:
         for body in ("kill -9 $$", "exit 0", "echo hello", "echo 'arrivals fault 10 ReadFailed row 0' >&2; exit 2", "exit 64"):
             program = self.program("program", f"{body}")
-            self.fails("1 rows are missing", "what-if", self.arrivals, "--program", program)
+            self.fails("1 rows are missing", "what-if", self.arrivals, "--binary", program)

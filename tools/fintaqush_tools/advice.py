@@ -240,8 +240,8 @@ class Machine:
         elif is_new("ring"):
             changes.append(Change("ring", "rx", chosen["ring"], now["ring"]))
         for name in filter(is_new, COALESCING):
-            before = drivers.usecs_in(self.head, self.device)
-            changes.append(Change("coalesce", "rx-usecs", usecs_of(chosen[name]), before))
+            usecs = drivers.usecs_in(self.head, self.device)
+            changes.append(Change("coalesce", "rx-usecs", usecs_of(chosen[name]), usecs))
         if chosen.get("layout") == SPREAD:
             changes.append(Change("table", "equal", self.queues, None))
         if chosen.get("layout") == MOVED:

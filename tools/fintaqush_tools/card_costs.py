@@ -9,13 +9,13 @@ from __future__ import annotations
 
 import bisect
 import re
-from collections.abc import Iterable, Sequence
+from collections.abc import Callable, Iterable, Sequence
 from dataclasses import replace
 from typing import Optional
 
 from fintaqush_tools.fits import FEWEST, Cost, cost_of
-from fintaqush_tools.recording import POLLED, Event, Head
-from fintaqush_tools.timeline import RETURNED, SHORT_SWITCH, SWITCH, TIMER, Timeline
+from fintaqush_tools.recording import POLLED, Event, Head, fields_in
+from fintaqush_tools.timeline import RETURNED, TIMER, Timeline, switched
 
 GIVEN = re.compile(r"dev=(\S+) ")
 TO_GRO = {"napi_gro_receive_entry", "napi_gro_frags_entry"}  # a driver passes a packet to GRO
@@ -46,18 +46,23 @@ class CardTimes:
 
     def add(self, event: Event) -> None:
         """Processes the next event of the recording."""
-        if event.name in TO_GRO:
-            self.take(event)
-        elif event.name == "netif_receive_skb":
-            self.taken.pop(event.cpu, None)  # GRO passes its batch to the stack
-        elif event.name == "napi_poll":
-            self.poll(event)
-        elif event.name == "sched_switch":
-            self.switch(event)
-        elif event.name.startswith("sys_exit_"):
-            self.end_read(event)
-        elif event.name.startswith("sys_enter_"):
-            self.begin_read(event)
+        if look := self.look_at(event.name):
+            look(event)
+
+    def look_at(self, name: str) -> Optional[Callable[[Event], None]]:
+        """Returns what handles the events of this name."""
+        if name.startswith("sys_"):
+            return self.end_read if name.startswith("sys_exit_") else self.begin_read
+        return {
+            **dict.fromkeys(TO_GRO, self.take),
+            "netif_receive_skb": self.end_batch,
+            "napi_poll": self.poll,
+            "sched_switch": self.switch,
+        }.get(name)
+
+    def end_batch(self, event: Event) -> None:
+        """GRO passes its batch to the stack."""
+        self.taken.pop(event.cpu, None)
 
     def take(self, event: Event) -> None:
         found = GIVEN.match(event.said)
@@ -74,14 +79,14 @@ class CardTimes:
             self.poll_end, self.poll_on, self.was_lone = event.time, event.cpu, int(work) == 1
 
     def switch(self, event: Event) -> None:
-        found = SWITCH.match(event.said) or SHORT_SWITCH.match(event.said)
-        if found and not found[2].startswith("R"):
-            self.sleeps[int(found[1])] = self.delivered
+        task, is_sleep, *_ = switched(event)
+        if is_sleep:
+            self.sleeps[task] = self.delivered
 
     def end_read(self, event: Event) -> None:
         """A read returns, perhaps of the only packet since the program slept."""
-        found, before = RETURNED.search(event.said), self.sleeps.pop(event.pid, None)
-        if not found or not 0 < int(found[1], 16) < 1 << 31 or before is None:
+        found, before = fields_in(RETURNED, event.said), self.sleeps.pop(event.pid, None)
+        if not found or not 0 < int(found[0], 16) < 1 << 31 or before is None:
             return
         if self.delivered - before == 1 and self.was_lone and event.cpu == self.poll_on:
             self.woken[event.pid] = self.poll_end

@@ -88,7 +88,7 @@ def about(asked: str) -> int:
         print(HEAD, LIST, END, sep="\n", end="")
     elif asked == "--names":  # for scripts
         print(*sorted(MODULES), sep="\n")
-    elif asked == "--version":
+    elif asked in ("--version", "version"):
         from fintaqush_tools.places import version
 
         print(f"fintaqush of Fintaqush {version()}")

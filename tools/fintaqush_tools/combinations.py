@@ -24,7 +24,7 @@ from typing import IO, Any
 
 from fintaqush_tools.errors import Refusal, unfinished, why
 from fintaqush_tools.files import check_target, write_whole
-from fintaqush_tools.options import Parser, Words, add_program, as_options, number, pair
+from fintaqush_tools.options import Parser, Words, add_binary, as_options, number, pair
 from fintaqush_tools.places import TOP
 from fintaqush_tools.processes import begun, read_now
 from fintaqush_tools.progress import Program, Progress, can_be_shown, say, share_of
@@ -58,7 +58,7 @@ def add_words(parser: Parser, what: str, out: dict[str, Any]) -> None:
     parser.add_argument("--jobs", type=number(1, 999999), help="programs to run at once (one per processor)")
     text = "GNU parallel's file of machines; without it all replays run on this machine"
     parser.add_argument("--sshloginfile", help=text)
-    add_program(parser, what)
+    add_binary(parser, what)
     parser.add_argument("--play", nargs="+", help=argparse.SUPPRESS)
 
 
@@ -166,7 +166,7 @@ class Combinations:
         options = {"retries": TRIES, "jobs": words.jobs or "100%", "max-args": some, "workdir": os.getcwd()}
         options["sshloginfile"] = words.sshloginfile
         command = ["parallel", "--will-cite", "--line-buffer", "--quote", *as_options(options)]
-        command += [f"{TOP}/fintaqush", self.tool, "--program", made, "--play"]
+        command += [f"{TOP}/fintaqush", self.tool, "--binary", made, "--play"]
         with tempfile.TemporaryFile() as lines:
             # a file, because a pipe that is full in both directions would deadlock
             lines.write(b"".join(os.fsencode(f"{','.join(key[1:])},{key[0]}\n") for key in keys))

@@ -8,12 +8,12 @@ import bisect
 import re
 from array import array
 from collections import Counter, defaultdict
-from collections.abc import Collection, Iterable, Sequence
+from collections.abc import Callable, Collection, Iterable, Sequence
 from typing import Optional, Union
 
 from fintaqush_tools.arriving import BY_PAIR, BY_POLL, BY_STACK, KINDS, PollBegins, packet_of
 from fintaqush_tools.instances import ANY, Place, Routes
-from fintaqush_tools.recording import NET_RX, POLLED, SENT, SOFTIRQ, Event, is_by_thread
+from fintaqush_tools.recording import NET_RX, POLLED, SENT, SOFTIRQ, Event, fields_in, is_by_thread
 from fintaqush_tools.tasks import Tasks
 
 Marked = Union[int, tuple[str, int]]  # a processor, or a thread
@@ -69,6 +69,7 @@ class Receiving:
     taken: defaultdict[int, list[Received]]
     packets_of: Counter[Place]
     known: Optional[dict[Place, list[tuple[int, int, int]]]]
+    looks: dict[str, Optional[Callable[[Event], None]]]
 
     def __init__(
         self, polled: set[str], senders: set[str], receivers: Iterable[str] = (), routes: Optional[Routes] = None
@@ -96,35 +97,56 @@ class Receiving:
         # By processor: when its softirqs began; its NAPI timers.
         self.entries, self.timers = (defaultdict(lambda: array("Q")), Counter())
         self.reads, self.reading = [], {}  # for each read its end, and the beginning of the next read by that task
-        self.mark, self.tasks, self.known = {}, Tasks(), None
+        self.mark, self.tasks, self.known, self.looks = {}, Tasks(), None, {}
 
     def add(self, event: Event) -> None:
         """Processes the next event of the recording."""
         self.span = (self.span[0] if self.span else event.time, event.time)
         if self.receivers:
             self.begins.look(event)
-        if event.name == BY_PAIR:
-            self.add_packet(event)
-        elif event.name in KINDS:
-            self.add_received(event)
-        elif event.name == "net_dev_start_xmit":
-            self.routes.start(event)
-        elif event.name == "napi_poll":
-            self.add_poll(event)
-        elif event.name in ("softirq_entry", "softirq_exit") and int(event.parts(SOFTIRQ)[0]) == NET_RX:
-            self.mark[event.cpu] = event.time if event.name == "softirq_entry" else 0
-            if self.mark[event.cpu]:
-                self.entries[event.cpu].append(event.time)
-        elif event.name == "hrtimer_expire_entry":
-            found = TIMER.match(event.said)
-            self.timers[event.cpu] += found is not None and found[1] == "napi_watchdog"
-        elif event.name == "sched_switch":
-            name, number, _ = self.tasks.switch(event, self.span[0])
-            if name.startswith("napi/"):
-                self.mark["thread", number] = event.time
-        elif event.name.startswith("sys_exit_"):
-            self.reading[event.pid] = event.time
-        elif event.name.startswith("sys_enter_") and event.pid in self.reading:
+        try:
+            look = self.looks[event.name]
+        except KeyError:
+            look = self.looks[event.name] = self.look_at(event.name)
+        if look:
+            look(event)
+
+    def look_at(self, name: str) -> Optional[Callable[[Event], None]]:
+        """Returns what handles the events of this name."""
+        if name.startswith("sys_"):
+            return self.end_read if name.startswith("sys_exit_") else self.begin_read
+        return {
+            **dict.fromkeys(KINDS, self.add_received),
+            BY_PAIR: self.add_packet,
+            "net_dev_start_xmit": self.routes.start,
+            "napi_poll": self.add_poll,
+            "softirq_entry": self.mark_softirq,
+            "softirq_exit": self.mark_softirq,
+            "hrtimer_expire_entry": self.count_timer,
+            "sched_switch": self.switch,
+        }.get(name)
+
+    def mark_softirq(self, event: Event) -> None:
+        if int(event.parts(SOFTIRQ)[0]) != NET_RX:
+            return
+        self.mark[event.cpu] = event.time if event.name == "softirq_entry" else 0
+        if self.mark[event.cpu]:
+            self.entries[event.cpu].append(event.time)
+
+    def count_timer(self, event: Event) -> None:
+        found = fields_in(TIMER, event.said)
+        self.timers[event.cpu] += found is not None and found[0] == "napi_watchdog"
+
+    def switch(self, event: Event) -> None:
+        name, number, _ = self.tasks.switch(event, self.span[0] if self.span else 0)
+        if name.startswith("napi/"):
+            self.mark["thread", number] = event.time
+
+    def end_read(self, event: Event) -> None:
+        self.reading[event.pid] = event.time
+
+    def begin_read(self, event: Event) -> None:
+        if event.pid in self.reading:
             self.reads.append((self.reading.pop(event.pid), event.time))
 
     def add_packet(self, event: Event) -> None:

@@ -12,9 +12,10 @@ import threading
 from collections.abc import Iterator, Sequence
 from typing import IO, Any, Optional
 
-from fintaqush_tools import builds
+from fintaqush_tools import builds, errors
 from fintaqush_tools.builds import build, child, crates, kit, write
 from fintaqush_tools.errors import Refusal
+from fintaqush_tools.files import write_whole
 from fintaqush_tools.places import IS_CHECKOUT, TOP, usage_text, version
 from fintaqush_tools.progress import say, show
 from fintaqush_tools.reports import lines_of
@@ -173,10 +174,13 @@ class Call:
     rest: Iterator[bytes]
 
     def __init__(self, given: Sequence[str]) -> None:
-        self.words, self.files, self.own, rest = list[str](), list[str](), set[str](), iter(given)
+        self.words, self.files, self.own, self.json, rest = list[str](), list[str](), set[str](), "", iter(given)
         for word in rest:
             if word in ("-h", "--help", "--version", "--unproved", "--build", "--json"):
                 self.own.add(word)
+            elif word.startswith("--json="):
+                self.own.add("--json")
+                self.json = word.partition("=")[2]
             elif word == "-" or word and word[0] != "-":
                 self.files.append(word)
             else:
@@ -298,7 +302,9 @@ class Call:
     def finish(self, status: int, output: bytes | None, said: str) -> int:
         """Prints the output, if it was kept, and the messages; then one line that explains the error, if there is more to say."""
         is_json = "--json" in self.own and status == 0
-        if output and not write(lines_of(output.decode()).encode() if is_json else output):
+        if output and is_json and self.json:
+            self.put_json(output)
+        elif output and not write(lines_of(output.decode()).encode() if is_json else output):
             raise Refusal(f"the report couldn't be written{' as JSON' * is_json}", 4)
         write(said.encode(), 2)
         fault = re.search(r"^trace fault (\d+) \w+ row (\d+)$", said, re.M)
@@ -312,6 +318,15 @@ class Call:
         elif fault and len(self.kept) <= MOST_KEPT and (why := self.explain(int(fault[1]), int(fault[2]))):
             say(f"{self.which}{why}")
         return status
+
+    def put_json(self, output: bytes) -> None:
+        """Writes the report as JSON to the file of --json=FILE, and prints it."""
+        try:
+            write_whole(self.json, lines_of(output.decode()))
+        except (OSError, Refusal) as error:
+            raise Refusal(f"the report couldn't be written as JSON: {errors.why(error)}", 4) from None
+        if not write(output):
+            raise Refusal("the report couldn't be written", 4)
 
     def explain(self, fault: int, row: int) -> str:
         """Prints the line of the trace that the error names, its text and the likely cause. Rows count records, so nothing is printed if

@@ -12,6 +12,7 @@ if TYPE_CHECKING:
 from fintaqush_tools.errors import Refusal
 from fintaqush_tools.texts import is_number
 
+FORMAT = 1  # version of the JSON of all tools
 # docs/FORMATS.md, "The state word".
 FLAGS = "SCHED MISSED DISABLE NPSVC IN_BUSY_POLL THREADED SCHED_THREADED QUEUED TO_THREAD".split()
 BITS = dict(zip((0, 1, 2, 3, 6, 8, 9, 32, 33), FLAGS))
@@ -91,7 +92,8 @@ def json_of(value: object) -> str:
 
 def lines_of(report: str) -> str:
     """Returns the lines of JSON for a whole report."""
-    return "".join(f"{json_of(told)}\n" for told in objects_of(report))
+    head: Line = {"version": FORMAT, "tool": "replay"}
+    return "".join(f"{json_of({**head, **told})}\n" for told in objects_of(report))
 
 
 def objects_of(text: str) -> list[Line]:

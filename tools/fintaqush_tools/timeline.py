@@ -4,13 +4,12 @@ from __future__ import annotations
 
 import re
 from collections import Counter, defaultdict, deque
-from collections.abc import Iterable
+from collections.abc import Callable, Iterable
 from dataclasses import dataclass, field
 from typing import Any, Optional
 
-from fintaqush_tools.errors import Refusal
 from fintaqush_tools.instances import Place, Routes
-from fintaqush_tools.recording import BACKLOG, NET_RX, POLLED, SENT, SOFTIRQ, Event, is_by_thread
+from fintaqush_tools.recording import BACKLOG, MOST_KNOWN, NET_RX, POLLED, SENT, SOFTIRQ, Event, fields_in, is_by_thread
 
 Handler = list[Any]  # its name, its beginning, and whether napi_watchdog ran in it
 
@@ -21,7 +20,7 @@ SWITCH = re.compile(
 SHORT_SWITCH = re.compile(r".*:(\d{1,9}) \[-?\d+\] (\S+) ==> (.*):(\d{1,9}) \[-?\d+\]")  # trace-cmd's form
 EXPIRES = re.compile(r"hrtimer=(\S+) .*\bexpires=(\d{1,20})")
 EXPIRED = re.compile(r"hrtimer=(\S+) .*\bnow=(\d{1,20})")
-RETURNED = re.compile(r"0x([0-9a-f]{1,16})$")
+RETURNED = re.compile(r"(?:.*\b)?0x([0-9a-f]{1,16})$")
 WATCHDOG = "napi_watchdog"
 TIMER = f"the timer of {WATCHDOG}"
 # Interrupts between processors, which may start a softirq or a thread; and all interrupts with an entry and an exit event.
@@ -31,6 +30,22 @@ HANDLERS = BETWEEN | APIC | {"irq_handler", "local_timer", "irq_work", "x86_plat
 SOON = 50_000  # ns, from the end of an interrupt to the softirq that it requested
 SAME_CLOCK = 1_000_000  # ns
 EARLY = 100_000  # ns by which a poll may precede its sender's event, which follows the sending
+
+
+Switched = tuple[int, bool, str, int, bool]
+switches: dict[str, Switched] = {}  # what task switches say, which they say again and again
+
+
+def switched(event: Event) -> Switched:
+    """Returns the task that leaves a processor, whether it sleeps, the next task's name and number, and whether it is a NAPI thread."""
+    try:
+        return switches[event.said]
+    except KeyError:
+        task, state, name, pid = event.parts(SWITCH, SHORT_SWITCH)
+    if len(switches) >= MOST_KNOWN:
+        switches.clear()
+    switches[event.said] = int(task), not state.startswith("R"), name, int(pid), name.startswith("napi/")
+    return switches[event.said]
 
 
 class Taken:
@@ -116,13 +131,13 @@ class Reads:
     def leave(self, processor: Processor, event: Event) -> None:
         """Handles the return of a read."""
         by_recv = event.name.startswith("sys_exit_recv")
-        found, called = RETURNED.search(event.said), self.called.pop(event.pid, None)
+        found, called = fields_in(RETURNED, event.said), self.called.pop(event.pid, None)
         if by_recv and not self.is_by_recv and self.count:  # its reads by other calls weren't packets
             self.forget()
         self.is_by_recv = self.is_by_recv or by_recv
-        if self.is_by_recv and not by_recv or not found or not 0 < int(found[1], 16) < 1 << 31:
+        if self.is_by_recv and not by_recv or not found or not 0 < int(found[0], 16) < 1 << 31:
             return
-        packets = int(found[1], 16) if event.name.endswith("recvmmsg") else 1
+        packets = int(found[0], 16) if event.name.endswith("recvmmsg") else 1
         self.count += packets
         self.on[event.cpu] += 1
         slept, is_in_call = self.slept.pop(event.pid, (None, False))
@@ -218,32 +233,41 @@ class Timeline:
         self.unplaced: dict[str, tuple[int, int]] = {}  # packets whose instance isn't known yet
         self.came = self.dropped = self.given = self.unmatched = self.strays = self.first = self.last = 0
         self.sent_on, self.tasks = Counter[int](), defaultdict[int, Counter[str]](Counter)
+        # By the name of an event: what handles it.
+        self.looks: dict[str, Optional[Callable[[Processor, Event], None]]] = {}
 
     def add(self, event: Event) -> None:
-        self.is_coarse = self.is_coarse and event.time % 1000 == 0
-        self.first = self.first or event.time
-        self.last = event.time
-        processor, name = self.on[event.cpu], event.name
-        if name.startswith("softirq_"):
-            self.softirq(processor, event)
-        elif name.startswith("hrtimer_"):
-            self.timer(processor, event)
-        elif name.startswith("sys_enter_"):
-            self.reads.enter(processor, event)
-        elif name.startswith("sys_exit_"):
-            self.reads.leave(processor, event)
-        elif name.rpartition("_")[0] in HANDLERS:
-            self.handler(processor, event)
-        elif name == "napi_poll":
-            self.poll(processor, event)
-        elif name == "sched_switch":
-            self.switch(processor, event)
-        elif name == "net_dev_xmit":
-            self.packet(event)
-        elif name == "net_dev_start_xmit":
-            self.routes.start(event)
-        elif name == "netif_receive_skb" and self.unplaced:
-            self.receive(event)
+        time = event.time
+        if self.is_coarse and time % 1000:
+            self.is_coarse = False
+        self.first = self.first or time
+        self.last = time
+        try:
+            look = self.looks[event.name]
+        except KeyError:
+            look = self.looks[event.name] = self.look_at(event.name)
+        if look:
+            look(self.on[event.cpu], event)
+
+    def look_at(self, name: str) -> Optional[Callable[[Processor, Event], None]]:
+        """Returns what handles the events of this name."""
+        if name.startswith("hrtimer_"):
+            return self.timer
+        if name.startswith("sys_enter_"):
+            return self.reads.enter
+        if name.startswith("sys_exit_"):
+            return self.reads.leave
+        if name.rpartition("_")[0] in HANDLERS:
+            return self.handler
+        return {
+            "softirq_entry": self.softirq,
+            "softirq_exit": self.softirq,
+            "napi_poll": self.poll,
+            "sched_switch": self.switch,
+            "net_dev_xmit": self.packet,
+            "net_dev_start_xmit": lambda _, event: self.routes.start(event),
+            "netif_receive_skb": self.receive,
+        }.get(name)
 
     def handler(self, processor: Processor, event: Event) -> None:
         """Handles the beginning or end of a handler: of a card's interrupt, of one between processors, or of the local timer."""
@@ -281,7 +305,7 @@ class Timeline:
 
     def softirq(self, processor: Processor, event: Event) -> None:
         """Handles NET_RX: it begins, requested by the last handler, or ends."""
-        if event.name == "softirq_raise" or int(event.parts(SOFTIRQ)[0]) != NET_RX:
+        if int(event.parts(SOFTIRQ)[0]) != NET_RX:
             return
         if event.name == "softirq_entry":
             processor.softirq = event.time, processor.by_handlers.until(event.time)
@@ -298,22 +322,20 @@ class Timeline:
         processor.is_first, processor.by, processor.ended = True, asked, None
 
     def switch(self, processor: Processor, event: Event) -> None:
-        found = SWITCH.match(event.said) or SHORT_SWITCH.match(event.said)
-        if not found:
-            raise Refusal(f"line {event.line}: sched_switch says {event.said[:60]!r}, an unknown format")
-        task, state, name, pid = found.groups()
+        task, is_sleep, name, pid, is_napi = switched(event)
+        time, last = event.time, processor.task
         self.has_tasks = True
-        if processor.task[0]:
-            self.tasks[event.cpu][processor.task[0]] += event.time - processor.task[2]
-        self.reads.leave_processor(int(task), event.time, not state.startswith("R"))
-        processor.before, processor.task, processor.thread = processor.task, (name, int(pid), event.time), None
-        if name.startswith("napi/"):
-            processor.thread = event.time, processor.above_tasks.until(event.time)
-            self.begin(processor, event.time)
+        if last[0]:
+            self.tasks[event.cpu][last[0]] += time - last[2]
+        self.reads.leave_processor(task, time, is_sleep)
+        processor.before, processor.task, processor.thread = last, (name, pid, time), None
+        if is_napi:
+            processor.thread = time, processor.above_tasks.until(time)
+            self.begin(processor, time)
 
-    def packet(self, event: Event) -> None:
+    def packet(self, _: Processor, event: Event) -> None:
         """Handles a sent packet, which arrives at a device."""
-        sender, _, code = event.parts(SENT)
+        sender, _size, code = event.parts(SENT)
         if sender not in self.routes.receivers:
             return
         self.sent_on[event.cpu] += 1
@@ -327,8 +349,10 @@ class Timeline:
         else:
             self.unplaced[packet] = event.time, event.cpu
 
-    def receive(self, event: Event) -> None:
+    def receive(self, _: Processor, event: Event) -> None:
         """Handles a packet that the current poll of a backlog took."""
+        if not self.unplaced:
+            return
         place, packet = self.routes.of_received(event)
         if place and packet in self.unplaced:
             self.waiting[place].packets.append(self.unplaced.pop(packet))

@@ -27,7 +27,6 @@ settings.
 
 from __future__ import annotations
 
-import json
 from collections import Counter
 from collections.abc import Iterator, Mapping, Sequence
 from pathlib import Path
@@ -55,13 +54,15 @@ from fintaqush_tools.errors import Refusal
 from fintaqush_tools.files import WholeFile, check_regular, check_target
 from fintaqush_tools.fits import Cost
 from fintaqush_tools.machine import COSTS, identifier, option_words
-from fintaqush_tools.options import Parser, Words, add_program, number, parser_of, require_end
+from fintaqush_tools.options import Parser, Words, add_binary, number, parser_of, require_end
 from fintaqush_tools.pictures import ENDS, Curve, Picture, check_library, picture_bytes
 from fintaqush_tools.predicting import TOLD, Compared, check_lines, objects_in, told_value, us
 from fintaqush_tools.processes import program
 from fintaqush_tools.recorded import Recording, arrivals_in
 from fintaqush_tools.recording import BACKLOG
+from fintaqush_tools.results import add_json, is_printed, write_json
 from fintaqush_tools.texts import aligned, as_rows, shown
+from fintaqush_tools.thresholds import add_fail_if, status_of
 from fintaqush_tools.verifying import Verdict
 
 FEWEST = 1000  # packets
@@ -69,7 +70,6 @@ SHOWN = 8  # settings in the table
 RARE = 10  # a device with fewer packets than one in so many of the largest one doesn't count
 VAGUE = 4  # ratio of a band's ends above which a value counts as unknown
 LAYOUTS = {0: "queues as they are", MOVED: "interrupts moved", SPREAD: "hashes spread equally"}
-FORMAT = 1  # version of the object that --json prints
 NAMES = {
     "defer-hard-irqs": "napi_defer_hard_irqs",
     "gro-flush-timeout": "gro_flush_timeout",
@@ -166,7 +166,7 @@ class Advice:
         self.options = options_of(head, recording.device, self.told["apart"], len(self.processors))
         self.end = self.chosen_end()
         whole, first = arrivals_in(recording, words)
-        made, majors = program("napi_machine", words.program), recording.layout.major()
+        made, majors = program("napi_machine", words.binary), recording.layout.major()
         predictions = Predictions(made, self.costs, whole, majors)
         self.compare(predictions)
         self.doubt = self.doubt_by(predictions)
@@ -503,7 +503,6 @@ class Advice:
         seen = self.recording.seen
         options = settings_of(self.costs, self.options)
         told = {
-            "version": FORMAT,
             "recording": str(self.recording.path),
             "device": self.recording.device,
             "polled": self.recording.polled,
@@ -616,16 +615,14 @@ def print_verified(advice: Advice) -> bool:
     """Verifies the advice, if that is asked for, and prints the result; as JSON with the advice. Returns false if it
     should have made the goal's value lower, and didn't. Within limits that the recorded setting exceeds, the value may
     have to rise."""
-    choice = advice.choice
+    choice, told = advice.choice, dict[str, Any](verified=None, verdict=None)
     if not (advice.words.verify and choice and choice.best and advice.changes):
-        if advice.words.json:
-            print(json.dumps({**advice.object(), "verified": None, "verdict": None}))
+        write_json(advice.words.json, "advise", [{**advice.object(), **told}])
         return True
     rows, packets, verdict = verified(advice)
-    if advice.words.json:
-        told = {"verified": objects_in(rows, packets), "verdict": verdict.object()}
-        print(json.dumps({**advice.object(), **told}))
-    else:
+    told = {"verified": objects_in(rows, packets), "verdict": verdict.object()}
+    write_json(advice.words.json, "advise", [{**advice.object(), **told}])
+    if not is_printed(advice.words.json):
         heading = f"{'the advised setting':36} {'measured':>12} {'predicted':>12}"
         print(heading, *check_lines(rows, packets), *verdict.lines(), sep="\n")
     is_promised = choice.value(choice.best[1]) < choice.value(choice.tried[0][1])
@@ -664,9 +661,11 @@ def parser() -> Parser:
     parser.add_argument(
         "--verify", action="store_true", help="set the advised setting, record again, compare and restore"
     )
-    parser.add_argument("--json", action="store_true", help="print the results as a JSON object")
+    add_json(parser)
+    times = [name for name, (unit, _) in predicting.MEASURED.items() if unit == "us"]
+    add_fail_if(parser, ["p99", "p50", *predicting.MEASURED], ["p99", "p50", *times])
     parser.add_argument("--plot", metavar="FILE", help="a picture of all settings, .png, .svg or .html")
-    add_program(parser, "napi_machine")
+    add_binary(parser, "napi_machine")
     return parser
 
 
@@ -684,7 +683,7 @@ def main(given: Sequence[str]) -> int:
         advice = Advice(words)
     except Refusal as error:
         raise Refusal(f"{shown(words.recording)}: {error}") from None
-    if not words.json:
+    if not is_printed(words.json):
         print("\n".join(advice.lines()), flush=True)
     holds = print_verified(advice)
     if words.plot and advice.choice:
@@ -700,4 +699,7 @@ def main(given: Sequence[str]) -> int:
         raise Refusal(
             f"{shown(words.recording)}: {UNKNOWN}, so there is no advice for this goal; --goal cpu and --goal drops need no wait"
         )
-    return 0 if advice.choice and advice.choice.best else 1
+    if not (advice.choice and advice.choice.best):
+        return 1
+    waits = {each: advice.measured.get(f"{advice.end}_{each}", 0) for each in ("p50", "p99")}
+    return status_of(words.fail_if, [("", {**advice.measured, **waits})])

@@ -26,8 +26,8 @@ the time that the processor slept, so the recorded gro_flush_timeout is printed 
 
 from __future__ import annotations
 
-import json
-from collections.abc import Iterator, Mapping, Sequence
+from collections.abc import Callable, Iterator, Mapping, Sequence
+from functools import partial
 from statistics import median
 from typing import Any, Optional
 
@@ -48,8 +48,10 @@ from fintaqush_tools.options import Parser, Words, parser_of
 from fintaqush_tools.progress import say
 from fintaqush_tools.instances import Routes
 from fintaqush_tools.recording import BACKLOG, Event, Head, check_lost, events_in
+from fintaqush_tools.results import add_json, is_printed, write_json
 from fintaqush_tools.texts import as_rows, shown
-from fintaqush_tools.timeline import TIMER, Timeline
+from fintaqush_tools.thresholds import add_fail_if, status_of
+from fintaqush_tools.timeline import TIMER, Processor, Timeline
 
 Told = tuple[dict[str, Cost], list[str]]  # costs by their names, and lines about them
 
@@ -59,8 +61,17 @@ MATCHED = 0.95  # least share of the packets that must be found at both ends
 WEAK = (
     "the packet's cost can't be distinguished from 0: record more varied traffic, on a processor that does nothing else"
 )
-FORMAT = 1  # version of the object that --json prints
 ORDER = ("interrupt", "timer", "poll", "packet", "take", "wake", "timer-wake", "use", "app-wake")
+
+
+Look = Optional[Callable[[Processor, Event], None]]
+
+
+def in_both(own: Look, of_card: Callable[[Event], None], processor: Processor, event: Event) -> None:
+    """Handles an event in a Timeline and in CardTimes."""
+    if own:
+        own(processor, event)
+    of_card(event)
 
 
 class Times(Timeline):
@@ -70,9 +81,10 @@ class Times(Timeline):
         super().__init__(routes, polled, irq, interrupts)
         self.card = CardTimes(polled)
 
-    def add(self, event: Event) -> None:
-        super().add(event)
-        self.card.add(event)
+    def look_at(self, name: str) -> Look:
+        """Returns what handles the events of this name."""
+        own, of_card = super().look_at(name), self.card.look_at(name)
+        return partial(in_both, own, of_card) if of_card else own
 
 
 def polls_of(times: Timeline, head: Head) -> Told:
@@ -258,7 +270,6 @@ def object_of(times: Timeline, costs: Mapping[str, Cost], told: list[str]) -> di
     """Returns all results as an object, for other tools."""
     processor = times.processor()
     return {
-        "version": FORMAT,
         "costs": {name.replace("-", "_"): cost.as_object() for name, cost in costs.items()},
         "options": options_of(costs),
         "text": told,
@@ -354,25 +365,29 @@ def parser() -> Parser:
         metavar="A:B",
         help="the two ends of a veth pair: A's packets arrive at B (the pair that fintaqush record found)",
     )
-    form = parser.add_mutually_exclusive_group()
-    form.add_argument("--words", action="store_true", help="print only the options for what-if and napi_machine")
-    form.add_argument("--json", action="store_true", help="print the results as a JSON object")
+    parser.add_argument("--words", action="store_true", help="print only the options for what-if and napi_machine")
+    add_json(parser)
+    names = [name.replace("-", "_") for name in ORDER]
+    add_fail_if(parser, names, names)
     return parser
 
 
-def main(given: Sequence[str]) -> None:
-    words = parser().parse_args(given)
+def main(given: Sequence[str]) -> int:
+    options = parser()
+    words = options.parse_args(given)
+    if words.words and is_printed(words.json):
+        options.error("--words and --json without a file each print something else")
     check_input(words.recording)
     try:
         times, head = times_in(words)
         costs, told = estimated(times, head)
     except Refusal as error:
         raise Refusal(f"{shown(words.recording)}: {error}") from None
-    if WEAK in told and (words.words or words.json):
+    if WEAK in told and (words.words or is_printed(words.json)):
         say(WEAK)
+    write_json(words.json, "costs", [object_of(times, costs, told)])
     if words.words:
         print(options_of(costs))
-    elif words.json:
-        print(json.dumps(object_of(times, costs, told)))
-    else:
+    elif not is_printed(words.json):
         print(*told, *notes_on(times), options_of(costs), sep="\n")
+    return status_of(words.fail_if, [("", {name.replace("-", "_"): cost.value for name, cost in costs.items()})])

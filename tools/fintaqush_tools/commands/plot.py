@@ -12,10 +12,8 @@ reader's dark mode; --dark makes a dark .png. The title says how many runs were 
 
 from __future__ import annotations
 
-import json
 import math
 import operator
-import os
 import re
 import shlex
 from collections import Counter
@@ -25,9 +23,10 @@ from typing import Any, Optional
 
 from fintaqush_tools.errors import Refusal
 from fintaqush_tools.files import WholeFile, check_target, read_bytes
-from fintaqush_tools.options import Parser, Words, add_raise, number, pair, parser_of, require_end, wrong
+from fintaqush_tools.options import Parser, Words, add_force, add_raise, number, pair, parser_of, require_end, wrong
 from fintaqush_tools.pictures import ENDS, Curve, check_library, picture_bytes
 from fintaqush_tools.processes import program, run_program
+from fintaqush_tools.results import add_json, is_printed, write_json
 from fintaqush_tools.series import Line, add_waits, keys_of, read_series
 from fintaqush_tools.texts import shown
 from fintaqush_tools.trace import MOST_DEVICES, records_of
@@ -35,8 +34,8 @@ from fintaqush_tools.trace import MOST_DEVICES, records_of
 Point = tuple[float, ...]
 Panel = tuple[str, list[Curve], Optional[list[list[float]]]]
 
+PICTURE = "plot.png"  # the name without --out
 MARGINS = 110  # pixels of a panel to the left and right of its curves
-FORMAT = 1  # version of the object that --json prints
 
 
 def renumber(rows: Sequence[Line], keys: Sequence[tuple[int, int]]) -> None:
@@ -52,9 +51,9 @@ class Series:
     def __init__(self, rows: Sequence[Line], words: Words) -> None:
         if not rows:
             raise Refusal("the series has no rows")
-        if words.device is not None:
-            check_device(rows, words.device)
-        self.device = words.device or busiest(rows)
+        if words.limit_of is not None:
+            check_device(rows, words.limit_of)
+        self.device = words.limit_of or busiest(rows)
         first, last = words.rows or (-math.inf, math.inf)
         inside = [row for row in rows if first <= row["row"] < last + 1]
         if not inside:
@@ -268,8 +267,8 @@ def described(words: Words, all_rows: Sequence[Sequence[Line]], name: str, headi
 def draw(words: Words, all_rows: Sequence[Sequence[Line]], name: str, headings: Sequence[str]) -> None:
     """Draws these series, or prints what would be drawn."""
     picture = described(words, all_rows, name, headings)
-    if words.json:
-        print(json.dumps({"version": FORMAT, **picture}))
+    write_json(words.json, "plot", [picture])
+    if is_printed(words.json):
         return
     with WholeFile(words.out) as new:
         Path(new).write_bytes(picture_bytes(picture, words.out, words.size, words.dark))
@@ -293,11 +292,9 @@ def replays(words: Words, replay_args: list[str]) -> Iterator[tuple[list[Line], 
 
 
 def check_picture(words: Words) -> None:
-    """Fails, before any work, if the picture can't be drawn or would replace another one."""
+    """Fails, before any work, if the picture can't be drawn, or would replace another one that wasn't named."""
     check_library(words.out)
-    if os.path.isfile(words.out) and not words.force:
-        raise Refusal(f"{shown(words.out)} exists: --force replaces it, --out names another file")
-    check_target(words.out)
+    check_target(words.out, words.is_named or words.force)
 
 
 def size_of(text: str) -> tuple[int, int]:
@@ -312,31 +309,30 @@ def parser() -> Parser:
     parser = parser_of(__doc__)
     parser.add_argument("trace", nargs="?", help="the trace")
     parser.add_argument("--series", metavar="FILE", help="draw this series instead of a trace")
-    parser.add_argument("--out", default="plot.png", help="the picture, .png, .svg or .html (plot.png)")
-    parser.add_argument("--force", action="store_true", help="replace an existing picture")
+    parser.add_argument("--out", metavar="FILE", help=f"the picture, .png, .svg or .html ({PICTURE})")
+    add_force(parser, PICTURE)
     parser.add_argument("--beside", metavar="OPTIONS", help="a second replay with these options, below the first")
     add_raise(parser)
     what = "the device whose limit is drawn (the one with the most such rows)"
-    parser.add_argument("--device", type=number(1, MOST_DEVICES), metavar="N", help=what)
+    parser.add_argument("--limit-of", type=number(1, MOST_DEVICES), metavar="N", help=what)
     parser.add_argument("--rows", type=pair(":", "100:200", low=0), metavar="A:B", help="only these rows")
     parser.add_argument("--time", action="store_true", help="times on the axis instead of rows")
     parser.add_argument("--size", type=size_of, default=(720, 220), help="the size of a panel in pixels (720x220)")
     parser.add_argument("--waits", action="store_true", help="draw how many rows the packets of each run had waited")
-    for name, what in (
-        ("--dark", "a dark .png (an .svg and an .html follow the reader's mode)"),
-        ("--json", "print what would be drawn as a JSON object, and draw nothing"),
-    ):
-        parser.add_argument(name, action="store_true", help=what)
+    what = "a dark .png (an .svg and an .html follow the reader's mode)"
+    parser.add_argument("--dark", action="store_true", help=what)
+    add_json(parser, "what is drawn")
     return parser
 
 
 def main(given: Sequence[str]) -> None:
     options = parser()
     words, replay_args = options.parse_known_args(given)
+    words.is_named, words.out = bool(words.out), words.out or PICTURE
     require_end(options, "--out", words.out, ENDS)
     if bool(words.trace) == bool(words.series):
         options.error("a trace or --series, one of them")
-    if not words.json:
+    if not is_printed(words.json):
         check_picture(words)
     if words.series:
         if replay_args or words.beside is not None or words.raised or words.waits:

@@ -26,7 +26,7 @@ from typing import Any, Optional
 from fintaqush_tools import pages
 from fintaqush_tools.errors import Refusal
 from fintaqush_tools.files import check_target, read_bytes, write_whole
-from fintaqush_tools.options import Parser, Words, add_program, add_raise, add_settings, as_options
+from fintaqush_tools.options import Parser, Words, add_binary, add_raise, add_settings, as_options
 from fintaqush_tools.options import given_settings, pair, parser_of
 from fintaqush_tools.places import TOP
 from fintaqush_tools.processes import program, run_program
@@ -209,14 +209,14 @@ def parser() -> Parser:
     parser.add_argument("--beside", type=beside, metavar="OPTIONS", help=what)
     add_raise(parser)
     add_settings(parser)
-    add_program(parser, "napi_series")
+    add_binary(parser, "napi_series")
     return parser
 
 
 def main(given: Sequence[str]) -> None:
     words = parser().parse_args(given)
     check_target(words.out)
-    text, made = read_bytes(words.trace), program("napi_series", words.program)
+    text, made = read_bytes(words.trace), program("napi_series", words.binary)
     all_settings = [given_settings(words)] + ([words.beside] if words.beside is not None else [])
     sides = [Side(text, made, settings, words.raised) for settings in all_settings]
     rows = sides[0].rows

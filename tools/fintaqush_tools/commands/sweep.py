@@ -32,6 +32,7 @@ from fintaqush_tools.options import Parser, Words, add_raise, number, parser_of
 from fintaqush_tools.processes import program, ran
 from fintaqush_tools.progress import say
 from fintaqush_tools.reports import objects_of
+from fintaqush_tools.results import add_json, value_of, write_json
 from fintaqush_tools.settings import MOST, USUAL
 from fintaqush_tools.texts import shown
 from fintaqush_tools.thresholds import add_fail_if, status_of
@@ -135,6 +136,7 @@ def parser() -> Parser:
     what = "with --raise: add at most N runs after a row (until the list is empty)"
     parser.add_argument("--restarts", type=number(1, 99999), metavar="N", help=what)
     add_fail_if(parser, TOLD[:-1])
+    add_json(parser, "the rows")
     add_words(parser, "napi_serial or napi_replay", {"default": "sweep.csv", "help": "the file of rows (sweep.csv)"})
     return parser
 
@@ -148,10 +150,13 @@ def main(given: Sequence[str]) -> int:
     if words.restarts and not words.raised:
         options.error("--restarts goes with --raise")
     if words.play:
-        return SWEEP.play(words.program, words.play)
+        return SWEEP.play(words.binary, words.play)
     check_words("sweep", words)
     traces_of(words.traces)
-    rows = SWEEP.make(program("napi_serial", words.program), words, keys_of(words))
+    rows = SWEEP.make(program("napi_serial", words.binary), words, keys_of(words))
+    texts = ("trace", "sum")  # which are no numbers
+    objects = ({name: row[name] if name in texts else value_of(str(row[name])) for name in row} for row in rows)
+    write_json(words.json, "sweep", objects)
     told = [row for row in rows if str(row["status"]) == "0"]
     names = ("trace", "budget", "weight", "window")
     return status_of(words.fail_if, [(", ".join(f"{name} {row[name]}" for name in names), row) for row in told])

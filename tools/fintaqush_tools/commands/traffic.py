@@ -17,6 +17,7 @@ import heapq
 import random
 import re
 from collections.abc import Callable, Iterator, Sequence
+from typing import Any
 
 from fintaqush_tools import arrivals
 from fintaqush_tools.errors import Refusal
@@ -26,6 +27,7 @@ from fintaqush_tools.places import version
 from fintaqush_tools.progress import Progress
 from fintaqush_tools.trace import MOST_DEVICES, MOST_ROWS, TICKS, Row, trace_text, with_runs
 
+FLOWS = 16  # per device, if their number isn't given
 ACTIONS = ("tx", "done", "kthread", "disable", "threaded", "busy")
 
 
@@ -153,6 +155,12 @@ def parser() -> Parser:
         parser.add_argument(name, type=kind, default=usual, help=what)
     what = "smallest and largest packet, in bytes (60:1500)"
     parser.add_argument("--bytes", type=sizes, default=(60, 1500), metavar="A:B", help=what)
+    add_output(parser)
+    return parser
+
+
+def add_output(parser: Parser) -> None:
+    """Adds the options of what is written."""
     parser.add_argument("--places", type=number(1, 65536), default=256, help="packets that each ring holds (256)")
     what = "time from the first waiting packet to the softirq row, in --unit (1)"
     parser.add_argument("--delay", type=number(0, 10**9), default=1, help=what)
@@ -162,10 +170,10 @@ def parser() -> Parser:
     parser.add_argument("--version", nargs="?", type=number(1, 2), default=1, const=0, metavar="N", help=what)
     parser.add_argument("--seed", type=number(0, 10**9), default=0, help="seed of the random numbers (0)")
     parser.add_argument("--arrivals", action="store_true", help="write arrivals for napi_machine instead of a trace")
-    what = "with --arrivals: N flows per device, for several queues"
-    parser.add_argument("--flows", type=number(1, 10**9), metavar="N", help=what)
+    what = f"with --arrivals: add a column with each packet's flow, of N per device, for several queues ({FLOWS})"
+    how: dict[str, Any] = {"nargs": "?", "type": number(1, 10**9), "const": FLOWS, "metavar": "N"}
+    parser.add_argument("--flows", help=what, **how)
     add_out(parser, "trace")
-    return parser
 
 
 def check_words(options: Parser, words: Words) -> None:

@@ -20,7 +20,7 @@ from collections.abc import Sequence
 from fintaqush_tools.cli import module_of
 from fintaqush_tools.errors import Refusal
 from fintaqush_tools.files import check_target
-from fintaqush_tools.options import Parser, parser_of
+from fintaqush_tools.options import Parser, add_force, parser_of
 from fintaqush_tools.places import IS_CHECKOUT, TOP
 from fintaqush_tools.progress import Program
 from fintaqush_tools.texts import aligned, shown
@@ -96,15 +96,17 @@ def what_if(folder: str) -> None:
     words = ["--backlog", "1", "--ring", "7,13,49", "--apart", "0,1"]
     told = f"what-if mine.csv {shlex.join(words)} $({command()} costs {shlex.quote(recording)} --words)"
     print(f"    $ {command()} {told}")
-    rows = ask("what-if", f"{arrivals}.csv", *words, *costs, "--json", "--band", "0")
+    told = ask("what-if", f"{arrivals}.csv", *words, *costs, "--band", "0", "--json")
+    rows = list(map(json.loads, told.splitlines()))
     lines = [["netdev_max_backlog", "program apart", "dropped", "median wait us", "99th percentile us"]]
-    for row in map(json.loads, rows.splitlines()):
+    for row in rows:
         waits = [f"{row[name] / 1000:.1f}" for name in ("used_p50", "used_p99")]
         lines.append([str(row["ring"] - 1), "yes" if row["apart"] else "no", str(row["dropped"]), *waits])
     show(aligned(lines))
     print(
-        "   (The table has some of its columns; waits are from a packet's arrival to the end of its use by the program,\n"
-        "   and waking a program that is apart is taken as free, because this recording doesn't have it.)\n"
+        f"   (With 6 it predicts {rows[0]['dropped']} dropped, and {dropped} were: so few depend on single packets. The table has\n"
+        "   some of its columns; waits are from a packet's arrival to the end of its use by the program, and waking a program\n"
+        "   that is apart is taken as free, because this recording doesn't have it.)\n"
         f"   Next, as root on the machine that receives: {command()} record 5 --device eth0 --program server --out mine.rec,\n"
         f"   then {command()} advise mine.rec, which says what to set.\n"
     )
@@ -123,14 +125,14 @@ def steps(page: str) -> None:
 
 def parser() -> Parser:
     parser = parser_of(__doc__)
-    what = f"another name for the page ({PAGE}; an existing one is replaced)"
-    parser.add_argument("--out", metavar="FILE.html", help=what)
+    parser.add_argument("--out", metavar="FILE.html", help=f"the page ({PAGE})")
+    add_force(parser, PAGE)
     return parser
 
 
 def main(given: Sequence[str]) -> None:
     words = parser().parse_args(given)
-    check_target(words.out or PAGE, replaces=not words.out)
+    check_target(words.out or PAGE, replaces=bool(words.out) or words.force)
     with tempfile.TemporaryDirectory() as folder:
         squeeze()
         what_if(folder)

@@ -6,9 +6,9 @@
     fintaqush what-if --traffic '--kind poisson --rate 100000' --seeds 5 --threaded 0,1
 
 On a terminal it prints a table with units, which has only the columns that differ, and conclusions. Elsewhere, or with --csv, it prints a CSV row
-for each combination, with the options that have several values and the results. --json prints an object per line with all options, the version
-of the format, and keys that are identifiers. --out writes a CSV file with all options, or with --json these objects. At a load of 2 all arrival
-times are halved. An option takes numbers separated by commas. Times and costs are in ns, except in the table. Results are only as good as the given costs: fintaqush costs
+for each combination, with the options that have several values and the results. --json FILE also writes an object per line with all options,
+whose keys are identifiers; without FILE these are printed in place of the table. --out writes a CSV file with all options. At a load of 2 all
+arrival times are halved. An option takes numbers separated by commas. Times and costs are in ns, except in the table. Results are only as good as the given costs: fintaqush costs
 estimates them from a recording. Options are named after Linux's settings; --help says where each is set.
 
 Packets are dropped if the ring is full, and refused if the socket is. Waits last from a packet's arrival to the end of its delivery by a poll,
@@ -34,7 +34,6 @@ from __future__ import annotations
 import csv
 import functools
 import itertools
-import json
 import math
 import os
 import re
@@ -50,12 +49,13 @@ from fintaqush_tools import breaking, repeats, tables
 from fintaqush_tools.bands import DOUBT, with_costs
 from fintaqush_tools.combinations import Combinations, Key, Row, add_words, check_words, choices, fault_of, sum_of
 from fintaqush_tools.errors import Refusal, unfinished, unlink
-from fintaqush_tools.files import WholeFile, check_regular, check_target, write_out, write_whole
+from fintaqush_tools.files import WholeFile, check_regular, check_target
 from fintaqush_tools.machine import ARE, COSTS, OPTIONS, VALUES, WAITS, help_of, identifier, option_words, values_of
 from fintaqush_tools.options import Parser, Words, number, parser_of, require_end, wrong
 from fintaqush_tools.pictures import COLORS, ENDS, Curve, Picture, check_library, picture_bytes
 from fintaqush_tools.processes import program, ran
 from fintaqush_tools.progress import Progress, say
+from fintaqush_tools.results import add_json, is_printed, value_of, write_json
 from fintaqush_tools.texts import last_line, shown
 from fintaqush_tools.thresholds import Condition, add_fail_if, status_of
 
@@ -63,8 +63,7 @@ VARIED = ["load", *OPTIONS]
 KEY = ["arrivals", "sum", *VARIED]
 # Faults of arrivals; a failed read or a failed allocation isn't one.
 FAULT = re.compile(r"arrivals fault (?!10 )\d+ \w+ row \d+$")
-HEADER = b"moment,device,bytes"
-FORMAT = 1  # version of the objects that --json prints
+HEADER, TRACE = b"moment,device,bytes", b"moment,device,event"
 MOST_CURVES = len(COLORS)
 SHORT = {"p50": "used_p50", "p99": "used_p99", "p999": "used_p999"}  # names for --fail-if
 making = threading.Lock()
@@ -246,41 +245,22 @@ def varied_in(rows: Sequence[Row]) -> dict[str, list[str]]:
     return {name: each for name, each in values.items() if len(each) > 1}
 
 
-def value_of(text: str) -> int | float | str | None:
-    """Converts a value of a row to its JSON type."""
-    return (
-        int(text)
-        if re.fullmatch("[0-9]+", text)
-        else float(text)
-        if re.fullmatch(r"[0-9]+\.[0-9]+", text)
-        else text or None
-    )
-
-
 def columns_of(rows: Sequence[Row]) -> list[str]:
     """Returns the columns of the results: with several seeds also the minimum and the maximum of each value."""
     return [each for name in VALUES for each in (name, f"{name}_least", f"{name}_most") if each in rows[0]]
 
 
-def objects_of(rows: Sequence[Row]) -> Iterator[str]:
-    """Returns a line of JSON for each row."""
+def objects_of(rows: Sequence[Row]) -> Iterator[Row]:
+    """Yields an object for each row."""
     names = [name for name in (*KEY, "status", "fault", *columns_of(rows)) if name in rows[0]]
     for row in rows:
-        told = {
+        yield {
             identifier(name): row[name] if name in ("arrivals", "sum") else value_of(str(row[name])) for name in names
         }
-        yield json.dumps({"version": FORMAT, **told}) + "\n"
 
 
-def print_rows(rows: Sequence[Row], words: Words) -> None:
-    """Prints the rows, as CSV or JSON; JSON goes to the file of --out, if there is one."""
-    if words.form == "json":
-        lines = list(objects_of(rows))
-        if words.json_out:
-            write_whole(words.json_out, lines, replaces=False)
-        else:
-            write_out(None, lines)
-        return
+def print_rows(rows: Sequence[Row]) -> None:
+    """Prints the rows as CSV."""
     faults = ["fault"] if any(row["fault"] for row in rows) else []
     table = csv.DictWriter(
         sys.stdout, [*varied_in(rows), *faults, *columns_of(rows)], extrasaction="ignore", lineterminator="\n"
@@ -292,8 +272,10 @@ def print_rows(rows: Sequence[Row], words: Words) -> None:
 def answer(rows: Sequence[Row], every: Sequence[Row], keys: Sequence[Key], words: Words) -> None:
     """Prints the rows with their conclusions and warnings: below a table, else on standard error."""
     orders = list(orders_that_change(every, keys, words.band)) if len(every) > len(rows) else []
+    if words.form == "csv":
+        print_rows(rows)
+    write_json(words.json, "what-if", objects_of(rows))
     if words.form != "table":
-        print_rows(rows, words)
         for line in [*of_budgets(rows), *(line for line, _, _ in orders)]:
             say(line)
         return
@@ -423,12 +405,9 @@ def parser() -> Parser:
     what = f"warn if an order changes with costs N %% lower or higher ({DOUBT}; 0 with --out or --part); advise prints that of a recording"
     parser.add_argument("--band", type=number(0, 90), metavar="N", help=what)
     form = parser.add_mutually_exclusive_group()
-    for name, what in (
-        ("table", "a table with units (on a terminal)"),
-        ("csv", "CSV (elsewhere)"),
-        ("json", "an object per line"),
-    ):
+    for name, what in (("table", "a table with units (on a terminal)"), ("csv", "CSV (elsewhere)")):
         form.add_argument(f"--{name}", dest="form", action="store_const", const=name, help=what)
+    add_json(parser)
     what = "search for the load at which each combination breaks"
     parser.add_argument("--until", type=breaking.limit, metavar="drops|p99=US", help=what)
     what = "make arrivals by fintaqush traffic with these options, in one argument"
@@ -437,8 +416,7 @@ def parser() -> Parser:
     parser.add_argument("--seeds", type=number(1, 1000), metavar="N", help=what)
     add_fail_if(parser, [*SHORT, *VALUES], [*SHORT, *WAITS])
     parser.add_argument("--plot", metavar="FILE", help="a picture, .png, .svg or .html")
-    what = "a file of rows with all options and results: CSV, or with --json an object per line"
-    add_words(parser, "napi_machine", {"metavar": "FILE", "help": what})
+    add_words(parser, "napi_machine", {"metavar": "FILE", "help": "a CSV file of rows with all options and results"})
     return parser
 
 
@@ -468,10 +446,9 @@ def read_words(given: Sequence[str]) -> Words:
     check_together(options, words)
     if words.band is None:
         words.band = 0 if words.out or words.part else DOUBT
-    words.form = words.form or ("table" if sys.stdout.isatty() else "csv")
-    if words.form == "json" and words.out and (words.resume or words.part):
-        options.error("with --json the file is written at the end, so --out doesn't go with --resume and --part")
-    words.json_out, words.out = (words.out, None) if words.form == "json" else (None, words.out)
+    if is_printed(words.json) and (words.form or words.out):
+        options.error("--json without a file prints only JSON; --json FILE goes with --table, --csv and --out")
+    words.form = words.form or ("json" if is_printed(words.json) else "table" if sys.stdout.isatty() else "csv")
     return words
 
 
@@ -490,11 +467,6 @@ def keys_of(words: Words, arrivals: str) -> tuple[list[Key], list[Key]]:
 def print_breakings(found: Sequence[breaking.Breaking], words: Words, rate: float, percents: Sequence[int]) -> None:
     """Prints where each combination breaks."""
     varied = [name for name, values in zip(VARIED, zip(*(each.key[2:] for each in found))) if len(set(values)) > 1]
-    if words.form == "table":
-        for each in found:
-            named = name_of(each.key, varied)
-            print(f"{named}: " * bool(named) + breaking.told(words.until, each, rate, percents))
-        return
     lines = []
     for each in found:
         holds, broken = each.ends[100]
@@ -503,23 +475,24 @@ def print_breakings(found: Sequence[breaking.Breaking], words: Words, rate: floa
         for percent in percents[1:]:
             line[f"breaks_at_costs_{percent}"] = breaking.text_of(each.ends[percent][1])
         lines.append(({name: value for name, value in zip(VARIED, each.key[2:]) if name != "load"}, line))
-    if words.form == "json":
-        for options, line in lines:
-            print(
-                json.dumps(
-                    {
-                        "version": FORMAT,
-                        "arrivals": words.arrivals,
-                        "until": words.until,
-                        **{identifier(name): value_of(value) for name, value in options.items()},
-                        **{name: None if value is None else value_of(str(value)) for name, value in line.items()},
-                    }
-                )
-            )
-        return
-    table = csv.DictWriter(sys.stdout, [*varied, *lines[0][1]], extrasaction="ignore", lineterminator="\n")
-    table.writeheader()
-    table.writerows({**options, **line} for options, line in lines)
+    if words.form == "table":
+        for each in found:
+            named = name_of(each.key, varied)
+            print(f"{named}: " * bool(named) + breaking.told(words.until, each, rate, percents))
+    elif words.form == "csv":
+        table = csv.DictWriter(sys.stdout, [*varied, *lines[0][1]], extrasaction="ignore", lineterminator="\n")
+        table.writeheader()
+        table.writerows({**options, **line} for options, line in lines)
+    write_json(words.json, "what-if", (object_of_breaking(words, *each) for each in lines))
+
+
+def object_of_breaking(words: Words, options: Mapping[str, str], line: Row) -> Row:
+    return {
+        "arrivals": words.arrivals,
+        "until": words.until,
+        **{identifier(name): value_of(value) for name, value in options.items()},
+        **{name: None if value is None else value_of(str(value)) for name, value in line.items()},
+    }
 
 
 def until_it_breaks(made: str, words: Words) -> None:
@@ -555,6 +528,11 @@ def check_arrivals(words: Words) -> None:
     check_regular(words.arrivals, reason)
     if "\n" in words.arrivals or "\r" in words.arrivals:
         raise Refusal(f"{shown(words.arrivals)}: {reason}")
+    with open(words.arrivals, "rb") as file:
+        if file.readline(1000).startswith(TRACE):
+            raise Refusal(
+                f"{shown(words.arrivals)}: a trace, whose runs are given; arrivals are made by --arrivals of from-pcap, from-ftrace or traffic"
+            )
     if any(int(each) > 1 for each in words.queues) and not has_flows(words.arrivals):
         raise Refusal(
             f"{shown(words.arrivals)}: there is no column flow, which --queues above 1 needs: moment,device,bytes,flow, as from-pcap, from-ftrace and "
@@ -566,17 +544,15 @@ def main(given: Sequence[str]) -> int:
     words = read_words(given)
     rewritten.cache_clear()
     if words.play:
-        return TABLE.play(words.program, words.play)
+        return TABLE.play(words.binary, words.play)
     check_words("what-if", words)
-    if words.json_out:
-        check_target(words.json_out, replaces=False)
     if words.arrivals:
         check_arrivals(words)
     if words.plot:
         check_target(words.plot)
         check_library(words.plot)
         check_curves(words)
-    made = program("napi_machine", words.program)
+    made = program("napi_machine", words.binary)
     if words.until:
         until_it_breaks(made, words)
         return 0
