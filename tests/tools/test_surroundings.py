@@ -14,7 +14,6 @@ from pathlib import Path
 from typing import Any
 
 import needs
-from finding import group_in
 from tooltest import (HEADER, HERE, MACHINE, MOST_SECONDS, NO_WORDS, PROGRAMS, REPLAY, START, TOP, InFolder, call, failing, limited, process, process_to,
                       run, run_to, started)
 
@@ -33,8 +32,7 @@ if not os.path.exists(MACHINE):
     del WRITERS["what-if"], WRITERS["advise"]
 SERIES_HEAD = "row,moment,device,state,waiting,arrived,dropped,polled,in_flight,limit,avail,stopped,polls,work,squeezed\n"
 CAPTURED = "100.000000 eth0  In  ifindex 2 02:00:00:00:00:01 ethertype IPv4 (0x0800), length 60: 10.0.0.1 > 10.0.0.2: UDP\n"
-ALL = ["raise", "json", "traffic", "compare", "compare-recording", "plot", "from-ftrace", "from-pcap", "sweep", "steps", "what-if", "costs",
-       "record", "advise", "completion", "try"]
+ALL = sorted(MODULES.keys() - {"replay", "series", "machine"})
 # Each tool that reads a file, with the options that it needs besides.
 READERS: dict[str, list[str]] = {
     **{tool: [] for tool in ("raise", "json", "compare-recording", "costs")},
@@ -292,15 +290,6 @@ class Surroundings(InFolder):
             (self.folder / "fifo").write_bytes(TRACE.read_bytes())
             child.communicate(timeout=MOST_SECONDS)
             self.assertEqual(child.returncode, 0)
-
-    def test_each_tells_its_words(self) -> None:
-        for tool in ALL:
-            done = run(tool, "--help")
-            self.assertEqual((done.returncode, done.stderr), (0, ""))
-            self.assertIn(f"usage: fintaqush {tool}", done.stdout)
-            version = group_in('#define FQ_VERSION "(.*)"', (TOP / "include/fintaqush.h").read_text())
-            self.assertEqual(run(tool, "--version").stdout, f"fintaqush {tool} of Fintaqush {version}\n")
-        self.assertEqual(sorted(ALL), sorted(MODULES.keys() - {"replay", "series", "machine"}))
 
     def test_a_program_that_is_killed(self) -> None:
         program = self.program("program", "kill -9 $$")
