@@ -14,8 +14,8 @@ from pathlib import Path
 from typing import Any
 
 import needs
-from tooltest import (HEADER, HERE, MACHINE, MOST_SECONDS, NO_WORDS, PROGRAMS, REPLAY, START, TOP, InFolder, call, failing, limited, process, process_to,
-                      run, run_to, started)
+from tooltest import (HEADER, HERE, MACHINE, MOST_SECONDS, NO_WORDS, PROGRAMS, REPLAY, START, TOP, InFolder, call, failing, limited,
+                      process, process_to, run, run_to, started)
 
 from fintaqush_tools import errors, files
 from fintaqush_tools.cli import MODULES
@@ -134,8 +134,8 @@ class Surroundings(InFolder):
             self.assertIn(0, statuses)
 
     def ended(self, number: int, tool: str, *words: object, is_ready: Callable[[], bool] = lambda: True, **program: object) -> str:
-        """Starts a tool, and sends a signal once the program that it runs waits: SIGINT to all processes, as a terminal does, others to the tool only,
-        as a batch system does. Returns what it prints on standard error; the program must not be left running."""
+        """Starts a tool, and sends a signal once the program that it runs waits: SIGINT to all processes, as a terminal does, others to
+        the tool only, as a batch system does. Returns what it prints on standard error; the program must not be left running."""
         child, begun = self.start(tool, *words, ends={"start_new_session": True}, **program), self.folder / "begun"
         until = time.monotonic() + MOST_SECONDS
         while not (begun.exists() and is_ready()):
