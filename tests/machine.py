@@ -291,10 +291,9 @@ def faults(program: str) -> list[str]:
         cases += [(words, f"{good}{row}\n", number, name, 2) for words in two for row in rows]
     cases += [(words, f"{good}{rows}\n", number, name, 3) for words in two for number, name, rows in later]
     cases += [(many, f"{HEADER}\n0,1,60\n", 1, "BadHeader", 0)]
-    for number, name, row, text in ((2, "BadFields", 1, "0,1,60"), (2, "BadFields", 1, "0,1,60,1,"), (3, "BadNumber", 1, "0,1,60,"), (3, "BadNumber", 1, "0,1,60,x"),
-                                    (3, "BadNumber", 1, f"0,1,60,{'1' * 21}"), (5, "OutOfRange", 2, "0,1,60,0\n0,22,60,1"),
-                                    (5, "OutOfRange", 2, "5,22,60,0\n4,22,60,1"), (8, "Falls", 2, "5,22,60,0\n4,22,60,0")):
-        cases.append((many, f"{FLOWS}\n{text}\n", number, name, row))
+    for number, name, row, rows in ((2, "BadFields", 1, ["0,1,60", "0,1,60,1,"]), (3, "BadNumber", 1, ["0,1,60,", "0,1,60,x", f"0,1,60,{'1' * 21}"]),
+                                    (5, "OutOfRange", 2, ["0,1,60,0\n0,22,60,1", "5,22,60,0\n4,22,60,1"]), (8, "Falls", 2, ["5,22,60,0\n4,22,60,0"])):
+        cases += [(many, f"{FLOWS}\n{text}\n", number, name, row) for text in rows]
     same(program, many, f"{FLOWS}\n0,22,60,0\n0,1,60,{'9' * 20}\n0,1,60,{2**64 + 1}\n0,1,60,{'2'.zfill(20)}\n")
     same(program, ["--queues", "64", "--processors", "2"], f"{FLOWS}\n0,2,60,63\n0,1,60,64\n")
     wanted = [("", f"arrivals fault {number} {name} row {row}\n", 2) for _, _, number, name, row in cases]
@@ -536,7 +535,8 @@ def simulated(report: str, waited: str) -> list[str]:
 
 
 CHECKS: dict[str, Callable[..., list[str]]] = {"examples": examples, "random": random_arrivals, "one_queue": one_queue, "faults": faults, "texts": texts,
-          "options": options, "ends": ends, "queue": queue, "livelock": livelock, "recorded": recorded, "simulator": simulator, "simulated": simulated}
+          "options": options, "ends": ends, "queue": queue, "livelock": livelock, "recorded": recorded,
+          "simulator": simulator, "simulated": simulated}
 
 if __name__ == "__main__":
     found = CHECKS[sys.argv[1]](*sys.argv[2:])

@@ -45,9 +45,12 @@ class Fintaqush(InFolder):
         self.assertEqual(set(MODULES.values()), modules)
 
     def test_each_goes_by_its_name(self) -> None:
+        version = group_in('#define FQ_VERSION "(.*)"', (TOP / "include/fintaqush.h").read_text())
         for name in MODULES:
             text = call(name, "--help").stdout if name == "replay" else self.succeeds(name, "--help")
             self.assertTrue(text.startswith(f"usage: fintaqush {name}"), text[:80])
+            if name != "replay":
+                self.assertEqual(self.succeeds(name, "--version"), f"fintaqush {name} of Fintaqush {version}\n")
             page = self.succeeds(name, "--manual")
             self.assertTrue(page.startswith(f".TH FINTAQUSH\\-{name.upper().replace('-', chr(92) + '-')} 1 "), page[:80])
             self.assertEqual("; 3 a condition of \\-\\-fail\\-if holds;" in page, "--fail-if" in text, page)

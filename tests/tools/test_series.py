@@ -76,8 +76,8 @@ class Series(unittest.TestCase):
                          "6,7,1,on,0,1,0,1,0,100,100,0,,,,0,,\n")
 
     def test_polls_by_hand(self) -> None:
-        """With a budget of 2 packets and a weight of 1 the run polls both devices once, of a whole weight, and requeues both. In the next run device 1
-        takes its second packet; device 2 has none left and no missed request, so it completes."""
+        """With a budget of 2 packets and a weight of 1 the run polls both devices once, of a whole weight, and requeues both. In the next
+        run device 1 takes its second packet; device 2 has none left and no missed request, so it completes."""
         text = HEADER + "0,1,open,8\n0,2,open,8\n1,1,rx,60\n1,1,rx,60\n1,2,rx,60\n2,0,softirq,0\n3,0,softirq,0\n"
         lines = process(SERIES, "--polls", "--budget", "2", "--weight", "1", text=text).stdout.splitlines()
         self.assertEqual(lines[0], NAMES.strip() + ",ended")

@@ -14,9 +14,8 @@ from pathlib import Path
 from typing import Any
 
 import needs
-from finding import group_in
-from tooltest import (HEADER, HERE, MACHINE, MOST_SECONDS, NO_WORDS, PROGRAMS, REPLAY, START, TOP, InFolder, call, failing, limited, process, process_to,
-                      run, run_to, started)
+from tooltest import (HEADER, HERE, MACHINE, MOST_SECONDS, NO_WORDS, PROGRAMS, REPLAY, START, TOP, InFolder, call, failing, limited,
+                      process, process_to, run, run_to, started)
 
 from fintaqush_tools import errors, files
 from fintaqush_tools.cli import MODULES
@@ -33,8 +32,7 @@ if not os.path.exists(MACHINE):
     del WRITERS["what-if"], WRITERS["advise"]
 SERIES_HEAD = "row,moment,device,state,waiting,arrived,dropped,polled,in_flight,limit,avail,stopped,polls,work,squeezed\n"
 CAPTURED = "100.000000 eth0  In  ifindex 2 02:00:00:00:00:01 ethertype IPv4 (0x0800), length 60: 10.0.0.1 > 10.0.0.2: UDP\n"
-ALL = ["raise", "json", "traffic", "compare", "compare-recording", "plot", "from-ftrace", "from-pcap", "sweep", "steps", "what-if", "costs",
-       "record", "advise", "completion", "try"]
+ALL = sorted(MODULES.keys() - {"replay", "series", "machine"})
 # Each tool that reads a file, with the options that it needs besides.
 READERS: dict[str, list[str]] = {
     **{tool: [] for tool in ("raise", "json", "compare-recording", "costs")},
@@ -136,8 +134,8 @@ class Surroundings(InFolder):
             self.assertIn(0, statuses)
 
     def ended(self, number: int, tool: str, *words: object, is_ready: Callable[[], bool] = lambda: True, **program: object) -> str:
-        """Starts a tool, and sends a signal once the program that it runs waits: SIGINT to all processes, as a terminal does, others to the tool only,
-        as a batch system does. Returns what it prints on standard error; the program must not be left running."""
+        """Starts a tool, and sends a signal once the program that it runs waits: SIGINT to all processes, as a terminal does, others to
+        the tool only, as a batch system does. Returns what it prints on standard error; the program must not be left running."""
         child, begun = self.start(tool, *words, ends={"start_new_session": True}, **program), self.folder / "begun"
         until = time.monotonic() + MOST_SECONDS
         while not (begun.exists() and is_ready()):
@@ -292,15 +290,6 @@ class Surroundings(InFolder):
             (self.folder / "fifo").write_bytes(TRACE.read_bytes())
             child.communicate(timeout=MOST_SECONDS)
             self.assertEqual(child.returncode, 0)
-
-    def test_each_tells_its_words(self) -> None:
-        for tool in ALL:
-            done = run(tool, "--help")
-            self.assertEqual((done.returncode, done.stderr), (0, ""))
-            self.assertIn(f"usage: fintaqush {tool}", done.stdout)
-            version = group_in('#define FQ_VERSION "(.*)"', (TOP / "include/fintaqush.h").read_text())
-            self.assertEqual(run(tool, "--version").stdout, f"fintaqush {tool} of Fintaqush {version}\n")
-        self.assertEqual(sorted(ALL), sorted(MODULES.keys() - {"replay", "series", "machine"}))
 
     def test_a_program_that_is_killed(self) -> None:
         program = self.program("program", "kill -9 $$")

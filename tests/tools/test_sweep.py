@@ -379,17 +379,6 @@ for job in range(first, last + 1):
         self.assertIn("not a file of sweep", self.sweep("--resume").stderr)
         self.assertEqual(self.out.read_text(), "mine\n")
 
-    def test_parts_are_all_of_it(self) -> None:
-        self.sweep()
-        whole = self.rows()
-        parts = []
-        for part in ("1/3", "2/3", "3/3"):
-            self.out = self.folder / part.replace("/", "-")
-            self.assertEqual(self.sweep("--part", part).returncode, 0)
-            parts.append(self.rows())
-        self.assertEqual([len(rows) for rows in parts], [3, 3, 2])
-        self.assertCountEqual([tuple(row.values()) for rows in parts for row in rows], [tuple(row.values()) for row in whole])
-
     def test_words_that_it_refuses(self) -> None:
         for words in (["--budget", "64,x"], ["--part", "4/3"], NO_WORDS, ["--budget", "0"], ["--weight", "65"], ["--jobs", "0"],
                       ["--restarts", "3"], ["--window", "65536"]):

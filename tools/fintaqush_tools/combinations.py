@@ -101,6 +101,11 @@ def fault_of(made: str, status: int, said: bytes, faults: re.Pattern[str]) -> st
     return fault
 
 
+def told_in(rows: Sequence[Row]) -> list[Row]:
+    """Returns the rows that have results."""
+    return [row for row in rows if str(row["status"]) == "0"]
+
+
 class Counted:
     """Reports the number of rows on standard error: as a progress line on a terminal, else at each tenth if the file is kept."""
 
@@ -251,9 +256,8 @@ class Combinations:
         with locked(path) as file:
             rows = self.rows_in(file, path)
             others = [row for key, row in rows.items() if key not in asked and (key[0], *key[2:]) not in settings]
-            write_whole(
-                path, self.head + "".join(map(self.line_of, others + [rows[key] for key in keys if key in rows]))
-            )
+            own = [rows[key] for key in keys if key in rows]
+            write_whole(path, self.head + "".join(map(self.line_of, others + own)))
         return rows
 
     def play_missing(self, made: str, words: Words, rows: Mapping[Key, Row], missing: Sequence[Key]) -> None:
@@ -287,11 +291,8 @@ class Combinations:
         with locked(words.out) as file:
             rows = self.rows_in(file, words.out)
         others = {(key[0], *key[2:]) for key in rows} - {(key[0], *key[2:]) for key in keys}
-        self.tell(
-            words,
-            f"{len(keys)} rows, of which {len(set(keys) & set(rows))} are there"
-            + (f"; {len(others)} others of {shown(words.out)} stay" if others else ""),
-        )
+        stay = f"; {len(others)} others of {shown(words.out)} stay" if others else ""
+        self.tell(words, f"{len(keys)} rows, of which {len(set(keys) & set(rows))} are there{stay}")
         return rows
 
     def make(self, made: str, words: Words, keys: Sequence[Key]) -> list[Row]:
@@ -307,7 +308,5 @@ class Combinations:
         refused = sum(1 for key in keys if key in rows and str(rows[key]["status"]) != "0")
         self.tell(words, f"{len(keys) - len(left)} rows in {shown(words.out)}, of which {refused} are refused")
         if left:
-            raise Refusal(
-                f"{len(left)} rows are missing" + (": --resume tries them again" if not words.is_passing else "")
-            )
+            raise Refusal(f"{len(left)} rows are missing" + ": --resume tries them again" * (not words.is_passing))
         return [rows[key] for key in keys]

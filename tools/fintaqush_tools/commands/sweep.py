@@ -25,7 +25,8 @@ from collections.abc import Iterable, Sequence
 from pathlib import Path
 from typing import Any
 
-from fintaqush_tools.combinations import Combinations, Key, Row, add_words, check_words, choices, fault_of, sum_of
+from fintaqush_tools.combinations import Combinations, Key, Row
+from fintaqush_tools.combinations import add_words, check_words, choices, fault_of, sum_of, told_in
 from fintaqush_tools.errors import Refusal
 from fintaqush_tools.files import read_bytes
 from fintaqush_tools.options import Parser, Words, add_raise, number, parser_of
@@ -157,6 +158,6 @@ def main(given: Sequence[str]) -> int:
     texts = ("trace", "sum")  # which are no numbers
     objects = ({name: row[name] if name in texts else value_of(str(row[name])) for name in row} for row in rows)
     write_json(words.json, "sweep", objects)
-    told = [row for row in rows if str(row["status"]) == "0"]
     names = ("trace", "budget", "weight", "window")
-    return status_of(words.fail_if, [(", ".join(f"{name} {row[name]}" for name in names), row) for row in told])
+    results = [(", ".join(f"{name} {row[name]}" for name in names), row) for row in told_in(rows)]
+    return status_of(words.fail_if, results)

@@ -47,7 +47,8 @@ from typing import Any
 
 from fintaqush_tools import breaking, repeats, tables
 from fintaqush_tools.bands import DOUBT, with_costs
-from fintaqush_tools.combinations import Combinations, Key, Row, add_words, check_words, choices, fault_of, sum_of
+from fintaqush_tools.combinations import Combinations, Key, Row
+from fintaqush_tools.combinations import add_words, check_words, choices, fault_of, sum_of, told_in
 from fintaqush_tools.errors import Refusal, unfinished, unlink
 from fintaqush_tools.files import WholeFile, check_regular, check_target
 from fintaqush_tools.machine import ARE, COSTS, OPTIONS, VALUES, WAITS, help_of, identifier, option_words, values_of
@@ -145,11 +146,6 @@ def row_of(made: str, key: Key) -> Row:
 
 
 TABLE = Combinations("what-if", KEY, ["status", "fault", *VALUES], row_of)
-
-
-def told_in(rows: Sequence[Row]) -> list[Row]:
-    """Returns the rows that have results."""
-    return [row for row in rows if str(row["status"]) == "0"]
 
 
 # ---- the band of costs, and options without effect
