@@ -1,10 +1,14 @@
-"""Tests of the band in which a measured value is nine times of ten, on the recordings that tests/live and tests/cards keep."""
+"""Tests of the band in which a measured value is nine times of ten, on the recordings that tests/live and tests/cards keep; and of which setting is
+chosen, and which processor polls which packets in it."""
 
 from __future__ import annotations
 
 import sys
 import unittest
-from collections.abc import Callable, Iterator, Mapping
+from argparse import Namespace
+from array import array
+from collections import Counter, defaultdict
+from collections.abc import Callable, Iterator, Mapping, Sequence
 from typing import Any
 
 from tooltest import HAS_MACHINE, MACHINE, TOP
@@ -14,10 +18,12 @@ import cards
 import live
 import rig
 
-from fintaqush_tools import bands, predicting
+from fintaqush_tools import bands, choosing, predicting
 from fintaqush_tools.bands import Doubt
 from fintaqush_tools.choosing import settings_of
+from fintaqush_tools.layout import Layout
 from fintaqush_tools.machine import values_of
+from fintaqush_tools.receiving import Receiving
 
 Values = Mapping[str, Any]
 Predict = Callable[[Mapping[str, int], Any], Values]  # with these costs, for that setting
@@ -130,3 +136,105 @@ class Bands(unittest.TestCase):
             self.assertAlmostEqual(of.band("used_p50", 100_000, [90_000, 110_000], timeout)[1], 1000 * waits)
             self.assertAlmostEqual(of.band("polls", 100, [90, 110], timeout)[0], polls)
         self.assertEqual(doubt.band("dropped", 100, [100], 60_000), (97, 103))
+
+
+class Layouts(unittest.TestCase):
+    """Which processor polls which packets, of two instances."""
+
+    A, B = ("eth0", "a0"), ("eth0", "a1")
+
+    def layout(self, flows: Sequence[int], more: int = 10) -> Layout:
+        """Returns a layout in which processor 1 polls 90 packets of the first instance, and processor 3 some of the second."""
+        layout = Layout.__new__(Layout)
+        layout.processors, layout.numbers = [1, 3], {(self.A, 1): 1, (self.B, 3): 2}
+        layout.devices = [1] * 90 + [2] * more
+        layout.packets = Counter(layout.devices)
+        layout.on = defaultdict(Counter, {self.A: Counter({1: 90}), self.B: Counter({3: more})})
+        layout.seen = Receiving({"eth0"}, set(), {"eth0"})
+        layout.seen.flows = array("L", flows)
+        return layout
+
+    def test_hashes_spread_equally(self) -> None:
+        """The low 7 bits of the hash choose one of 128 entries, which name the queues in turn."""
+        spread = self.layout(range(1, 101)).spread([self.A, self.B])
+        self.assertEqual((spread[:4], Counter(spread)), ([2, 1, 2, 1], {1: 50, 2: 50}))
+        self.assertEqual(self.layout([131] * 50 + [2] * 50).spread([self.A, self.B]), [2] * 50 + [1] * 50)
+
+    def test_what_spreads_nothing(self) -> None:
+        """One flow; a packet without a hash; shares that are even."""
+        for layout in (self.layout([4] * 100), self.layout([0, *range(2, 101)]), self.layout([]), self.layout(range(1, 181), more=90)):
+            self.assertEqual(layout.spread([self.A, self.B]), [])
+
+    def test_instances_on_other_processors(self) -> None:
+        """An idle processor helps only if there are more instances than processors that poll."""
+        self.assertEqual(self.layout([]).moved([7]), {})
+        both = self.layout([], more=90)
+        both.processors, both.numbers = [1], {(self.A, 1): 1, (self.B, 1): 2}
+        both.on[self.B] = Counter({1: 90})
+        self.assertEqual((both.moved([7]), both.moved([])), ({self.A: 1, self.B: 7}, {}))
+        self.assertEqual(both.numbers_on({self.A: 1, self.B: 7}), {1: 1, 2: 2})
+        self.assertEqual(both.numbers_on({self.A: 7, self.B: 7}), {1: 1, 2: 2})
+
+
+class MadeUp(choosing.Predictions):
+    """Predictions that are given: of each setting its values, by its name, and these with other costs."""
+
+    names: dict[tuple[int, ...], str]
+
+    def __init__(self, goal: str, *settings: tuple[Any, ...]) -> None:
+        self.settings = {name: values for name, values, *_ in settings}
+        self.others = {name: more[0] if more else (values, values) for name, values, *more in settings}
+        self.goal = goal
+
+    def values(self, value: float) -> choosing.Values:
+        zero = {"kernel_percent": 1, "used_p99": 1000, "used_p50": 1000, "lost": 0}
+        return {**zero, {"p99": "used_p99", "p50": "used_p50", "cpu": "kernel_percent", "drops": "lost"}[self.goal]: value}
+
+    def of_all(self, tried: Sequence[choosing.Options]) -> list[choosing.Values]:
+        return [self.values(self.settings[self.name(options)]) for options in tried]
+
+    def sides_of(self, options: choosing.Options) -> list[choosing.Values]:
+        return [self.values(value) for value in self.others[self.name(options)]]
+
+    def name(self, options: choosing.Options) -> str:
+        return self.names[tuple(options.values())]
+
+
+class Costs(unittest.TestCase):
+    def test_the_cost_of_a_timer(self) -> None:
+        """The machine has one cost for interrupts and timers: with deferral that of a timer, if it is known."""
+        costs = {"interrupt": 300, "timer": 4000, "poll": 1, "packet": 2}
+        deferral = {"defer-hard-irqs": 2, "gro-flush-timeout": 20000}
+        self.assertEqual(choosing.settings_of(costs, deferral), {"interrupt": 4000, "poll": 1, "packet": 2, **deferral})
+        self.assertEqual(choosing.settings_of(costs, {"ring": 9}), {"interrupt": 300, "poll": 1, "packet": 2, "ring": 9})
+        self.assertEqual(choosing.settings_of({"interrupt": 300}, deferral)["interrupt"], 300)
+
+
+class Choices(unittest.TestCase):
+    """Which of several settings is advised. A setting's name has a letter for each change; with an A it moves the program."""
+
+    def chosen(self, goal: str, *settings: tuple[Any, ...]) -> str:
+        predictions = MadeUp(goal, *settings)
+        tried = [{"apart": int("A" in name), **{letter: int(letter in name) for letter in "xyz"}} for name, *_ in settings]
+        predictions.names = {tuple(options.values()): name for options, (name, *_) in zip(tried, settings)}
+        words = Namespace(goal=goal, max_drops=None, p99_below=None)
+        best = choosing.Choice(words, "used", predictions, tried).best
+        assert best
+        return predictions.name(best[0])
+
+    def test_the_fewest_changes(self) -> None:
+        """Of settings within 3 %, today's before others; one that moves the program only if no other is as good."""
+        self.assertEqual(self.chosen("p99", ("-", 50), ("xA", 27.0), ("x", 27.6), ("xy", 27.1)), "x")
+        self.assertEqual(self.chosen("p99", ("-", 50), ("A", 27.0), ("xyz", 27.6)), "xyz")
+        self.assertEqual(self.chosen("p99", ("-", 50), ("xA", 27.0), ("x", 29.0)), "xA")
+        self.assertEqual(self.chosen("p99", ("-", 27.5), ("x", 27.0)), "-")
+        self.assertEqual(self.chosen("cpu", ("-", 4), ("x", 2.5), ("xA", 2.5), ("y", 2.4)), "y")
+
+    def test_what_the_costs_leave_open(self) -> None:
+        """With costs 20 % lower x is as good as xy; z is never."""
+        self.assertEqual(self.chosen("p50", ("-", 90), ("xy", 50, (40, 60)), ("x", 55, (40, 70)), ("z", 54, (43, 65))), "x")
+
+    def test_drops(self) -> None:
+        """Settings without drops are alike whatever their waits."""
+        self.assertEqual(self.chosen("drops", ("-", 900), ("xA", 0), ("xy", 0), ("x", 0)), "x")
+        self.assertEqual(self.chosen("drops", ("-", 0), ("x", 0)), "-")
