@@ -65,7 +65,7 @@ SHOWN = 8  # settings in the table
 RARE = 10  # a device with fewer packets than one in so many of the largest one doesn't count
 VAGUE = 4  # ratio of a band's ends above which a value counts as unknown
 LAYOUTS = {0: "queues as they are", MOVED: "interrupts moved", SPREAD: "hashes spread equally"}
-FORMAT = 1  # version of the object that --json prints
+FORMAT = 2  # version of the object that --json prints
 NAMES = {"defer-hard-irqs": "napi_defer_hard_irqs", "gro-flush-timeout": "gro_flush_timeout", "rx-nsecs": "rx-usecs"}
 UNKNOWN = "no wait was measured, because which packet was in which poll isn't known"
 
