@@ -12,9 +12,8 @@ import struct
 import subprocess
 import unittest
 import unittest.mock
-from argparse import Namespace
 from array import array
-from collections import Counter, defaultdict
+from collections import Counter
 from collections.abc import Sequence
 from pathlib import Path
 from typing import Any
@@ -24,10 +23,8 @@ import timing
 from timing import Made
 from tooltest import HAS_MACHINE, HERE, Done, InFolder, keys_of, run, skip_without
 
-from fintaqush_tools import advice, choosing, predicting, verifying
+from fintaqush_tools import advice, predicting, verifying
 from fintaqush_tools.errors import Refusal
-from fintaqush_tools.layout import Layout
-from fintaqush_tools.machine import OPTIONS
 from fintaqush_tools.receiving import Receiving
 from fintaqush_tools.recorded import Recording
 from fintaqush_tools.recording import events_of
@@ -693,163 +690,6 @@ class Seen(unittest.TestCase):
         line, = predicting.check_lines([("dropped", 200, 210, 5.0)], 1000)
         self.assertRegex(line, r"^  dropped +200 +210 +\+5\.0 %$")
         self.assertEqual([each["of"] for each in predicting.objects_in([("dropped", 3, 1, -20.0), ("polls", 50, 51, 2.0)], 500)], [10, 50])
-
-
-class Layouts(unittest.TestCase):
-    """Which processor polls which packets, of two instances."""
-
-    A, B = ("eth0", "a0"), ("eth0", "a1")
-
-    def layout(self, flows: Sequence[int], more: int = 10) -> Layout:
-        """Returns a layout in which processor 1 polls 90 packets of the first instance, and processor 3 some of the second."""
-        layout = Layout.__new__(Layout)
-        layout.processors, layout.numbers = [1, 3], {(self.A, 1): 1, (self.B, 3): 2}
-        layout.devices = [1] * 90 + [2] * more
-        layout.packets = Counter(layout.devices)
-        layout.on = defaultdict(Counter, {self.A: Counter({1: 90}), self.B: Counter({3: more})})
-        layout.seen = Receiving({"eth0"}, set(), {"eth0"})
-        layout.seen.flows = array("L", flows)
-        return layout
-
-    def test_hashes_spread_equally(self) -> None:
-        """The low 7 bits of the hash choose one of 128 entries, which name the queues in turn."""
-        spread = self.layout(range(1, 101)).spread([self.A, self.B])
-        self.assertEqual((spread[:4], Counter(spread)), ([2, 1, 2, 1], {1: 50, 2: 50}))
-        self.assertEqual(self.layout([131] * 50 + [2] * 50).spread([self.A, self.B]), [2] * 50 + [1] * 50)
-
-    def test_what_spreads_nothing(self) -> None:
-        """One flow; a packet without a hash; shares that are even."""
-        for layout in (self.layout([4] * 100), self.layout([0, *range(2, 101)]), self.layout([]), self.layout(range(1, 181), more=90)):
-            self.assertEqual(layout.spread([self.A, self.B]), [])
-
-    def test_instances_on_other_processors(self) -> None:
-        """An idle processor helps only if there are more instances than processors that poll."""
-        self.assertEqual(self.layout([]).moved([7]), {})
-        both = self.layout([], more=90)
-        both.processors, both.numbers = [1], {(self.A, 1): 1, (self.B, 1): 2}
-        both.on[self.B] = Counter({1: 90})
-        self.assertEqual((both.moved([7]), both.moved([])), ({self.A: 1, self.B: 7}, {}))
-        self.assertEqual(both.numbers_on({self.A: 1, self.B: 7}), {1: 1, 2: 2})
-        self.assertEqual(both.numbers_on({self.A: 7, self.B: 7}), {1: 1, 2: 2})
-
-
-class MadeUp(choosing.Predictions):
-    """Predictions that are given: of each setting its values, by its name, and these with other costs."""
-
-    names: dict[tuple[int, ...], str]
-
-    def __init__(self, goal: str, *settings: tuple[Any, ...]) -> None:
-        self.settings = {name: values for name, values, *_ in settings}
-        self.others = {name: more[0] if more else (values, values) for name, values, *more in settings}
-        self.goal = goal
-
-    def values(self, value: float) -> choosing.Values:
-        zero = {"kernel_percent": 1, "used_p99": 1000, "used_p50": 1000, "lost": 0}
-        return {**zero, {"p99": "used_p99", "p50": "used_p50", "cpu": "kernel_percent", "drops": "lost"}[self.goal]: value}
-
-    def of_all(self, tried: Sequence[choosing.Options]) -> list[choosing.Values]:
-        return [self.values(self.settings[self.name(options)]) for options in tried]
-
-    def sides_of(self, options: choosing.Options) -> list[choosing.Values]:
-        return [self.values(value) for value in self.others[self.name(options)]]
-
-    def name(self, options: choosing.Options) -> str:
-        return self.names[tuple(options.values())]
-
-
-class Costs(unittest.TestCase):
-    """What napi_machine gets, with the costs that it has."""
-
-    MEASURED = {"interrupt": 300, "poll": 1, "packet": 20, "wake": 7, "timer": 4000, "timer-wake": 900, "take": 30, "app-wake": 5, "app-wake-apart": 60}
-    DEFERRAL = {"defer-hard-irqs": 2, "gro-flush-timeout": 20000}
-
-    def settings(self, has: Sequence[str], options: choosing.Options) -> choosing.Options:
-        with unittest.mock.patch.object(choosing, "COSTS", has):
-            return choosing.settings_of(self.MEASURED, options)
-
-    def test_a_machine_with_one_cost_for_interrupts_and_timers(self) -> None:
-        """With deferral it is that of a timer, if that is known."""
-        has = ("interrupt", "poll", "packet", "wake")
-        self.assertEqual(self.settings(has, self.DEFERRAL), {"interrupt": 4000, "poll": 1, "packet": 20, "wake": 900, **self.DEFERRAL})
-        self.assertEqual(self.settings(has, {"ring": 9}), {"interrupt": 300, "poll": 1, "packet": 20, "wake": 7, "ring": 9})
-        self.assertEqual(choosing.settings_of({"interrupt": 300}, self.DEFERRAL)["interrupt"], 300)
-
-    def test_a_machine_with_both(self) -> None:
-        """Taking a packet is a part of its cost."""
-        has = ("interrupt", "packet", "wake", "take", "timer", "timer-wake")
-        wanted = {"interrupt": 300, "packet": 20, "wake": 7, "take": 20, "timer": 4000, "timer-wake": 900}
-        self.assertEqual(self.settings(has, self.DEFERRAL), {**wanted, **self.DEFERRAL})
-
-    def test_the_program_is_woken_on_either_processor(self) -> None:
-        for options, woken in (({"apart": 0}, 5), ({"apart": 1}, 60)):
-            self.assertEqual(self.settings(("app-wake",), options), {"app-wake": woken, **options})
-
-
-class Coalescing(unittest.TestCase):
-    """Which rx-usecs are tried, and how they are set."""
-
-    def tried(self, driver: str, usecs: int, has: Sequence[str] = ("rx-gap", "rx-nsecs")) -> list[tuple[int, int]]:
-        """Returns rx-gap and rx-nsecs of each setting, the recorded one first."""
-        head = {"device.eth0.driver": driver, "device.eth0.ethtool.coalesce.rx-usecs": str(usecs), "polled": "eth0"}
-        options = {**OPTIONS, **dict.fromkeys(has, (0, 10**9, 0))}
-        with unittest.mock.patch.object(advice, "OPTIONS", {name: each for name, each in options.items() if name in has or not name.startswith("rx-")}):
-            now = advice.options_of(head, "eth0", 0)
-            tried = advice.candidates(head, "eth0", now, False, True)
-            self.changes = advice.Machine(head, "eth0", 0).changes(tried[-1], now)
-        return list(dict.fromkeys((each.get("rx-gap", 0), each.get("rx-nsecs", 0)) for each in tried))
-
-    def test_a_driver_is_offered_what_it_takes(self) -> None:
-        """e1000 sets the least time between interrupts in units of 256 ns. ixgbe takes 10, 25, 50 and 100, virtio only 0, and tg3 not even that."""
-        self.assertEqual(self.tried("e1000", 0), [(0, 0), (9984, 0), (24832, 0), (49920, 0), (99840, 0)])
-        self.assertEqual([(each.kind, each.name, each.value, each.before) for each in self.changes if each.kind == "coalesce"], [("coalesce", "rx-usecs", 100, 0)])
-        self.assertEqual(self.tried("ixgbe", 30), [(30000, 0), (0, 0), (10000, 0), (25000, 0), (50000, 0), (100000, 0)])
-        self.assertEqual(self.tried("virtio_net", 20), [(0, 20000), (0, 0)])
-        self.assertEqual(self.tried("tg3", 20), [(0, 0)])
-
-    def test_a_driver_that_is_unknown(self) -> None:
-        self.assertEqual(self.tried("qlcnic", 20), [(0, 20000), (0, 0), (0, 10000), (0, 25000), (0, 50000), (0, 100000)])
-
-    def test_a_mode_is_set_again(self) -> None:
-        """At rx-usecs 3 igb chooses the time itself."""
-        self.tried("igb", 3)
-        self.assertEqual([(each.value, each.before) for each in self.changes if each.kind == "coalesce"], [(100, 3)])
-
-    def test_a_machine_without_the_option(self) -> None:
-        """It has no least time between interrupts, which is a note, and no other one is tried."""
-        self.assertEqual(self.tried("e1000", 250, ("rx-nsecs",)), [(0, 0)])
-        head = {"device.eth0.driver": "e1000", "device.eth0.ethtool.coalesce.rx-usecs": "250", "polled": "eth0"}
-        with unittest.mock.patch.object(advice, "OPTIONS", {"latched": (0, 2, 0), "gro-batch": (0, 64, 0)}):
-            self.assertEqual(list(advice.unmodelled_in(head, "eth0")), ["this napi_machine lacks --rx-gap 249856 of e1000"])
-
-
-class Choices(unittest.TestCase):
-    """Which of several settings is advised. A setting's name has a letter for each change; with an A it moves the program."""
-
-    def chosen(self, goal: str, *settings: tuple[Any, ...]) -> str:
-        predictions = MadeUp(goal, *settings)
-        tried = [{"apart": int("A" in name), **{letter: int(letter in name) for letter in "xyz"}} for name, *_ in settings]
-        predictions.names = {tuple(options.values()): name for options, (name, *_) in zip(tried, settings)}
-        words = Namespace(goal=goal, max_drops=None, p99_below=None)
-        best = choosing.Choice(words, "used", predictions, tried).best
-        assert best
-        return predictions.name(best[0])
-
-    def test_the_fewest_changes(self) -> None:
-        """Of settings within 3 %, today's before others; one that moves the program only if no other is as good."""
-        self.assertEqual(self.chosen("p99", ("-", 50), ("xA", 27.0), ("x", 27.6), ("xy", 27.1)), "x")
-        self.assertEqual(self.chosen("p99", ("-", 50), ("A", 27.0), ("xyz", 27.6)), "xyz")
-        self.assertEqual(self.chosen("p99", ("-", 50), ("xA", 27.0), ("x", 29.0)), "xA")
-        self.assertEqual(self.chosen("p99", ("-", 27.5), ("x", 27.0)), "-")
-        self.assertEqual(self.chosen("cpu", ("-", 4), ("x", 2.5), ("xA", 2.5), ("y", 2.4)), "y")
-
-    def test_what_the_costs_leave_open(self) -> None:
-        """With costs 20 % lower x is as good as xy; z is never."""
-        self.assertEqual(self.chosen("p50", ("-", 90), ("xy", 50, (40, 60)), ("x", 55, (40, 70)), ("z", 54, (43, 65))), "x")
-
-    def test_drops(self) -> None:
-        """Settings without drops are alike whatever their waits."""
-        self.assertEqual(self.chosen("drops", ("-", 900), ("xA", 0), ("xy", 0), ("x", 0)), "x")
-        self.assertEqual(self.chosen("drops", ("-", 0), ("x", 0)), "-")
 
 
 @unittest.skipUnless(os.geteuid() == 0 and shutil.which("ip"), "root")
