@@ -66,6 +66,18 @@ links_lead_somewhere() {
     done
 }
 
+# named_pages_are_there COMMAND: each page that --help of a subcommand names is installed.
+named_pages_are_there() {
+    local name page
+    for name in $("$1" --names); do
+        for page in $("$1" "$name" --help | grep -oE '[^ (]*docs/[A-Z]+\.md'); do
+            case $page in /*) [ -e "$page" ] && continue ;; esac
+            echo "$name: $page"
+            return 1
+        done
+    done
+}
+
 # guide_programs_run FOLDER: the programs that the installed guide shows are beside it, and print what it says.
 guide_programs_run() {
     local name
@@ -230,6 +242,8 @@ check 'the shared library needs libc alone' needs_libc_alone "$prefix/lib/libfin
 check 'the shared library gives the calls alone, each of its version' exports_calls_alone "$prefix/lib/libfintaqush.so"
 check 'a call stays in its version' stays_in_its_version
 check 'links of the installed pages' links_lead_somewhere "$prefix/share/doc/fintaqush"
+check "links of the tools' pages" links_lead_somewhere "$prefix/lib/fintaqush/docs"
+check 'the pages that --help names' named_pages_are_there "$prefix/bin/fintaqush"
 check 'each call has a manual page' each_call_has_a_page "$prefix"
 check 'a manual page keeps the lines of code, and has results and errors' page_of_the_driver "$prefix"
 if has cmake 'programs by CMake'; then

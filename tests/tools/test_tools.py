@@ -502,6 +502,13 @@ class CompareRuns(InFolder):
 
 
 class Report2Json(InFolder):
+    def objects_in(self, text: str) -> list[dict[str, Any]]:
+        """Returns the objects of a report, without what all of them begin with: the version, and the tool."""
+        objects: list[dict[str, Any]] = list(map(json.loads, text.splitlines()))
+        for each in objects:
+            self.assertEqual([(name, each.pop(name)) for name in list(each)[:2]], [("version", 1), ("tool", "replay")])
+        return objects
+
     def test_every_line_of_a_report(self) -> None:
         done = run("json", text="""softirq 4 polls 2 work 3 squeezed 1
 kthread 5 device 16 polls 6 work 7
@@ -517,7 +524,7 @@ total devices 3 runs 1 polls 2 work 3 squeezed 1
 """)
         self.assertEqual(done.stderr, "")
         napi = {"line": "napi", "granted": 0, "missed": 0, "disabled": 0, "again": 0, "released": 0}
-        self.assertEqual(list(map(json.loads, done.stdout.splitlines())), [
+        self.assertEqual(self.objects_in(done.stdout), [
             {"line": "softirq", "row": 4, "polls": 2, "work": 3, "squeezed": True},
             {"line": "kthread", "row": 5, "device": 16, "polls": 6, "work": 7},
             {"line": "device", "device": 1, "state": "pending", "arrived": 1, "dropped": 2, "polled": 3, "bytes": 4, "left": 5,
@@ -540,7 +547,7 @@ napi 1 granted 0 missed 0 disabled 0 again 0 released 1 word 65 held 3
 list
 total devices 1 runs 0 polls 0 work 0 squeezed 0
 """)
-        objects = list(map(json.loads, done.stdout.splitlines()))
+        objects = self.objects_in(done.stdout)
         self.assertEqual(objects[0], {"line": "busy", "row": 7, "device": 1, "polls": 4, "work": 2})
         self.assertEqual((objects[2]["held"], objects[2]["flags"]), (3, ["SCHED", "IN_BUSY_POLL"]))
 
@@ -558,7 +565,7 @@ device 2 arrived 2 bytes 160
 tx 2 sent 1 held 0 done 1 denied 0 limit 100 avail 100 stopped 1
 total devices 2
 """)
-        self.assertEqual(list(map(json.loads, done.stdout.splitlines())), [
+        self.assertEqual(self.objects_in(done.stdout), [
             {"line": "device", "device": 1, "arrived": 3, "bytes": 1620}, {"line": "device", "device": 2, "arrived": 2, "bytes": 160},
             {"line": "tx", "device": 2, "sent": 1, "held": 0, "done": 1, "denied": 0, "limit": 100, "avail": 100, "stopped": True},
             {"line": "total", "devices": 2}])

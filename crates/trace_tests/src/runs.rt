@@ -69,7 +69,7 @@ time 0 end 58000 interrupt 12000 poll 7000 use 8000 idle 31000
 total devices 1 arrived 4 dropped 0 polled 4 refused 0 used 4
 ";
 
-// The report as tests/machine_model.py computes it.
+// The report as bench/machine.cc computes it.
 const SMALL_SOCKET: &str =
     "device 1 arrived 3 dropped 0 polled 3 interrupts 1 polls 1 mean 8000 wait50 10000 wait90 10992 wait99 10992 wait999 10992 most 11000
 device 2 arrived 1 dropped 0 polled 1 interrupts 1 polls 1 mean 13500 wait50 13488 wait90 13488 wait99 13488 wait999 13488 most 13500
@@ -79,7 +79,7 @@ application 0 end 73000 wakes 1 use 60000 idle 10000
 total devices 2 arrived 4 dropped 0 polled 4 refused 2 used 2
 ";
 
-// The report as tests/machine_model.py computes it.
+// The report as bench/machine.cc computes it.
 const FLOWS_REPORT: &str =
     "device 1 arrived 1 dropped 0 polled 1 interrupts 1 polls 1 mean 6000 wait50 6000 wait90 6000 wait99 6000 wait999 6000 most 6000
 device 2 arrived 2 dropped 0 polled 2 interrupts 1 polls 1 mean 6000 wait50 2000 wait90 10000 wait99 10000 wait999 10000 most 10000
