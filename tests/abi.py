@@ -174,7 +174,7 @@ def of_call(sources: Sources, call: Mapping[str, Any], objects: set[str]) -> Ite
         yield f"{name} has {len(call['parameters'])} parameters in the header, and {len(own)} in the crates"
     for (parameter, c_type), (own_name, exported) in zip(call["parameters"], own):
         given = plain(c_type)
-        if (struct := abi_names.handle_of(c_type)[0]) in {*objects, "fq_handle"}:
+        if abi_names.handle_of(c_type)[0] in {*objects, "fq_handle"}:
             given = "struct fq_handle *"
         if given != exported:
             yield f"{name}: {parameter} is {c_type} in the header, and {exported} in the crates"

@@ -1,7 +1,6 @@
--- The laws that `laws.rt` names for its proofs; the last one has answers of its own.
+-- The laws that `laws.rt` names for its proofs; the last two have answers of their own.
 use Rattle.machine.proofs.BoundFacts.{deferral-is-bounded}
 use Rattle.machine.proofs.FateFacts.{delivers-in-order}
-use Rattle.machine.proofs.GapFacts.{interrupts-are-apart}
 use Rattle.machine.proofs.TimeFacts.{no-wait-is-less}
 use Rattle.machine.proofs.LeftFacts.{nothing-is-left}
 use Rattle.machine.proofs.LifeFacts.{arrives-as-one, each-lives, runs-as-one}
@@ -17,7 +16,6 @@ pub ruleset laws = (
   delivers-in-order,
   each-lives,
   every-run-ends,
-  interrupts-are-apart,
   no-wait-is-less,
   nothing-is-left,
   runs-as-one,

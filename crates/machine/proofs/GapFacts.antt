@@ -254,6 +254,6 @@ interrupts-are-apart s events n last d polling there asserted small = by (s.rx_g
     by : (none : Bool) → (s.rx_gap == 0) ≡ none → d.counts.interrupts * s.rx_gap ≤ last + s.rx_gap
     by true none = rw (eqb-true s.rx_gap 0 none) (omega arith)
     by false some =
-        let apart : Apart s.rx_gap d = rw there at apart-on s n events polling some in
-        let few : Few s.rx_gap (Some last) (d.counts.interrupts + up d.phase.line) = rw asserted at apart.0 in
+        let apart : Apart s.rx_gap d = rw there at (apart-on s n events polling some) in
+        let few : Few s.rx_gap (Some last) (d.counts.interrupts + up d.phase.line) = rw asserted at (apart.0) in
         few-less s.rx_gap (Some last) d.counts.interrupts (d.counts.interrupts + up d.phase.line) (omega arith) few small
