@@ -21,7 +21,7 @@ static uint64_t now(bool of_two) {
 }
 
 static bool limits(uint64_t pairs) {
-    struct fq_dql dql;
+    struct fq_dql dql = {0};
     uint64_t sum = 0, over = 0;
     uint32_t queued = 0;
     if (fq_dql_init(&dql, 0, 1879048192u, 4, 0) != FQ_OK) return false;
@@ -41,7 +41,9 @@ static bool limits(uint64_t pairs) {
 }
 
 static bool turns(uint64_t count) {
-    struct fq_handle ring = FQ_NONE, control = FQ_NONE, seats[2] = {FQ_NONE, FQ_NONE};
+    struct fq_ring ring = FQ_NONE;
+    struct fq_control control = FQ_NONE;
+    struct fq_seat seats[2] = {FQ_NONE, FQ_NONE};
     if (fq_ring_new(&ring, 64) != FQ_OK || fq_shared_new(&ring, &control, seats, 2) != FQ_OK) return false;
     if (fq_control_enable(&control, false) != FQ_OK) return false;
     for (uint64_t i = 0; i < count; i++) {
@@ -53,7 +55,7 @@ static bool turns(uint64_t count) {
 }
 
 struct looker {
-    struct fq_handle *seat;
+    struct fq_seat *seat;
     uint64_t count;
     bool failed;
 };
@@ -73,36 +75,37 @@ static void *look(void *at) {
 /* The second seat's handle is this many handles after the first one's. */
 static bool looks(uint64_t count, size_t behind) {
     static struct {
-        _Alignas(128) struct fq_handle handles[16];
+        _Alignas(128) struct fq_seat seats[16];
     } places;
-    struct fq_handle control = FQ_NONE, seats[2] = {FQ_NONE, FQ_NONE};
-    struct looker lookers[2] = {{&places.handles[0], count, false}, {&places.handles[behind], count, false}};
+    struct fq_control control = FQ_NONE;
+    struct fq_seat seats[2] = {FQ_NONE, FQ_NONE};
+    struct looker lookers[2] = {{&places.seats[0], count, false}, {&places.seats[behind], count, false}};
     pthread_t threads[2];
     if (fq_shared_bare(&control, seats, 2) != FQ_OK || fq_control_enable(&control, false) != FQ_OK) return false;
     for (int i = 0; i < 2; i++) {
-        if (fq_move(&seats[i], lookers[i].seat) != FQ_OK || pthread_create(&threads[i], NULL, look, &lookers[i]) != 0) return false;
+        if (fq_move(&seats[i].handle, &lookers[i].seat->handle) != FQ_OK || pthread_create(&threads[i], NULL, look, &lookers[i]) != 0) return false;
     }
     for (int i = 0; i < 2; i++) pthread_join(threads[i], NULL);
     printf("looks %" PRIu64 "\n", count);
     return !lookers[0].failed && !lookers[1].failed;
 }
 
-static bool put_one_by_one(struct fq_handle *ring, uint64_t first) {
+static bool put_one_by_one(struct fq_ring *ring, uint64_t first) {
     for (uint64_t i = 0; i < 64; i++) {
         if (fq_ring_put(ring, first + i, 60) != FQ_OK) return false;
     }
     return true;
 }
 
-static bool put_at_once(struct fq_handle *ring, uint64_t first) {
+static bool put_at_once(struct fq_ring *ring, uint64_t first) {
     struct fq_packet burst[64];
     size_t count;
     for (uint64_t i = 0; i < 64; i++) burst[i] = (struct fq_packet){first + i, 60};
     return fq_ring_put_all(ring, burst, 64, &count) == FQ_OK;
 }
 
-static bool packets(uint64_t count, bool put_64(struct fq_handle *, uint64_t)) {
-    struct fq_handle ring = FQ_NONE;
+static bool packets(uint64_t count, bool put_64(struct fq_ring *, uint64_t)) {
+    struct fq_ring ring = FQ_NONE;
     struct fq_packet out[64];
     uint64_t put = 0, given = 0;
     if (fq_ring_new(&ring, 64) != FQ_OK) return false;
@@ -119,7 +122,7 @@ static bool packets(uint64_t count, bool put_64(struct fq_handle *, uint64_t)) {
 }
 
 static bool ring(uint64_t count, size_t burst) {
-    struct fq_handle ring = FQ_NONE;
+    struct fq_ring ring = FQ_NONE;
     struct fq_packet in[64], out[64];
     uint64_t put = 0;
     if (fq_ring_new(&ring, 256) != FQ_OK) return false;
@@ -148,23 +151,24 @@ static inline void act(struct card *card, struct fq_todo *todo) {
         todo->packets = card->put - card->taken < todo->most ? (uint32_t)(card->put - card->taken) : todo->most;
         card->taken += todo->packets;
         break;
+    case FQ_TODO_ENDED: case FQ_TODO_SLEEP: case FQ_TODO_FAILED: break;
     }
 }
 
-static bool opens(struct fq_handle *driver) {
+static bool opens(struct fq_driver *driver) {
     return fq_driver_new(driver, 1, 300, 64, 1024) == FQ_OK && fq_driver_open(driver, 0) == FQ_OK;
 }
 
 /* The packets come this many at a time, and are polled by what the driver says. */
 static bool driver(uint64_t count, uint32_t burst) {
-    struct fq_handle driver = FQ_NONE;
+    struct fq_driver driver = FQ_NONE;
     struct fq_todo todo = FQ_TODO_INIT;
     struct card card = {0, 0, true};
     if (!opens(&driver)) return false;
     while (card.taken < count) {
-        while (fq_driver_next(&driver, &todo), todo.what != FQ_TODO_SLEEP) {
+        while (fq_driver_next(&driver, &todo) == FQ_OK && todo.what != FQ_TODO_SLEEP) {
             act(&card, &todo);
-            fq_driver_done(&driver, &todo);
+            if (fq_driver_done(&driver, &todo) != FQ_OK) return false;
         }
         if (card.masked || card.taken != card.put) return false;
         card.put += burst;
@@ -176,12 +180,12 @@ static bool driver(uint64_t count, uint32_t burst) {
 
 /* The same, with one call that reports and asks. */
 static bool step(uint64_t count, uint32_t burst) {
-    struct fq_handle driver = FQ_NONE;
+    struct fq_driver driver = FQ_NONE;
     struct fq_todo todo = FQ_TODO_INIT;
     struct card card = {0, 0, true};
     if (!opens(&driver)) return false;
     while (card.taken < count) {
-        while (fq_driver_step(&driver, &todo), todo.what != FQ_TODO_SLEEP) act(&card, &todo);
+        while (fq_driver_step(&driver, &todo) == FQ_OK && todo.what != FQ_TODO_SLEEP) act(&card, &todo);
         if (card.masked || card.taken != card.put) return false;
         card.put += burst;
         if (fq_driver_interrupt(&driver, 0) != FQ_GRANTED) return false;
@@ -202,7 +206,7 @@ int main(int words, char **word) {
                       : strcmp(word[1], "step64") == 0 ? step(times, 64)
                       : strcmp(word[1], "turns") == 0 ? turns(times)
                       : burst != 0 && burst <= 64     ? ring(times, burst)
-                      : is_beside || is_apart         ? looks(times, is_beside ? 1 : 128 / sizeof(struct fq_handle))
+                      : is_beside || is_apart         ? looks(times, is_beside ? 1 : 128 / sizeof(struct fq_seat))
                                                       : packets(times, strcmp(word[1], "bursts") == 0 ? put_at_once : put_one_by_one);
     fprintf(stderr, "%" PRIu64 " ns\n", now(is_beside || is_apart) - start);
     return good ? 0 : 1;

@@ -1,5 +1,5 @@
 /* The receiving machine of napi_machine as a plain program, to compare its speed with: the same options, arrivals (without quotes) and
- * report. tests/machine.sh compares its reports with those of tests/machine_model.py. */
+ * report. tests/machine.sh compares it with napi_machine, and with -DCOUNTED it prints on standard error how often some rules apply. */
 #include <algorithm>
 #include <array>
 #include <cstdint>
@@ -11,6 +11,13 @@
 
 static const uint64_t MOST = UINT64_MAX, LATEST = 1ull << 62;
 static const unsigned DEVICES = 64; // of a processor
+
+#ifdef COUNTED
+static unsigned long rests, agains, batches, gaps;
+#define COUNT(rule) rule++
+#else
+#define COUNT(rule)
+#endif
 
 [[noreturn]] static void stop(int status, const char *format, const char *name = "", unsigned long long row = 0) {
     std::fprintf(stderr, format, name, row);
@@ -302,6 +309,7 @@ class Processor {
         const bool is_raised = raised >> at & 1;
         const uint64_t gap = settings[RX_GAP];
         if (gap) {
+            COUNT(gaps);
             if (is_raised) return;
             const uint64_t end = device.has_asserted ? held(device.asserted, gap) : 0;
             if (end > time) {
@@ -394,7 +402,9 @@ class Processor {
     void end_interrupt_without_polling() {
         Device &device = *devices[busy];
         deliver(device, device.ring.take());
-        raised = (raised & ~(1ull << busy)) | static_cast<uint64_t>(device.ring.size() > 0) << busy;
+        if (!device.ring.size()) return;
+        raised |= 1ull << busy;
+        timers.unset(2 * busy);
     }
 
     void begin_run() {
@@ -429,6 +439,7 @@ class Processor {
     }
 
     void go_on_with_rest() {
+        COUNT(rests);
         has_rest = false;
         packet = rest_packet;
         start(A_USE, rest_length);
@@ -483,6 +494,7 @@ class Processor {
     }
 
     void hand_over() {
+        COUNT(batches);
         if (batch.size()) return start(A_HANDOVER, settings[PACKET] - settings[TAKE]);
         if (is_last) end_poll(*devices[busy]);
         else next_take();
@@ -522,6 +534,7 @@ class Processor {
         }
         if (is_full) return;
         if (complete(device, at)) {
+            COUNT(agains);
             if (!settings[THREADED]) list.put(at);
         } else if (settings[THREADED]) {
             tasks.take();
@@ -694,5 +707,8 @@ int main(int count, char **arguments) {
     read_arrivals(processors);
     for (Processor &processor : processors) processor.finish();
     report(processors);
+#ifdef COUNTED
+    std::fprintf(stderr, "rests %lu agains %lu batches %lu gaps %lu\n", rests, agains, batches, gaps);
+#endif
     return std::fflush(stdout) ? 4 : 0;
 }

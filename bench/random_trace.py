@@ -12,33 +12,14 @@ import sys
 KINDS = ["rx", "tx", "done", "softirq", "kthread", "disable", "enable", "threaded", "open"]
 WEIGHTS = [40, 8, 8, 18, 6, 3, 9, 5, 3]
 
+REFUSED = """1,%d,rx 1,%d,rx,0 1,%d,rx,65536 1,17,rx,1 1,0,rx,1 1,%d,softirq,0 1,0,softirq,1 +1,%d,rx,1
+    18446744073709551616,%d,rx,1 1,%d,poll,0 1,%d,busy,0 1,%d,RX,1 1,%d,threaded,2 1,%d,open,0 1,%d,open,65537
+    1,%d,done,65537 1,%d,rx,1,1 1,,rx,1 1,%d,open,4 1,%d,enable,0 1,%d,disable,0 1,%d,kthread,0""".split()
+
 
 def refused(dice: random.Random, device: int) -> str:
     """A row that a reader rejects, or that is none; the last four if the device is in the wrong state."""
-    return dice.choice([
-        "1,%d,rx" % device,
-        "1,%d,rx,0" % device,
-        "1,%d,rx,65536" % device,
-        "1,17,rx,1",
-        "1,0,rx,1",
-        "1,%d,softirq,0" % device,
-        "1,0,softirq,1",
-        "+1,%d,rx,1" % device,
-        "18446744073709551616,%d,rx,1" % device,
-        "1,%d,poll,0" % device,
-        "1,%d,busy,0" % device,
-        "1,%d,RX,1" % device,
-        "1,%d,threaded,2" % device,
-        "1,%d,open,0" % device,
-        "1,%d,open,65537" % device,
-        "1,%d,done,65537" % device,
-        "1,%d,rx,1,1" % device,
-        "1,,rx,1",
-        "1,%d,open,4" % device,
-        "1,%d,enable,0" % device,
-        "1,%d,disable,0" % device,
-        "1,%d,kthread,0" % device,
-    ])
+    return dice.choice(REFUSED).replace("%d", str(device))
 
 
 class Trace:

@@ -6,12 +6,15 @@
  * object's state returns FQ_NOT_ALLOWED and changes nothing.
  *
  * What the caller must ensure, because nothing here can check it:
- * - A pointer points to a whole object of its type, or to as many as its count says. None is null (also for a count of 0), and no two
- *   arguments of one call point to the same memory.
- * - Calls on one object don't overlap, not even those that only read. An object may move from thread to thread if a lock, a thread's start
- *   or join, or a sequentially consistent atomic orders the calls. The ring's input, each seat and the controller of one shared instance
- *   are separate objects, which may be used at the same time, each by one thread.
- * - A struct fq_handle or fq_dql isn't copied, and only calls write its fields. An unset handle is all zero.
+ * - A pointer points to a whole object of its type, or to as many as its count says. None is null, except that of an array whose count
+ *   is 0. No two arguments of one call point to the same memory.
+ * - Calls on one object don't overlap, not even two that only read, which take a pointer to const. An object may move from thread to
+ *   thread if a lock, a thread's start or join, or a sequentially consistent atomic orders the calls. The ring's input, each seat and the
+ *   controller of one shared instance are separate objects, which may be used at the same time, each by one thread.
+ * - A struct that begins with `size`, which may grow, has its sizeof there. For a size that the library doesn't know, a call returns
+ *   FQ_BAD_SIZE and changes nothing.
+ * - A handle (struct fq_ring, fq_tx, fq_seat, fq_control, fq_list, fq_driver) or fq_dql isn't copied, and only calls write its fields. An
+ *   unset handle is all zero.
  * - No call is made from a signal handler, or from the forked child of a process with threads.
  *
  * No call blocks, sleeps, locks or starts a thread. fq_seat_schedule_prep, fq_seat_complete_done, fq_seat_end and fq_control_step, and
@@ -42,11 +45,20 @@
 #if defined(__GNUC__)
 #define FQ_NONNULL __attribute__((nonnull))
 #define FQ_CHECKED __attribute__((nonnull, warn_unused_result))
+#define FQ_CHECKED_AT(...) __attribute__((nonnull(__VA_ARGS__), warn_unused_result)) /* the others are arrays, which may be null */
 #define FQ_RESTRICT __restrict__
 #else
 #define FQ_NONNULL
 #define FQ_CHECKED
+#define FQ_CHECKED_AT(...)
 #define FQ_RESTRICT
+#endif
+
+/* How many drivers the program has made, because each numbers its actions from another number on: one count for all its files. */
+#if defined(__GNUC__)
+#define FQ_PRIVATE_COUNT(count) __atomic_fetch_add(&(count), 1, __ATOMIC_RELAXED)
+#else
+#define FQ_PRIVATE_COUNT(count) ((count)++)
 #endif
 
 /* An enum is a uint32_t, also in C++, so that it can hold a number that a later library returns and this header doesn't name. */
@@ -58,6 +70,12 @@
 
 #ifdef __cplusplus
 extern "C" {
+#endif
+
+#if defined(__GNUC__)
+__attribute__((weak)) uint32_t fq_private_drivers;
+#else
+static uint32_t fq_private_drivers;
 #endif
 
 /* ---- status: statuses, kinds, flags and sizes. */
@@ -103,7 +121,7 @@ enum fq_status FQ_NUMBER {
     FQ_BAD_TRACE = 120,        /* replay, raise: the bytes are not a trace, or a row of it can't be processed */
     FQ_BAD_DEVICE = 121,       /* the driver has no device with this number */
     FQ_BAD_SIZE = 122,         /* a struct's size is not one that the library knows */
-    FQ_BAD_SETTING = 123,      /* machine: a setting of the machine is out of its range */
+    FQ_BAD_SETTING = 123,      /* machine: a setting of the machine is out of its range, or excludes another */
     FQ_BAD_ARRIVALS = 124      /* machine: the bytes are not arrivals */
 };
 
@@ -111,17 +129,20 @@ enum fq_status FQ_NUMBER {
  * message ("?" for an unknown number); the name of a trace's fault. It returns the length of the text; if that isn't below `room`, the
  * array is unchanged. */
 #define FQ_MESSAGE_ROOM 96 /* bytes of an array that has room for each text and its terminating 0 */
-FQ_NONNULL size_t fq_version(char *to, size_t room);
-FQ_NONNULL size_t fq_status_text(uint32_t status, char *to, size_t room);
-FQ_NONNULL size_t fq_status_message(uint32_t status, char *to, size_t room);
-FQ_NONNULL size_t fq_fault_text(uint32_t fault, char *to, size_t room);
+size_t fq_version(char *to, size_t room);
+size_t fq_status_text(uint32_t status, char *to, size_t room);
+size_t fq_status_message(uint32_t status, char *to, size_t room);
+size_t fq_fault_text(uint32_t fault, char *to, size_t room);
+
+/* Returns the library's version as a number, as FQ_VERSION_NUMBER is that of the header. Since 1.1. */
+uint32_t fq_version_number(void);
 
 /* The structs that calls read and write, except those of fq_replay and those that begin with their size. fq_struct_size returns the size
  * of one in bytes, so that bindings can check theirs; 0 for an unknown number. */
 enum fq_struct FQ_NUMBER {
-    FQ_STRUCT_HANDLE = 0, FQ_STRUCT_DQL = 1, FQ_STRUCT_DQL_MADE = 2, FQ_STRUCT_NAPI = 3, FQ_STRUCT_PACKET = 4, FQ_STRUCT_COUNTS = 5,
-    FQ_STRUCT_TOTALS = 6, FQ_STRUCT_RING_SHOWN = 7, FQ_STRUCT_TX_SHOWN = 8, FQ_STRUCT_ANSWERS = 9, FQ_STRUCT_RUN_REPORT = 10,
-    FQ_STRUCT_TODO = 11, FQ_STRUCT_DEVICE_SHOWN = 12, FQ_STRUCT_TX_WATCHDOG = 13
+    FQ_STRUCT_HANDLE = 0, FQ_STRUCT_DQL = 1, FQ_STRUCT_NAPI = 2, FQ_STRUCT_PACKET = 3, FQ_STRUCT_COUNTS = 4, FQ_STRUCT_TOTALS = 5,
+    FQ_STRUCT_RING_SHOWN = 6, FQ_STRUCT_TX_SHOWN = 7, FQ_STRUCT_ANSWERS = 8, FQ_STRUCT_RUN_REPORT = 9, FQ_STRUCT_TODO = 10,
+    FQ_STRUCT_DEVICE_SHOWN = 11, FQ_STRUCT_TX_WATCHDOG = 12
 };
 size_t fq_struct_size(uint32_t which);
 
@@ -146,6 +167,9 @@ static inline const char *fq_status_name(uint32_t status) {
     }
     return "?";
 }
+
+/* Returns whether a status is an error; any other is FQ_OK or a result. */
+static inline bool fq_is_error(uint32_t status) { return (status > FQ_OK && status < FQ_GRANTED) || status >= FQ_NOT_ALLOWED; }
 
 /* Where an instance is queued. Calls that read the kind from the state word say so. */
 enum fq_kind FQ_NUMBER {
@@ -185,26 +209,9 @@ struct fq_dql {
     uint64_t private_d;
 };
 
-/* What fq_dql_new returns. */
-struct fq_dql_made {
-    struct fq_dql dql; /* the limit; a limit of 0 unless the status is FQ_OK */
-    uint32_t status;   /* FQ_OK or FQ_BAD_BOUNDS */
-};
-
-/* Returns a new limit between `min` and `max` bytes, with the slack hold time `hold_ms` (dql_init), and the status FQ_OK or
- * FQ_BAD_BOUNDS; after FQ_BAD_BOUNDS it is a limit of 0. */
-struct fq_dql_made fq_dql_new(uint32_t min, uint32_t max, uint64_t hold_ms, uint64_t now_ms);
-
-/* Like fq_dql_new, but writes the limit to the caller's struct, and returns the status. */
-FQ_CHECKED static inline enum fq_status fq_dql_init(struct fq_dql *dql, uint32_t min, uint32_t max, uint64_t hold_ms, uint64_t now_ms) {
-    struct fq_dql_made made = fq_dql_new(min, max, hold_ms, now_ms);
-    *dql = made.dql;
-    return (enum fq_status)made.status;
-}
-
-/* Like fq_dql_init, for callers that can't use returned structs. *dql has to be all 0 or a limit; it is unchanged if the call returns
- * FQ_BAD_BOUNDS. */
-FQ_CHECKED enum fq_status fq_dql_renew(struct fq_dql *dql, uint32_t min, uint32_t max, uint64_t hold_ms, uint64_t now_ms);
+/* Makes a new limit between `min` and `max` bytes, with the slack hold time `hold_ms` (dql_init). *dql has to be all 0 or a limit; it is
+ * unchanged if the call returns FQ_BAD_BOUNDS. Returns FQ_OK; FQ_BAD_BOUNDS. Since 1.1. */
+FQ_CHECKED enum fq_status fq_dql_init(struct fq_dql *dql, uint32_t min, uint32_t max, uint64_t hold_ms, uint64_t now_ms);
 
 /* Adds an object of `count` bytes that was sent to the device (dql_queued). Returns FQ_OK; FQ_TOO_LARGE; FQ_TOO_MUCH_IN_FLIGHT. */
 FQ_CHECKED enum fq_status fq_dql_queued(struct fq_dql *dql, uint32_t count);
@@ -282,20 +289,29 @@ FQ_NONNULL uint64_t fq_napi_word(const struct fq_napi *napi);
 
 /* ---- handle: free, abandon and move objects of the library. They are on the library's heap. */
 
-/* A handle to an object of the library. It isn't copied, and only calls write its fields. */
+/* What the handles of all kinds of objects have in common. It isn't copied, and only calls write its fields. */
 struct fq_handle {
     bool private_set;
     void *private_at;
 };
 
-/* An unset handle: it refers to no object. */
-#define FQ_NONE {false, NULL}
+/* The handles, with a type for each kind of object. The calls on an object of any kind take its member: `fq_free(&ring.handle)`. */
+struct fq_ring { struct fq_handle handle; };    /* a receive ring, or its input or its poll end */
+struct fq_tx { struct fq_handle handle; };      /* a transmit ring */
+struct fq_seat { struct fq_handle handle; };    /* a caller of a shared instance */
+struct fq_control { struct fq_handle handle; }; /* the controller of a shared instance */
+struct fq_list { struct fq_handle handle; };    /* a poll list, and the run over it */
+struct fq_driver { struct fq_handle handle; };  /* a driver */
 
-/* Frees the object of a handle, which is unset after that. Returns FQ_OK; FQ_BAD_HANDLE; FQ_NOT_ALLOWED, and nothing is freed, for a seat
- * that isn't at rest, for a controller that isn't off, and for a list in a run: then the handle still has its object, which leaks unless a
- * later call frees it. Packets in a ring are lost, so poll them before. */
+/* An unset handle: it refers to no object. */
+#define FQ_NONE {{false, NULL}}
+
+/* Frees the object of a handle, which is unset after that. AN OBJECT IN USE IS NOT FREED: for a seat that isn't at rest, a controller that
+ * isn't off, and a list in a run it returns FQ_NOT_ALLOWED, and the handle still has its object, which leaks unless a later call frees it.
+ * Rings, transmit rings and drivers are freed in any state; packets in a ring are lost, so poll them before. Returns FQ_OK; FQ_BAD_HANDLE;
+ * FQ_NOT_ALLOWED. */
 FQ_CHECKED enum fq_status fq_free(struct fq_handle *handle);
-/* Frees the object of a handle in any state. Returns FQ_OK; FQ_BAD_HANDLE. An instance whose poller was abandoned is never polled again.
+/* Frees the object of a handle in any state, so nothing leaks. Returns FQ_OK; FQ_BAD_HANDLE. An instance whose poller was abandoned is never polled again.
  * The status may be ignored. */
 FQ_NONNULL enum fq_status fq_abandon(struct fq_handle *handle);
 /* Moves the object of `from` to `to`; `from` is unset after that. Returns FQ_OK; FQ_IN_USE if `to` is set; FQ_BAD_HANDLE. */
@@ -310,17 +326,17 @@ struct fq_packet {
 };
 
 /* Makes a ring of capacity 1 to 65536. Returns FQ_OK; FQ_IN_USE; FQ_BAD_CAPACITY; FQ_OUT_OF_MEMORY. */
-FQ_CHECKED enum fq_status fq_ring_new(struct fq_handle *ring, size_t capacity);
+FQ_CHECKED enum fq_status fq_ring_new(struct fq_ring *ring, size_t capacity);
 /* Puts a packet into the ring, after all others. Returns FQ_OK; FQ_FULL; FQ_BAD_HANDLE. */
-FQ_CHECKED enum fq_status fq_ring_put(struct fq_handle *ring, uint64_t number, uint32_t bytes);
+FQ_CHECKED enum fq_status fq_ring_put(struct fq_ring *ring, uint64_t number, uint32_t bytes);
 /* Puts the packets of an array into the ring, after all others and in order: as many of the first ones as fit. Sets *count to how many.
  * Returns FQ_OK if all fit; FQ_FULL if not; FQ_BAD_HANDLE, and *count is 0. A poll sees all of them at once. A circular pool of buffers
  * needs as many as the ring's capacity, plus 64 for a poll, plus the longest burst, which is 1 for fq_ring_put. */
-FQ_CHECKED enum fq_status fq_ring_put_all(struct fq_handle *FQ_RESTRICT ring, const struct fq_packet *FQ_RESTRICT packets, size_t len, size_t *FQ_RESTRICT count);
+FQ_CHECKED_AT(1, 4) enum fq_status fq_ring_put_all(struct fq_ring *FQ_RESTRICT ring, const struct fq_packet *FQ_RESTRICT packets, size_t len, size_t *FQ_RESTRICT count);
 /* Removes the first packets from the ring, at most `weight` (1 to 64), and writes them to an array of `len` elements, at least the
  * weight. Returns FQ_OK, and sets *count to their number. Otherwise *count is 0: FQ_BAD_WEIGHT; FQ_NO_ROOM; FQ_BAD_HANDLE, also for a
  * ring whose poll end belongs to an instance or to another handle. */
-FQ_CHECKED enum fq_status fq_ring_poll(struct fq_handle *FQ_RESTRICT ring, size_t weight, struct fq_packet *FQ_RESTRICT out, size_t len, size_t *FQ_RESTRICT count);
+FQ_CHECKED_AT(1, 5) enum fq_status fq_ring_poll(struct fq_ring *FQ_RESTRICT ring, size_t weight, struct fq_packet *FQ_RESTRICT out, size_t len, size_t *FQ_RESTRICT count);
 
 /* The counts of a ring's polls, each of which saturates at its maximum. */
 struct fq_counts {
@@ -340,22 +356,22 @@ struct fq_totals {
 /* Sets *counts to the counts of a ring's polls. The handle has to own the poll end: it is a ring, or the poll end of one that was split;
  * a seat that polls; the controller of a disabled instance. Returns FQ_OK; FQ_BAD_HANDLE; FQ_NOT_ALLOWED for any other. *counts is
  * unchanged unless it returns FQ_OK. */
-FQ_CHECKED enum fq_status fq_count(struct fq_handle *FQ_RESTRICT handle, struct fq_counts *FQ_RESTRICT counts);
+FQ_CHECKED enum fq_status fq_count(const struct fq_handle *FQ_RESTRICT handle, struct fq_counts *FQ_RESTRICT counts);
 
 /* The state of a ring, or of its input. */
 struct fq_ring_shown {
-    uint64_t put;  /* the packets put so far, a count that saturates; minus the packets of fq_count, it is the number in the ring */
-    size_t places; /* the ring's capacity in packets */
+    uint64_t put;    /* the packets put so far, a count that saturates; minus the packets of fq_count, it is the number in the ring */
+    size_t capacity; /* in packets */
 };
 
 /* Sets *shown to the state of a ring, or of its input. Returns FQ_OK; FQ_BAD_HANDLE, and *shown is unchanged. */
-FQ_CHECKED enum fq_status fq_ring_show(struct fq_handle *FQ_RESTRICT ring, struct fq_ring_shown *FQ_RESTRICT shown);
+FQ_CHECKED enum fq_status fq_ring_show(const struct fq_ring *FQ_RESTRICT ring, struct fq_ring_shown *FQ_RESTRICT shown);
 /* Splits a ring without an instance for two threads: after it, `ring` is the ring's input, for puts, and `out` its poll end, for polls.
  * Each is freed separately. Returns FQ_OK; FQ_IN_USE; FQ_BAD_HANDLE; FQ_OUT_OF_MEMORY. */
-FQ_CHECKED enum fq_status fq_ring_split(struct fq_handle *FQ_RESTRICT ring, struct fq_handle *FQ_RESTRICT out);
+FQ_CHECKED enum fq_status fq_ring_split(struct fq_ring *FQ_RESTRICT ring, struct fq_ring *FQ_RESTRICT out);
 /* Frees a ring that was never split, and sets *totals to its totals; the handle is unset after that. Returns FQ_OK; FQ_BAD_HANDLE, and
  * nothing changes. */
-FQ_CHECKED enum fq_status fq_ring_finish(struct fq_handle *FQ_RESTRICT ring, struct fq_totals *FQ_RESTRICT totals);
+FQ_CHECKED enum fq_status fq_ring_finish(struct fq_ring *FQ_RESTRICT ring, struct fq_totals *FQ_RESTRICT totals);
 
 /* ---- tx: transmit rings under a byte queue limit (netdev_tx_sent_queue, netdev_tx_completed_queue). The ring keeps the sizes of the
  * packets that were sent and aren't completed, in order; the packets themselves stay with the caller. Times are milliseconds. */
@@ -371,16 +387,16 @@ struct fq_tx_shown {
 
 /* Makes a ring of capacity 1 to 65536, not stopped, over a new limit between `min` and `max` bytes, with the slack hold time `hold_ms`
  * (dql_init). fq_free frees it, whatever it holds. Returns FQ_OK; FQ_IN_USE; FQ_BAD_BOUNDS; FQ_BAD_CAPACITY; FQ_OUT_OF_MEMORY. */
-FQ_CHECKED enum fq_status fq_tx_new(struct fq_handle *tx, size_t capacity, uint32_t min, uint32_t max, uint64_t hold_ms, uint64_t now_ms);
+FQ_CHECKED enum fq_status fq_tx_new(struct fq_tx *tx, size_t capacity, uint32_t min, uint32_t max, uint64_t hold_ms, uint64_t now_ms);
 /* Sends a packet of `bytes` bytes to the device (netdev_tx_sent_queue): adds it to the ring, and stops the queue if `avail` becomes
  * negative. Returns FQ_OK; otherwise nothing is sent: FQ_STOPPED, else FQ_FULL, else FQ_TOO_LARGE, else FQ_TOO_MUCH_IN_FLIGHT;
  * FQ_BAD_HANDLE. */
-FQ_CHECKED enum fq_status fq_tx_send(struct fq_handle *tx, uint32_t bytes);
+FQ_CHECKED enum fq_status fq_tx_send(struct fq_tx *tx, uint32_t bytes);
 /* Completes the `count` oldest packets (netdev_tx_completed_queue). If these have any bytes, the limit adapts, and the queue is started
  * if the limit has room again. Returns FQ_OK; FQ_MORE_THAN_SENT, and nothing is completed; FQ_BAD_HANDLE. */
-FQ_CHECKED enum fq_status fq_tx_done(struct fq_handle *tx, uint32_t count, uint64_t now_ms);
+FQ_CHECKED enum fq_status fq_tx_done(struct fq_tx *tx, uint32_t count, uint64_t now_ms);
 /* Sets *state to the state of the ring. Returns FQ_OK; FQ_BAD_HANDLE, and *state is unchanged. */
-FQ_CHECKED enum fq_status fq_tx_state(struct fq_handle *FQ_RESTRICT tx, struct fq_tx_shown *FQ_RESTRICT state);
+FQ_CHECKED enum fq_status fq_tx_state(const struct fq_tx *FQ_RESTRICT tx, struct fq_tx_shown *FQ_RESTRICT state);
 
 /* What a driver's watchdog timer keeps about a transmit ring (dev_watchdog): all 0 at first. */
 struct fq_tx_watchdog {
@@ -392,39 +408,39 @@ struct fq_tx_watchdog {
 /* Checks a ring at each tick of that timer. Sets *stuck to whether the ring has been stopped, with no byte completed, for `limit_ms`
  * since the first check that found it so; if the clock went back to before that check, 0 ms have passed. Returns FQ_OK; FQ_BAD_HANDLE,
  * and *stuck is false. Since 1.1. */
-FQ_CHECKED enum fq_status fq_tx_watch(struct fq_handle *FQ_RESTRICT tx, struct fq_tx_watchdog *FQ_RESTRICT watchdog, uint64_t limit_ms, uint64_t now_ms, bool *FQ_RESTRICT stuck);
+FQ_CHECKED enum fq_status fq_tx_watch(const struct fq_tx *FQ_RESTRICT tx, struct fq_tx_watchdog *FQ_RESTRICT watchdog, uint64_t limit_ms, uint64_t now_ms, bool *FQ_RESTRICT stuck);
 
 /* ---- shared: instances that threads share. */
 
 /* Makes an instance over the ring's poll end, with its controller and an array of `count` (2 to 8) seats, one for each caller. It is
  * disabled. After it, `ring` is only the ring's input. Returns FQ_OK; FQ_IN_USE; FQ_BAD_COUNT; FQ_BAD_HANDLE; FQ_OUT_OF_MEMORY. */
-FQ_CHECKED enum fq_status fq_shared_new(struct fq_handle *FQ_RESTRICT ring, struct fq_handle *FQ_RESTRICT control, struct fq_handle *FQ_RESTRICT seats, size_t count);
+FQ_CHECKED_AT(1, 2) enum fq_status fq_shared_new(struct fq_ring *FQ_RESTRICT ring, struct fq_control *FQ_RESTRICT control, struct fq_seat *FQ_RESTRICT seats, size_t count);
 
 /* Makes an instance without a ring, for a card that the caller polls itself; fq_seat_poll returns no packets. Otherwise like
  * fq_shared_new. Returns FQ_OK; FQ_IN_USE; FQ_BAD_COUNT; FQ_OUT_OF_MEMORY. */
-FQ_CHECKED enum fq_status fq_shared_bare(struct fq_handle *FQ_RESTRICT control, struct fq_handle *FQ_RESTRICT seats, size_t count);
+FQ_CHECKED_AT(1) enum fq_status fq_shared_bare(struct fq_control *FQ_RESTRICT control, struct fq_seat *FQ_RESTRICT seats, size_t count);
 
 /* The calls of a seat, which is one caller of the instance. Each makes one attempt, after checks for FQ_BAD_KIND, FQ_BAD_WEIGHT,
  * FQ_NO_ROOM and FQ_BAD_HANDLE; fq_seat_schedule_prep and fq_seat_complete_done repeat it while another thread changes the instance. A
  * seat at rest, which owns nothing, may request a poll (napi_schedule_prep), take the instance from the list or as its thread, take it to
  * busy poll it (napi_busy_loop), and set whether polls are queued for its thread (dev_set_threaded). */
-FQ_CHECKED enum fq_status fq_seat_schedule(struct fq_handle *seat);      /* FQ_GRANTED, FQ_MISSED, FQ_DISABLED, FQ_CHANGED */
-FQ_CHECKED enum fq_status fq_seat_schedule_prep(struct fq_handle *seat); /* FQ_GRANTED, FQ_MISSED, FQ_DISABLED, since 1.1 */
-FQ_CHECKED enum fq_status fq_seat_take(struct fq_handle *seat, uint32_t kind); /* FQ_TAKEN, FQ_NOT_THERE */
-FQ_CHECKED enum fq_status fq_seat_busy_take(struct fq_handle *seat); /* FQ_TAKEN, FQ_BUSY, FQ_CHANGED */
-FQ_CHECKED enum fq_status fq_seat_set_threaded(struct fq_handle *seat, bool threaded); /* FQ_OK */
+FQ_CHECKED enum fq_status fq_seat_schedule(struct fq_seat *seat);      /* FQ_GRANTED, FQ_MISSED, FQ_DISABLED, FQ_CHANGED */
+FQ_CHECKED enum fq_status fq_seat_schedule_prep(struct fq_seat *seat); /* FQ_GRANTED, FQ_MISSED, FQ_DISABLED, since 1.1 */
+FQ_CHECKED enum fq_status fq_seat_take(struct fq_seat *seat, uint32_t kind); /* FQ_TAKEN, FQ_NOT_THERE */
+FQ_CHECKED enum fq_status fq_seat_busy_take(struct fq_seat *seat); /* FQ_TAKEN, FQ_BUSY, FQ_CHANGED */
+FQ_CHECKED enum fq_status fq_seat_set_threaded(struct fq_seat *seat, bool threaded); /* FQ_OK */
 /* A seat that was granted the instance has to queue it (____napi_schedule). */
-FQ_CHECKED enum fq_status fq_seat_hand(struct fq_handle *seat, uint32_t kind); /* FQ_OK */
+FQ_CHECKED enum fq_status fq_seat_hand(struct fq_seat *seat, uint32_t kind); /* FQ_OK */
 /* A seat that polls may poll the ring, like fq_ring_poll, and then requeues the instance or completes (napi_complete_done). */
-FQ_CHECKED enum fq_status fq_seat_poll(struct fq_handle *FQ_RESTRICT seat, size_t weight, struct fq_packet *FQ_RESTRICT out, size_t len, size_t *FQ_RESTRICT count);
-FQ_CHECKED enum fq_status fq_seat_requeue(struct fq_handle *seat);       /* FQ_OK: it is on the list again */
-FQ_CHECKED enum fq_status fq_seat_complete(struct fq_handle *seat);      /* FQ_RELEASED, FQ_AGAIN, FQ_CHANGED; FQ_HELD for a busy poller */
-FQ_CHECKED enum fq_status fq_seat_complete_done(struct fq_handle *seat); /* FQ_RELEASED, FQ_AGAIN; FQ_HELD for a busy poller, since 1.1 */
+FQ_CHECKED_AT(1, 5) enum fq_status fq_seat_poll(struct fq_seat *FQ_RESTRICT seat, size_t weight, struct fq_packet *FQ_RESTRICT out, size_t len, size_t *FQ_RESTRICT count);
+FQ_CHECKED enum fq_status fq_seat_requeue(struct fq_seat *seat);       /* FQ_OK: it is on the list again */
+FQ_CHECKED enum fq_status fq_seat_complete(struct fq_seat *seat);      /* FQ_RELEASED, FQ_AGAIN, FQ_CHANGED; FQ_HELD for a busy poller */
+FQ_CHECKED enum fq_status fq_seat_complete_done(struct fq_seat *seat); /* FQ_RELEASED, FQ_AGAIN; FQ_HELD for a busy poller, since 1.1 */
 /* A seat that busy polls may poll and complete, and stops (busy_poll_stop): it then polls once more. */
-FQ_CHECKED enum fq_status fq_seat_busy_stop(struct fq_handle *seat); /* FQ_OK, FQ_CHANGED */
+FQ_CHECKED enum fq_status fq_seat_busy_stop(struct fq_seat *seat); /* FQ_OK, FQ_CHANGED */
 
 /* Sets *word to the state word, a sum of FQ_BIT_.., in any state of the seat. Returns FQ_OK; FQ_BAD_HANDLE. */
-FQ_CHECKED enum fq_status fq_seat_look(struct fq_handle *FQ_RESTRICT seat, uint64_t *FQ_RESTRICT word);
+FQ_CHECKED enum fq_status fq_seat_look(struct fq_seat *FQ_RESTRICT seat, uint64_t *FQ_RESTRICT word);
 
 /* How often a seat's calls returned each result. Each count saturates at its maximum. */
 struct fq_answers {
@@ -439,7 +455,7 @@ struct fq_answers {
 
 /* Sets *answers to how often the seat's calls returned each result since it was made. Returns FQ_OK; FQ_BAD_HANDLE, and *answers is
  * unchanged. */
-FQ_CHECKED enum fq_status fq_seat_count(struct fq_handle *FQ_RESTRICT seat, struct fq_answers *FQ_RESTRICT answers);
+FQ_CHECKED enum fq_status fq_seat_count(const struct fq_seat *FQ_RESTRICT seat, struct fq_answers *FQ_RESTRICT answers);
 
 /* The callbacks of a driver for its card. Each is called with `at`. A callback that a call doesn't use may be null. */
 struct fq_card {
@@ -453,13 +469,13 @@ struct fq_card {
 /* Queues a granted instance as the kernel does (____napi_schedule): for its thread if FQ_BIT_THREADED is set. Sets *next to
  * FQ_NEXT_AGAIN or FQ_NEXT_AGAIN_THREAD. Returns FQ_OK; FQ_BAD_HANDLE; FQ_NOT_ALLOWED. *next is FQ_NEXT_GONE unless it returns FQ_OK.
  * Since 1.1. */
-FQ_CHECKED enum fq_status fq_seat_hand_again(struct fq_handle *FQ_RESTRICT seat, uint32_t *FQ_RESTRICT next);
+FQ_CHECKED enum fq_status fq_seat_hand_again(struct fq_seat *FQ_RESTRICT seat, uint32_t *FQ_RESTRICT next);
 
 /* Handles an interrupt: requests a poll (fq_seat_schedule_prep); if granted, masks the card and queues the instance, in the kernel's
  * order: if the card were masked after that, it would stay masked whenever the poller is faster. `kind` follows FQ_BIT_THREADED, which
  * fq_seat_request reads itself. Returns FQ_BAD_KIND; FQ_GRANTED, and the instance is queued; FQ_MISSED; FQ_DISABLED; FQ_BAD_HANDLE;
  * FQ_NOT_ALLOWED. */
-FQ_CHECKED static inline enum fq_status fq_seat_interrupt_masked(struct fq_handle *seat, uint32_t kind, const struct fq_card *card) {
+FQ_CHECKED static inline enum fq_status fq_seat_interrupt_masked(struct fq_seat *seat, uint32_t kind, const struct fq_card *card) {
     if (kind > FQ_THREAD) return FQ_BAD_KIND;
     const enum fq_status said = fq_seat_schedule_prep(seat);
     if (said != FQ_GRANTED) return said;
@@ -469,7 +485,7 @@ FQ_CHECKED static inline enum fq_status fq_seat_interrupt_masked(struct fq_handl
 }
 
 /* Like fq_seat_interrupt_masked, for a card that is masked already, or is never masked. */
-FQ_CHECKED static inline enum fq_status fq_seat_interrupt(struct fq_handle *seat, uint32_t kind) {
+FQ_CHECKED static inline enum fq_status fq_seat_interrupt(struct fq_seat *seat, uint32_t kind) {
     const struct fq_card none = {NULL, NULL, NULL, NULL, NULL};
     return fq_seat_interrupt_masked(seat, kind, &none);
 }
@@ -477,7 +493,7 @@ FQ_CHECKED static inline enum fq_status fq_seat_interrupt(struct fq_handle *seat
 /* Requests a poll (napi_schedule), from an interrupt, a timer or a driver's open. Like fq_seat_interrupt_masked, but reads the kind from
  * the state word. Sets *next to where the instance is queued: after FQ_NEXT_AGAIN list the number, after FQ_NEXT_AGAIN_THREAD wake the
  * thread; FQ_NEXT_GONE unless it returns FQ_GRANTED. Returns FQ_GRANTED; FQ_MISSED; FQ_DISABLED; FQ_BAD_HANDLE; FQ_NOT_ALLOWED. */
-FQ_CHECKED static inline enum fq_status fq_seat_request(struct fq_handle *FQ_RESTRICT seat, const struct fq_card *FQ_RESTRICT card, uint32_t *FQ_RESTRICT next) {
+FQ_CHECKED static inline enum fq_status fq_seat_request(struct fq_seat *FQ_RESTRICT seat, const struct fq_card *FQ_RESTRICT card, uint32_t *FQ_RESTRICT next) {
     *next = FQ_NEXT_GONE;
     const enum fq_status said = fq_seat_schedule_prep(seat);
     if (said != FQ_GRANTED) return said;
@@ -494,14 +510,14 @@ FQ_CHECKED static inline enum fq_status fq_seat_request(struct fq_handle *FQ_RES
  * has to be woken; that may follow a poll from the list too. Returns FQ_OK; FQ_HELD: the seat keeps polling, as a busy poller does;
  * FQ_NOT_ALLOWED if it doesn't poll; FQ_BAD_HANDLE. *next is FQ_NEXT_GONE unless it returns FQ_OK. A seat polls as the thread while
  * FQ_BIT_SCHED_THREADED is set, which fq_seat_requeue doesn't clear. Since 1.1. */
-FQ_CHECKED enum fq_status fq_seat_end(struct fq_handle *FQ_RESTRICT seat, bool full, uint32_t *FQ_RESTRICT next);
+FQ_CHECKED enum fq_status fq_seat_end(struct fq_seat *FQ_RESTRICT seat, bool full, uint32_t *FQ_RESTRICT next);
 
 #if defined(__GNUC__)
 /* Ends a poll of a card whose queue can be checked by `look`. Like fq_seat_end; and if the instance was released, unmasks the card, and
  * looks after a memory fence. If there is something to poll, it requests a poll itself, masks the card and queues the instance. Without
  * this look an edge-triggered interrupt would be lost. If FQ_BIT_THREADED was set meanwhile, the instance is queued for its thread: wake
  * it after FQ_NEXT_AGAIN_THREAD. Returns what fq_seat_end returns. */
-FQ_CHECKED static inline enum fq_status fq_seat_end_watched(struct fq_handle *FQ_RESTRICT seat, bool full, const struct fq_card *FQ_RESTRICT card, uint32_t *FQ_RESTRICT next) {
+FQ_CHECKED static inline enum fq_status fq_seat_end_watched(struct fq_seat *FQ_RESTRICT seat, bool full, const struct fq_card *FQ_RESTRICT card, uint32_t *FQ_RESTRICT next) {
     enum fq_status said = fq_seat_end(seat, full, next);
     if (said != FQ_OK || *next != FQ_NEXT_GONE) return said;
     card->unmask(card->at);
@@ -516,14 +532,14 @@ FQ_CHECKED static inline enum fq_status fq_seat_end_watched(struct fq_handle *FQ
  * card while the seat still polls, polls the rest of the weight, adds that to *work, and ends like fq_seat_end, full or not. A request
  * that comes meanwhile is missed, so that one more poll follows; for that poll, and if this one was full, the card is masked. Returns
  * FQ_BAD_WEIGHT if the weight isn't 1 to 64, and nothing is done; otherwise what fq_seat_end returns. */
-FQ_CHECKED static inline enum fq_status fq_seat_end_unmasked(struct fq_handle *FQ_RESTRICT seat, const struct fq_card *FQ_RESTRICT card, size_t weight, size_t *FQ_RESTRICT work, uint32_t *FQ_RESTRICT next) {
+FQ_CHECKED static inline enum fq_status fq_seat_end_unmasked(struct fq_seat *FQ_RESTRICT seat, const struct fq_card *FQ_RESTRICT card, size_t weight, size_t *FQ_RESTRICT work, uint32_t *FQ_RESTRICT next) {
     struct fq_counts counts; /* only for its status: FQ_OK if the seat polls */
     uint64_t word;
     *next = FQ_NEXT_GONE;
     if (weight < 1 || weight > 64) return FQ_BAD_WEIGHT;
     enum fq_status said = fq_seat_look(seat, &word);
     if (said == FQ_OK && word & FQ_BIT_IN_BUSY_POLL) return fq_seat_end(seat, false, next);
-    if (said == FQ_OK) said = fq_count(seat, &counts);
+    if (said == FQ_OK) said = fq_count(&seat->handle, &counts);
     if (said != FQ_OK) return said;
     if (*work < weight) {
         card->unmask(card->at);
@@ -541,23 +557,28 @@ FQ_CHECKED static inline enum fq_status fq_seat_end_unmasked(struct fq_handle *F
  * returns FQ_TAKEN, and the instance is off again (napi_disable). Request a poll once after each enable, by a seat (fq_seat_request), or
  * enable by fq_control_open, which does so: an earlier request was missed and isn't polled, and a masked card with a full ring would wait
  * forever. */
-FQ_CHECKED enum fq_status fq_control_enable(struct fq_handle *control, bool threaded); /* FQ_OK, FQ_CHANGED */
-FQ_CHECKED enum fq_status fq_control_mark(struct fq_handle *control);                  /* FQ_OK */
-FQ_CHECKED enum fq_status fq_control_try_take(struct fq_handle *control);              /* FQ_TAKEN, FQ_BUSY, FQ_CHANGED */
+FQ_CHECKED enum fq_status fq_control_enable(struct fq_control *control, bool threaded); /* FQ_OK, FQ_CHANGED */
+FQ_CHECKED enum fq_status fq_control_mark(struct fq_control *control);                  /* FQ_OK */
+FQ_CHECKED enum fq_status fq_control_try_take(struct fq_control *control);              /* FQ_TAKEN, FQ_BUSY, FQ_CHANGED */
 
 /* Makes one step of a driver's open (`on`) or stop; repeat it between the driver's polls until it returns FQ_OK. After FQ_OK the
  * instance is enabled, and a poll still has to be requested once (fq_control_open does so); or it is off. Returns FQ_OK, also to stop an
  * instance that is off; FQ_BUSY: a disable is pending, and the owner has to complete the instance before the next step; FQ_NOT_ALLOWED
  * to open one that isn't off; FQ_BAD_HANDLE. Since 1.1. */
-FQ_CHECKED enum fq_status fq_control_step(struct fq_handle *control, bool on, bool threaded);
+FQ_CHECKED enum fq_status fq_control_step(struct fq_control *control, bool on, bool threaded);
+
+/* Returns FQ_OK if the seat belongs to the controller's instance, otherwise FQ_BAD_HANDLE. Since 1.1. */
+FQ_CHECKED enum fq_status fq_control_has(const struct fq_control *FQ_RESTRICT control, const struct fq_seat *FQ_RESTRICT seat);
 
 /* Opens a driver's instance: enables it, and requests a poll once by a seat at rest (as virtnet_napi_enable does), so that what came
  * while it was off is polled. Returns, and sets *next, like fq_seat_request: FQ_GRANTED, and the number has to be listed or the thread
  * woken; FQ_MISSED: another seat has requested a poll meanwhile; FQ_NOT_ALLOWED, and nothing is done, if the controller isn't off;
- * FQ_NOT_ALLOWED also if the seat isn't at rest: then the instance is enabled, and a poll still has to be requested; FQ_BAD_HANDLE. */
-FQ_CHECKED static inline enum fq_status fq_control_open(struct fq_handle *FQ_RESTRICT control, bool threaded, struct fq_handle *FQ_RESTRICT seat, const struct fq_card *FQ_RESTRICT card, uint32_t *FQ_RESTRICT next) {
+ * FQ_NOT_ALLOWED also if the seat isn't at rest: then the instance is enabled, and a poll still has to be requested; FQ_BAD_HANDLE, and
+ * nothing is done, also if the seat is another instance's. It never returns FQ_DISABLED, which a seat gets while its instance is being disabled. */
+FQ_CHECKED static inline enum fq_status fq_control_open(struct fq_control *FQ_RESTRICT control, bool threaded, struct fq_seat *FQ_RESTRICT seat, const struct fq_card *FQ_RESTRICT card, uint32_t *FQ_RESTRICT next) {
     *next = FQ_NEXT_GONE;
-    const enum fq_status said = fq_control_step(control, true, threaded);
+    enum fq_status said = fq_control_has(control, seat);
+    if (said == FQ_OK) said = fq_control_step(control, true, threaded);
     return said == FQ_OK ? fq_seat_request(seat, card, next) : said;
 }
 
@@ -573,49 +594,51 @@ struct fq_run_report {
 
 /* Makes a poll list for up to 64 numbers of devices; for more devices use more lists, for example one for each processor. A number
  * leaves the list when its poll ends with FQ_NEXT_GONE, or by fq_list_remove. Returns FQ_OK; FQ_IN_USE; FQ_OUT_OF_MEMORY. */
-FQ_CHECKED enum fq_status fq_list_new(struct fq_handle *list);
+FQ_CHECKED enum fq_status fq_list_new(struct fq_list *list);
 /* Puts a number at the list's tail. Returns FQ_OK; FQ_IN_USE if it is on the list, or waits in the run over it; FQ_FULL if the list and
  * its run hold 64, including the number that is being polled: then end that poll with FQ_NEXT_AGAIN instead of a push. */
-FQ_CHECKED enum fq_status fq_list_push(struct fq_handle *list, uint32_t id);
+FQ_CHECKED enum fq_status fq_list_push(struct fq_list *list, uint32_t id);
 /* Removes a number from the list, for a device that goes away; the others keep their order. It may be called during a run. Returns FQ_OK;
  * FQ_BUSY if it isn't on the list, but the run over it has it, which polls it, will poll it, or lists it at its end: then end its poll with
  * FQ_NEXT_GONE, or end the run first; FQ_NOT_THERE if neither the list nor its run has it; FQ_BAD_HANDLE. Nothing changes unless it returns
  * FQ_OK. Since 1.1. */
-FQ_CHECKED enum fq_status fq_list_remove(struct fq_handle *list, uint32_t id);
+FQ_CHECKED enum fq_status fq_list_remove(struct fq_list *list, uint32_t id);
 /* Sets *len to how many numbers the list and its run hold, including the one that is being polled. Returns FQ_OK; FQ_BAD_HANDLE. */
-FQ_CHECKED enum fq_status fq_list_len(struct fq_handle *FQ_RESTRICT list, uint32_t *FQ_RESTRICT len);
+FQ_CHECKED enum fq_status fq_list_len(const struct fq_list *FQ_RESTRICT list, uint32_t *FQ_RESTRICT len);
 /* Begins a run with a budget in packets, a weight in packets per poll, and a window in polls, as in struct fq_settings. Returns FQ_OK;
  * FQ_NOT_ALLOWED if a run is in progress; FQ_BAD_WEIGHT; FQ_BAD_BUDGET. */
-FQ_CHECKED enum fq_status fq_run_begin(struct fq_handle *list, uint32_t budget, uint32_t weight, uint32_t window);
+FQ_CHECKED enum fq_status fq_run_begin(struct fq_list *list, uint32_t budget, uint32_t weight, uint32_t window);
 /* Sets *id to the number to poll next. Returns FQ_OK; FQ_DONE if the run is over; FQ_NOT_ALLOWED without a run, or if the last poll
  * wasn't reported. */
-FQ_CHECKED enum fq_status fq_run_next(struct fq_handle *FQ_RESTRICT list, uint32_t *FQ_RESTRICT id);
+FQ_CHECKED enum fq_status fq_run_next(struct fq_list *FQ_RESTRICT list, uint32_t *FQ_RESTRICT id);
 /* Reports the outcome of the poll: its packets, and how it ended (enum fq_next). Returns FQ_OK; FQ_NOT_ALLOWED; FQ_BAD_WORK above the
  * weight; FQ_BAD_NEXT; FQ_IN_USE if the number would be listed twice, and the poll still has to be reported. It isn't checked that
  * FQ_NEXT_REPOLL follows a whole weight, because a device may have its own weight, below the run's; nor that FQ_NEXT_ABSENT comes without
  * packets. */
-FQ_CHECKED enum fq_status fq_run_polled(struct fq_handle *list, uint32_t work, uint32_t next);
+FQ_CHECKED enum fq_status fq_run_polled(struct fq_list *list, uint32_t work, uint32_t next);
 /* Ends the run, and sets *report. The numbers that weren't polled, and those to be polled again, are on the list. Returns FQ_OK;
  * FQ_NOT_ALLOWED. */
-FQ_CHECKED enum fq_status fq_run_end(struct fq_handle *FQ_RESTRICT list, struct fq_run_report *FQ_RESTRICT report);
+FQ_CHECKED enum fq_status fq_run_end(struct fq_list *FQ_RESTRICT list, struct fq_run_report *FQ_RESTRICT report);
 
 /* ---- driver: a driver of up to 64 devices on one thread. It has their instances, the poll list and the runs over it. It does no input
  * or output and calls nothing back: fq_driver_step reports that an action was done at a card, and says what has to be done next. A loop needs only
  * this call:
  *
  *     struct fq_todo todo = FQ_TODO_INIT;
- *     while (report_interrupts(), fq_driver_step(&driver, &todo), todo.what != FQ_TODO_SLEEP) {
+ *     while (report_interrupts(), !fq_is_error(fq_driver_step(&driver, &todo)) && todo.what != FQ_TODO_SLEEP) {
  *         switch (todo.what) {
  *         case FQ_TODO_MASK: mask(todo.device); break;
  *         case FQ_TODO_UNMASK: unmask(todo.device); break;
  *         case FQ_TODO_LOOK: todo.packets = has_packets(todo.device); break;
  *         case FQ_TODO_FETCH: todo.packets = fetch(todo.device, todo.most); break;
+ *         case FQ_TODO_ENDED: case FQ_TODO_SLEEP: case FQ_TODO_FAILED: break;
  *         }
  *     }
- *     (now wait for the next interrupt, and begin again)
+ *     (end the program if todo.status is not FQ_OK; otherwise wait for the next interrupt, and begin again)
  *
  * where report_interrupts reports each interrupt that came since by fq_driver_interrupt. It is called before each step, because a device
  * that always has packets keeps the driver from sleeping: devices whose interrupts are reported only after a sleep would never be polled.
+ * An error is a mistake of the program: a handle without a driver, or a fetch that took more than `most`. It ends the loop.
  *
  * A driver that isn't a loop, for example one of callbacks, asks by fq_driver_next and reports by fq_driver_done.
  *
@@ -627,7 +650,8 @@ FQ_CHECKED enum fq_status fq_run_end(struct fq_handle *FQ_RESTRICT list, struct 
  * Only one thread uses a driver at a time. If interrupts come on another thread, raise a bit in a struct fq_word there, and report each
  * bit that the driver's thread takes from it. */
 
-/* What has to be done. After FQ_TODO_SLEEP and FQ_TODO_ENDED there is nothing to report, and fq_driver_done does nothing. */
+/* What has to be done. After FQ_TODO_SLEEP, FQ_TODO_ENDED and FQ_TODO_FAILED there is nothing to report, and fq_driver_done does nothing. A
+ * switch over it has no default, so that a compiler names an action that it forgets. */
 enum fq_what FQ_NUMBER {
     FQ_TODO_SLEEP = 0,  /* nothing, until the next interrupt, open or stop */
     FQ_TODO_MASK = 1,   /* mask the interrupt of the device's card */
@@ -635,59 +659,76 @@ enum fq_what FQ_NUMBER {
     FQ_TODO_LOOK = 3,   /* look whether the card has packets, and set `packets` to how many, or to 1 if it has any, or to 0: after a full
                          * memory fence, if the card works at the same time */
     FQ_TODO_FETCH = 4,  /* take packets from the card, at most `most` of them, deliver them, and set `packets` to how many */
-    FQ_TODO_ENDED = 5   /* a run ended, with the report `run` (net_rx_action): do other work first, if there is some */
+    FQ_TODO_ENDED = 5,  /* a run ended, with the report `run` (net_rx_action): do other work first, if there is some */
+    FQ_TODO_FAILED = 6  /* nothing, because the call failed, with the error `status`: a loop has to end */
 };
 
 /* An action that has to be done. */
 struct fq_todo {
-    size_t size;              /* the size of this struct: set by the caller, once (FQ_TODO_INIT), because the struct may grow */
+    size_t size;              /* the size of this struct, which fq_driver_next and fq_driver_step set, because it may grow */
     uint64_t number;          /* the number under which to report it: each action has another one; 0 if there is nothing to report */
-    uint32_t what;            /* what has to be done: a number of enum fq_what */
-    uint32_t device;          /* the device; 0 for FQ_TODO_SLEEP and FQ_TODO_ENDED */
+    enum fq_what what;        /* what has to be done */
+    uint32_t device;          /* the device; 0 if the action is at none */
     uint32_t most;            /* the packets that a fetch may take, the driver's weight; 0 for anything else */
-    uint32_t packets;         /* the packets of a look and a fetch: 0 at first; the caller sets it after a look and a fetch */
+    uint32_t packets;         /* set by the caller after a look and a fetch; before that 1 for a look, so that packets aren't forgotten, else 0 */
     struct fq_run_report run; /* the report of the run that ended; all 0 for anything else */
+    enum fq_status status;    /* the error after FQ_TODO_FAILED, otherwise FQ_OK */
 };
 
-#define FQ_TODO_INIT {sizeof(struct fq_todo), 0, FQ_TODO_SLEEP, 0, 0, 0, {0, 0, false}}
+#define FQ_TODO_INIT {sizeof(struct fq_todo), 0, FQ_TODO_SLEEP, 0, 0, 0, {0, 0, false}, FQ_OK}
+
+/* Like fq_driver_new, for bindings. Drivers with different salts number their actions differently, so that none takes a report that is
+ * another one's. Since 1.1. */
+FQ_CHECKED enum fq_status fq_driver_new_salted(struct fq_driver *driver, uint32_t devices, uint32_t budget, uint32_t weight, uint32_t window, uint16_t salt);
 
 /* Makes a driver of 1 to 64 devices, all closed, their cards masked. Budget, weight and window are those of fq_run_begin. fq_free frees
- * it in any state. Returns FQ_OK; FQ_IN_USE; FQ_BAD_COUNT; FQ_BAD_WEIGHT; FQ_BAD_BUDGET; FQ_OUT_OF_MEMORY. Since 1.1. */
-FQ_CHECKED enum fq_status fq_driver_new(struct fq_handle *driver, uint32_t devices, uint32_t budget, uint32_t weight, uint32_t window);
+ * it in any state. Returns FQ_OK; FQ_IN_USE; FQ_BAD_COUNT; FQ_BAD_WEIGHT; FQ_BAD_BUDGET; FQ_OUT_OF_MEMORY. */
+FQ_CHECKED static inline enum fq_status fq_driver_new(struct fq_driver *driver, uint32_t devices, uint32_t budget, uint32_t weight, uint32_t window) {
+    return fq_driver_new_salted(driver, devices, budget, weight, window, (uint16_t)FQ_PRIVATE_COUNT(fq_private_drivers));
+}
 
 /* Opens a closed device (napi_enable): its card will be unmasked and looked at, so that packets which came before are polled too.
  * Returns FQ_OK; FQ_NOT_DUE if it isn't closed; FQ_BAD_DEVICE; FQ_BAD_HANDLE. Since 1.1. */
-FQ_CHECKED enum fq_status fq_driver_open(struct fq_handle *driver, uint32_t device);
+FQ_CHECKED enum fq_status fq_driver_open(struct fq_driver *driver, uint32_t device);
 
 /* Stops an open device (napi_disable). Polls that were requested are still made, its card is masked, and then it is closed, which
  * fq_driver_show shows. Packets that stay in the card are polled after the next open. Returns FQ_OK; FQ_NOT_DUE if it is closed or
  * being stopped; FQ_BAD_DEVICE; FQ_BAD_HANDLE. Since 1.1. */
-FQ_CHECKED enum fq_status fq_driver_stop(struct fq_handle *driver, uint32_t device);
+FQ_CHECKED enum fq_status fq_driver_stop(struct fq_driver *driver, uint32_t device);
 
 /* Reports an interrupt of a card (napi_schedule), at any time, also before an action that is due is reported. Returns FQ_GRANTED: a
  * poll was requested, whose first action is to mask the card; FQ_MISSED: a poll is requested already, and one more follows, or the
  * device is closed; FQ_DISABLED: it is being stopped; FQ_BAD_DEVICE; FQ_BAD_HANDLE. It may be called too often: an interrupt without
- * packets costs one empty poll. Since 1.1. */
-FQ_CHECKED enum fq_status fq_driver_interrupt(struct fq_handle *driver, uint32_t device);
+ * packets costs one empty poll. The status may be ignored if the device and the handle are right. Since 1.1. */
+FQ_NONNULL enum fq_status fq_driver_interrupt(struct fq_driver *driver, uint32_t device);
+
+/* Like fq_driver_next and fq_driver_step, for bindings, which set todo->size themselves. Return FQ_BAD_SIZE if that is too small, and
+ * nothing is read, written or changed. Since 1.1. */
+FQ_CHECKED enum fq_status fq_driver_next_sized(struct fq_driver *FQ_RESTRICT driver, struct fq_todo *FQ_RESTRICT todo);
+FQ_CHECKED enum fq_status fq_driver_step_sized(struct fq_driver *FQ_RESTRICT driver, struct fq_todo *FQ_RESTRICT todo);
 
 /* Sets *todo to what has to be done now. It is the same action, with the same number, until that is reported or isn't due any more.
- * Returns FQ_OK; FQ_BAD_HANDLE, and *todo is set to sleep; FQ_BAD_SIZE if todo->size is too small, and *todo is unchanged. The status may
- * be ignored if `size` and the handle are right. Since 1.1. */
-FQ_NONNULL enum fq_status fq_driver_next(struct fq_handle *FQ_RESTRICT driver, struct fq_todo *FQ_RESTRICT todo);
+ * Returns FQ_OK; FQ_BAD_HANDLE, and *todo is FQ_TODO_FAILED. */
+FQ_CHECKED static inline enum fq_status fq_driver_next(struct fq_driver *FQ_RESTRICT driver, struct fq_todo *FQ_RESTRICT todo) {
+    todo->size = sizeof *todo;
+    return fq_driver_next_sized(driver, todo);
+}
 
 /* Reports that the action in *todo was done, with todo->packets; only todo->number and todo->packets are read. Call it before the next
- * call of fq_driver_next, or not at all: an action that isn't reported is returned again. Returns FQ_OK; FQ_BAD_HANDLE; FQ_BAD_SIZE if
- * todo->size is too small; FQ_NOT_DUE: the driver doesn't wait for this report any more, because of an interrupt, an open, a stop or an
- * earlier report, and fq_driver_next says what is due instead, so the status may be ignored; FQ_BAD_WORK if a fetch took more than
- * `most`. Nothing changes unless it returns FQ_OK. Since 1.1. */
-FQ_NONNULL enum fq_status fq_driver_done(struct fq_handle *FQ_RESTRICT driver, const struct fq_todo *FQ_RESTRICT todo);
+ * call of fq_driver_next, or not at all: an action that isn't reported is returned again. Returns FQ_OK; FQ_BAD_HANDLE; FQ_NOT_DUE: the
+ * driver doesn't wait for this report any more, because of an interrupt, an open, a stop or an earlier report, or it is another
+ * driver's, and fq_driver_next says what is due instead; FQ_BAD_WORK if a fetch took more than `most`. Nothing changes unless it returns
+ * FQ_OK. Since 1.1. */
+FQ_CHECKED enum fq_status fq_driver_done(struct fq_driver *FQ_RESTRICT driver, const struct fq_todo *FQ_RESTRICT todo);
 
 /* Reports the action in *todo, unless its number is 0, and sets *todo to what has to be done now: fq_driver_done and then fq_driver_next
- * in one call. Report interrupts that came meanwhile before it, so that they count before the next poll. Returns FQ_OK; FQ_BAD_HANDLE,
- * and *todo is set to sleep; FQ_BAD_SIZE if todo->size is too small, and nothing changes; FQ_NOT_DUE: the driver didn't wait for this
- * report any more, and *todo is what is due instead, so the status may be ignored; FQ_BAD_WORK if a fetch took more than `most`, and
- * nothing changes: *todo is still that fetch. Since 1.1. */
-FQ_NONNULL enum fq_status fq_driver_step(struct fq_handle *FQ_RESTRICT driver, struct fq_todo *FQ_RESTRICT todo);
+ * in one call. Report interrupts that came meanwhile before it, so that they count before the next poll. Returns FQ_OK; FQ_NOT_DUE: the
+ * driver didn't wait for this report any more, and *todo is what is due instead; FQ_BAD_HANDLE, and FQ_BAD_WORK if a fetch took more than
+ * `most`: nothing changes, and *todo is FQ_TODO_FAILED. */
+FQ_CHECKED static inline enum fq_status fq_driver_step(struct fq_driver *FQ_RESTRICT driver, struct fq_todo *FQ_RESTRICT todo) {
+    todo->size = sizeof *todo;
+    return fq_driver_step_sized(driver, todo);
+}
 
 /* The states of a device. */
 enum fq_device_state FQ_NUMBER {
@@ -706,9 +747,9 @@ struct fq_device_shown {
     uint64_t packets; /* the packets of these fetches; saturates */
 };
 
-/* Sets *shown to the state of a device and the counts of its polls. Returns FQ_OK; FQ_BAD_HANDLE; FQ_BAD_SIZE if shown->size is too
- * small; FQ_BAD_DEVICE. *shown is unchanged unless it returns FQ_OK. Since 1.1. */
-FQ_CHECKED enum fq_status fq_driver_show(struct fq_handle *FQ_RESTRICT driver, uint32_t device, struct fq_device_shown *FQ_RESTRICT shown);
+/* Sets *shown to the state of a device and the counts of its polls. Returns FQ_OK; FQ_BAD_SIZE if shown->size is too small;
+ * FQ_BAD_HANDLE; FQ_BAD_DEVICE. *shown is unchanged unless it returns FQ_OK. Since 1.1. */
+FQ_CHECKED enum fq_status fq_driver_show(const struct fq_driver *FQ_RESTRICT driver, uint32_t device, struct fq_device_shown *FQ_RESTRICT shown);
 
 /* ---- word: a word of pending bits. Only its poller uses a list: another thread sets the bit of a device in such a word, and wakes the poller,
  * which takes all bits and pushes their numbers. All operations are sequentially consistent. */
@@ -736,27 +777,31 @@ FQ_NONNULL static inline uint64_t fq_word_take(struct fq_word *word) { return __
 
 /* The settings of a replay. */
 struct fq_settings {
+    size_t size;     /* the size of this struct, which the caller sets */
     uint32_t budget; /* packets that a run polls before it is squeezed, 1 to 65535 (netdev_budget) */
     uint32_t weight; /* packets that one poll returns at most, 1 to 64 (NAPI_POLL_WEIGHT) */
     uint32_t window; /* polls that a run makes before it is squeezed, 1 to 65535 (in place of netdev_budget_usecs) */
 };
 
 /* The default settings of napi_replay. */
-#define FQ_DEFAULT_SETTINGS {300, 64, 1024}
+#define FQ_DEFAULT_SETTINGS {sizeof(struct fq_settings), 300, 64, 1024}
 
 /* What a replay returns besides its status. */
 struct fq_replayed {
+    size_t size;    /* the size of this struct, which the caller sets */
     size_t length;  /* the length of the report or trace in bytes, even if there is no room for it; 0 if there is none */
     uint32_t fault; /* the trace's fault: a number of enum fq_fault; 0 if it has none */
     uint32_t row;   /* the row that the fault names, counted from 1; 0 if it names none */
 };
 
-/* Replays a trace of `len` bytes, and writes its report to an array of `room` bytes. Returns FQ_BAD_WEIGHT, FQ_BAD_BUDGET for the
- * settings; FQ_OUT_OF_MEMORY; FQ_BAD_TRACE, and replayed->fault and replayed->row say why; FQ_NO_ROOM, and replayed->length is the room
+#define FQ_REPLAYED_INIT {sizeof(struct fq_replayed), 0, 0, 0}
+
+/* Replays a trace of `len` bytes, and writes its report to an array of `room` bytes. Returns FQ_BAD_SIZE, and *replayed is unchanged;
+ * FQ_BAD_WEIGHT, FQ_BAD_BUDGET for the settings; FQ_OUT_OF_MEMORY; FQ_BAD_TRACE, and replayed->fault and replayed->row say why; FQ_NO_ROOM, and replayed->length is the room
  * that the report needs; FQ_OK, and the first replayed->length bytes of the array are the report, with no terminating 0. All other bytes
- * of the array are unchanged, and all of them unless it returns FQ_OK. For an empty trace or array the pointer still points to some byte.
- * An instance's thread polls at most 131072 times at a time, which no trace of 100000 rows reaches. */
-FQ_CHECKED enum fq_status fq_replay(const struct fq_settings *FQ_RESTRICT settings, const uint8_t *FQ_RESTRICT trace, size_t len, uint8_t *FQ_RESTRICT report, size_t room, struct fq_replayed *FQ_RESTRICT replayed);
+ * of the array are unchanged, and all of them unless it returns FQ_OK. An instance's thread polls at most 131072 times at a time, which no
+ * trace of 100000 rows reaches. */
+FQ_CHECKED_AT(1, 6) enum fq_status fq_replay(const struct fq_settings *FQ_RESTRICT settings, const uint8_t *FQ_RESTRICT trace, size_t len, uint8_t *FQ_RESTRICT report, size_t room, struct fq_replayed *FQ_RESTRICT replayed);
 
 /* Writes a trace with the runs that the kernel would make, because net_rx_action raises the softirq again if instances are left on the poll
  * list: each softirq row that leaves some is repeated until the list is empty, at most `restarts` times; with FQ_UNTIL_EMPTY, or any number
@@ -764,7 +809,7 @@ FQ_CHECKED enum fq_status fq_replay(const struct fq_settings *FQ_RESTRICT settin
  * decimal, and nothing is quoted. Returns what fq_replay returns, and replayed->length is the length of the trace that it writes. A trace
  * that would have more than 100000 rows has fault 9; the row of fault 12 counts added rows. Since 1.1. */
 #define FQ_UNTIL_EMPTY UINT32_MAX /* as many added runs as empty the list */
-FQ_CHECKED enum fq_status fq_raise(const struct fq_settings *FQ_RESTRICT settings, uint32_t restarts, const uint8_t *FQ_RESTRICT trace, size_t len, uint8_t *FQ_RESTRICT out, size_t room, struct fq_replayed *FQ_RESTRICT replayed);
+FQ_CHECKED_AT(1, 7) enum fq_status fq_raise(const struct fq_settings *FQ_RESTRICT settings, uint32_t restarts, const uint8_t *FQ_RESTRICT trace, size_t len, uint8_t *FQ_RESTRICT out, size_t room, struct fq_replayed *FQ_RESTRICT replayed);
 
 /* The faults of a trace, in the order in which docs/FORMATS.md describes them. */
 enum fq_fault FQ_NUMBER {
@@ -793,7 +838,7 @@ static inline const char *fq_fault_name(uint32_t fault) {
 
 /* The settings of the machine. The members after `size` are the options of napi_machine, with their ranges and defaults. */
 struct fq_machine_settings {
-    size_t size; /* the size of this struct, which fq_machine_default sets */
+    size_t size; /* the size of this struct, which the caller sets */
     /* scripts/options.py: begin */
     uint32_t processors;        /* processors that receive; queue q belongs to processor (q - 1) mod N, and each serves at most 64 queues, 1 to 64 (1) */
     uint32_t queues;            /* queues of each device, chosen by the packet's flow (RSS: ethtool -L, -X), 1 to 64 (1) */
@@ -817,6 +862,7 @@ struct fq_machine_settings {
     uint32_t use_time;          /* time that the application takes for a packet, 0 to 1000000000 ns (2000) */
     uint32_t wake;              /* time to wake an idle processor, which counts as interrupt time, 0 to 1000000000 ns (0) */
     uint32_t heedless;          /* 1: the driver unmasks the queue whatever napi_complete_done returns (vmxnet3, tg3, be2net, mana), 0 to 1 (0) */
+    uint32_t rx_gap;            /* least time between two interrupts of a card (ethtool -C rx-usecs of igb, ixgbe, e1000, e1000e, in us there); not with rx-nsecs or rx-frames, 0 to 1000000000 ns (0) */
     /* scripts/options.py: end */
 };
 
@@ -826,19 +872,19 @@ struct fq_machine_ran {
     size_t length;    /* the length of the report in bytes, even if there is no room for it; 0 if there is none */
     uint64_t row;     /* the row that the fault of the arrivals names, counted from 1; 0 if it names none */
     uint32_t fault;   /* the number of that fault, 1 to 8; 0 if they have none */
-    uint32_t setting; /* the first setting that is out of its range: 1 for processors, 2 for queues and so on; 0 if none is */
+    uint32_t setting; /* the first setting that is out of its range, or rx_gap if it excludes another: 1 for processors, 2 for queues and so on; 0 if none is rejected */
     char message[64]; /* the message of the fault of the arrivals, as napi_machine prints it, with a terminating 0; otherwise empty */
 };
 
-/* Sets all settings to the defaults of napi_machine, in a struct of `size` bytes: call it with sizeof *settings, and then set others.
- * Returns FQ_OK; FQ_BAD_SIZE, and the struct is unchanged. Since 1.1. */
-FQ_CHECKED enum fq_status fq_machine_default(struct fq_machine_settings *settings, size_t size);
+/* Sets all settings to the defaults of napi_machine, after the caller has set settings->size. Returns FQ_OK; FQ_BAD_SIZE, and the struct
+ * is unchanged. Since 1.1. */
+FQ_CHECKED enum fq_status fq_machine_default(struct fq_machine_settings *settings);
 /* Runs the machine on arrivals of `len` bytes, and writes its report to an array of `room` bytes. Returns FQ_BAD_SIZE if a struct's
  * `size` isn't set, and *ran is unchanged; FQ_BAD_SETTING, and ran->setting says which; FQ_OUT_OF_MEMORY; FQ_BAD_ARRIVALS, and
  * ran->fault, ran->row and ran->message say why; FQ_NO_ROOM, and ran->length is the room that the report needs; FQ_OK, and the first
  * ran->length bytes of the array are the report, with no terminating 0. All other bytes of the array are unchanged, and all of
- * them unless it returns FQ_OK. For empty arrivals or an empty array the pointer still points to some byte. Since 1.1. */
-FQ_CHECKED enum fq_status fq_machine(const struct fq_machine_settings *FQ_RESTRICT settings, const uint8_t *FQ_RESTRICT arrivals, size_t len, uint8_t *FQ_RESTRICT report, size_t room, struct fq_machine_ran *FQ_RESTRICT ran);
+ * them unless it returns FQ_OK. Since 1.1. */
+FQ_CHECKED_AT(1, 6) enum fq_status fq_machine(const struct fq_machine_settings *FQ_RESTRICT settings, const uint8_t *FQ_RESTRICT arrivals, size_t len, uint8_t *FQ_RESTRICT report, size_t room, struct fq_machine_ran *FQ_RESTRICT ran);
 
 #ifdef __cplusplus
 }

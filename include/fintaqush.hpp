@@ -1,4 +1,4 @@
-// Fintaqush for C++17: the calls of fintaqush.h with the state of a seat in its type, so that a call that the state doesn't allow
+// Fintaqush for C++17: the calls of fintaqush.h with the state of a caller in its type, so that a call that the state doesn't allow
 // doesn't compile. Header only. Of the objects only a SerialNapi can be copied. Nothing throws except the standard containers if memory runs
 // out, and the callback of List::run.
 // What fintaqush.h requires of its caller holds here too. A destructor abandons its object (fq_abandon): an instance whose
@@ -93,30 +93,35 @@ private:
     fq_word raw_{};
 };
 
-// Owns an object on the library's heap. It can be moved, not copied.
+// Owns an object on the library's heap, by its handle in C, for example fq_ring. It can be moved, not copied.
+template <class Raw>
 class [[nodiscard]] Handle {
 public:
     Handle() = default;
-    Handle(Handle &&other) noexcept : raw_(std::exchange(other.raw_, fq_handle FQ_NONE)) {}
+    explicit Handle(Raw &raw) noexcept : raw_(std::exchange(raw, Raw{})) {}
+    Handle(Handle &&other) noexcept : Handle(other.raw_) {}
     Handle &operator=(Handle &&other) noexcept {
-        if (this != &other) {
-            give_up();
-            raw_ = std::exchange(other.raw_, fq_handle FQ_NONE);
-        }
+        Handle moved(std::move(other));
+        std::swap(raw_, moved.raw_);
         return *this;
     }
     Handle(const Handle &) = delete;
     Handle &operator=(const Handle &) = delete;
-    ~Handle() { give_up(); }
-
-    [[nodiscard]] fq_handle *raw() noexcept { return &raw_; }
-
-private:
-    void give_up() noexcept {
-        if (raw_.private_set) detail::made(fq_abandon(&raw_));
+    ~Handle() {
+        if (raw_.handle.private_set) detail::made(fq_abandon(&raw_.handle));
     }
 
-    fq_handle raw_ = FQ_NONE;
+    [[nodiscard]] Raw *raw() noexcept { return &raw_; }
+    [[nodiscard]] const Raw *raw() const noexcept { return &raw_; }
+    // Returns the counts of a ring's polls, if the object has its poll end.
+    [[nodiscard]] Counts counts() const noexcept {
+        Counts counts{};
+        detail::made(fq_count(&raw_.handle, &counts));
+        return counts;
+    }
+
+private:
+    Raw raw_{};
 };
 
 // A byte queue limit. Times are milliseconds of the caller's clock.
@@ -153,28 +158,28 @@ public:
     // Makes a ring; returns nullopt if the capacity isn't 1 to 65536, min is above max, max is above 1879048192, or memory runs out.
     [[nodiscard]] static std::optional<TxRing> make(std::size_t capacity, std::uint32_t min, std::uint32_t max,
                                                     std::uint64_t hold_ms, std::uint64_t now_ms) {
-        Handle at;
+        Handle<fq_tx> at;
         if (fq_tx_new(at.raw(), capacity, min, max, hold_ms, now_ms) != FQ_OK) return std::nullopt;
         return std::optional<TxRing>(TxRing(std::move(at)));
     }
 
     [[nodiscard]] Status send(std::uint32_t bytes) { return Status(fq_tx_send(at_.raw(), bytes)); }
     [[nodiscard]] Status done(std::uint32_t count, std::uint64_t now_ms) { return Status(fq_tx_done(at_.raw(), count, now_ms)); }
-    [[nodiscard]] TxState state() {
+    [[nodiscard]] TxState state() const {
         TxState shown{};
         detail::made(fq_tx_state(at_.raw(), &shown));
         return shown;
     }
     // Returns whether the ring has been stopped, with no byte completed, for limit_ms; call it at each tick of a timer (fq_tx_watch).
-    [[nodiscard]] bool watch(TxWatchdog &watchdog, std::uint64_t limit_ms, std::uint64_t now_ms) {
+    [[nodiscard]] bool watch(TxWatchdog &watchdog, std::uint64_t limit_ms, std::uint64_t now_ms) const {
         bool stuck = false;
         detail::made(fq_tx_watch(at_.raw(), &watchdog, limit_ms, now_ms, &stuck));
         return stuck;
     }
 
 private:
-    explicit TxRing(Handle &&at) noexcept : at_(std::move(at)) {}
-    Handle at_;
+    explicit TxRing(Handle<fq_tx> &&at) noexcept : at_(std::move(at)) {}
+    Handle<fq_tx> at_;
 };
 
 // An instance of one thread, whose calls are checked at run time.
@@ -236,7 +241,7 @@ using End = std::variant<Ended, Polling>;
 
 namespace detail {
 // A caller in any state.
-class Seat {
+class AnyCaller {
 public:
     // Returns the state word, a sum of FQ_BIT_..
     [[nodiscard]] std::uint64_t word() {
@@ -246,19 +251,19 @@ public:
     }
 
     // Returns how often its calls returned each result since the instance was made.
-    [[nodiscard]] Answers answers() {
+    [[nodiscard]] Answers answers() const {
         Answers answers{};
         made(fq_seat_count(at_.raw(), &answers));
         return answers;
     }
 
 protected:
-    explicit Seat(Handle &&at) noexcept : at_(std::move(at)) {}
-    Handle at_;
+    explicit AnyCaller(Handle<fq_seat> &&at) noexcept : at_(std::move(at)) {}
+    Handle<fq_seat> at_;
 };
 
 // A caller that polls, or busy polls.
-class Poller : public Seat {
+class Poller : public AnyCaller {
 public:
     // Removes the ring's next packets, at most the weight, and writes them to out; returns how many.
     [[nodiscard]] std::size_t poll(Packets &out, Weight weight = Weight()) {
@@ -267,19 +272,15 @@ public:
         return count;
     }
     // Returns the counts of the ring's polls.
-    [[nodiscard]] Counts counts() {
-        Counts counts{};
-        made(fq_count(at_.raw(), &counts));
-        return counts;
-    }
+    [[nodiscard]] Counts counts() const { return at_.counts(); }
 
 protected:
-    using Seat::Seat;
+    using AnyCaller::AnyCaller;
 };
 } // namespace detail
 
 // A caller that owns nothing.
-class [[nodiscard]] Caller : public detail::Seat {
+class [[nodiscard]] Caller : public detail::AnyCaller {
 public:
     [[nodiscard]] Scheduled schedule() && noexcept;
     [[nodiscard]] Took take(Kind kind) && noexcept;
@@ -305,9 +306,11 @@ public:
 private:
     friend class Granted;
     friend class Polling;
+    template <class>
+    friend class Control;
     friend struct Shared;
     friend struct Bare;
-    using Seat::Seat;
+    using AnyCaller::AnyCaller;
     Requested request_by(const fq_card &calls) {
         std::uint32_t next = FQ_NEXT_GONE;
         const Status said = fq_seat_request(at_.raw(), &calls, &next);
@@ -316,7 +319,7 @@ private:
 };
 
 // A caller that was granted the instance, and has to queue it.
-class [[nodiscard]] Granted : public detail::Seat {
+class [[nodiscard]] Granted : public detail::AnyCaller {
 public:
     [[nodiscard]] Caller hand(Kind kind) && noexcept {
         detail::made(fq_seat_hand(at_.raw(), kind));
@@ -326,7 +329,7 @@ public:
 private:
     friend class Caller;
     friend class Polling;
-    using Seat::Seat;
+    using AnyCaller::AnyCaller;
 };
 
 // A caller that polls the instance.
@@ -435,6 +438,15 @@ struct Off {};
 struct On {};
 struct Marked {};
 
+namespace detail {
+// A controller in any state.
+class Controller {
+protected:
+    explicit Controller(Handle<fq_control> &&at) noexcept : at_(std::move(at)) {}
+    Handle<fq_control> at_;
+};
+} // namespace detail
+
 // The controller of an instance, by its state.
 template <class State>
 class Control;
@@ -443,7 +455,7 @@ template <>
 class Control<Marked>;
 
 template <>
-class [[nodiscard]] Control<On> {
+class [[nodiscard]] Control<On> : detail::Controller {
 public:
     [[nodiscard]] Control<Marked> mark() && noexcept;
     // Disables the instance (napi_disable): yields the processor while a caller owns it.
@@ -451,12 +463,11 @@ public:
 
 private:
     friend class Control<Off>;
-    explicit Control(Handle &&at) noexcept : at_(std::move(at)) {}
-    Handle at_;
+    using Controller::Controller;
 };
 
 template <>
-class [[nodiscard]] Control<Off> {
+class [[nodiscard]] Control<Off> : detail::Controller {
 public:
     // Enables the instance (napi_enable). Request a poll once after it (Caller::request), or enable by open: an earlier request isn't
     // polled.
@@ -465,31 +476,27 @@ public:
         return Control<On>(std::move(at_));
     }
     // Opens a driver's instance (fq_control_open): enables it, and requests a poll once by this caller, with card.mask() if that is
-    // granted.
+    // granted. The request returns FQ_BAD_HANDLE if the caller is another instance's: a poll still has to be requested.
     template <class Card>
     [[nodiscard]] std::pair<Control<On>, Requested> open(bool threaded, Caller &caller, Card &card) && noexcept {
+        const Status has = fq_control_has(at_.raw(), caller.at_.raw());
         auto on = std::move(*this).enable(threaded);
-        const Requested asked = caller.request(card);
+        const Requested asked = has == FQ_OK ? caller.request(card) : Requested{has, FQ_NEXT_GONE};
         return {std::move(on), asked};
     }
     // Returns the counts of the ring's polls.
-    [[nodiscard]] Counts counts() {
-        Counts counts{};
-        detail::made(fq_count(at_.raw(), &counts));
-        return counts;
-    }
+    [[nodiscard]] Counts counts() const { return at_.counts(); }
 
 private:
     friend class Control<On>;
     friend class Control<Marked>;
     friend struct Shared;
     friend struct Bare;
-    explicit Control(Handle &&at) noexcept : at_(std::move(at)) {}
-    Handle at_;
+    using Controller::Controller;
 };
 
 template <>
-class [[nodiscard]] Control<Marked> {
+class [[nodiscard]] Control<Marked> : detail::Controller {
 public:
     // Takes the instance if no caller owns it; otherwise returns the controller unchanged.
     [[nodiscard]] std::variant<Control<Marked>, Control<Off>> try_take() && noexcept {
@@ -499,8 +506,7 @@ public:
 
 private:
     friend class Control<On>;
-    explicit Control(Handle &&at) noexcept : at_(std::move(at)) {}
-    Handle at_;
+    using Controller::Controller;
 };
 
 inline Control<Marked> Control<On>::mark() && noexcept {
@@ -523,14 +529,13 @@ public:
 
     // Puts as many of the first packets into the ring as fit, after all others, and returns how many. A poll sees all of them at once.
     [[nodiscard]] std::size_t put_all(const fq_packet *packets, std::size_t len) {
-        if (len == 0) return 0;
         std::size_t count = 0;
         const auto said = fq_ring_put_all(at_.raw(), packets, len, &count);
         return said == FQ_OK ? len : count;
     }
 
     // Returns the ring's capacity, and how many packets were put.
-    [[nodiscard]] RingShown shown() {
+    [[nodiscard]] RingShown shown() const {
         RingShown shown{};
         detail::made(fq_ring_show(at_.raw(), &shown));
         return shown;
@@ -539,8 +544,8 @@ public:
 private:
     friend class Ring;
     friend struct Shared;
-    explicit Input(Handle &&at) noexcept : at_(std::move(at)) {}
-    Handle at_;
+    explicit Input(Handle<fq_ring> &&at) noexcept : at_(std::move(at)) {}
+    Handle<fq_ring> at_;
 };
 
 // The poll end of a ring without an instance.
@@ -551,16 +556,12 @@ public:
         detail::made(fq_ring_poll(at_.raw(), weight.get(), out.data(), out.size(), &count));
         return count;
     }
-    [[nodiscard]] Counts counts() {
-        Counts counts{};
-        detail::made(fq_count(at_.raw(), &counts));
-        return counts;
-    }
+    [[nodiscard]] Counts counts() const { return at_.counts(); }
 
 private:
     friend class Ring;
-    explicit Output(Handle &&at) noexcept : at_(std::move(at)) {}
-    Handle at_;
+    explicit Output(Handle<fq_ring> &&at) noexcept : at_(std::move(at)) {}
+    Handle<fq_ring> at_;
 };
 
 // A receive ring without an instance, with both its ends.
@@ -568,7 +569,7 @@ class [[nodiscard]] Ring {
 public:
     // Makes a ring of capacity 1 to 65536; returns nullopt if it is out of range, or memory runs out.
     [[nodiscard]] static std::optional<Ring> make(std::size_t capacity) {
-        Handle at;
+        Handle<fq_ring> at;
         if (fq_ring_new(at.raw(), capacity) != FQ_OK) return std::nullopt;
         return std::optional<Ring>(Ring(std::move(at)));
     }
@@ -580,15 +581,11 @@ public:
         detail::made(fq_ring_poll(input_.at_.raw(), weight.get(), out.data(), out.size(), &count));
         return count;
     }
-    [[nodiscard]] Counts counts() {
-        Counts counts{};
-        detail::made(fq_count(input_.at_.raw(), &counts));
-        return counts;
-    }
-    [[nodiscard]] RingShown shown() { return input_.shown(); }
+    [[nodiscard]] Counts counts() const { return input_.at_.counts(); }
+    [[nodiscard]] RingShown shown() const { return input_.shown(); }
     // Returns its two ends, each for its own thread; nullopt if memory runs out, and the ring is unchanged.
     [[nodiscard]] std::optional<std::pair<Input, Output>> split() && {
-        Handle out;
+        Handle<fq_ring> out;
         if (fq_ring_split(input_.at_.raw(), out.raw()) != FQ_OK) return std::nullopt;
         return std::pair<Input, Output>(std::move(input_), Output(std::move(out)));
     }
@@ -600,7 +597,7 @@ public:
     }
 
 private:
-    explicit Ring(Handle &&at) noexcept : input_(std::move(at)) {}
+    explicit Ring(Handle<fq_ring> &&at) noexcept : input_(std::move(at)) {}
     Input input_;
 };
 
@@ -611,13 +608,9 @@ std::optional<std::vector<Caller>> callers(std::size_t count, Make make, ToCalle
     if (count < 2 || count > 8) return std::nullopt;
     std::vector<Caller> made;
     made.reserve(count);
-    fq_handle seats[8] = {};
+    fq_seat seats[8] = {};
     const std::uint32_t said = make(seats);
-    for (std::size_t i = 0; i < count; i++) {
-        Handle seat;
-        *seat.raw() = std::exchange(seats[i], fq_handle FQ_NONE);
-        made.push_back(to_caller(std::move(seat)));
-    }
+    for (std::size_t i = 0; i < count; i++) made.push_back(to_caller(Handle<fq_seat>(seats[i])));
     if (said != FQ_OK) return std::nullopt;
     return made;
 }
@@ -632,11 +625,12 @@ struct [[nodiscard]] Shared {
     // Makes an instance over a ring of capacity 1 to 65536, with 2 to 8 callers; returns nullopt if one is out of range, or memory runs
     // out.
     [[nodiscard]] static std::optional<Shared> make(std::size_t capacity, std::size_t callers) {
-        Handle ring, control;
+        Handle<fq_ring> ring;
+        Handle<fq_control> control;
         if (fq_ring_new(ring.raw(), capacity) != FQ_OK) return std::nullopt;
         auto made = detail::callers(
-            callers, [&](fq_handle *seats) { return fq_shared_new(ring.raw(), control.raw(), seats, callers); },
-            [](Handle &&seat) { return Caller(std::move(seat)); });
+            callers, [&](fq_seat *seats) { return fq_shared_new(ring.raw(), control.raw(), seats, callers); },
+            [](Handle<fq_seat> &&seat) { return Caller(std::move(seat)); });
         if (!made) return std::nullopt;
         return Shared{Input(std::move(ring)), Control<Off>(std::move(control)), std::move(*made)};
     }
@@ -649,10 +643,10 @@ struct [[nodiscard]] Bare {
 
     // Makes an instance with 2 to 8 callers; returns nullopt if that is out of range, or memory runs out.
     [[nodiscard]] static std::optional<Bare> make(std::size_t callers) {
-        Handle control;
+        Handle<fq_control> control;
         auto made = detail::callers(
-            callers, [&](fq_handle *seats) { return fq_shared_bare(control.raw(), seats, callers); },
-            [](Handle &&seat) { return Caller(std::move(seat)); });
+            callers, [&](fq_seat *seats) { return fq_shared_bare(control.raw(), seats, callers); },
+            [](Handle<fq_seat> &&seat) { return Caller(std::move(seat)); });
         if (!made) return std::nullopt;
         return Bare{Control<Off>(std::move(control)), std::move(*made)};
     }
@@ -682,7 +676,7 @@ class [[nodiscard]] List {
 public:
     // Makes a list; returns nullopt if memory runs out.
     [[nodiscard]] static std::optional<List> make() {
-        Handle at;
+        Handle<fq_list> at;
         if (fq_list_new(at.raw()) != FQ_OK) return std::nullopt;
         return std::optional<List>(List(std::move(at)));
     }
@@ -694,7 +688,7 @@ public:
     // FQ_NOT_THERE if neither of them has it.
     [[nodiscard]] Status remove(std::uint32_t id) { return fq_list_remove(at_.raw(), id); }
     // Returns how many numbers the list and its run hold.
-    [[nodiscard]] std::uint32_t size() {
+    [[nodiscard]] std::uint32_t size() const {
         std::uint32_t len = 0;
         detail::made(fq_list_len(at_.raw(), &len));
         return len;
@@ -721,10 +715,10 @@ public:
 private:
     // A run in progress, which ends with its scope. A call fails, and changes nothing, if there is nothing left to end.
     struct Run {
-        fq_handle *at;
+        fq_list *at;
         fq_run_report report;
 
-        Run(fq_handle *list, fq_run_report none) noexcept : at(list), report(none) {}
+        Run(fq_list *list, fq_run_report none) noexcept : at(list), report(none) {}
         Run(const Run &) = delete;
         Run &operator=(const Run &) = delete;
         // A poll whose result was rejected is still open: it is reported as FQ_NEXT_ABSENT.
@@ -735,11 +729,17 @@ private:
         ~Run() { end(); }
     };
 
-    explicit List(Handle &&at) noexcept : at_(std::move(at)) {}
-    Handle at_;
+    explicit List(Handle<fq_list> &&at) noexcept : at_(std::move(at)) {}
+    Handle<fq_list> at_;
 };
 
-using Todo = fq_todo;
+// An action that has to be done, and then reported. It is true unless there is nothing to do: it is FQ_TODO_SLEEP or, with the error
+// `status`, FQ_TODO_FAILED. A new one is no action.
+struct Todo : fq_todo {
+    Todo() noexcept : fq_todo FQ_TODO_INIT {}
+    explicit operator bool() const noexcept { return what != FQ_TODO_SLEEP && what != FQ_TODO_FAILED; }
+};
+
 using DeviceShown = fq_device_shown;
 
 // A driver of up to 64 devices on one thread: their instances, the poll list and the runs over it. It returns what has to be
@@ -750,7 +750,7 @@ public:
     // runs out.
     [[nodiscard]] static std::optional<Driver> make(std::uint32_t devices, std::uint32_t budget = 300, Weight weight = Weight(),
                                                     std::uint32_t window = 1024) {
-        Handle at;
+        Handle<fq_driver> at;
         if (fq_driver_new(at.raw(), devices, budget, std::uint32_t(weight.get()), window) != FQ_OK) return std::nullopt;
         return std::optional<Driver>(Driver(std::move(at)));
     }
@@ -764,20 +764,21 @@ public:
 
     // Returns what has to be done now. An action that isn't reported is returned again.
     [[nodiscard]] Todo next() {
-        Todo todo FQ_TODO_INIT;
-        fq_driver_next(at_.raw(), &todo);
+        Todo todo;
+        detail::made(fq_driver_next(at_.raw(), &todo));
         return todo;
     }
     // Reports that an action was done; after a look and a fetch set todo.packets before. Returns FQ_OK; FQ_NOT_DUE if the
     // action isn't due any more; FQ_BAD_WORK if a fetch took more than todo.most.
-    Status done(const Todo &todo) { return Status(fq_driver_done(at_.raw(), &todo)); }
-    // Reports an action, and sets it to what has to be done now: done and next in one call. The first action is FQ_TODO_INIT, which
-    // reports nothing. Returns what done returns; after FQ_BAD_WORK nothing has changed.
-    Status step(Todo &todo) { return Status(fq_driver_step(at_.raw(), &todo)); }
+    [[nodiscard]] Status done(const Todo &todo) { return fq_driver_done(at_.raw(), &todo); }
+    // Reports an action, and sets it to what has to be done now: done and next in one call. The first action is a new Todo, which
+    // reports nothing. Returns what done returns; after FQ_BAD_WORK nothing has changed, and the action is FQ_TODO_FAILED.
+    [[nodiscard]] Status step(Todo &todo) { return fq_driver_step(at_.raw(), &todo); }
 
     // Does one action at a card: calls mask(device), unmask(device), look(device), which returns whether the card has packets,
     // or fetch(device, most), which takes and delivers packets and returns how many. Returns the action, or that there is
-    // nothing to do, or that a run ended. If a call throws, nothing is reported, and the same action is due again.
+    // nothing to do, or that a run ended; FQ_TODO_FAILED with FQ_BAD_WORK after a fetch of more than `most`. If a call throws, nothing
+    // is reported, and the same action is due again.
     template <class Cards>
     Todo act(Cards &cards) {
         Todo todo = next();
@@ -786,14 +787,14 @@ public:
         case FQ_TODO_UNMASK: cards.unmask(todo.device); break;
         case FQ_TODO_LOOK: todo.packets = cards.look(todo.device); break;
         case FQ_TODO_FETCH: todo.packets = cards.fetch(todo.device, todo.most); break;
-        default: return todo;
+        case FQ_TODO_SLEEP: case FQ_TODO_ENDED: case FQ_TODO_FAILED: return todo;
         }
-        done(todo);
+        if (const Status said = done(todo); fq_is_error(said)) todo.what = FQ_TODO_FAILED, todo.status = said;
         return todo;
     }
 
     // Returns the state of a device and the counts of its polls; nullopt if there is no such device.
-    [[nodiscard]] std::optional<DeviceShown> shown(std::uint32_t device) {
+    [[nodiscard]] std::optional<DeviceShown> shown(std::uint32_t device) const {
         DeviceShown shown{};
         shown.size = sizeof shown;
         if (fq_driver_show(at_.raw(), device, &shown) != FQ_OK) return std::nullopt;
@@ -801,8 +802,8 @@ public:
     }
 
 private:
-    explicit Driver(Handle &&at) noexcept : at_(std::move(at)) {}
-    Handle at_;
+    explicit Driver(Handle<fq_driver> &&at) noexcept : at_(std::move(at)) {}
+    Handle<fq_driver> at_;
 };
 
 // Why a trace has no report, or can't have all its runs: the status, and for FQ_BAD_TRACE the number of the trace's fault (fq_fault_name) and its row.
@@ -811,40 +812,47 @@ struct NoReport {
 };
 
 namespace detail {
-// Returns what a call writes for a trace: call(bytes, length, out, room, &replayed).
-template <class Call>
-[[nodiscard]] std::variant<std::string, NoReport> written(std::string_view trace, Call call) {
-    const std::uint8_t none = 0;
-    const std::uint8_t *bytes = trace.empty() ? &none : reinterpret_cast<const std::uint8_t *>(trace.data());
+// Returns what a call writes for some bytes, call(bytes, length, out, room, &ran), or what `refusal` makes of its status and of `ran`.
+template <class Ran, class Call, class Refusal>
+[[nodiscard]] auto written(std::string_view bytes, Ran ran, Call call, Refusal refusal) -> std::variant<std::string, decltype(refusal(0u, ran))> {
+    const auto *from = reinterpret_cast<const std::uint8_t *>(bytes.data());
     std::string out(4096, '\0');
-    fq_replayed replayed{};
-    const auto write = [&] { return call(bytes, trace.size(), reinterpret_cast<std::uint8_t *>(out.data()), out.size(), &replayed); };
+    const auto write = [&] { return call(from, bytes.size(), reinterpret_cast<std::uint8_t *>(out.data()), out.size(), &ran); };
     std::uint32_t said = write();
     if (said == FQ_NO_ROOM) {
-        out.resize(replayed.length);
+        out.resize(ran.length);
         said = write();
     }
-    if (said != FQ_OK) return NoReport{said, replayed.fault, replayed.row};
-    out.resize(replayed.length);
+    if (said != FQ_OK) return refusal(said, ran);
+    out.resize(ran.length);
     return out;
+}
+
+template <class Call>
+[[nodiscard]] std::variant<std::string, NoReport> replayed(std::string_view trace, Call call) {
+    const fq_replayed none = FQ_REPLAYED_INIT;
+    return written(trace, none, call, [](std::uint32_t said, const fq_replayed &ran) { return NoReport{said, ran.fault, ran.row}; });
 }
 } // namespace detail
 
 // Replays a whole trace on one thread (napi_replay --mode=serial), and returns its report.
 [[nodiscard]] inline std::variant<std::string, NoReport> replay(std::string_view trace, const fq_settings &settings = FQ_DEFAULT_SETTINGS) {
-    return detail::written(trace, [&](auto... to) { return fq_replay(&settings, to...); });
+    return detail::replayed(trace, [&](auto... to) { return fq_replay(&settings, to...); });
 }
 
 // Adds to a trace the runs that the kernel would make with these settings, at most `restarts` after a softirq row (fq_raise), and
 // returns the trace. Its replay is the raised replay. With more than 100000 rows it fails with fault 9.
 [[nodiscard]] inline std::variant<std::string, NoReport> raise_runs(std::string_view trace, const fq_settings &settings = FQ_DEFAULT_SETTINGS,
                                                                     std::uint32_t restarts = FQ_UNTIL_EMPTY) {
-    return detail::written(trace, [&](auto... to) { return fq_raise(&settings, restarts, to...); });
+    return detail::replayed(trace, [&](auto... to) { return fq_raise(&settings, restarts, to...); });
 }
 
 // The settings of the machine, at first the defaults of napi_machine.
 struct MachineSettings : fq_machine_settings {
-    MachineSettings() noexcept : fq_machine_settings{} { detail::made(fq_machine_default(this, sizeof(fq_machine_settings))); }
+    MachineSettings() noexcept : fq_machine_settings{} {
+        size = sizeof(fq_machine_settings);
+        detail::made(fq_machine_default(this));
+    }
 };
 
 // Why the machine returned no report: its status; for FQ_BAD_SETTING the setting's number, from 1; for FQ_BAD_ARRIVALS the
@@ -857,22 +865,11 @@ struct MachineFault {
 
 // Runs the machine on arrivals (napi_machine), and returns its report.
 [[nodiscard]] inline std::variant<std::string, MachineFault> machine(std::string_view arrivals, const fq_machine_settings &settings = MachineSettings()) {
-    const std::uint8_t none = 0;
-    const std::uint8_t *bytes = arrivals.empty() ? &none : reinterpret_cast<const std::uint8_t *>(arrivals.data());
-    std::string report(4096, '\0');
-    fq_machine_ran ran{};
-    ran.size = sizeof ran;
-    const auto run = [&] {
-        return fq_machine(&settings, bytes, arrivals.size(), reinterpret_cast<std::uint8_t *>(report.data()), report.size(), &ran);
-    };
-    std::uint32_t said = run();
-    if (said == FQ_NO_ROOM) {
-        report.resize(ran.length);
-        said = run();
-    }
-    if (said != FQ_OK) return MachineFault{said, ran.setting, ran.fault, ran.row, ran.message};
-    report.resize(ran.length);
-    return report;
+    fq_machine_ran none{};
+    none.size = sizeof none;
+    return detail::written(
+        arrivals, none, [&](auto... to) { return fq_machine(&settings, to...); },
+        [](std::uint32_t said, const fq_machine_ran &ran) { return MachineFault{said, ran.setting, ran.fault, ran.row, ran.message}; });
 }
 
 } // namespace fintaqush

@@ -3,6 +3,7 @@
 from __future__ import annotations
 
 import os
+import re
 from collections.abc import Mapping
 from typing import Any
 
@@ -11,6 +12,17 @@ from header import Item, items_of
 
 def enum_of(read: Mapping[str, Any], name: str) -> Item:
     return next(item for item in items_of(read, "enum") if item["name"] == name)
+
+
+def is_object(struct: Item) -> bool:
+    """Returns whether a struct is the handle of one kind of object: its only member is what handles of all kinds have."""
+    return [member[:2] for member in struct["members"]] == [["handle", "struct fq_handle"]]
+
+
+def handle_of(c_type: str) -> tuple[str, bool]:
+    """Returns the struct to which a pointer leads, or "", and whether it is const."""
+    found = re.fullmatch(r"(const )?struct (\w+) \*", c_type)
+    return (found[2], bool(found[1])) if found else ("", False)
 
 
 def names_of(read: Mapping[str, Any], enum: str) -> list[str]:
@@ -34,7 +46,7 @@ def camel(name: str) -> str:
 
 
 def type_name(name: str) -> str:
-    """Returns the name of a struct or an enum in Python, for example DqlMade for fq_dql_made."""
+    """Returns the name of a struct or an enum in Python, for example RingShown for fq_ring_shown."""
     return camel(name[len("fq_") :])
 
 

@@ -19,11 +19,12 @@ import ctypes
 import enum
 from typing import Any
 
-u8, u32, u64, i64 = ctypes.c_uint8, ctypes.c_uint32, ctypes.c_uint64, ctypes.c_int64
+u8, u16, u32, u64, i64 = ctypes.c_uint8, ctypes.c_uint16, ctypes.c_uint32, ctypes.c_uint64, ctypes.c_int64
 size, boolean, text, pointer = ctypes.c_size_t, ctypes.c_bool, ctypes.c_char_p, ctypes.POINTER
 '''
 TYPES = {
     "uint8_t": "u8",
+    "uint16_t": "u16",
     "uint32_t": "u32",
     "uint64_t": "u64",
     "int64_t": "i64",
@@ -76,7 +77,11 @@ def numbers(read: Mapping[str, Any]) -> Iterator[str]:
 def structs(read: Mapping[str, Any]) -> Iterator[str]:
     for item in items_of(read, "struct"):
         if item["name"] not in NOT_PYTHON:
-            members = [f'("{name}", {ctypes_of(c_type)})' for name, c_type, _ in item["members"]]
+            types = [
+                (name, "u32" if c_type.startswith("enum ") else ctypes_of(c_type))
+                for name, c_type, _ in item["members"]
+            ]
+            members = [f'("{name}", {c_type})' for name, c_type in types]
             yield from ("", "", f"class {type_name(item['name'])}(ctypes.Structure):")
             yield from within("    _fields_ = [", members, "]")
 

@@ -7,7 +7,7 @@ import textwrap
 from collections.abc import Iterator, Mapping
 from typing import Any
 
-from abi_names import enum_of, faults, names_of, prefix_of, sentence, statuses
+from abi_names import enum_of, faults, is_object, names_of, prefix_of, sentence, statuses
 from header import Item, items_of
 
 HEAD = """\
@@ -36,6 +36,7 @@ KEYWORDS = ("move",)  # of Rust, among the names of calls
 LENGTHS = ("len", "room", "count")  # the names of a parameter that is the length of the array before it
 TYPES = {
     "uint8_t": "u8",
+    "uint16_t": "u16",
     "uint32_t": "u32",
     "uint64_t": "u64",
     "int64_t": "i64",
@@ -45,13 +46,7 @@ TYPES = {
 }
 NOT_RUST = {"fq_card", "fq_word"}  # Rust has a trait, and an atomic
 ALL = "Clone, Copy, Debug, Default, PartialEq, Eq"
-DERIVES = {
-    "fq_handle": "Debug",
-    "fq_dql": "Debug",
-    "fq_dql_made": "Debug",
-    "fq_napi": "Clone, Debug, PartialEq, Eq",
-    "fq_settings": "Clone, Copy, Debug, PartialEq, Eq",  # its defaults aren't 0
-}
+DERIVES = {"fq_handle": "Debug", "fq_dql": "Debug, Default", "fq_napi": "Clone, Debug, PartialEq, Eq"}
 # The results after which nothing has changed, so that they are errors in Rust.
 FAILING = ("FQ_NOT_THERE", "FQ_BUSY", "FQ_FULL", "FQ_STOPPED", "FQ_MORE_THAN_SENT", "FQ_NOT_DUE")
 CODE = re.compile(r"`[^`]*`|(?P<code>\*?\b(?:\w+->)?\w*_\w*(?:\.\.)?|\*\w+|\w+->\w+|\w+\(\w+\))|(?P<sign>[\[\]<>*])")
@@ -111,18 +106,44 @@ def items_with_comments(read: Mapping[str, Any], kind: str) -> Iterator[tuple[It
 
 
 def structs(read: Mapping[str, Any]) -> Iterator[str]:
+    every = {item["name"]: item for item in items_of(read, "struct")}
     for item, about in items_with_comments(read, "struct"):
         if item["name"] not in NOT_RUST:
             yield from ("", *struct(item, about))
+            if has_size(item):
+                yield from ("", f"impl {item['name']} {{", "    /// Its size, and zeros.")
+                yield from zeros(every, item, f"    pub const INIT: {item['name']} = ", ";")
+                yield "}"
+
+
+def has_size(item: Item) -> bool:
+    return bool(item["members"][0][0] == "size")
+
+
+def zeros(every: Mapping[str, Item], item: Item, head: str, tail: str) -> Iterator[str]:
+    """Yields a value of a struct: its size, and zeros."""
+    indent = " " * (len(head) - len(head.lstrip()))
+    yield f"{head}{item['name']} {{"
+    for name, c_type, _ in item["members"]:
+        rust, member = rust_type(c_type), f"{indent}    {name}: "
+        if rust in every:
+            yield from zeros(every, every[rust], member, ",")
+        elif name == "size":
+            yield f"{member}std::mem::size_of::<{item['name']}>(),"
+        else:
+            count = rust.partition("; ")[2]
+            yield f"{member}[0; {count}," if count else f"{member}{'false' if rust == 'bool' else 0},"
+    yield f"{indent}}}{tail}"
 
 
 def struct(item: Item, about: str) -> Iterator[str]:
     """Yields a struct; a member is public unless its name begins with private_."""
-    is_grown = item["members"][0][0] == "size"  # with 0 for its size it would be wrong
-    derives = DERIVES.get(item["name"], ALL.replace("Default, ", "") if is_grown else ALL)
+    # with 0 for its size it would be wrong
+    usual = "Debug" if is_object(item) else ALL.replace("Default, ", "") if has_size(item) else ALL
+    derives = DERIVES.get(item["name"], usual)
     yield from (*doc(about), "#[repr(C)]", f"#[derive({derives})]", f"pub struct {item['name']} {{")
     for name, c_type, note in item["members"]:
-        if name.startswith("private_"):
+        if name.startswith("private_") or is_object(item):
             yield f"    pub(crate) {name}: {rust_type(c_type)},"
         else:
             yield from (*doc(sentence(note), "    "), f"    pub {name}: {rust_type(c_type)},")

@@ -33,6 +33,8 @@ from fintaqush_tools.builds import Crate, all_crates, build, child, read, run, s
 Texts = dict[str, str]  # of files, by path
 Tried = tuple[str, bool, str]  # the name of an edit, whether it passed, and what to print
 
+BOTH: dict[str, Any] = {"stdout": subprocess.PIPE, "stderr": subprocess.STDOUT}
+NOT_ONCE = "its old text doesn't stand once in its file"
 GONE = "has no field|is not in scope|has no `|was not admitted"  # of what an edit takes away, and a proof names
 HEAD = re.compile(r"^( *)(?:pub(?:\([a-z]+\))? )?(?:const |unsafe |extern \"C\" )*fn (\w+)", re.M)
 
@@ -52,9 +54,7 @@ class Function:
 
     def __init__(self, path: str, text: str, at: int) -> None:
         head = [it for it in HEAD.finditer(text) if it.start() < at][-1]
-        first = [it.start() for it in re.finditer(r"(?:^ *#\[.*\n)*\Z", text[: head.start()], re.M)][
-            0
-        ]  # with its attributes
+        first = next(re.finditer(r"(?:^ *#\[.*\n)*\Z", text[: head.start()], re.M)).start()  # with its attributes
         self.in_body = at >= next(re.compile(rf"(?:^{head[1]}| )\{{$", re.M).finditer(text, head.start())).end()
         self.end = text.index(f"\n{head[1]}}}\n", head.start())
         self.path, self.first, self.last = path, text.count("\n", 0, first) + 1, text.count("\n", 0, self.end) + 2
@@ -66,11 +66,8 @@ class Function:
         name something that the edit removed."""
         own = f"/{self.name.replace('::', '/')}/"
         for line, file, number in re.findall(r"^((?:note: )?(?:\./)?((?:src|proofs)/\S+?):(\d+):\d+: .*)", said, re.M):
-            is_own = (
-                self.first <= int(number) <= self.last
-                if file == self.path
-                else file.startswith("proofs/") and own in file
-            )
+            is_inside = file == self.path and self.first <= int(number) <= self.last
+            is_own = is_inside or file.startswith("proofs/") and own in file
             if is_own and ("is not proved" in line or ": error: " in line and not re.search(GONE, line)):
                 return str(line)
         return None
@@ -86,10 +83,9 @@ def function_of(path: str, text: str, part: str) -> Function | None:
 
 
 class Edit:
-    pairs: list[tuple[str, str, str]]
-
     def __init__(self, crate: Crate, file: str) -> None:
-        self.crate, self.name, self.pairs = crate, os.path.basename(file).removesuffix(".edit"), []
+        self.crate, self.name = crate, os.path.basename(file).removesuffix(".edit")
+        self.pairs: list[tuple[str, str, str]] = []
         for line in read(file).splitlines():
             word, _, text = line.partition(": ")
             if word == "file":
@@ -120,27 +116,21 @@ class Edit:
         """Tries the edit alone. Returns whether its function, or the crate if there is none, is rejected, and what to print."""
         changed, function = self.apply(texts), self.function(texts)
         names = [function.name] if function else []
-        said, proved = (
-            check(self.crate, changed, names) if changed else ("its old text doesn't stand once in its file", None)
-        )
+        said, proved = check(self.crate, changed, names) if changed else (NOT_ONCE, None)
         lines = re.findall(r"^(?:note: .*|\S+:\d+:\d+: error.*)", said, re.M) or said.splitlines() or [""]
         if proved is None or any(re.match(r"(\./)?(src|specs)/", it) for it in lines):
             return False, f"BAD EDIT, which no contract was tried by: {lines[0]}"
-        return (
-            not proved,
-            f"NOT REFUSED: {'its function' if names else 'the crate'} is still proved"
-            if proved
-            else f"refused: {lines[0]}",
-        )
+        if proved:
+            return False, f"NOT REFUSED: {'its function' if names else 'the crate'} is still proved"
+        return True, f"refused: {lines[0]}"
 
 
 class Round:
     """Edits that are tried together, each with its function, and the crate's texts with all of them."""
 
-    edits: list[tuple[Edit, Function]]
-
     def __init__(self, texts: Texts) -> None:
-        self.texts, self.edits = texts, []
+        self.texts = texts
+        self.edits: list[tuple[Edit, Function]] = []
 
     def takes(self, edit: Edit, function: Function) -> bool:
         changed = edit.apply(self.texts)
@@ -173,17 +163,10 @@ def check(crate: Crate, texts: Texts, names: Sequence[str]) -> tuple[str, bool |
             with open(f"{room}/{path}", "w", encoding="utf-8") as file:
                 file.write(text)
         words = [*crate.words("check", 1), *(word for name in names for word in ("--only", name))]
-        how: dict[str, Any] = {
-            "stdin": subprocess.DEVNULL,
-            "stdout": subprocess.PIPE,
-            "stderr": subprocess.STDOUT,
-            "text": True,
-            "errors": "replace",
-        }
+        how: dict[str, Any] = {"stdin": subprocess.DEVNULL, "text": True, "errors": "replace", **BOTH}
         ran = subprocess.run(words, cwd=room, preexec_fn=child, check=False, **how)
-    if (
-        ran.returncode == 2 and names
-    ):  # the prover has some by other names: the edits of these are tried alone, then with all functions
+    if ran.returncode == 2 and names:
+        # the prover has some by other names: the edits of these are tried alone, then with all functions
         unknown = re.findall(r"has no function `([^`]+)`", ran.stdout)
         return check(crate, texts, [it for it in names if it not in unknown] if {*unknown} & {*names} else [])
     judged = re.match(r"logic=(not-)?proved|only=\d+ proved=\d+", ran.stdout.rstrip("\n").rpartition("\n")[2])
@@ -212,19 +195,16 @@ def try_round(crate: Crate, it: Round, texts: Texts, is_first: bool) -> list[Tri
     told = [(edit.name, True, f"refused: {line}") for edit, line in lines if line]
     if is_first and not re.search(r"^fn \S+: proved$", said, re.M):
         said, proved = check(crate, texts, [it.edits[0][1].name])
-        told.append(
-            ("a function as it is", proved is True, "proved" if proved else f"NOT PROVED by the same words: {said}")
-        )
+        text = "proved" if proved else f"NOT PROVED by the same words: {said}"
+        told.append(("a function as it is", proved is True, text))
     return told_of(crate, told) + [tried for edit, line in lines if not line for tried in try_alone(edit, texts)]
 
 
 def tries_of(crate: Crate) -> list[Callable[[], list[Tried]]]:
     """Returns the calls that try the edits of the crate. Each returns for each of its edits a name, whether it passed, and what to print."""
     texts, folder = texts_of(crate), f"{crate.folder}/must-fail"
-    names = sorted(os.listdir(folder))
-    others = [
-        (it, False, "BAD EDIT: its name doesn't end in .edit") for it in names if not it.endswith((".edit", ".md"))
-    ]
+    names, why = sorted(os.listdir(folder)), "BAD EDIT: its name doesn't end in .edit"
+    others = [(it, False, why) for it in names if not it.endswith((".edit", ".md"))]
     rounds, alone = rounds_of([Edit(crate, f"{folder}/{it}") for it in names if it.endswith(".edit")], texts)
     return [
         *(functools.partial(try_round, crate, it, texts, it is rounds[0]) for it in rounds),
@@ -236,16 +216,11 @@ def tries_of(crate: Crate) -> list[Callable[[], list[Tried]]]:
 def try_text(crate: Crate, file: str) -> list[Tried]:
     """Returns whether the crate with this edit is rejected with the error that the edit names, before any proof, and what to print."""
     error, changed = re.findall("^error: (.*)$", read(file), re.M)[0], Edit(crate, file).apply(texts_of(crate))
-    said, proved = check(crate, changed, []) if changed else ("its old text doesn't stand once in its file", None)
+    said, proved = check(crate, changed, []) if changed else (NOT_ONCE, None)
     well = f"error[{error}]" in said and proved is None
     lines = re.findall("^.*error.*", said, re.M) or said.splitlines() or [""]
-    return [
-        (
-            os.path.relpath(file, f"{TOP}/crates"),
-            well,
-            f"{'rejected' if well else f'NOT REJECTED by error[{error}]'}: {lines[0]}",
-        )
-    ]
+    text = f"{'rejected' if well else f'NOT REJECTED by error[{error}]'}: {lines[0]}"
+    return [(os.path.relpath(file, f"{TOP}/crates"), well, text)]
 
 
 def try_all(tries: Sequence[Callable[[], list[Tried]]], below: Sequence[Crate], what: str) -> tuple[int, int]:
@@ -276,12 +251,8 @@ def all_edits(names: Sequence[str]) -> tuple[int, int]:
 
 def all_texts() -> tuple[int, int]:
     """Tries the edits that must not compile."""
-    files = [
-        (it, f"{it.folder}/must-not-compile/{name}")
-        for it in all_crates()
-        if os.path.isdir(f"{it.folder}/must-not-compile")
-        for name in sorted(os.listdir(f"{it.folder}/must-not-compile"))
-    ]
+    folders = [(it, f"{it.folder}/must-not-compile") for it in all_crates()]
+    files = [(it, f"{at}/{name}") for it, at in folders if os.path.isdir(at) for name in sorted(os.listdir(at))]
     return try_all([functools.partial(try_text, *it) for it in files], [it for it, _ in files], "must-not-compile")
 
 
@@ -311,12 +282,11 @@ def prove_all(room: str, names: Sequence[str]) -> tuple[int, int]:
     shutil.copytree(TOP, room, ignore=left_out, symlinks=True, dirs_exist_ok=True)
     if names:
         with open(f"{room}/crates.txt", "w", encoding="utf-8") as file:
-            file.writelines(
-                it for it in read(f"{TOP}/crates.txt").splitlines(True) if re.findall(r"^\w*", it)[0] in listed
-            )
-    last, how = "", {"stdout": subprocess.PIPE, "stderr": subprocess.STDOUT, "errors": "replace"}
-    with subprocess.Popen(["rt", "ci"], cwd=room, preexec_fn=child, text=True, **how) as ran:  # type: ignore[call-overload]
-        for last in ran.stdout:
+            lines = read(f"{TOP}/crates.txt").splitlines(True)
+            file.writelines(it for it in lines if re.findall(r"^\w*", it)[0] in listed)
+    last = ""
+    with subprocess.Popen(["rt", "ci"], cwd=room, preexec_fn=child, text=True, errors="replace", **BOTH) as ran:
+        for last in ran.stdout or ():
             print(last, end="", flush=True)
     for crate in asked:
         keep(crate, f"{room}/crates/{crate.name}/out", times[crate])
@@ -331,11 +301,8 @@ def gate(words: Sequence[str]) -> int:
         print(__doc__, end="", flush=True)
         return 0
     if words[:1] not in (["proofs"], ["edits"], ["uncompiled"]) or words == ["proofs"]:
-        print(
-            "scripts/gate.py: the first argument is proofs ROOM, edits or uncompiled; --help says more",
-            file=sys.stderr,
-            flush=True,
-        )
+        what = "the first argument is proofs ROOM, edits or uncompiled; --help says more"
+        print(f"scripts/gate.py: {what}", file=sys.stderr, flush=True)
         return 64
     if words[0] == "proofs":
         passed, failed = prove_all(words[1], words[2:])

@@ -25,7 +25,9 @@ ABI = TOP / "scripts/abi.json"
 FIRST = "1.0"  # the version of calls that don't say one
 BANNER = "---- "
 # What isn't part of a declaration's text: macros that say no more than its comment, or that differ by compiler, and a script's marks.
-OMITTED = re.compile(r"\b(?:FQ_CHECKED|FQ_NONNULL|FQ_RESTRICT|FQ_NUMBER|static inline) |^ */\* scripts/[^\n]*\n", re.M)
+OMITTED = re.compile(
+    r"\b(?:FQ_CHECKED(?:_AT\([^)]*\))?|FQ_NONNULL|FQ_RESTRICT|FQ_NUMBER|static inline) |^ */\* scripts/[^\n]*\n", re.M
+)
 COMMENT_OR_MACRO = re.compile(
     r"/\*(?P<comment>.*?)\*/|^#define (?P<macro>FQ_\w+) [^\n]*?(?= */\*|$)|(?P<blank>\n[ \t]*(?=\n))", re.S | re.M
 )
@@ -119,7 +121,7 @@ def groups_of(text: str, nodes: Sequence[Node]) -> list[dict[str, Any]]:
 
 
 def group_of(banner: str) -> dict[str, Any]:
-    found = re.fullmatch(r"(\w+): (.*?)\.(?: (.*))?", banner[len(BANNER) :])
+    found = re.fullmatch(r"(\w+): (.*?)\.(?: (.*))?", banner[len(BANNER) :], re.S)
     if not found:
         raise WrongHeader(f"a group begins with `/* {BANNER}NAME: TITLE.`, not with {banner!r}")
     return {"name": found[1], "title": found[2], "about": found[3] or "", "blocks": [{"about": "", "items": []}]}
@@ -153,9 +155,15 @@ def between(text: str) -> Iterator[Item]:
 
 
 def prose(comment: str) -> str:
-    """Returns a comment's text in one line, without the star that begins each line but the first."""
+    """Returns a comment's text without the star that begins each line but the first: prose in one line, and each line of code, which is
+    indented, in a line of its own that begins with four spaces."""
     first, *lines = comment.strip().splitlines()
-    return " ".join([first.strip(), *(re.sub(r"^\s*\* ?", "", line).strip() for line in lines)]).strip()
+    text = first.strip()
+    for line in (re.sub(r"^\s*\* ?", "", line).rstrip() for line in lines):
+        is_code = line.startswith("    ")
+        between = "\n" if is_code or text.rpartition("\n")[2].startswith("    ") else " "
+        text += f"{between}{line}" if line else ""
+    return text.strip()
 
 
 def set_versions(block: dict[str, Any]) -> None:

@@ -7,7 +7,7 @@ code.
 
 from __future__ import annotations
 
-from collections.abc import Iterator, Mapping, Sequence
+from collections.abc import Iterator, Sequence
 from typing import Optional
 import pathlib
 import re
@@ -22,27 +22,23 @@ FUNCTION = re.compile(r'(?:pub(?:\([\w:]+\))? )?(?:const )?(?:unsafe )?(?:extern
 CLAUSE = re.compile(r"(requires|ensures)\b\*? ?(\w+)?")
 GHOST = re.compile(r"(?:pub(?:\([\w:]+\))? )?ghost\b")
 PUBLIC = re.compile(r"pub(?:\([\w:]+\))? (?:struct|enum|union|trait|type) (\w+)")
-DEFINITION = re.compile(
-    r"(?P<words>(?:(?:pub|abbrev|unfoldable|record|data) )*)(?P<name>[^\s(){}:◌]+)(?P<end> :| \(| \{)"
-)
+WORDS = r"(?P<words>(?:(?:pub|abbrev|unfoldable|record|data) )*)"
+DEFINITION = re.compile(WORDS + r"(?P<name>[^\s(){}:◌]+)(?P<end> :| \(| \{)")
 # Names that two crates may have, each with the reason; there is none now. Operators, such as ◌>>=◌, don't count as names.
 SHARED: dict[str, str] = {}
+# String literals, characters and comments.
 LITERAL = re.compile(r"""//.*|b?"(?:[^"\\]|\\.)*"|b?'(?:[^'\\]|\\.[^']*)'""")
 
 
 class Crate:
     """The numbers of a crate, and the places that exceed a limit."""
 
-    over: list[str]
-    types: dict[str, str]
-    definitions: dict[str, str]
-
     def __init__(self, name: str) -> None:
         self.name = name
         self.numbers = dict.fromkeys(COLUMNS, 0)
-        self.over = []
-        self.types = {}  # of each public type, and of each definition, its place
-        self.definitions = {}
+        self.over: list[str] = []
+        self.types: dict[str, str] = {}  # of each public type, and of each definition, its place
+        self.definitions: dict[str, str] = {}
 
     def count(self, column: str, number: int = 1) -> None:
         self.numbers[column] += number
@@ -51,35 +47,20 @@ class Crate:
         self.numbers[column] = max(self.numbers[column], number)
 
     def proofs_to_the_rest(self) -> float:
-        return ratio(self.numbers)
+        rest = self.numbers["code"] + self.numbers["contracts"] + self.numbers["specs"]
+        return self.numbers["proofs"] / rest if rest else 0
 
 
 class Function:
     """A function that is being read: where it begins, its nesting depth, and its counts so far."""
 
-    clauses: dict[str, list[Optional[str]]]
-
     def __init__(self, name: str, place: int, depth: int) -> None:
-        self.name = name
-        self.place = place
-        self.depth = depth
-        self.has_body = False
-        self.lines = 0
-        self.clauses = {"requires": [], "ensures": []}
-
-
-def ratio(numbers: Mapping[str, int]) -> float:
-    rest = numbers["code"] + numbers["contracts"] + numbers["specs"]
-    return numbers["proofs"] / rest if rest else 0
+        self.name, self.place, self.depth, self.has_body, self.lines = name, place, depth, False, 0
+        self.clauses: dict[str, list[Optional[str]]] = {"requires": [], "ensures": []}
 
 
 def lines_of(path: pathlib.Path) -> list[str]:
     return path.read_text(encoding="utf-8").splitlines()
-
-
-def bare(line: str) -> str:
-    """Returns the line without string literals, characters and comments."""
-    return LITERAL.sub("", line)
 
 
 def balance(line: str) -> int:
@@ -89,16 +70,11 @@ def balance(line: str) -> int:
 class Source:
     """A file of a crate's `src`, read line by line."""
 
-    functions: list[Function]
-
     def __init__(self, crate: Crate, path: pathlib.Path) -> None:
-        self.crate = crate
-        self.path = path
-        self.is_test = crate.name.startswith(("test_", "uses_")) or any(
-            part.endswith("tests") for part in (crate.name, path.stem, path.parent.name)
-        )
-        self.depth = 0
-        self.functions = []
+        self.crate, self.path, self.depth = crate, path, 0
+        is_named = any(part.endswith("tests") for part in (crate.name, path.stem, path.parent.name))
+        self.is_test = is_named or crate.name.startswith(("test_", "uses_"))
+        self.functions: list[Function] = []
         self.ghost = 0  # how many brackets of a clause or of a ghost item are open
         self.in_clause = False
 
@@ -109,7 +85,7 @@ class Source:
                 self.take(number, line, text)
 
     def take(self, number: int, line: str, text: str) -> None:
-        code = bare(text)
+        code = LITERAL.sub("", text)
         clause = None if self.ghost else CLAUSE.match(text)
         if clause or self.ghost or GHOST.match(text):
             self.take_ghost(number, line, code, clause)
@@ -195,27 +171,18 @@ def crate_of(folder: pathlib.Path) -> Crate:
         if path.suffix == ".rt" and part == "src":
             Source(crate, path).read()
         elif path.suffix == ".antt":
-            if part == "specs":
-                crate.definitions.update(
-                    {name: place for name, place in definitions_of(path) if name not in crate.definitions}
-                )
+            for name, place in definitions_of(path) if part == "specs" else ():
+                crate.definitions.setdefault(name, place)
             crate.count(part, sum(1 for line in lines_of(path) if line.strip()))
-            crate.over += [
-                f"{path}:{number}: it has {len(line)} columns"
-                for number, line in enumerate(lines_of(path), 1)
-                if len(line) > WIDEST_LINE
-            ]
+            wide = [each for each in enumerate(lines_of(path), 1) if len(each[1]) > WIDEST_LINE]
+            crate.over += [f"{path}:{number}: it has {len(line)} columns" for number, line in wide]
         elif path.suffix == ".edit":
             crate.count("edits")
     return crate
 
 
 def crates() -> list[Crate]:
-    listed = [
-        line.split(":")[0].split()[0]
-        for line in lines_of(pathlib.Path("crates.txt"))
-        if line.strip() and not line.startswith("#")
-    ]
+    listed = re.findall(r"^\w+", pathlib.Path("crates.txt").read_text(encoding="utf-8"), re.M)
     return [crate_of(pathlib.Path("crates") / name) for name in listed]
 
 
@@ -240,11 +207,8 @@ def show(all_crates: Sequence[Crate]) -> None:
             whole.reach(column, crate.numbers[column])
     print(f"{'':<18}" + "".join(f"{column:>10}" for column in COLUMNS) + "    proofs to the rest")
     for crate in [*all_crates, whole]:
-        print(
-            f"{crate.name:<18}"
-            + "".join(f"{crate.numbers[column]:>10}" for column in COLUMNS)
-            + f"    {crate.proofs_to_the_rest():.2f}"
-        )
+        numbers = "".join(f"{crate.numbers[column]:>10}" for column in COLUMNS)
+        print(f"{crate.name:<18}{numbers}    {crate.proofs_to_the_rest():.2f}")
 
 
 def check(all_crates: Sequence[Crate]) -> int:

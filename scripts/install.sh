@@ -41,13 +41,14 @@ major=${version%%.*}
 
 guide=share/doc/fintaqush # the pages for users of the library, and the examples
 pages=(C.md GUIDE.md LIMITS.md)
-examples=("$top"/examples/c/*)
+examples=("$top"/examples/c/* "$top"/examples/driver/driver.h)
 library_files=("$libdir"/{libfintaqush.a,"libfintaqush.so.$version","libfintaqush.so.$major",libfintaqush.so,pkgconfig/fintaqush.pc}
     "$libdir"/cmake/Fintaqush/{FintaqushConfig,FintaqushConfigVersion}.cmake include/{fintaqush.h,fintaqush.hpp,fintaqush_tsan.h}
     share/man/man3/fintaqush.3 "${pages[@]/#/$guide/}" "${examples[@]/#"$top"/$guide}")
 mapfile -t call_pages < <(python3 -EsSB "$top/scripts/manual.py" --names) # a page for each group of calls, and one for each call, which leads there
 library_files+=("${call_pages[@]/#/share/man/man3/}")
 home=lib/fintaqush # where what `fintaqush` runs lies, as in a checkout
+tool_pages=(FORMATS.md OPERATORS.md TOOLS.md) # which --help names
 parts=(fintaqush scripts/start.py docs/usage.txt examples/{linux-veth-bursts,busy-poll}.csv examples/veth-backlog.rec)
 package=tools/fintaqush_tools
 for file in "$top/$package"/{,commands/}*.{py,html,json}; do
@@ -57,7 +58,7 @@ mapfile -t subcommands < <("$top/fintaqush" --names)
 [ "$prefix" = /usr ] && zsh=vendor-completions || zsh=site-functions # where Debian's zsh looks
 completions=(share/bash-completion/completions/fintaqush "share/zsh/$zsh/_fintaqush" share/fish/vendor_completions.d/fintaqush.fish)
 python=("$top"/bindings/python/fintaqush/{*.py,py.typed})
-command_files=("${programs[@]/#/bin/}" "${programs[@]/#/$home/programs/}" bin/fintaqush "${parts[@]/#/$home/}" "$home/version" "${completions[@]}" \
+command_files=("${programs[@]/#/bin/}" "${programs[@]/#/$home/programs/}" bin/fintaqush "${parts[@]/#/$home/}" "$home/version" "${tool_pages[@]/#/$home/docs/}" "${completions[@]}" \
     share/man/man1/fintaqush.1)
 for name in "${programs[@]}" "${subcommands[@]/#/fintaqush-}"; do
     command_files+=("share/man/man1/$name.1")
@@ -75,7 +76,7 @@ if [ -n "$is_uninstall" ]; then
         rmdir "$package" 2> /dev/null || true
     done
     rm -rf "$to/$home/$package"/{commands/,}__pycache__ # Python's, of these files
-    rmdir "$to/$libdir/cmake/Fintaqush" "$to/$guide"/{examples/c,examples,} "$to/$home/$package"/{commands,} \
+    rmdir "$to/$libdir/cmake/Fintaqush" "$to/$guide"/{examples/c,examples/driver,examples,} "$to/$home/$package"/{commands,} \
         "$to/$home"/{tools,scripts,programs,docs,examples} "$to/$home" 2> /dev/null || true
     exit 0
 fi
@@ -152,9 +153,9 @@ put() {
     install -D -m "$1" "$2" "$to/$3" || stop 73 "$to/$3 can't be written"
 }
 
-# page_of: prints a page for the installation: a link to what isn't installed with it becomes plain text
+# page_of FILE PAGE ..: prints a page that is installed with these pages: a link to anything else becomes plain text
 page_of() {
-    awk -v pages=" ${pages[*]} " '{
+    awk -v pages=" ${*:2} " '{
         while (match($0, /\[[^][]*\]\([^)]*\)/)) {
             link = substr($0, RSTART, RLENGTH); split(link, part, /\]\(/)
             to = part[2]; sub(/\)$/, "", to); name = to; sub(/#.*/, "", name)
@@ -182,7 +183,7 @@ for name in "${call_pages[@]}"; do
     put 644 "$scratch/calls/$name" "share/man/man3/$name"
 done
 for name in "${pages[@]}"; do
-    page_of "$top/docs/$name" > "$scratch/page"
+    page_of "$top/docs/$name" "${pages[@]}" > "$scratch/page"
     put 644 "$scratch/page" "$guide/$name"
 done
 for file in "${examples[@]}"; do
@@ -201,12 +202,17 @@ if [ -z "$is_library" ]; then
     for file in "${parts[@]}"; do
         put "$(stat -c %a "$top/$file")" "$top/$file" "$home/$file"
     done
+    for name in "${tool_pages[@]}"; do
+        page_of "$top/docs/$name" "${tool_pages[@]}" > "$scratch/page"
+        put 644 "$scratch/page" "$home/docs/$name"
+    done
     echo "$version" > "$scratch/version"
     put 644 "$scratch/version" "$home/version"
     ln -sf "../$home/fintaqush" "$to/bin/fintaqush"
     for name in '' "${subcommands[@]}"; do
         # shellcheck disable=SC2086 # none, or a subcommand
         "$top/fintaqush" $name --manual > "$scratch/page" || stop 70 "the manual page of $name couldn't be made, by python3"
+        sed -i "s|docs/\([A-Z]*\.md\)|$(for_sed "$prefix/$home")/docs/\1|g" "$scratch/page"
         put 644 "$scratch/page" "share/man/man1/fintaqush${name:+-$name}.1"
     done
     for file in "${completions[@]}"; do

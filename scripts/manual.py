@@ -14,7 +14,9 @@ from pathlib import Path
 from typing import Any
 
 import header
-from abi_names import sentence
+from abi_names import sentence, statuses
+
+Status = tuple[int, str, str]  # its number, its name and its message
 
 
 def calls_of(group: Mapping[str, Any]) -> list[str]:
@@ -26,15 +28,36 @@ def roff(text: str) -> str:
     return re.sub(r"^([.'])", r"\\&\1", text.replace("\\", "\\e").replace("-", "\\-"), flags=re.M)
 
 
-def manual(group: Mapping[str, Any], others: Sequence[str], version: str) -> Iterator[str]:
+def prose(text: str) -> str:
+    """Returns a comment's text; its lines of code, which begin with four spaces, stay as they are."""
+    return re.sub(r"(?:^ {4}.*(?:\n|$))+", lambda code: f".nf\n{code[0].rstrip()}\n.fi\n", roff(text), flags=re.M)
+
+
+def results(group: Mapping[str, Any], rows: Sequence[Status]) -> Iterator[str]:
+    """Yields the statuses that a group's comments name, with their messages: results, and errors."""
+    named = {*re.findall(r"\bFQ_[A-Z_]+", " ".join(block["about"] + str(block["items"]) for block in group["blocks"]))}
+    own = [row for row in rows if row[1] in named]
+    if not own:
+        return
+    yield ".SH RETURN VALUE\nA call of the type enum fq_status returns a status. Its description above says which; for an error"
+    yield ".BR fq_is_error (3)\nreturns true. The other calls return what their descriptions say. Results:"
+    for heading, of_errors in (("", False), (".SH ERRORS", True)):
+        some = [row for row in own if (0 < row[0] < 16 or row[0] >= 100) == of_errors]
+        if some and heading:
+            yield heading
+        yield from (f'.TP\n.BR {name} " (" {number} )\n{roff(message)}' for number, name, message in some)
+
+
+def manual(group: Mapping[str, Any], others: Sequence[str], version: str, rows: Sequence[Status]) -> Iterator[str]:
     name = group["name"]
     yield f'.TH FINTAQUSH_{name.upper()} 3 "" "Fintaqush {version}"'
     yield f".SH NAME\n{', '.join([f'fintaqush_{name}', *calls_of(group)])} \\- {group['title']}"
     yield f".SH SYNOPSIS\n.nf\n.B #include <{header.HEADER.name}>\n.fi"
     yield ".SH DESCRIPTION"
-    yield roff(f"{sentence(group['title'])} {group['about']}".strip())
+    yield prose(f"{sentence(group['title'])} {group['about']}".strip())
     for block in group["blocks"]:
         yield from described(block)
+    yield from results(group, rows)
     yield ".SH SEE ALSO\n.BR fintaqush (3),\n" + ",\n".join(f".BR fintaqush_{other} (3)" for other in others)
 
 
@@ -56,7 +79,7 @@ def pages() -> Iterator[tuple[str, str]]:
     names = [group["name"] for group in read["groups"]]
     for group in read["groups"]:
         name = group["name"]
-        lines = manual(group, [other for other in names if other != name], read["version"])
+        lines = manual(group, [other for other in names if other != name], read["version"], statuses(read))
         yield f"fintaqush_{name}.3", "\n".join(lines) + "\n"
         yield from ((f"{call}.3", f".so man3/fintaqush_{name}.3\n") for call in calls_of(group))
 

@@ -69,18 +69,10 @@ def scope(path: pathlib.Path) -> Names:
             if len(names) > 4 and names[0] == "Rattle" and names[2] == "specs" and names[3] != "declared":
                 found[names[-1]] = (names[1], f"{names[3]}.{names[-1]}")
     if path.suffix == ".antt":
-        found.update(
-            {
-                name: (crate, f"{path.stem}.{name}")
-                for name, modules in definitions(crate).items()
-                if path.stem in modules
-            }
-        )
-    return {
-        name: (crate, at)
-        for name, (crate, at) in found.items()
-        if at.partition(".")[0] in definitions(crate).get(name, ())
-    }
+        own = [name for name, modules in definitions(crate).items() if path.stem in modules]
+        found.update({name: (crate, f"{path.stem}.{name}") for name in own})
+    known = {name: definitions(of).get(name, ()) for name, (of, _) in found.items()}
+    return {name: to for name, to in found.items() if to[1].partition(".")[0] in known[name]}
 
 
 def linked(line: str, names: Names, way: str, is_own: str | None = None) -> str:
@@ -100,12 +92,8 @@ def linked(line: str, names: Names, way: str, is_own: str | None = None) -> str:
 def definition_page(crate: str) -> Iterator[str]:
     has_page = (TOP / "crates" / crate / "README.md").exists()
     name = f"[{crate}](../../crates/{crate}/README.md)" if has_page else crate
-    yield from (
-        f"# Definitions of {crate}",
-        "",
-        f"The definitions that contracts of {name} cite, module by module.",
-        "",
-    )
+    yield from (f"# Definitions of {crate}", "")
+    yield from (f"The definitions that contracts of {name} cite, module by module.", "")
     for path in sorted((TOP / "crates" / crate / "specs").glob("*.antt")):
         if path.stem == "Lib":
             continue
@@ -127,12 +115,9 @@ def definition_lines(path: pathlib.Path) -> Iterator[str]:
 class Facade:
     """The page of a facade's items, each with its `impl`s. An item has the anchor NAME, a method of a type TYPE.NAME."""
 
-    anchors: set[str]
-    contents: list[tuple[str, str]]
-    lines: list[str]
-
     def __init__(self, facade: str) -> None:
-        self.facade, self.anchors, self.contents, self.lines = facade, set(), [], []
+        self.facade, self.anchors, self.lines = facade, set[str](), list[str]()
+        self.contents: list[tuple[str, str]] = []
         for crate, alias, found in surface.surface(facade):
             self.lines += [f"## {crate}" + (f": {alias[1]}, re-exported as {alias[0]}" if alias else ""), ""]
             items = [(path, lines) for path, lines in found if lines]
@@ -153,15 +138,10 @@ class Facade:
 
     def show(self, path: pathlib.Path, doc: Sequence[str], code: Sequence[str]) -> None:
         depth = len(code[0]) - len(code[0].lstrip())
-        lines = [
-            linked(line[depth:] if not line[:depth].strip() else line, scope(path), "../definitions/") for line in code
-        ]
-        self.lines += [
-            *(re.sub(r"^ */// ?", "", line) for line in doc),
-            "",
-            "<pre><code>" + "\n".join(lines) + "</code></pre>",
-            "",
-        ]
+        left = [line[depth:] if not line[:depth].strip() else line for line in code]
+        shown = "\n".join(linked(line, scope(path), "../definitions/") for line in left)
+        text = [re.sub(r"^ */// ?", "", line) for line in doc]
+        self.lines += [*text, "", f"<pre><code>{shown}</code></pre>", ""]
 
     def item(self, path: pathlib.Path, lines: Sequence[str]) -> str:
         """Adds a function, type, trait or constant; returns its name."""
@@ -222,9 +202,8 @@ def write(path: pathlib.Path, lines: Iterable[str]) -> None:
 def main(folder: pathlib.Path) -> None:
     for facade in FACADES:
         write(folder / "rattle" / f"{facade}.md", Facade(facade).page())
-    for crate in sorted(
-        path.parent.parent.name for path in (TOP / "crates").glob("*/specs/*.antt") if path.stem != "Lib"
-    ):
+    specs = [path for path in (TOP / "crates").glob("*/specs/*.antt") if path.stem != "Lib"]
+    for crate in sorted({path.parent.parent.name for path in specs}):
         write(folder / "definitions" / f"{crate}.md", definition_page(crate))
 
 

@@ -75,11 +75,8 @@ def to_brace(lines: Sequence[str], at: int) -> list[str]:
 
 def block(lines: Sequence[str], at: int) -> list[str]:
     """Returns the lines of an `impl` without what is private: its head, a trait's relations, and each public method."""
-    head = re.sub(
-        r" \{.*$",
-        "",
-        " ".join(it.strip() for it in lines[at : next(n for n in range(at, len(lines)) if "{" in lines[n]) + 1]),
-    )
+    first = next(n for n in range(at, len(lines)) if "{" in lines[n])
+    head = re.sub(r" \{.*$", "", " ".join(it.strip() for it in lines[at : first + 1]))
     end = at if lines[at].endswith("{}") else next(n for n in range(at, len(lines)) if lines[n].startswith("}"))
     shown = [head, ""]
     is_trait = re.search(r" for ", re.sub(r"<[^<>]*>", "", head))
@@ -118,9 +115,8 @@ def aliased(crate: str, name: str) -> tuple[str, str] | None:
     texts = {path: path.read_text() for path in sorted(CRATES.glob("*/src/*.rt"))}
     own = "\n".join(text for path, text in texts.items() if path.parts[-3] == crate)
     if alias := re.search(rf"^pub type {name}\b(?:<[^=]*>)? =\s+(\w+)", own, re.M):
-        homes = [
-            path.parts[-3] for path, text in texts.items() if re.search(rf"^pub (struct|enum) {alias[1]}\b", text, re.M)
-        ]
+        defines = re.compile(rf"^pub (struct|enum) {alias[1]}\b", re.M)
+        homes = [path.parts[-3] for path, text in texts.items() if defines.search(text)]
         return next(((home, alias[1]) for home in sorted(homes, key=lambda it: it != crate)), None)
     return None
 
@@ -128,7 +124,7 @@ def aliased(crate: str, name: str) -> tuple[str, str] | None:
 def surface(facade: str) -> Iterator[tuple[str, tuple[str, str] | None, Iterator[Item]]]:
     """Yields the parts of a facade: each is a crate, the alias under which the facade re-exports its one type (None if there is none), and
     its items, with the names that the facade gives them."""
-    shown: set[tuple[str, str]] = set()
+    shown = {(crate, name) for crate, names in passed_on(facade) for name in names}
     other = exported(facade)
 
     def as_exported(found: Iterable[Item]) -> Iterator[Item]:

@@ -17,13 +17,9 @@ def imports(path: pathlib.Path) -> Iterator[pathlib.Path]:
     """Yields the files of definitions in this repository that a file uses."""
     for tree in re.findall(r"^(?:ghost )?use ([^;\n]*);?$", path.read_text(), re.M):
         for names in reference.paths_of(tree):
-            file = (
-                TOP / "crates" / "/".join(names[1:3]) / f"{names[3]}.antt"
-                if names[0] == "Rattle" and len(names) > 3
-                else None
-            )
-            if file and names[2] == "specs" and file.exists():
-                yield file
+            file = TOP / "crates" / "/".join(names[1:4])
+            if names[0] == "Rattle" and names[2:3] == ("specs",) and file.with_suffix(".antt").exists():
+                yield file.with_suffix(".antt")
 
 
 def roots() -> Iterator[pathlib.Path]:

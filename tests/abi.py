@@ -1,6 +1,7 @@
 #!/usr/bin/env python3
 """tests/abi.py: the C header and the exports of the crates have the same calls, with the same types of parameters and results, and the same
-structs, member by member. The header is what scripts/header.py read of it; the exports are the functions `extern "C"` and the structs
+structs, member by member. The handle of each kind of object is to the crates the one handle of all kinds, and it is const exactly if the
+export only reads the object. The header is what scripts/header.py read of it; the exports are the functions `extern "C"` and the structs
 `repr(C)` of the crates' sources. It prints each difference. With --planted, or --planted-in-header, which needs clang, it plants faults in
 copies of the sources, or of the header, and prints those that it doesn't find. With --python it prints C that compiles only if the package
 for Python has the header's structs and numbers.
@@ -23,12 +24,15 @@ import abi_names  # noqa: E402
 import header  # noqa: E402
 
 # The C type of each type of Rattle that a call or a struct has, and its size in bytes on x86-64. A text is bytes to Rattle.
-TYPES = {"u8": "uint8_t", "u32": "uint32_t", "u64": "uint64_t", "i64": "int64_t", "usize": "size_t", "bool": "bool"}
-SIZES = {"uint8_t": 1, "uint32_t": 4, "uint64_t": 8, "int64_t": 8, "size_t": 8, "bool": 1}
+TYPES = {"u8": "uint8_t", "u16": "uint16_t", "u32": "uint32_t", "u64": "uint64_t", "i64": "int64_t", "usize": "size_t", "bool": "bool"}
+SIZES = {"uint8_t": 1, "uint16_t": 2, "uint32_t": 4, "uint64_t": 8, "int64_t": 8, "size_t": 8, "bool": 1}
 # The structs whose name in C isn't that of Rattle, in small letters.
-RENAMED = {"FqDqlNew": "fq_dql_made", "Packet": "fq_packet", "TxState": "fq_tx_shown"}
+RENAMED = {"Packet": "fq_packet", "TxState": "fq_tx_shown"}
 EMPTY = {"Global"}  # the heap, which has no bytes and is no parameter in C
 ONLY_C = {"fq_card", "fq_word"}  # structs that only the header's inline functions use
+# The handle that a call's prefix names, if that isn't the handle's own name; and the calls on handles of any kind.
+KINDS = {"run": "list"}
+OF_ANY = {"fq_free", "fq_abandon", "fq_move", "fq_count"}
 # Python's enums, and what their names begin with in C.
 PREFIXES = {
     "Status": "FQ_",
@@ -62,6 +66,7 @@ class Sources:
         self.structs = {name: FIELD.findall(body) for name, body in STRUCT.findall(every)}
         self.counts = dict(COUNT.findall(every))
         self.numbers = {int(number): name for number, name in SIZE_OF.findall(every)}
+        self.readers = {call for call in self.calls for text in texts.values() if only_reads(text, call)}
 
     def c_type(self, rattle: str) -> str:
         """Returns the type of C, without arrays: those are in `parts`."""
@@ -96,6 +101,13 @@ class Sources:
         return laid_out(fields)
 
 
+def only_reads(text: str, call: str) -> bool:
+    """Returns whether an export in this source file lends its object only to functions that can't change it."""
+    body = re.search(rf'^pub extern "C" fn {call}\(.*?^\}}', text, re.M | re.S)
+    lent = re.findall(r"(\S*?)\(?\bhandle\.held\.as_mut\(\)", body[0]) if body else []
+    return bool(lent) and all(re.search(rf"^fn {one}\(\s*\w+: &Object[,)]", text, re.M) for one in lent)
+
+
 def c_name(rattle: str) -> str:
     return RENAMED.get(rattle) or re.sub(r"(?<!^)([A-Z])", r"_\1", rattle).lower()
 
@@ -112,8 +124,8 @@ def c_parts(structs: Mapping[str, Any], name: str) -> list[Part]:
 
 
 def plain(c_type: str) -> str:
-    """Returns a type as the exports have it: a text is bytes, an untyped pointer leads to bytes, and a status is a number."""
-    return re.sub(r"\b(?:char|void)\b", "uint8_t", c_type).replace("enum fq_status", "uint32_t")
+    """Returns a type as the exports have it: a text is bytes, an untyped pointer leads to bytes, and an enum is a number."""
+    return re.sub(r"\benum fq_\w+", "uint32_t", re.sub(r"\b(?:char|void)\b", "uint8_t", c_type))
 
 
 def laid_out(fields: list[tuple[str, str | list[Part]]]) -> list[Part]:
@@ -134,12 +146,13 @@ def differences(read: Mapping[str, Any], texts: Mapping[str, str]) -> Iterator[s
     sources = Sources(texts)
     calls = {item["name"]: item for item in header.items_of(read, "function") if not item["inline"]}
     structs = {item["name"]: item for item in header.items_of(read, "struct") if item["name"] not in ONLY_C}
+    objects = {name for name, item in structs.items() if abi_names.is_object(item)}
     yield from (f"{name} is only in the header" for name in sorted(calls.keys() - sources.calls.keys()))
     yield from (f"{name} is only in the crates" for name in sorted(sources.calls.keys() - calls.keys()))
     for name in sorted(calls.keys() & sources.calls.keys()):
-        yield from of_call(sources, calls[name])
+        yield from of_call(sources, calls[name], objects)
     exported = {c_name(name): name for name in sources.structs}
-    for name in sorted(structs):
+    for name in sorted(structs.keys() - objects):
         if name not in exported:
             yield f"struct {name} is only in the header"
         else:
@@ -150,19 +163,37 @@ def differences(read: Mapping[str, Any], texts: Mapping[str, str]) -> Iterator[s
         yield "enum fq_struct and fq_struct_size number different structs"
 
 
-def of_call(sources: Sources, call: Mapping[str, Any]) -> Iterator[str]:
+def of_call(sources: Sources, call: Mapping[str, Any], objects: set[str]) -> Iterator[str]:
     """Yields how a call differs. A number's name is the same on both sides; in the header it may end with its unit, _ms."""
     name, own = call["name"], list(sources.parameters(call["name"]))
+    yield from of_handles(call, objects, name in sources.readers)
     result = sources.calls[name][1]
     if (returned := sources.c_type(result) if result else "void") != plain(call["returns"]).replace("uint8_t", "void"):
         yield f"{name} returns {call['returns']} in the header, and {returned} in the crates"
     if len(own) != len(call["parameters"]):
         yield f"{name} has {len(call['parameters'])} parameters in the header, and {len(own)} in the crates"
     for (parameter, c_type), (own_name, exported) in zip(call["parameters"], own):
-        if plain(c_type) != exported:
+        given = plain(c_type)
+        if abi_names.handle_of(c_type)[0] in {*objects, "fq_handle"}:
+            given = "struct fq_handle *"
+        if given != exported:
             yield f"{name}: {parameter} is {c_type} in the header, and {exported} in the crates"
         elif "*" not in c_type and own_name and own_name != parameter.removesuffix("_ms"):
             yield f"{name}: {parameter} in the header is {own_name} in the crates"
+
+
+def of_handles(call: Mapping[str, Any], objects: set[str], is_reader: bool) -> Iterator[str]:
+    """Yields a call whose first handle isn't of the kind that its name says: only some take any kind; or isn't const exactly if the call
+    only reads the object."""
+    handles = [abi_names.handle_of(c_type) for _, c_type in call["parameters"]]
+    handles = [(struct, is_const) for struct, is_const in handles if struct in {*objects, "fq_handle"}]
+    kind = call["name"].split("_")[1]
+    wanted = "fq_handle" if call["name"] in OF_ANY else f"fq_{KINDS.get(kind, kind)}"
+    structs = [struct for struct, _ in handles]
+    if "fq_handle" in structs and wanted != "fq_handle" or wanted in {*objects, "fq_handle"} and wanted != structs[0]:
+        yield f"{call['name']} takes a {structs[0]}"
+    if [is_const for _, is_const in handles] != [is_reader] * len(handles):
+        yield f"{call['name']} {'only reads its object' if is_reader else 'takes a const handle, and changes its object'}"
 
 
 def of_struct(name: str, wanted: list[Part], exported: list[Part]) -> Iterator[str]:
@@ -197,17 +228,19 @@ def c_of_python() -> Iterator[str]:
 
 PLANTED = [
     ("crates/napi_c/src/ring.rt", "number: u64, bytes: u32", "number: u64, bytes: u64", "fq_ring_put"),
-    ("crates/napi_c/src/limit.rt", "fq_dql_new(min: u32, max: u32", "fq_dql_new(max: u32, min: u32", "fq_dql_new"),
+    ("crates/napi_c/src/limit.rt", "fq_dql_init(dql: &mut FqDql, min: u32, max: u32", "fq_dql_init(dql: &mut FqDql, max: u32, min: u32", "fq_dql_init"),
     ("crates/napi_c/src/limit.rt", "avail(dql: &FqDql) -> i64", "avail(dql: &FqDql) -> u64", "fq_dql_avail"),
     ("crates/napi_c/src/limit.rt", "fq_dql_limit(dql: &FqDql)", "fq_dql_limit(dql: &mut FqDql)", "fq_dql_limit"),
     ("crates/napi_c/src/driver.rt", "_open(handle: &mut FqHandle, device", "_open(handle: &FqHandle, device", "fq_driver_open"),
     ("crates/napi_c/src/list.rt", "fn fq_list_len(", "fn fq_list_size(", "fq_list_size"),
+    ("crates/napi_c/src/list.rt", "fn len_in(at: &Object,", "fn len_in(at: &mut Object,", "fq_list_len"),
+    ("crates/napi_c/src/list.rt", "fn push_in(at: &mut Object,", "fn push_in(at: &Object,", "fq_list_push"),
     ("crates/napi_c/src/counts.rt", "pub polls: u64,", "pub polls: u32,", "fq_counts"),
     ("crates/c_handles/src/lister.rt", "pub polls: u32,", "pub work: u32,", "fq_run_report"),
     ("crates/c_handles/src/drive.rt", "pub scheduled: bool,", "pub scheduled: u32,", "fq_device_shown"),
     ("crates/dql_core/src/queue.rt", "start: u64,\n    min_limit: u32", "start: u32,\n    min_limit: u64", "fq_dql"),
     ("crates/machine_model/src/settings.rt", "OPTION_COUNT: usize = ", "OPTION_COUNT: usize = 1", "fq_machine_settings"),
-    ("crates/napi_c/src/sizes.rt", "4 => size_of::<Packet>()", "4 => size_of::<FqCounts>()", "fq_struct_size"),
+    ("crates/napi_c/src/sizes.rt", "3 => size_of::<Packet>()", "3 => size_of::<FqCounts>()", "fq_struct_size"),
 ]
 
 
@@ -226,11 +259,16 @@ def planted(read: Mapping[str, Any], texts: Mapping[str, str]) -> Iterator[str]:
 # Faults of the header, which clang reads.
 PLANTED_IN_HEADER = [
     ("uint64_t number, uint32_t bytes);", "uint32_t number, uint32_t bytes);", "fq_ring_put"),
-    ("fq_dql_new(uint32_t min, uint32_t max,", "fq_dql_new(uint32_t max, uint32_t min,", "fq_dql_new"),
+    ("fq_dql_init(struct fq_dql *dql, uint32_t min, uint32_t max,", "fq_dql_init(struct fq_dql *dql, uint32_t max, uint32_t min,", "fq_dql_init"),
     ("fq_dql_limit(const struct fq_dql *dql);", "fq_dql_limit(struct fq_dql *dql);", "fq_dql_limit"),
+    ("fq_list_len(const struct fq_list *", "fq_list_len(const struct fq_ring *", "fq_list_len"),
+    ("fq_ring_show(const struct", "fq_ring_show(struct", "fq_ring_show"),
+    ("fq_seat_look(struct", "fq_seat_look(const struct", "fq_seat_look"),
+    ("fq_shared_bare(struct fq_control *", "fq_shared_bare(struct fq_handle *", "fq_shared_bare"),
+    ("struct fq_tx { struct fq_handle handle; }", "struct fq_tx { struct fq_handle handle; int more; }", "fq_tx"),
     ("uint64_t private_b;\n    uint32_t private_c[2];", "uint32_t private_c[2];\n    uint64_t private_b;", "fq_dql"),
     ("    uint64_t number; /* a number", "    int64_t number; /* a number", "fq_packet"),
-    ("FQ_STRUCT_PACKET = 4, FQ_STRUCT_COUNTS = 5", "FQ_STRUCT_PACKET = 5, FQ_STRUCT_COUNTS = 4", "fq_struct_size"),
+    ("FQ_STRUCT_PACKET = 3, FQ_STRUCT_COUNTS = 4", "FQ_STRUCT_PACKET = 4, FQ_STRUCT_COUNTS = 3", "fq_struct_size"),
 ]
 
 

@@ -70,7 +70,7 @@ fi
 # The statuses that the header names with fq_replay, which are the order that corners.c tries.
 replay_names() { awk '/^\/\* Replays a trace/ { on = 1 } on { print } /\*\// { on = 0 }' "$header" | grep -oE 'FQ_[A-Z_]+' | awk '!told[$0]++' | xargs; }
 
-order_of_a_replay() { [ "$(replay_names)" = 'FQ_BAD_WEIGHT FQ_BAD_BUDGET FQ_OUT_OF_MEMORY FQ_BAD_TRACE FQ_NO_ROOM FQ_OK' ]; }
+order_of_a_replay() { [ "$(replay_names)" = 'FQ_BAD_SIZE FQ_BAD_WEIGHT FQ_BAD_BUDGET FQ_OUT_OF_MEMORY FQ_BAD_TRACE FQ_NO_ROOM FQ_OK' ]; }
 
 # The page states the size of the archive, within a tenth.
 told_size() {
@@ -140,7 +140,7 @@ echo 'it tells of itself what the header says' > "$scratch/told"
 check 'told.c compiles' compile gcc "$top/tests/c/told.c" "$scratch/tells" -O2
 check 'what the library tells of itself' compared "$scratch/told" "$scratch/tells"
 
-echo '19 corners, each answered as it has to be' > "$scratch/cornered"
+echo '20 corners, each answered as it has to be' > "$scratch/cornered"
 check 'corners.c compiles' compile gcc "$top/tests/c/corners.c" "$scratch/corners" -O2 "$wraps"
 check 'answers at corners' compared "$scratch/cornered" "$scratch/corners"
 
@@ -403,7 +403,8 @@ fi
 cat > "$scratch/tells.c" << 'END'
 #include <fintaqush.h>
 int main(void) {
-    struct fq_handle seat = FQ_NONE, list = FQ_NONE;
+    struct fq_seat seat = FQ_NONE;
+    struct fq_list list = FQ_NONE;
     uint32_t next;
     if (fq_seat_end(&seat, true, &next) == FQ_NOT_ALLOWED) return 1;
     return fq_run_polled(&list, 64, next) == FQ_BAD_HANDLE ? 0 : 2;
@@ -415,6 +416,11 @@ cat > "$scratch/null.c" << 'END'
 #include <fintaqush.h>
 int main(void) { return (int)fq_free(NULL); }
 END
+cat > "$scratch/another.c" << 'END'
+#include <fintaqush.h>
+int main(void) { struct fq_ring ring = FQ_NONE; return (int)fq_list_push(&ring, 1); }
+END
+cp "$scratch/another.c" "$scratch/another.cpp"
 cat > "$scratch/ignored.c" << 'END'
 #include <fintaqush.h>
 int main(void) { struct fq_napi napi = fq_napi_new(0); fq_napi_schedule(&napi, 1); return 0; }
@@ -444,7 +450,30 @@ cat > "$scratch/enables.cpp" << 'END'
 auto enable(fintaqush::Control<fintaqush::On> control) { return std::move(control).enable(false); }
 int main() {}
 END
+cat > "$scratch/forgets.c" << 'END'
+#include <fintaqush.h>
+int main(void) {
+    struct fq_driver driver = FQ_NONE;
+    struct fq_todo todo = {0};
+    if (fq_is_error(fq_driver_step(&driver, &todo))) return 1;
+    switch (todo.what) {
+    case FQ_TODO_MASK: case FQ_TODO_UNMASK: case FQ_TODO_FETCH: case FQ_TODO_ENDED: case FQ_TODO_SLEEP: case FQ_TODO_FAILED: break;
+    }
+}
+END
+cat > "$scratch/steps.c" << 'END'
+#include <fintaqush.h>
+int main(void) {
+    struct fq_driver driver = FQ_NONE;
+    struct fq_todo todo = FQ_TODO_INIT;
+    while (fq_driver_step(&driver, &todo), todo.what != FQ_TODO_SLEEP) {}
+}
+END
+check 'a look that a switch forgets is refused' refused FQ_TODO_LOOK compile gcc "$scratch/forgets.c" "$scratch/refused"
+check 'a step whose status nobody reads is refused' refused unused-result compile gcc "$scratch/steps.c" "$scratch/refused"
 check 'a null handle is refused' refused nonnull compile gcc "$scratch/null.c" "$scratch/refused"
+check 'a ring in place of a list is refused' refused 'incompatible pointer type' compile gcc "$scratch/another.c" "$scratch/refused"
+check 'a ring in place of a list is refused in C++' refused 'cannot convert' compile g++ "$scratch/another.cpp" "$scratch/refused"
 check 'an answer that nobody reads is refused' refused unused-result compile gcc "$scratch/ignored.c" "$scratch/refused"
 check 'a poll whose packets nobody counts is refused' refused unused-result compile g++ "$scratch/ignores.cpp" "$scratch/refused"
 check 'a poll by a Caller is refused' refused "has no member named .poll" compile g++ "$scratch/polls.cpp" "$scratch/refused"

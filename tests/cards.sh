@@ -1,5 +1,5 @@
 #!/usr/bin/env bash
-# tests/cards.sh [--fetch]: the rules of cards. The plain model predicts what the real drivers e1000 and vmxnet3 did on emulated cards, from
+# tests/cards.sh [--fetch]: the rules of cards. The plain program (bench/machine.cc) predicts what the real drivers e1000 and vmxnet3 did on emulated cards, from
 # one recording of each, and napi_machine prints the model's bytes: first with the recordings that tests/cards/kept has, in seconds; then
 # with recordings that this makes itself in some 3 minutes of processor time, in a guest under QEMU's interpreter, where other work on the
 # machine changes hardly anything. Then the table of drivers is compared with the sources of Linux. QEMU, Debian's kernel and the guest's

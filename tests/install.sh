@@ -66,6 +66,18 @@ links_lead_somewhere() {
     done
 }
 
+# named_pages_are_there COMMAND: each page that --help of a subcommand names is installed.
+named_pages_are_there() {
+    local name page
+    for name in $("$1" --names); do
+        for page in $("$1" "$name" --help | grep -oE '[^ (]*docs/[A-Z]+\.md'); do
+            case $page in /*) [ -e "$page" ] && continue ;; esac
+            echo "$name: $page"
+            return 1
+        done
+    done
+}
+
 # guide_programs_run FOLDER: the programs that the installed guide shows are beside it, and print what it says.
 guide_programs_run() {
     local name
@@ -75,6 +87,13 @@ guide_programs_run() {
             LD_LIBRARY_PATH=$prefix/lib "$scratch/guided" | diff - "$1/examples/c/$name.stdout" || { echo "$name"; return 1; }
     done
     [ -n "$name" ]
+}
+
+page_of_the_driver() {
+    local line
+    for line in '        case FQ_TODO_MASK: mask(todo.device); break;' '.SH RETURN VALUE' '.BR FQ_NOT_DUE " (" 30 )' '.SH ERRORS' '.BR FQ_BAD_WORK " (" 119 )'; do
+        grep -qxF -e "$line" "$1/share/man/man3/fintaqush_driver.3" || { echo "it has no line $line"; return 1; }
+    done
 }
 
 # each_call_has_a_page FOLDER: also those that the header has inline.
@@ -154,7 +173,7 @@ subcommands_work() {
         diff made.csv "$top/tests/tools/soft-tcp.csv" && "$f" traffic | "$1/napi_serial" > report &&
         echo '1.000000 02:00:00:00:00:02 > 02:00:00:00:00:01, ethertype IPv4 (0x0800), length 60: UDP' | "$f" from-pcap - captured &&
         "$f" costs "$top/tests/tools/soft-gso-23.txt" --words > words && "$f" costs "$top/tests/tools/recorded-apart.rec" --json > json && "$f" traffic --arrivals > arrivals &&
-        [ "$("$f" what-if arrivals --budget 16,64 | wc -l)" = 3 ] && { "$f" raise "$trace" --buget 3; [ "$?" = 2 ]; }
+        [ "$("$f" what-if arrivals --budget 16,64 | wc -l)" = 3 ] && { "$f" raise "$trace" --buget 3; [ "$?" = 64 ]; }
 }
 
 # programs_work BIN: subcommands that are programs print what these do, and replay explains an error, like the launcher of a
@@ -223,7 +242,10 @@ check 'the shared library needs libc alone' needs_libc_alone "$prefix/lib/libfin
 check 'the shared library gives the calls alone, each of its version' exports_calls_alone "$prefix/lib/libfintaqush.so"
 check 'a call stays in its version' stays_in_its_version
 check 'links of the installed pages' links_lead_somewhere "$prefix/share/doc/fintaqush"
+check "links of the tools' pages" links_lead_somewhere "$prefix/lib/fintaqush/docs"
+check 'the pages that --help names' named_pages_are_there "$prefix/bin/fintaqush"
 check 'each call has a manual page' each_call_has_a_page "$prefix"
+check 'a manual page keeps the lines of code, and has results and errors' page_of_the_driver "$prefix"
 if has cmake 'programs by CMake'; then
     check 'programs by CMake' by_cmake
 fi

@@ -177,7 +177,7 @@ export slow='sleep 1' # so that the answer of an unproved run is there before th
 high_fails='[ $name != high ] || { echo error: not proved; exit 1; }'
 c_is_killed='[ $name != c ] || ! mkdir ../../killed || kill -9 $$'
 export reports='cat > /dev/null; echo total devices 0; exit'
-json='{"line": "total", "devices": 0}'
+json='{"version": 1, "tool": "replay", "line": "total", "devices": 0}'
 export fails='cat > /dev/null; echo trace fault 4 BadEvent row 1 >&2; exit 2'
 small_checkout
 tries << END
@@ -304,6 +304,7 @@ built
 for how in '' --unproved; do
     tries << END
 the report as JSON $how % DOES=\$reports replay --json $how trace.csv 2> made % 0 $json
+to a file $how % DOES=\$reports replay --json=report.json $how trace.csv 2> made; cat report.json; rm report.json % 0 total devices 0|$json
 but no fault $how % DOES=\$fails replay --json $how bad.csv 2> made % 2 
 a cause for standard input $how % DOES=\$fails replay $how < bad.csv % 2 *replay: standard input line 2, '0,1,Rx,9': $events*
 for a FIFO $how % DOES=\$fails replay $how <(cat bad.csv) % 2 *replay: /dev/fd/* line 2, '0,1,Rx,9': $events*

@@ -1,45 +1,66 @@
 """Checks of a program of the receiving machine (napi_machine, or bench/machine.cc), for tests/machine.sh: what it prints is what the
-plain model prints, or what queueing theory or a recording of Linux says. PROGRAM is a command, e.g. `python3 -B tests/machine_model.py`.
+plain program (bench/machine.cc) prints, or what queueing theory or a recording of Linux says. PLAIN=FILE names a build of the plain one.
 
-    python3 -B tests/machine.py examples|random|one_queue|faults|texts|options|ends|queue|livelock|recorded PROGRAM [SEED COUNT]
+    python3 -B tests/machine.py examples|random|one_queue|faults|texts|options|ends|queue|livelock|recorded|simulator PROGRAM [SEED COUNT]
     python3 -B tests/machine.py simulated REPORT FILE
 """
 
 from __future__ import annotations
 
+import atexit
 import functools
 import itertools
 import os
 import pathlib
 import random
 import re
-import shlex
+import shutil
 import subprocess
 import sys
 import tempfile
 import time
 from collections import Counter
 from collections.abc import Callable, Iterable, Iterator, Sequence
-from typing import Any
 
-import machine_model
-from machine_model import OPTIONS, Fault, Settings
+from finding import group_in
 
 TOP = pathlib.Path(__file__).resolve().parent.parent
-HEADER = "moment,device,bytes"
+HEADER, FLOWS = "moment,device,bytes", "moment,device,bytes,flow"
+LONGEST = 10**9
+# The least, the greatest and the default value of each option. A name as default: the value of that option.
+OPTIONS: dict[str, tuple[int, int, int | str]] = {
+    "processors": (1, 64, 1), "queues": (1, 64, 1), "ring": (1, 65536, 256), "socket": (1, 65536, 512), "backlog": (0, 1, 0),
+    "budget": (0, 65535, 300), "weight": (1, 64, 64), "window": (1, 65535, 1024), "time-limit": (1, LONGEST, 8000000),
+    "rx-nsecs": (0, LONGEST, 0), "rx-frames": (0, 65535, 0), "defer-hard-irqs": (0, 65535, 0), "gro-flush-timeout": (0, LONGEST, 0),
+    "threaded": (0, 1, 0), "apart": (0, 1, 0), "app-wake": (0, LONGEST, 0),
+    "interrupt": (0, LONGEST, 4000), "poll": (0, LONGEST, 1000), "packet": (0, LONGEST, 1000), "use": (0, LONGEST, 2000),
+    "wake": (0, LONGEST, 0),
+    "rx-gap": (0, LONGEST, 0), "latched": (0, 2, 0), "gro-batch": (0, 64, 0), "take": (0, LONGEST, 0), "heedless": (0, 1, 0),
+    "timer": (0, LONGEST, "interrupt"), "timer-wake": (0, LONGEST, "wake")}
+Settings = dict[str, int]
+
+
+def settings_of(given: Settings) -> Settings:
+    """Returns the value of each option."""
+    settings = {name: default for name, (_, _, default) in OPTIONS.items()} | given
+    return {name: settings[value] if isinstance(value, str) else value for name, value in settings.items()}  # type: ignore[misc]
+
+
+@functools.lru_cache(None)
+def plain() -> str:
+    """Returns the path of the plain program, which is compiled if PLAIN names no build of it."""
+    if "PLAIN" in os.environ:
+        return os.environ["PLAIN"]
+    folder = tempfile.mkdtemp()
+    atexit.register(shutil.rmtree, folder)
+    subprocess.run(["g++", "-std=c++17", "-O2", TOP / "bench/machine.cc", "-o", f"{folder}/machine"], check=True)
+    return f"{folder}/machine"
 
 
 def ran(program: str, arguments: Sequence[str | bytes], text: str | bytes) -> tuple[str, str, int]:
-    command, sent = [*shlex.split(program), *arguments], text if isinstance(text, bytes) else text.encode()
-    done = subprocess.run(command, input=sent, capture_output=True, check=False, timeout=600)
+    sent = text if isinstance(text, bytes) else text.encode()
+    done = subprocess.run([program, *arguments], input=sent, capture_output=True, check=False, timeout=600)
     return done.stdout.decode("latin-1"), done.stderr.decode("latin-1"), done.returncode
-
-
-def modelled(arguments: Sequence[str], text: str) -> tuple[str, str, int]:
-    try:
-        return machine_model.machine(arguments, text), "", 0
-    except Fault as fault:
-        return "", fault.line + "\n", fault.status
 
 
 def values(line: str) -> dict[str, int]:
@@ -52,13 +73,13 @@ def text_of(rows: Iterable[Sequence[object]], header: str = HEADER) -> str:
     return "".join(f"{line}\n" for line in [header, *(",".join(map(str, row)) for row in rows)])
 
 
-def same(program: str, arguments: Sequence[str], text: str) -> str:
-    """Returns what both print; if they differ, prints both and exits."""
-    mine, theirs = modelled(arguments, text), ran(program, arguments, text)
-    if mine != theirs:
-        raise SystemExit("{} {}\n{}the model:\n{}{} status {}\nthe program:\n{}{} status {}".format(
-            program, " ".join(arguments), text[:3000], *mine, *theirs))
-    return mine[0]
+def same(program: str, arguments: Sequence[str], text: str) -> tuple[str, dict[str, int]]:
+    """Returns what both print, and how often the rules that the plain program counts apply; if they differ, prints both and exits."""
+    (out, said, status), theirs = ran(plain(), arguments, text), ran(program, arguments, text)
+    if (out, said if status else "", status) != theirs:
+        raise SystemExit("{} {}\n{}the plain program:\n{}{} status {}\nthe program:\n{}{} status {}".format(
+            program, " ".join(arguments), text[:3000], out, said, status, *theirs))
+    return out, {} if status else values(said)
 
 
 # The rules of cards, which a program may lack. It then also lacks --app-wake on the processor that polls.
@@ -67,7 +88,7 @@ OF_CARDS = "rx-gap", "latched", "gro-batch", "take", "heedless", "timer", "timer
 
 @functools.lru_cache(None)
 def options_of(program: str) -> dict[str, tuple[int, int, int | str]]:
-    """Returns the model's options that the program has."""
+    """Returns the options that the program has."""
     lacks = [name for name in OF_CARDS if ran(program, [f"--{name}", "0"], text_of([]))[2] != 0]
     if lacks:
         print(f"not compared, because {program} lacks them: {' '.join(lacks)}, and app-wake on the processor that polls")
@@ -106,12 +127,12 @@ def examples(program: str) -> list[str]:
         is_right = all(part in out for part in of["contains"]) and of["report"] in ([], out.splitlines())
         wrong += [] if is_right else [f"{of['options'][0]}\n{out}"]
         count += 1
-    return wrong if count >= 5 and count + left_out == 12 else [f"there are {count} examples, and {left_out} are left out", *wrong]
+    return wrong if count >= 5 and count + left_out == 14 else [f"there are {count} examples, and {left_out} are left out", *wrong]
 
 
 # ---- random arrivals with random options
 
-def random_options(chance: random.Random, program: str) -> list[str]:
+def random_options(chance: random.Random, program: str) -> Settings:
     """Options that the program has. Costs that are equal, or 0, or fall on the grid of the arrivals, cause ties."""
     costs = (0, 1, 500, 1000, 1000, 2000, 4000, chance.randrange(20000), chance.randrange(10**6))
     choices = {
@@ -120,7 +141,7 @@ def random_options(chance: random.Random, program: str) -> list[str]:
         "time-limit": (1, 1000, 5000, 20000, 8000000), "rx-nsecs": (0, 1, 500, 3000, 20000, 100000), "rx-frames": (0, 1, 2, 5),
         "defer-hard-irqs": (0, 1, 2, 2, 9), "gro-flush-timeout": (0, 500, 1000, 20000, 20000), "threaded": (0, 1), "apart": (0, 1),
         "rx-gap": (0, 1, 500, 20000, 100000), "latched": (0, 1, 2), "gro-batch": (0, 1, 2, 8, 64), "heedless": (0, 1)}
-    chosen: dict[str, int] = {}
+    chosen: Settings = {}
     share, known = chance.choice((0.15, 0.4, 0.8)), options_of(program)
     # Without these three few instances are scheduled again at their completion.
     kinds: list[tuple[tuple[str, ...], tuple[str, ...]]] = [((), ()), ((), ()), (("gro-batch", "threaded"), ("backlog", "budget", "latched"))]
@@ -134,13 +155,13 @@ def random_options(chance: random.Random, program: str) -> list[str]:
         del chosen["take"]
     if not has_cards(program) and not chosen.get("apart"):
         chosen.pop("app-wake", None)
-    return [word for name, value in chosen.items() for word in written(chance, name, str(value))]
+    return chosen
 
 
-def written(chance: random.Random, name: str, value: str) -> tuple[str, ...]:
-    """An option in one word or in two, with zeros or without."""
-    value = value.zfill(chance.choice((1, 1, 1, 10)))
-    return chance.choice(((f"--{name}={value}",), (f"--{name}", value)))
+def written(chance: random.Random, chosen: Settings) -> list[str]:
+    """Options in one word or in two, with zeros or without."""
+    pairs = [(f"--{name}", str(value).zfill(chance.choice((1, 1, 1, 10)))) for name, value in chosen.items()]
+    return [word for pair in pairs for word in chance.choice((("=".join(pair),), pair))]
 
 
 def random_rows(chance: random.Random, settings: Settings) -> Iterator[tuple[int, ...]]:
@@ -159,30 +180,15 @@ def random_rows(chance: random.Random, settings: Settings) -> Iterator[tuple[int
         yield row if settings["queues"] > 1 else row[:3]
 
 
-def counted(calls: Counter[str], name: str) -> None:
-    """Counts how often the model's rule with this name applies."""
-    rule = getattr(machine_model, name)
-
-    def call(*arguments: Any) -> Any:
-        held = rule(*arguments)
-        calls[name] += held is not False
-        return held
-    setattr(machine_model, name, call)
-
-
 def random_arrivals(program: str, seed: str = "1", count: str = "300") -> list[str]:
-    """The model's bytes for this many arrivals, which together reach each case of the rules."""
+    """The plain program's bytes for this many arrivals, which together reach each case of the rules."""
     chance = random.Random(int(seed))
     reached: Counter[str] = Counter()
-    calls: Counter[str] = Counter()
-    for name in ("go_on_with_rest", "wake_application", "end_interrupt_without_polling", "schedule_again", "gro_normal_list", "notify_with_gap"):
-        counted(calls, name)
     for _ in range(int(count)):
-        arguments = random_options(chance, program)
-        settings = machine_model.settings_of(arguments)
+        chosen = random_options(chance, program)
+        settings, arguments = settings_of(chosen), written(chance, chosen)
         rows = list(random_rows(chance, settings))
-        calls.clear()
-        printed = same(program, arguments, text_of(rows, machine_model.header(settings)))
+        printed, calls = same(program, arguments, text_of(rows, FLOWS if settings["queues"] > 1 else HEADER))
         if not printed:
             reached["out of range"] += 1
             continue
@@ -212,36 +218,36 @@ def broken_law(settings: Settings, rows: list[tuple[int, ...]], printed: str) ->
     return ""
 
 
-def cases_of(settings: Settings, rows: list[tuple[int, ...]], printed: str, calls: Counter[str]) -> dict[str, bool]:
+def cases_of(settings: Settings, rows: list[tuple[int, ...]], printed: str, calls: dict[str, int]) -> dict[str, bool]:
     """Which cases of the rules these arrivals reach."""
     total = values(printed.splitlines()[-1].removeprefix("total "))
     of: Counter[str] = Counter()
     for line in printed.splitlines():
-        if line.startswith("processor"):
+        if line.startswith(("processor", "application")):
             of.update(values(line))
     polls_on = of["polls"] > 1
     return {
         "dropped": total["dropped"] > 0, "refused": total["refused"] > 0, "squeezed": of["squeezed"] > of["late"], "late": of["late"] > 0,
-        "interrupts without polling": calls["end_interrupt_without_polling"] > 0, "several runs": of["runs"] > 10, "no packet": not rows,
+        "interrupts without polling": settings["budget"] == 0 and of["interrupts"] > 0, "several runs": of["runs"] > 10, "no packet": not rows,
         "several processors": settings["processors"] > 1 and of["runs"] > 1,
         "no cost": 0 in (settings["poll"], settings["packet"], settings["use"]),
         "several devices": total["devices"] > settings["processors"], "full weight": of["work"] > 2 * settings["weight"],
-        "several packets at one time": len({row[0] for row in rows}) < len(rows), "an interrupted use": calls["go_on_with_rest"] > 0,
+        "several packets at one time": len({row[0] for row in rows}) < len(rows), "an interrupted use": calls["rests"] > 0,
         "NAPI timers": of["timers"] > 0, "threads": settings["threaded"] > 0 and polls_on,
         "threads with timers": settings["threaded"] > 0 and of["timers"] > 0, "queues": settings["queues"] > 1 and total["devices"] > 1,
         "backlog": settings["backlog"] > 0 and polls_on, "wake": settings["wake"] > 0 and polls_on,
         "coalescing": settings["rx-nsecs"] > 0 and polls_on,
         "coalescing by frames": settings["rx-nsecs"] > 0 and settings["rx-frames"] > 1 and polls_on,
-        "apart": calls["wake_application"] > 1, "apart, refused": calls["wake_application"] > 1 and total["refused"] > 0}
+        "apart": of["wakes"] > 1, "apart, refused": of["wakes"] > 1 and total["refused"] > 0}
 
 
-def cases_of_cards(settings: Settings, printed: str, calls: Counter[str]) -> dict[str, bool]:
+def cases_of_cards(settings: Settings, printed: str, calls: dict[str, int]) -> dict[str, bool]:
     """Which cases of the rules of cards these arrivals reach."""
     lines = [values(line) for line in printed.splitlines() if line.startswith("processor")]
     polls_on, timers = any(line["polls"] > 1 for line in lines), any(line["timers"] > 0 for line in lines)
     return {
-        "a gap": calls["notify_with_gap"] > 1, "GRO's batches": calls["gro_normal_list"] > 2, "scheduled again": calls["schedule_again"] > 0,
-        "scheduled again, threads": calls["schedule_again"] > 0 and settings["threaded"] > 0,
+        "a gap": calls["gaps"] > 1, "GRO's batches": calls["batches"] > 2, "scheduled again": calls["agains"] > 0,
+        "scheduled again, threads": calls["agains"] > 0 and settings["threaded"] > 0,
         "latched": settings["latched"] == 1 and polls_on, "latched, and read": settings["latched"] == 2 and polls_on,
         "heedless": settings["heedless"] == 1 and polls_on, "heedless with timers": settings["heedless"] == 1 and timers,
         "timers at a cost of their own": timers and settings["timer"] != settings["interrupt"],
@@ -250,7 +256,7 @@ def cases_of_cards(settings: Settings, printed: str, calls: Counter[str]) -> dic
 
 # ---- what a setting doesn't change
 
-LIMITS = "--budget", "--window", "--time-limit", "--queues", "--take"  # --take is at most --packet
+LIMITS = "budget", "window", "time-limit", "queues"
 
 
 def one_queue(program: str, seed: str = "1", count: str = "60") -> list[str]:
@@ -258,9 +264,9 @@ def one_queue(program: str, seed: str = "1", count: str = "60") -> list[str]:
     late."""
     chance = random.Random(int(seed))
     for _ in range(int(count)):
-        arguments = [each for each in random_options(chance, program) if "=" in each and not each.startswith(LIMITS)]
-        settings = machine_model.settings_of(arguments)
-        text = text_of((moment, 1, size) for moment, _, size in random_rows(chance, {**settings, "queues": 1}))
+        chosen = {name: value for name, value in random_options(chance, program).items() if name not in LIMITS}
+        arguments = written(chance, chosen)
+        text = text_of((moment, 1, size) for moment, _, size in random_rows(chance, settings_of(chosen)))
         limits = [[f"--budget={budget}", f"--window={window}", f"--time-limit={limit}"] for budget, window, limit in (
             (1, 65535, 10**9), (65535, 1, 10**9), (65535, 65535, 1), (16, 8, 10000), (300, 1024, 8000000), (65535, 65535, 10**9))]
         reports = [re.sub(r"(runs|squeezed|late) \d+", r"\1 .", ran(program, arguments + each, text)[0]) for each in limits]
@@ -272,60 +278,40 @@ def one_queue(program: str, seed: str = "1", count: str = "60") -> list[str]:
 # ---- what is rejected
 
 def faults(program: str) -> list[str]:
-    """Each error of the rows with its message and status, and with nothing written; in a row that has several the lowest one."""
-    wrong: list[str] = []
-    good = "0,1,60\n"
-    for rows, number, name, row in (
-            (None, 1, "BadHeader", 0), ("moment,device,event,value\n", 1, "BadHeader", 0), ("moment,device,bytes,2\n", 1, "BadHeader", 0),
-            ("moment,device,bytes,flow\n", 1, "BadHeader", 0), (" moment,device,bytes\n", 1, "BadHeader", 0),
-            ("0,1\n", 2, "BadFields", 2), ("0,1,60,\n", 2, "BadFields", 2), ("x,1,60,60\n", 2, "BadFields", 2),
-            ("x,1,60\n", 3, "BadNumber", 2), (",1,60\n", 3, "BadNumber", 2), ("0,+1,60\n", 3, "BadNumber", 2),
-            ("0,1,6e1\n", 3, "BadNumber", 2), ("0,1, 60\n", 3, "BadNumber", 2), (f"{'0' * 21},1,60\n", 3, "BadNumber", 2),
-            ("x,0,0\n", 3, "BadNumber", 2),
-            ("0,0,60\n", 5, "OutOfRange", 2), ("0,129,60\n", 5, "OutOfRange", 2), ("0,1,0\n", 5, "OutOfRange", 2),
-            ("0,1,65536\n", 5, "OutOfRange", 2), (f"{2**62},1,60\n", 5, "OutOfRange", 2), (f"{'9' * 20},1,60\n", 5, "OutOfRange", 2),
-            (f"7,1,60\n{2**64 + 7},1,60\n", 5, "OutOfRange", 3), ("7,1,60\n6,1,60\n", 8, "Falls", 3),
-            ("7,1,60\n6,0,60\n", 5, "OutOfRange", 3), ("7,1,60\n6,128,60\n0,x,60\n", 8, "Falls", 3)):
-        text = "" if rows is None else rows if number == 1 else f"{HEADER}\n{good}{rows}"
-        for arguments in (["--processors", "2"], ["--processors=2", "--budget=0"]):
-            wrong += not_faulty(program, arguments, text, f"arrivals fault {number} {name} row {row}\n")
-    return wrong + faults_of_flows(program)
-
-
-def faults_of_flows(program: str) -> list[str]:
-    """With --queues above 1 a fourth column, and queues that are within the processor's 64."""
-    wrong: list[str] = []
-    four = "moment,device,bytes,flow"
-    for rows, number, name, row in (
-            (f"{HEADER}\n0,1,60\n", 1, "BadHeader", 0), (f"{four}\n0,1,60\n", 2, "BadFields", 1),
-            (f"{four}\n0,1,60,1,\n", 2, "BadFields", 1), (f"{four}\n0,1,60,\n", 3, "BadNumber", 1),
-            (f"{four}\n0,1,60,x\n", 3, "BadNumber", 1),
-            (f"{four}\n0,1,60,{'1' * 21}\n", 3, "BadNumber", 1), (f"{four}\n0,1,60,0\n0,22,60,1\n", 5, "OutOfRange", 2),
-            (f"{four}\n5,22,60,0\n4,22,60,1\n", 5, "OutOfRange", 2),
-            (f"{four}\n5,22,60,0\n4,22,60,0\n", 8, "Falls", 2)):
-        wrong += not_faulty(program, ["--queues", "3"], rows, f"arrivals fault {number} {name} row {row}\n")
-    same(program, ["--queues", "3"], f"{four}\n0,22,60,0\n0,1,60,{'9' * 20}\n0,1,60,{2**64 + 1}\n0,1,60,{'2'.zfill(20)}\n")
-    same(program, ["--queues", "64", "--processors", "2"], f"{four}\n0,2,60,63\n0,1,60,64\n")
-    return wrong
-
-
-def not_faulty(program: str, arguments: Sequence[str], text: str, line: str) -> list[str]:
-    wanted = "", line, 2
-    both = modelled(arguments, text), ran(program, arguments, text)
-    return [f"{text!r} gives {printed}, and not {wanted}" for printed in both if printed != wanted]
+    """Each error of the rows with its message and status, and with nothing written; in a row that has several the lowest one. With --queues above 1
+    there is a fourth column, and queues are within the processor's 64."""
+    good, many, two = f"{HEADER}\n0,1,60\n", ["--queues", "3"], (["--processors", "2"], ["--processors=2", "--budget=0"])
+    bare = ["", "moment,device,event,value\n", "moment,device,bytes,2\n", f"{FLOWS}\n", f" {HEADER}\n"]
+    fields, numbers = ["0,1", "0,1,60,", "x,1,60,60"], ["x,1,60", ",1,60", "0,+1,60", "0,1,6e1", "0,1, 60", f"{'0' * 21},1,60", "x,0,0"]
+    ranges = ["0,0,60", "0,129,60", "0,1,0", "0,1,65536", f"{2**62},1,60", f"{'9' * 20},1,60"]
+    later = [(5, "OutOfRange", f"7,1,60\n{2**64 + 7},1,60"), (8, "Falls", "7,1,60\n6,1,60"), (5, "OutOfRange", "7,1,60\n6,0,60"),
+             (8, "Falls", "7,1,60\n6,128,60\n0,x,60")]
+    cases = [(words, text, 1, "BadHeader", 0) for words in two for text in bare]
+    for number, name, rows in ((2, "BadFields", fields), (3, "BadNumber", numbers), (5, "OutOfRange", ranges)):
+        cases += [(words, f"{good}{row}\n", number, name, 2) for words in two for row in rows]
+    cases += [(words, f"{good}{rows}\n", number, name, 3) for words in two for number, name, rows in later]
+    cases += [(many, f"{HEADER}\n0,1,60\n", 1, "BadHeader", 0)]
+    for number, name, row, rows in ((2, "BadFields", 1, ["0,1,60", "0,1,60,1,"]), (3, "BadNumber", 1, ["0,1,60,", "0,1,60,x", f"0,1,60,{'1' * 21}"]),
+                                    (5, "OutOfRange", 2, ["0,1,60,0\n0,22,60,1", "5,22,60,0\n4,22,60,1"]), (8, "Falls", 2, ["5,22,60,0\n4,22,60,0"])):
+        cases += [(many, f"{FLOWS}\n{text}\n", number, name, row) for text in rows]
+    same(program, many, f"{FLOWS}\n0,22,60,0\n0,1,60,{'9' * 20}\n0,1,60,{2**64 + 1}\n0,1,60,{'2'.zfill(20)}\n")
+    same(program, ["--queues", "64", "--processors", "2"], f"{FLOWS}\n0,2,60,63\n0,1,60,64\n")
+    wanted = [("", f"arrivals fault {number} {name} row {row}\n", 2) for _, _, number, name, row in cases]
+    seen = [ran(program, words, text) for words, text, *_ in cases]
+    return [f"{case[1]!r} gives {printed}, and not {one}" for case, printed, one in zip(cases, seen, wanted) if printed != one]
 
 
 def texts(program: str) -> list[str]:
     """Arrivals as other programs write them: other line ends, a byte-order mark, quotes in all rows or in one, many zeros, the bounds
     of the ranges."""
-    plain = f"{HEADER}\n0,1,60\n{2**62 - 1},128,65535\n"
+    text = f"{HEADER}\n0,1,60\n{2**62 - 1},128,65535\n"
     zeros = f"{HEADER}\n{'0' * 20},{'1'.zfill(20)},{'60'.zfill(20)}\n{2**62 - 1},128,65535\n"
-    quoted = "".join(",".join(f'"{field}"' for field in line.split(",")) + "\n" for line in plain.splitlines())
-    others = [plain.replace("\n", end) for end in ("\r\n", "\r", "\n\n")] + [plain.rstrip(), "\ufeff" + plain, zeros, quoted]
-    others += [plain.replace("0,1,", '"0",1,'), plain.replace(",128,", ',"128",'), plain.replace("bytes", '"bytes"')]
-    wanted = same(program, ["--processors", "2"], plain)
+    quoted = "".join(",".join(f'"{field}"' for field in line.split(",")) + "\n" for line in text.splitlines())
+    others = [text.replace("\n", end) for end in ("\r\n", "\r", "\n\n")] + [text.rstrip(), "\ufeff" + text, zeros, quoted]
+    others += [text.replace("0,1,", '"0",1,'), text.replace(",128,", ',"128",'), text.replace("bytes", '"bytes"')]
+    wanted, _ = same(program, ["--processors", "2"], text)
     same(program, ["--processors", "2"], f"{HEADER}\n")
-    return [f"{text!r} gives {printed}" for text in others if (printed := ran(program, ["--processors", "2"], text)) != (wanted, "", 0)]
+    return [f"{each!r} gives {printed}" for each in others if (printed := ran(program, ["--processors", "2"], each)) != (wanted, "", 0)]
 
 
 def options(program: str) -> list[str]:
@@ -348,9 +334,9 @@ def options(program: str) -> list[str]:
         if (printed := ran(program, each, "what\n")) != ("", "usage fault 64\n", 64):
             wrong.append(f"{each}: {printed}")
     for words in taken:
-        settings = machine_model.settings_of(words)
-        rows: list[tuple[int, ...]] = [(0, 1, 60, 0), (0, 1, 60, 1), (10**6, 1, 60, 2)] if settings["queues"] > 1 else [(0, 1, 60), (0, 2, 60), (10**6, 1, 60)]
-        same(program, words, text_of(rows, machine_model.header(settings)))
+        has_flows = words[0].startswith("--queues=")
+        rows: list[tuple[int, ...]] = [(0, 1, 60, 0), (0, 1, 60, 1), (10**6, 1, 60, 2)] if has_flows else [(0, 1, 60), (0, 2, 60), (10**6, 1, 60)]
+        same(program, words, text_of(rows, FLOWS if has_flows else HEADER))
     return wrong
 
 
@@ -359,14 +345,13 @@ def ends(program: str) -> list[str]:
     wrong: list[str] = []
     folder = os.open("/", os.O_RDONLY)
     try:
-        done = subprocess.run(shlex.split(program), stdin=folder, capture_output=True, text=True, check=False)
+        done = subprocess.run([program], stdin=folder, capture_output=True, text=True, check=False)
     finally:
         os.close(folder)
     if (done.stdout, done.stderr, done.returncode) != ("", "arrivals fault 10 ReadFailed\n", 2):
         wrong.append(f"a reader that fails: {done}")
     with open("/dev/full", "wb") as full:
-        done = subprocess.run(shlex.split(program), input=text_of([(0, 1, 60)]), stdout=full, stderr=subprocess.PIPE, text=True,
-                              check=False)
+        done = subprocess.run([program], input=text_of([(0, 1, 60)]), stdout=full, stderr=subprocess.PIPE, text=True, check=False)
     if (done.stderr, done.returncode) != ("output fault 15 OutputFailed\n", 4):
         wrong.append(f"a writer that fails: {done}")
     return wrong + slow_ends(program)
@@ -378,7 +363,7 @@ def slow_ends(program: str) -> list[str]:
     text = text_of([(0, 1, 60), (5, 1, 60), (9, 1, 60)])
     wanted = ran(program, [], text)[0]
     for name, (read, write), end in (("a slow pipe", os.pipe(), b""), ("a terminal", os.openpty()[::-1], b"\x04")):
-        with subprocess.Popen(shlex.split(program), stdin=read, stdout=subprocess.PIPE, text=True) as child:
+        with subprocess.Popen([program], stdin=read, stdout=subprocess.PIPE, text=True) as child:
             os.close(read)
             for at in range(0, len(text), 7):
                 os.write(write, text[at:at + 7].encode())
@@ -504,12 +489,44 @@ def recorded(program: str) -> list[str]:
     return wrong
 
 
+def wait_fields(waits: list[int]) -> str:
+    """The fields of these waits, of which each is counted by its first ten binary digits; the rest are 0."""
+    if not waits:
+        return "mean 0 wait50 0 wait90 0 wait99 0 wait999 0 most 0"
+    rests = [max(0, wait.bit_length() - 10) for wait in waits]
+    buckets = sorted(wait >> rest << rest for wait, rest in zip(waits, rests))
+    # The least bucket that, with those below it, has this many of 1000 of the waits.
+    shares = {name: buckets[-(-share * len(waits) // 1000) - 1] for name, share in (("50", 500), ("90", 900), ("99", 990), ("999", 999))}
+    return f"mean {sum(waits) // len(waits)} {' '.join(f'wait{name} {wait}' for name, wait in shares.items())} most {max(waits)}"
+
+
+# ---- simulations
+
+EACH = "--use 0 --wake 0 --ring 256 --budget 300 --weight 64 --time-limit 1000000000 --interrupt 4000 --poll 1000 --packet 1000".split()
+COUNTS = "polled", "dropped", "interrupts", "runs", "squeezed"
+
+
+def simulator(program: str) -> list[str]:
+    """The simulator of docs/GUIDE.md (examples/c/simulator.cpp) has the program's counts for the same arrivals and costs: 20000 packets of each of
+    four cards, at each gap between them."""
+    wanted = []
+    gaps = group_in(r"for \((?:const )?Time gap : \{([\d, ]+)\}\)", (TOP / "examples/c/simulator.cpp").read_text())
+    for gap in map(int, gaps.split(",")):
+        rows = sorted((1000 + card * gap // 4 + place * gap, card + 1, 60) for card in range(4) for place in range(20000))
+        told = ran(program, EACH, text_of(rows))[0].splitlines()
+        counts = {**values(next(line for line in told if line.startswith("processor"))), **values(told[-1].removeprefix("total "))}
+        wanted.append([counts[name] for name in COUNTS])
+    lines = (TOP / "examples/c/simulator.stdout").read_text().splitlines()
+    shown = [[int(group_in(rf"(\d+) {name}", line)) for name in COUNTS] for line in lines]
+    return [f"the simulator counts {shown}, and the program {wanted}"] * (shown != wanted or len(shown) < 3)
+
+
 def simulated(report: str, waited: str) -> list[str]:
     """Compares a report of the machine with that of a simulation of the same arrivals, which has each wait in place of their percentiles,
     and no total."""
     def with_percentiles(line: str) -> str:
         counts, sign, waits = line.rstrip("\n").partition(" waits")
-        return f"{counts} {machine_model.wait_fields(list(map(int, waits.split())))}" if sign else counts
+        return f"{counts} {wait_fields(list(map(int, waits.split())))}" if sign else counts
 
     with open(report, encoding="ascii") as mine, open(waited, encoding="ascii") as theirs:
         lines = [(line.rstrip("\n"), with_percentiles(other)) for line, other in itertools.zip_longest(mine, theirs, fillvalue="")]
@@ -518,7 +535,8 @@ def simulated(report: str, waited: str) -> list[str]:
 
 
 CHECKS: dict[str, Callable[..., list[str]]] = {"examples": examples, "random": random_arrivals, "one_queue": one_queue, "faults": faults, "texts": texts,
-          "options": options, "ends": ends, "queue": queue, "livelock": livelock, "recorded": recorded, "simulated": simulated}
+          "options": options, "ends": ends, "queue": queue, "livelock": livelock, "recorded": recorded,
+          "simulator": simulator, "simulated": simulated}
 
 if __name__ == "__main__":
     found = CHECKS[sys.argv[1]](*sys.argv[2:])

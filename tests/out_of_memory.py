@@ -21,7 +21,7 @@ PLACES = {
     "device_rows/src/fault.rt": (2, "`From<AllocError>`: the growth that `?` passes on; `ReadError::OutOfMemory` of the reader"),
     "device_rows/src/source.rt": (2, "`From<AllocError>`; a read with `ErrorKind::OutOfMemory`, of the reader's own buffer"),
     "device_rows/src/trace.rt": (2, "the next record: `NextRecord::OutOfMemory`"),
-    "device_shared/src/opening.rt": (2, "the ring, the instance"),
+    "device_shared/src/shared_receive.rt": (2, "the ring, the instance"),
     "device_bench/src/transmit.rt": (1, "the transmit ring"),
     "files_c/src/machine_fault.rt": (1, "an error of the machine, and the report's bytes, which a `Vec` takes"),
     "files_c/src/machine_calls.rt": (2, "an error that `fault_status` names so; the message of a fault"),

@@ -106,13 +106,6 @@ def leftovers(page: pathlib.Path) -> Iterator[str]:
     yield from (f"a merge left {line}" for line in re.findall(r"^(?:<{7}|={7}|>{7})(?: .*)?$", page.read_text(), re.M))
 
 
-def ratios(page: pathlib.Path) -> Iterator[str]:
-    """A ratio between two programs has to say which one is slower or faster."""
-    for line in page.read_text().splitlines():
-        if "times as fast" in line:
-            yield f"{line[:60]} ..: it doesn't say which one is slower"
-
-
 def lengths(_page: pathlib.Path) -> Iterator[str]:
     """Words of README.md, without commands and tables: no other page has a limit."""
     first = len(re.sub(r"^(    |\|).*$", "", (TOP / "README.md").read_text(), flags=re.M).split())
@@ -333,7 +326,7 @@ def options_of_linux() -> list[str]:
 def checks() -> Iterator[PageJudged]:
     """Pairs of a page and what is wrong with it."""
     for page in pages():
-        for check in (links, named_files, names, kits, leftovers, ratios, pictures_by, snippets.snippets):
+        for check in (links, named_files, names, kits, leftovers, pictures_by, snippets.snippets):
             yield page, check(page)
     for name in ("README.md", "CITATION.cff"):
         yield TOP / name, versions(TOP / name)

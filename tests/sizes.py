@@ -24,13 +24,8 @@ ENVIRONMENT = {**os.environ, "MALLOC_ARENA_MAX": "1"}
 HEADER = b"moment,device,event,value\n"
 QUOTED = b'"moment",device,event,value\n'  # the same record; the rows after it are read record by record
 Replay = tuple[str, list[str]]  # a program and its options
-REPLAYS: list[Replay] = [
-    ("napi_serial", []),
-    ("napi_replay", ["--mode", "shared"]),
-    ("napi_replay", ["--mode", "threads"]),
-    ("napi_series", []),
-    ("napi_replay", ["--mode", "serial"]),
-]
+REPLAYS: list[Replay] = [("napi_serial", []), ("napi_replay", ["--mode", "shared"]), ("napi_replay", ["--mode", "threads"]), ("napi_series", []),
+                         ("napi_replay", ["--mode", "serial"])]
 
 took: defaultdict[str, float] = defaultdict(float)  # seconds, of each program in each mode
 
@@ -124,14 +119,8 @@ def tried(call: Callable[[], None]) -> Iterator[str]:
         yield str(error)[:300]
 
 
-def try_trace(
-    name: str,
-    trace: Trace,
-    dropped: dict[int, int] | None = None,
-    programs: Sequence[Replay] = tuple(REPLAYS),
-    pollers: int = 1,
-    header: bytes = HEADER,
-) -> Iterator[Judged]:
+def try_trace(name: str, trace: Trace, dropped: dict[int, int] | None = None, programs: Sequence[Replay] = tuple(REPLAYS), pollers: int = 1,
+              header: bytes = HEADER) -> Iterator[Judged]:
     """Tries the trace with each program and in each mode."""
     text = trace.text(header)
     for program, words in programs:

@@ -15,7 +15,8 @@ static unsigned char buffers[BUFFERS][BYTES];
 static unsigned char written(uint64_t packet) { return (unsigned char)(packet % 251); }
 
 struct interrupts {
-    struct fq_handle *ring, *seat;
+    struct fq_ring *ring;
+    struct fq_seat *seat;
     bool failed;
 };
 
@@ -41,12 +42,12 @@ static void *interrupt(void *at) {
 }
 
 struct poller {
-    struct fq_handle *seat;
+    struct fq_seat *seat;
     uint64_t next;
     bool failed;
 };
 
-static bool end_poll(struct fq_handle *seat, size_t count) {
+static bool end_poll(struct fq_seat *seat, size_t count) {
     uint32_t next;
     return fq_seat_end(seat, count == WEIGHT, &next) == FQ_OK;
 }
@@ -78,7 +79,7 @@ static void *poll_all(void *at) {
 }
 
 /* napi_disable. The poller's seat takes and completes an instance that is on the list when the disable is requested. */
-static bool disable(struct fq_handle *control, struct fq_handle *seat) {
+static bool disable(struct fq_control *control, struct fq_seat *seat) {
     uint32_t said;
     while ((said = fq_control_step(control, false, false)) == FQ_BUSY)
         if (fq_seat_take(seat, FQ_LIST) == FQ_TAKEN && !end_poll(seat, 0)) return false;
@@ -86,7 +87,9 @@ static bool disable(struct fq_handle *control, struct fq_handle *seat) {
 }
 
 int main(void) {
-    struct fq_handle ring = FQ_NONE, control = FQ_NONE, seats[2] = {FQ_NONE, FQ_NONE};
+    struct fq_ring ring = FQ_NONE;
+    struct fq_control control = FQ_NONE;
+    struct fq_seat seats[2] = {FQ_NONE, FQ_NONE};
     if (fq_ring_new(&ring, PLACES) != FQ_OK || fq_shared_new(&ring, &control, seats, 2) != FQ_OK) return 1;
     if (fq_control_enable(&control, false) != FQ_OK) return 1;
     struct interrupts irq = {&ring, &seats[0], false};
@@ -97,7 +100,7 @@ int main(void) {
     for (int i = 0; i < 2; i++) pthread_join(threads[i], NULL);
     if (irq.failed || poller.failed || poller.next != PACKETS || !disable(&control, &seats[1])) return 1;
     printf("%d packets in %d buffers, each as it was written\n", PACKETS, BUFFERS);
-    if (fq_free(&control) != FQ_OK || fq_free(&ring) != FQ_OK) return 1;
-    for (int i = 0; i < 2; i++) if (fq_free(&seats[i]) != FQ_OK) return 1;
+    if (fq_free(&control.handle) != FQ_OK || fq_free(&ring.handle) != FQ_OK) return 1;
+    for (int i = 0; i < 2; i++) if (fq_free(&seats[i].handle) != FQ_OK) return 1;
     return 0;
 }

@@ -10,7 +10,7 @@
 enum { STOPS = 20, BETWEEN = 1000, PACKETS = (STOPS + 1) * BETWEEN, ROOM = 256 };
 static struct card { atomic_uint arrived, polled, masked; } cards[2] = {{.masked = 1}, {.masked = 1}};
 static struct fq_word interrupts; /* a bit for each device whose card has interrupted */
-static struct fq_handle driver;
+static struct fq_driver driver;
 static sem_t wake;
 static unsigned stops;
 static void must(bool holds) { if (!holds) abort(); }
@@ -35,13 +35,13 @@ static uint32_t fetch(struct card *card, uint32_t most) {
 
 static void report_interrupts(void) {
     for (uint64_t bits = fq_word_take(&interrupts); bits; bits &= bits - 1)
-        must(fq_driver_interrupt(&driver, (uint32_t)__builtin_ctzll(bits)) < FQ_NOT_ALLOWED);
+        must(!fq_is_error(fq_driver_interrupt(&driver, (uint32_t)__builtin_ctzll(bits))));
 }
 
 /* Does what the driver asks for until there is nothing to do: from then on each packet that arrives raises an interrupt. */
 static void work(void) {
     struct fq_todo todo = FQ_TODO_INIT;
-    while (report_interrupts(), fq_driver_step(&driver, &todo), todo.what != FQ_TODO_SLEEP) {
+    while (report_interrupts(), must(!fq_is_error(fq_driver_step(&driver, &todo))), todo.what != FQ_TODO_SLEEP) {
         struct card *card = &cards[todo.device];
         if (todo.what == FQ_TODO_MASK) card->masked = 1;
         else if (todo.what == FQ_TODO_UNMASK) card->masked = 0;
@@ -60,5 +60,5 @@ int main(void) {
     must(pthread_join(thread, NULL) == 0 && fq_driver_stop(&driver, 0) == FQ_OK && fq_driver_stop(&driver, 1) == FQ_OK);
     work();
     printf("%u and %u packets, each polled once, with %u stops\n", (unsigned)cards[0].polled, (unsigned)cards[1].polled, stops);
-    return fq_free(&driver);
+    return fq_free(&driver.handle);
 }

@@ -6,7 +6,7 @@
 enum { FRAME = 1500, MAX = 1879048192 };
 
 int main(void) {
-    struct fq_dql dql;
+    struct fq_dql dql = {0};
     if (fq_dql_init(&dql, 0, MAX, 1000, 0) != FQ_OK) return 1;
     for (uint64_t now = 6; now <= 18; now += 6) {
         unsigned frames = 0;

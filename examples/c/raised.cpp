@@ -6,7 +6,7 @@
 static const std::string trace = "moment,device,event,value\n0,1,open,4\n"
                                  "1,1,rx,60\n1,1,rx,60\n1,1,rx,60\n1,1,rx,60\n2,0,softirq,0\n"
                                  "3,1,rx,60\n3,1,rx,60\n3,1,rx,60\n3,1,rx,60\n4,0,softirq,0\n";
-static const fq_settings settings{1, 1, 1024};
+static const fq_settings settings{sizeof(fq_settings), 1, 1, 1024};
 
 // Prints the device's line of the report of a trace.
 static void replay(const std::string &runs, const std::string &rows) {

@@ -21,7 +21,7 @@ static enum fq_next poll_once(struct device *device, uint32_t *work) {
 }
 
 /* Makes one run, and returns whether it polled anything. */
-static bool run(struct fq_handle *list, struct device *devices) {
+static bool run(struct fq_list *list, struct device *devices) {
     struct fq_run_report report;
     uint32_t id, work;
     if (fq_run_begin(list, BUDGET, WEIGHT, WINDOW) != FQ_OK) return false;
@@ -39,7 +39,7 @@ static bool run(struct fq_handle *list, struct device *devices) {
 int main(void) {
     static const uint32_t packets[DEVICES] = {150, 3, 64, 0};
     struct device devices[DEVICES];
-    struct fq_handle list = FQ_NONE;
+    struct fq_list list = FQ_NONE;
     if (fq_list_new(&list) != FQ_OK) return 1;
     for (uint32_t i = 0; i < DEVICES; i++) {
         devices[i] = (struct device){fq_napi_new(CONTROLLER), packets[i]};
@@ -49,5 +49,5 @@ int main(void) {
     }
     while (run(&list, devices)) {
     }
-    return fq_free(&list) == FQ_OK ? 0 : 1;
+    return fq_free(&list.handle) == FQ_OK ? 0 : 1;
 }

@@ -6,7 +6,7 @@ static unsigned waiting; /* the packets that the card has */
 static bool masked = true;
 
 /* Packets arrive. The card interrupts unless it is masked. */
-static bool arrive(struct fq_handle *driver, unsigned packets) {
+static bool arrive(struct fq_driver *driver, unsigned packets) {
     printf("%u packets arrive\n", packets);
     waiting += packets;
     return masked || fq_driver_interrupt(driver, 0) == FQ_GRANTED;
@@ -18,22 +18,23 @@ static uint32_t fetch(uint32_t most) {
     return count;
 }
 
-static void work(struct fq_handle *driver) {
+static void work(struct fq_driver *driver) {
     struct fq_todo todo = FQ_TODO_INIT;
-    while (fq_driver_step(driver, &todo), todo.what != FQ_TODO_SLEEP) {
+    while (!fq_is_error(fq_driver_step(driver, &todo)) && todo.what != FQ_TODO_SLEEP) {
         switch (todo.what) {
         case FQ_TODO_MASK: masked = true; puts("  mask"); break;
         case FQ_TODO_UNMASK: masked = false; puts("  unmask"); break;
         case FQ_TODO_LOOK: todo.packets = waiting; printf("  look: %u packets\n", waiting); break;
         case FQ_TODO_FETCH: todo.packets = fetch(todo.most); printf("  fetch: %u packets\n", todo.packets); break;
-        default: printf("  a run ended: %u polls, %u packets\n", todo.run.polls, todo.run.work);
+        case FQ_TODO_ENDED: printf("  a run ended: %u polls, %u packets\n", todo.run.polls, todo.run.work); break;
+        case FQ_TODO_SLEEP: case FQ_TODO_FAILED: break;
         }
     }
-    puts("  sleep");
+    puts(todo.status == FQ_OK ? "  sleep" : fq_status_name(todo.status));
 }
 
 int main(void) {
-    struct fq_handle driver = FQ_NONE;
+    struct fq_driver driver = FQ_NONE;
     if (fq_driver_new(&driver, 1, 300, 64, 1024) != FQ_OK || fq_driver_open(&driver, 0) != FQ_OK) return 1;
     if (!arrive(&driver, 3)) return 1; /* these arrive before the card is unmasked, so without an interrupt */
     work(&driver);
@@ -41,5 +42,5 @@ int main(void) {
     work(&driver);
     if (fq_driver_stop(&driver, 0) != FQ_OK) return 1;
     work(&driver);
-    return fq_free(&driver);
+    return fq_free(&driver.handle);
 }

@@ -4,7 +4,8 @@
 #include <stdlib.h>
 
 enum { BURSTS = 1000, BURST = 100, BYTES = 60 };
-static struct fq_handle driver, tx;
+static struct fq_driver driver;
+static struct fq_tx tx;
 static uint64_t now_ms;
 static unsigned arrived, polled, answered, sent, stopped; /* sent: the packets that the card has sent and not reported yet */
 static bool masked = true;
@@ -32,7 +33,7 @@ static uint32_t fetch(uint32_t most) {
 
 static void work(void) {
     struct fq_todo todo = FQ_TODO_INIT;
-    while (fq_driver_step(&driver, &todo), todo.what != FQ_TODO_SLEEP) {
+    while (must(!fq_is_error(fq_driver_step(&driver, &todo))), todo.what != FQ_TODO_SLEEP) {
         if (todo.what == FQ_TODO_MASK) masked = true;
         else if (todo.what == FQ_TODO_UNMASK) masked = false;
         else if (todo.what == FQ_TODO_LOOK) todo.packets = arrived - polled + sent; /* or if there is something to complete */
@@ -50,5 +51,5 @@ int main(void) {
     printf("%u packets, %u answers, the limit stopped the queue: %s\n", polled, answered, stopped ? "yes" : "no");
     must(fq_driver_stop(&driver, 0) == FQ_OK);
     work();
-    return fq_free(&tx) + fq_free(&driver);
+    return fq_free(&tx.handle) + fq_free(&driver.handle);
 }

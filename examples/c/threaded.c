@@ -10,7 +10,8 @@
 enum { PACKETS = 200000, WEIGHT = 64, BURST = 100 };
 
 struct interrupts {
-    struct fq_handle *ring, *seat;
+    struct fq_ring *ring;
+    struct fq_seat *seat;
     sem_t *wake;
     bool failed;
 };
@@ -31,7 +32,7 @@ static void *interrupt(void *at) {
 }
 
 struct poller {
-    struct fq_handle *seat;
+    struct fq_seat *seat;
     sem_t *wake;
     uint64_t next;
     unsigned long held;
@@ -65,7 +66,9 @@ static void *poll_all(void *at) {
 }
 
 int main(void) {
-    struct fq_handle ring = FQ_NONE, control = FQ_NONE, seats[2] = {FQ_NONE, FQ_NONE};
+    struct fq_ring ring = FQ_NONE;
+    struct fq_control control = FQ_NONE;
+    struct fq_seat seats[2] = {FQ_NONE, FQ_NONE};
     sem_t wake;
     if (fq_ring_new(&ring, 256) != FQ_OK || fq_shared_new(&ring, &control, seats, 2) != FQ_OK || sem_init(&wake, 0, 0) != 0) return 1;
     if (fq_control_step(&control, true, true) != FQ_OK) return 1;
@@ -81,7 +84,7 @@ int main(void) {
         if (fq_seat_take(&seats[1], FQ_THREAD) == FQ_TAKEN) poll_once(&poller);
     printf("%d packets by a thread of its own, each once and in order\n", PACKETS);
     sem_destroy(&wake);
-    if (fq_free(&control) != FQ_OK || fq_free(&ring) != FQ_OK) return 1;
-    for (int i = 0; i < 2; i++) if (fq_free(&seats[i]) != FQ_OK) return 1;
+    if (fq_free(&control.handle) != FQ_OK || fq_free(&ring.handle) != FQ_OK) return 1;
+    for (int i = 0; i < 2; i++) if (fq_free(&seats[i].handle) != FQ_OK) return 1;
     return 0;
 }

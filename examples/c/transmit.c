@@ -7,7 +7,7 @@
 enum { PLACES = 4, FRAME = 1500, MAX = 1879048192 };
 
 int main(void) {
-    struct fq_handle tx = FQ_NONE;
+    struct fq_tx tx = FQ_NONE;
     struct fq_tx_shown state;
     if (fq_tx_new(&tx, PLACES, 0, MAX, 1000, 0) != FQ_OK) return 1;
     for (uint64_t now = 6; now <= 24; now += 6) {
@@ -18,5 +18,5 @@ int main(void) {
         if (fq_tx_done(&tx, frames, now) != FQ_OK || fq_tx_state(&tx, &state) != FQ_OK) return 1;
         printf("then a limit of %u\n", state.limit);
     }
-    return fq_free(&tx) != FQ_OK;
+    return fq_free(&tx.handle) != FQ_OK;
 }

@@ -182,7 +182,7 @@ int main(int count, char **words) {
     atomic_store(&ended, true);
     if (two_threads) pthread_join(thread, NULL);
     for (uint32_t i = 0; i < count_of_devices; i++) close_port((struct port *)devices[i]);
-    must("free", fq_free(&driver), FQ_OK);
+    must("free", fq_free(&driver.handle), FQ_OK);
     rte_eal_cleanup();
     return fflush(stdout) ? 1 : 0;
 }

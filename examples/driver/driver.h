@@ -31,7 +31,7 @@ struct device {
     uint32_t (*fetch)(struct device *device, uint32_t most);       /* takes at most this many packets, processes them, and returns how many */
     void (*give)(struct device *device);                           /* sends frames that wait, and reports what the card has completed */
     alignas(APART) unsigned long interrupts; /* the fields from here on are written by the interrupt thread */
-    alignas(APART) struct fq_handle limit;   /* the fields from here on are written by the poller */
+    alignas(APART) struct fq_tx limit;   /* the fields from here on are written by the poller */
     struct fq_tx_watchdog watchdog;
     unsigned long granted, missed, disabled, polls, packets, full, answered, sent, done, held;
 };
@@ -39,7 +39,7 @@ struct device {
 static struct device *devices[DEVICES];
 static uint32_t count_of_devices, budget = 300;
 static bool one_thread;
-static struct fq_handle driver;
+static struct fq_driver driver;
 static alignas(APART) struct fq_word interrupted; /* a bit for each device whose card has interrupted */
 static atomic_int wanted;
 static atomic_bool ended;
@@ -138,16 +138,18 @@ static inline uint32_t fetch_from(struct device *device, uint32_t most) {
 /* Does what the driver asks for until a run ends; returns false if there is nothing to do. */
 static inline bool run(void) {
     struct fq_todo todo = FQ_TODO_INIT;
-    while (report_interrupts(), fq_driver_step(&driver, &todo), todo.what != FQ_TODO_SLEEP) {
+    while (report_interrupts(), !fq_is_error(fq_driver_step(&driver, &todo)) && todo.what != FQ_TODO_SLEEP) {
         struct device *device = devices[todo.device];
         switch (todo.what) {
         case FQ_TODO_MASK: device->mask(device); break;
         case FQ_TODO_UNMASK: device->unmask(device); break;
         case FQ_TODO_LOOK: todo.packets = device->look(device); break;
         case FQ_TODO_FETCH: todo.packets = fetch_from(device, todo.most); break;
-        default: return runs++, squeezed += todo.run.squeezed, true;
+        case FQ_TODO_ENDED: return runs++, squeezed += todo.run.squeezed, true;
+        case FQ_TODO_SLEEP: case FQ_TODO_FAILED: break;
         }
     }
+    must("step", todo.status, FQ_OK);
     return false;
 }
 
@@ -223,6 +225,6 @@ static inline void close_device(struct device *device) {
         device->granted, device->missed, device->disabled, device->packets, device->polls, device->full, runs, squeezed);
     printf("answered %lu sent %lu done %lu held %lu limit %u in_flight %u\n", device->answered, device->sent, device->done, device->held, shown.limit,
         shown.queued - shown.completed);
-    must("free", fq_free(&device->limit), FQ_OK);
+    must("free", fq_free(&device->limit.handle), FQ_OK);
 }
 #endif

@@ -33,7 +33,7 @@ class FintaqushLimits : public ns3::QueueLimits {
   private:
     static uint64_t now() { return static_cast<uint64_t>(ns3::Simulator::Now().GetNanoSeconds()); }
 
-    fq_dql dql;
+    fq_dql dql{};
 };
 
 /* A queue limit that counts its calls and, if there is a stream, writes each call with the bytes available after it. */

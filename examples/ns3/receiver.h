@@ -36,7 +36,7 @@ struct Settings {
 };
 
 struct Card {
-    fq_handle ring = FQ_NONE;
+    fq_ring ring = FQ_NONE;
     fq_napi napi = fq_napi_new(CONTROLLER);
     std::vector<ns3::Ptr<const ns3::Packet>> slots{RING + 1}; /* the packets in the ring, and the one that a poll processes */
     std::vector<int64_t> came = std::vector<int64_t>(RING + 1); /* the arrival times of the packets, in ns */
@@ -66,8 +66,8 @@ class Receiver {
     }
 
     ~Receiver() {
-        must("free", fq_free(&list));
-        for (Card &card : cards) must("free", fq_free(&card.ring));
+        must("free", fq_free(&list.handle));
+        for (Card &card : cards) must("free", fq_free(&card.ring.handle));
     }
 
     /* Handles the arrival of a packet at a card, after the work that ends and the timers that expire at this time. */
@@ -297,7 +297,7 @@ class Receiver {
 
     Settings settings;
     std::vector<Card> cards;
-    fq_handle list = FQ_NONE;
+    fq_list list = FQ_NONE;
     std::ostream *arrivals;
     std::deque<Waiting> socket;
     ns3::Time *work = nullptr; /* the sum to which the time of the work in progress is added */

@@ -27,11 +27,11 @@ struct queue {
     int tap;
     size_t number;
     uint8_t (*frames)[FRAME]; /* frames for what the ring holds, what a poll returned, and the frame that is being read; used in a circle */
-    alignas(128) struct fq_handle ring; /* the input of its ring; the fields from here on are used by the card thread */
+    alignas(128) struct fq_ring ring; /* the input of its ring; the fields from here on are used by the card thread */
     uint64_t next;
     unsigned long read, full;
     _Atomic uint64_t put; /* how many packets were put into its ring; the poller reads this too */
-    alignas(128) struct fq_handle out; /* the poll end of its ring; the fields from here on are used by the poller */
+    alignas(128) struct fq_ring out; /* the poll end of its ring; the fields from here on are used by the poller */
     uint64_t taken;
     unsigned long granted, missed, disabled, packets, polls, again, drained;
     struct sender sender;
@@ -40,7 +40,7 @@ struct queue {
 static struct { const char *dev; size_t queues, ring; uint32_t budget; uint64_t rate; unsigned seconds; bool mask, one, plain, direct; } set =
     {.dev = "fq0", .queues = 1, .ring = 512, .budget = 300};
 static struct queue queues[QUEUES];
-static struct fq_handle driver;
+static struct fq_driver driver;
 static struct trace trace;
 static unsigned long runs, squeezed;
 static int card_events, poller_events, wake, stop, timer;
@@ -138,12 +138,13 @@ static uint32_t fetch(struct queue *queue, uint32_t most) {
 static bool run(void) {
     struct fq_todo todo = FQ_TODO_INIT;
     for (uint64_t bits = fq_word_take(&interrupted); bits; bits &= bits - 1) report(&queues[__builtin_ctzll(bits)]);
-    while (fq_driver_step(&driver, &todo), todo.what != FQ_TODO_SLEEP && todo.what != FQ_TODO_ENDED) {
+    while (!fq_is_error(fq_driver_step(&driver, &todo)) && todo.what != FQ_TODO_SLEEP && todo.what != FQ_TODO_ENDED) {
         struct queue *queue = &queues[todo.device];
         if (todo.what == FQ_TODO_FETCH) todo.packets = fetch(queue, todo.most);
         if (todo.what == FQ_TODO_UNMASK && set.mask) arm(queue, EPOLL_CTL_MOD);
         if (todo.what == FQ_TODO_LOOK) todo.packets = queue->put != queue->taken && !trace.file;
     }
+    must("step", todo.status, FQ_OK);
     if (todo.what == FQ_TODO_ENDED) row(&trace, now_ms(), 0, "softirq", 0), runs++, squeezed += todo.run.squeezed;
     for (size_t i = 0; i < set.queues; i++) send_answers(&queues[i]);
     return todo.what == FQ_TODO_ENDED;
@@ -234,8 +235,8 @@ static void drain(struct queue *queue) {
 
 static void close_queue(struct queue *queue) {
     free(queue->sender.frames);
-    must("free", fq_free(&queue->ring), FQ_OK);
-    must("free", fq_free(&queue->out), FQ_OK);
+    must("free", fq_free(&queue->ring.handle), FQ_OK);
+    must("free", fq_free(&queue->out.handle), FQ_OK);
     free(queue->frames);
     close(queue->tap);
 }
@@ -334,7 +335,7 @@ int main(int count, char **words) {
     for (size_t i = 0; i < set.queues; i++) drain(&queues[i]);
     print();
     for (size_t i = 0; i < set.queues; i++) close_queue(&queues[i]);
-    must("free", fq_free(&driver), FQ_OK);
+    must("free", fq_free(&driver.handle), FQ_OK);
     if (trace.file && fclose(trace.file)) die("trace");
     return fflush(stdout) ? 1 : 0;
 }

@@ -26,7 +26,8 @@ struct side {
 
 static struct card card;
 static struct side sides[QUEUES];
-static struct fq_handle driver, tx;
+static struct fq_driver driver;
+static struct fq_tx tx;
 static alignas(128) struct fq_word interrupted; /* a bit for each queue that has interrupted */
 static atomic_int wanted;
 static atomic_bool asked; /* a request to print the counts */
@@ -144,16 +145,18 @@ static uint32_t fetch(struct side *side) {
 /* Does what the driver asks for until a run ends; returns false if there is nothing to do. */
 static bool run(void) {
     struct fq_todo todo = FQ_TODO_INIT;
-    while (report_interrupts(), fq_driver_step(&driver, &todo), todo.what != FQ_TODO_SLEEP) {
+    while (report_interrupts(), !fq_is_error(fq_driver_step(&driver, &todo)) && todo.what != FQ_TODO_SLEEP) {
         struct side *side = &sides[todo.device];
         switch (todo.what) {
         case FQ_TODO_MASK: queue_mask(side->queue); break;
         case FQ_TODO_UNMASK: queue_unmask(side->queue); break;
         case FQ_TODO_LOOK: todo.packets = queue_back(side->queue); break;
         case FQ_TODO_FETCH: todo.packets = fetch(side); break;
-        default: return runs++, squeezed += todo.run.squeezed, true;
+        case FQ_TODO_ENDED: return runs++, squeezed += todo.run.squeezed, true;
+        case FQ_TODO_SLEEP: case FQ_TODO_FAILED: break;
         }
     }
+    must("step", todo.status, FQ_OK);
     return false;
 }
 
@@ -224,8 +227,8 @@ static void open_all(const char *address) {
 static void close_all(void) {
     print();
     card_reset(&card);
-    must("free", fq_free(&tx), FQ_OK);
-    must("free", fq_free(&driver), FQ_OK);
+    must("free", fq_free(&tx.handle), FQ_OK);
+    must("free", fq_free(&driver.handle), FQ_OK);
 }
 
 int main(int count, char **words) {

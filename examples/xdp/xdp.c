@@ -159,6 +159,6 @@ int main(int count, char **words) {
     atomic_store(&ended, true);
     if (!one_thread) pthread_join(thread, NULL);
     print();
-    must("free", fq_free(&driver), FQ_OK);
+    must("free", fq_free(&driver.handle), FQ_OK);
     return fflush(stdout) ? 1 : 0;
 }

@@ -1,8 +1,8 @@
 /* boxes: makes an object by each call that allocates, and frees it by each call that frees, in each state in which that is possible;
  * and the same if a call fails. Then nothing is left on the heap. To be linked with --wrap for malloc, realloc and free, and to be run
  * under valgrind too, which sees double frees and reads out of bounds. If something is wrong, it prints which and exits with 9. */
+#include "any.h"
 #include "memory.h"
-#include <fintaqush.h>
 #include <stdio.h>
 #include <stdlib.h>
 #include <string.h>
@@ -45,7 +45,7 @@ static const size_t capacities[] = {1, 2, 3, 64, 1000, 65535, 65536};
 enum { CAPACITIES = sizeof capacities / sizeof capacities[0] };
 
 static void rings(void) {
-    struct fq_handle ring = FQ_NONE, moved = FQ_NONE, out = FQ_NONE;
+    struct fq_ring ring = FQ_NONE, moved = FQ_NONE, out = FQ_NONE;
     struct fq_totals totals;
     struct fq_packet packets[64];
     size_t count;
@@ -57,10 +57,10 @@ static void rings(void) {
                 while (filled && fq_ring_put(&ring, 1, 60) == FQ_OK) continue;
                 if (how == 3) {
                     const long before = blocks;
-                    want(fq_move(&ring, &moved) == FQ_OK && blocks == before && fq_move(&moved, &ring) == FQ_OK, "a ring moved");
+                    want(fq_move(&ring.handle, &moved.handle) == FQ_OK && blocks == before && fq_move(&moved.handle, &ring.handle) == FQ_OK, "a ring moved");
                 }
                 if (how == 2) want(fq_ring_finish(&ring, &totals) == FQ_OK, "a ring finished");
-                else ended(&ring, how == 1 ? ABANDON : FREE, "a ring ended");
+                else ended(&ring.handle, how == 1 ? ABANDON : FREE, "a ring ended");
                 nothing_is_left("of a ring");
             }
             for (int how = 0; how < 4; how++) {
@@ -69,8 +69,8 @@ static void rings(void) {
                 stays(fq_ring_finish(&ring, &totals), FQ_BAD_HANDLE, blocks, "the end of a split ring");
                 while (filled && fq_ring_put(&ring, 1, 60) == FQ_OK) continue;
                 want(fq_ring_poll(&out, 64, packets, 64, &count) == FQ_OK, "a poll of a split ring");
-                ended(how < 2 ? &ring : &out, how % 2 ? ABANDON : FREE, "the first end");
-                ended(how < 2 ? &out : &ring, how % 2 ? ABANDON : FREE, "the second end");
+                ended(how < 2 ? &ring.handle : &out.handle, how % 2 ? ABANDON : FREE, "the first end");
+                ended(how < 2 ? &out.handle : &ring.handle, how % 2 ? ABANDON : FREE, "the second end");
                 nothing_is_left("of a split ring");
             }
         }
@@ -79,20 +79,20 @@ static void rings(void) {
     stays(fq_ring_new(&ring, 65537), FQ_BAD_CAPACITY, 0, "a ring of too many");
     want(fq_ring_new(&ring, 4) == FQ_OK && fq_ring_new(&out, 4) == FQ_OK, "two rings");
     stays(fq_ring_split(&ring, &out), FQ_IN_USE, blocks, "a split into a ring");
-    ended(&ring, FREE, "one");
-    ended(&out, FREE, "the other");
+    ended(&ring.handle, FREE, "one");
+    ended(&out.handle, FREE, "the other");
     nothing_is_left("of two rings");
 }
 
 static void transmit_rings(void) {
-    struct fq_handle tx = FQ_NONE;
+    struct fq_tx tx = FQ_NONE;
     for (size_t i = 0; i < CAPACITIES; i++) {
         for (int filled = 0; filled < 2; filled++) {
             for (enum end end = FREE; end <= ABANDON; end++) {
                 want(fq_tx_new(&tx, capacities[i], 1000000, 1000000, 1000, 0) == FQ_OK, "a transmit ring");
                 stays(fq_tx_new(&tx, 4, 0, 1000, 1000, 0), FQ_IN_USE, blocks, "a transmit ring in its place");
                 while (filled && fq_tx_send(&tx, 60) == FQ_OK) continue;
-                ended(&tx, end, "a transmit ring ended");
+                ended(&tx.handle, end, "a transmit ring ended");
                 nothing_is_left("of a transmit ring");
             }
         }
@@ -103,7 +103,7 @@ static void transmit_rings(void) {
 }
 
 static void lists(void) {
-    struct fq_handle list = FQ_NONE;
+    struct fq_list list = FQ_NONE;
     struct fq_run_report report;
     uint32_t id;
     for (uint32_t numbers = 0; numbers < 65; numbers += 32) {
@@ -115,15 +115,15 @@ static void lists(void) {
             if (how > 2 && numbers > 0) want(fq_run_next(&list, &id) == FQ_OK, "its first poll");
             if (how == 4 && numbers > 0) want(fq_run_polled(&list, 64, FQ_NEXT_REPOLL) == FQ_OK, "which was full");
             if (how == 4) want(fq_run_end(&list, &report) == FQ_OK, "its end");
-            if (how == 2 || how == 3) given_up(&list, "a list in a run");
-            else ended(&list, how == 1 ? ABANDON : FREE, "a list");
+            if (how == 2 || how == 3) given_up(&list.handle, "a list in a run");
+            else ended(&list.handle, how == 1 ? ABANDON : FREE, "a list");
             nothing_is_left("of a list");
         }
     }
 }
 
 static void drivers(void) {
-    struct fq_handle driver = FQ_NONE;
+    struct fq_driver driver = FQ_NONE;
     struct fq_todo todo = FQ_TODO_INIT;
     for (uint32_t devices = 1; devices < 65; devices += 9) {
         for (int steps = 0; steps < 8; steps++) {
@@ -136,7 +136,7 @@ static void drivers(void) {
                     todo.packets = todo.what == FQ_TODO_LOOK ? 1 : todo.most;
                     want(fq_driver_done(&driver, &todo) == FQ_OK, "a report");
                 }
-                ended(&driver, end, "a driver");
+                ended(&driver.handle, end, "a driver");
                 nothing_is_left("of a driver");
             }
         }
@@ -146,7 +146,10 @@ static void drivers(void) {
 }
 
 /* The handles of an instance: its ring's input, its controller, and two seats; and an array of too many seats. */
-static struct fq_handle many[9], handles[4], *const input = &handles[0], *const control = &handles[1], *const irq = &handles[2], *const poller = &handles[3];
+static union any many[9], handles[4];
+static struct fq_ring *const input = &handles[0].ring;
+static struct fq_control *const control = &handles[1].control;
+static struct fq_seat *const irq = &handles[2].seat, *const poller = &handles[3].seat;
 
 static void made(bool bare) {
     if (bare) {
@@ -156,8 +159,8 @@ static void made(bool bare) {
     }
     want(fq_ring_new(input, 4) == FQ_OK, "its ring");
     stays(fq_shared_new(input, control, irq, 1), FQ_BAD_COUNT, blocks, "one seat");
-    stays(fq_shared_new(input, control, many, 9), FQ_BAD_COUNT, blocks, "nine");
-    stays(fq_shared_new(control, input, irq, 2), FQ_IN_USE, blocks, "a controller where the ring is");
+    stays(fq_shared_new(input, control, &many[0].seat, 9), FQ_BAD_COUNT, blocks, "nine");
+    stays(fq_shared_new(&handles[1].ring, &handles[0].control, irq, 2), FQ_IN_USE, blocks, "a controller where the ring is");
     want(fq_shared_new(input, control, irq, 2) == FQ_OK, "an instance");
     stays(fq_shared_new(input, control, irq, 2), FQ_IN_USE, blocks, "one in its place");
     want(fq_ring_put(input, 7, 60) == FQ_OK, "a packet, which stays");
@@ -172,25 +175,25 @@ static void in_each_order(bool bare, enum end end) {
         if (seen != 15) continue;
         made(bare);
         for (int i = 0; i < 4; i++)
-            if (handles[order[i]].private_set) ended(&handles[order[i]], end, "one of an instance");
+            if (handles[order[i]].handle.private_set) ended(&handles[order[i]].handle, end, "one of an instance");
         nothing_is_left("of an instance");
     }
 }
 
 /* Brings an instance into a state, and tries to free the handles that can't be freed in it. */
 static void in_state(bool bare, int state) {
-    struct fq_handle *held = poller;
+    struct fq_seat *held = poller;
     made(bare);
     want(fq_control_enable(control, false) == FQ_OK, "it is enabled");
     if (state == 1) want(fq_seat_schedule(irq) == FQ_GRANTED, "granted"), held = irq;
     if (state == 2 || state == 3) want(fq_seat_schedule(irq) == FQ_GRANTED && fq_seat_hand(irq, FQ_LIST) == FQ_OK && fq_seat_take(poller, FQ_LIST) == FQ_TAKEN, "polled");
     if (state == 4) want(fq_seat_busy_take(poller) == FQ_TAKEN, "busy polled");
     if (state == 3 || state == 5) want(fq_control_mark(control) == FQ_OK, "marked");
-    given_up(control, "a controller that isn't off");
-    if (state >= 1 && state <= 4) given_up(held, "a seat that doesn't rest");
-    else ended(held, FREE, "a seat that rests");
-    ended(held == irq ? poller : irq, FREE, "the other seat");
-    if (!bare) ended(input, FREE, "the input");
+    given_up(&control->handle, "a controller that isn't off");
+    if (state >= 1 && state <= 4) given_up(&held->handle, "a seat that doesn't rest");
+    else ended(&held->handle, FREE, "a seat that rests");
+    ended(held == irq ? &poller->handle : &irq->handle, FREE, "the other seat");
+    if (!bare) ended(&input->handle, FREE, "the input");
     nothing_is_left("of an instance at work");
 }
 
@@ -201,18 +204,18 @@ static void instances(void) {
         for (int state = 0; state < 6; state++) in_state(bare, state);
     }
     stays(fq_shared_bare(control, irq, 1), FQ_BAD_COUNT, 0, "a bare instance of one seat");
-    stays(fq_shared_bare(control, many, 9), FQ_BAD_COUNT, 0, "of nine");
-    struct fq_handle list = FQ_NONE;
-    want(fq_list_new(&list) == FQ_OK, "a list");
-    stays(fq_shared_new(&list, control, irq, 2), FQ_BAD_HANDLE, blocks, "an instance over a list");
-    ended(&list, FREE, "the list");
+    stays(fq_shared_bare(control, &many[0].seat, 9), FQ_BAD_COUNT, 0, "of nine");
+    union any list = {{false, NULL}};
+    want(fq_list_new(&list.list) == FQ_OK, "a list");
+    stays(fq_shared_new(&list.ring, control, irq, 2), FQ_BAD_HANDLE, blocks, "an instance over a list");
+    ended(&list.handle, FREE, "the list");
     nothing_is_left("of a list");
 }
 
 static void replayed(const char *trace, size_t room, uint32_t budget, uint32_t wanted) {
     static uint8_t report[4096];
-    const struct fq_settings settings = {budget, 64, 1024};
-    struct fq_replayed what;
+    const struct fq_settings settings = {sizeof settings, budget, 64, 1024};
+    struct fq_replayed what = FQ_REPLAYED_INIT;
     want(fq_replay(&settings, (const uint8_t *)trace, strlen(trace), report, room, &what) == wanted, "a replay");
     nothing_is_left("of a replay");
 }
@@ -229,9 +232,9 @@ static void replays(void) {
 
 static void machined(const char *arrivals, size_t room, uint32_t processors, uint32_t wanted) {
     static uint8_t report[4096];
-    struct fq_machine_settings settings;
+    struct fq_machine_settings settings = {.size = sizeof settings};
     struct fq_machine_ran ran = {.size = sizeof ran};
-    want(fq_machine_default(&settings, sizeof settings) == FQ_OK, "the default settings");
+    want(fq_machine_default(&settings) == FQ_OK, "the default settings");
     settings.processors = processors, settings.threaded = 1;
     want(fq_machine(&settings, (const uint8_t *)arrivals, strlen(arrivals), report, room, &ran) == wanted, "a machine");
     nothing_is_left("of a machine");

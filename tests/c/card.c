@@ -14,7 +14,8 @@ enum { WEIGHT = 2, PACKETS = 3, POINTS = 120, TURNS = 90, NEVER = 1000 };
 
 static enum order order;
 static bool threaded, by_steps;
-static struct fq_handle control, seats[3]; /* the interrupt's seat, and two pollers' */
+static struct fq_control control;
+static struct fq_seat seats[3]; /* the interrupt's seat, and two pollers' */
 
 /* The points at which things happen: points are counted. */
 static unsigned point_now, turn_now, packet_at[PACKETS], stop_at, turn_at;
@@ -52,14 +53,14 @@ static void point(void) {
 }
 
 /* The steps of fq_seat_hand_again and fq_seat_end, as the header describes them. */
-static uint32_t hands_again(struct fq_handle *seat, uint32_t *next) {
+static uint32_t hands_again(struct fq_seat *seat, uint32_t *next) {
     uint64_t word;
     must(fq_seat_look(seat, &word) == FQ_OK, "a look");
     *next = word & FQ_BIT_THREADED ? FQ_NEXT_AGAIN_THREAD : FQ_NEXT_AGAIN;
     return fq_seat_hand(seat, word & FQ_BIT_THREADED ? FQ_THREAD : FQ_LIST);
 }
 
-static uint32_t ends(struct fq_handle *seat, bool full, uint32_t *next) {
+static uint32_t ends(struct fq_seat *seat, bool full, uint32_t *next) {
     uint64_t word;
     must(fq_seat_look(seat, &word) == FQ_OK, "a look");
     const bool is_polled_on = full && !(word & FQ_BIT_DISABLE), is_thread = word & FQ_BIT_SCHED_THREADED;
@@ -80,15 +81,15 @@ static uint32_t ends(struct fq_handle *seat, bool full, uint32_t *next) {
         point();                                        \
         return said;                                    \
     }
-WRAP(fq_seat_schedule, (struct fq_handle *seat), (seat), )
-WRAP(fq_seat_hand, (struct fq_handle *seat, uint32_t to), (seat, to), )
-WRAP(fq_seat_take, (struct fq_handle *seat, uint32_t from), (seat, from), )
-WRAP(fq_seat_requeue, (struct fq_handle *seat), (seat), )
-WRAP(fq_seat_complete, (struct fq_handle *seat), (seat), )
-WRAP(fq_seat_schedule_prep, (struct fq_handle *seat), (seat), if (by_steps) return fq_seat_schedule(seat))
-WRAP(fq_seat_complete_done, (struct fq_handle *seat), (seat), if (by_steps) return fq_seat_complete(seat))
-WRAP(fq_seat_hand_again, (struct fq_handle *seat, uint32_t *next), (seat, next), if (by_steps) return hands_again(seat, next))
-WRAP(fq_seat_end, (struct fq_handle *seat, bool full, uint32_t *next), (seat, full, next), if (by_steps) return ends(seat, full, next))
+WRAP(fq_seat_schedule, (struct fq_seat *seat), (seat), )
+WRAP(fq_seat_hand, (struct fq_seat *seat, uint32_t to), (seat, to), )
+WRAP(fq_seat_take, (struct fq_seat *seat, uint32_t from), (seat, from), )
+WRAP(fq_seat_requeue, (struct fq_seat *seat), (seat), )
+WRAP(fq_seat_complete, (struct fq_seat *seat), (seat), )
+WRAP(fq_seat_schedule_prep, (struct fq_seat *seat), (seat), if (by_steps) return fq_seat_schedule(seat))
+WRAP(fq_seat_complete_done, (struct fq_seat *seat), (seat), if (by_steps) return fq_seat_complete(seat))
+WRAP(fq_seat_hand_again, (struct fq_seat *seat, uint32_t *next), (seat, next), if (by_steps) return hands_again(seat, next))
+WRAP(fq_seat_end, (struct fq_seat *seat, bool full, uint32_t *next), (seat, full, next), if (by_steps) return ends(seat, full, next))
 
 static void mask(void *at) {
     (void)at;
@@ -146,7 +147,7 @@ static void interrupt(void) {
 }
 
 /* Ends a poll, and returns whether the poller continues. */
-static bool end(struct fq_handle *seat, size_t work) {
+static bool end(struct fq_seat *seat, size_t work) {
     uint32_t next = 99, said;
     if (order == UNMASKED) said = fq_seat_end_unmasked(seat, &card, WEIGHT, &work, &next);
     else if (order == UNLOOKED) said = fq_seat_end(seat, work == WEIGHT, &next);
@@ -158,7 +159,7 @@ static bool end(struct fq_handle *seat, size_t work) {
 }
 
 static void turn(void) {
-    struct fq_handle *const seat = &seats[++polls];
+    struct fq_seat *const seat = &seats[++polls];
     if (fq_seat_take(seat, kind()) == FQ_TAKEN)
         do must(masked || order > UNMASKED, "it polls, and the card isn't masked");
         while (end(seat, poll_card(NULL, WEIGHT)));
@@ -189,8 +190,8 @@ static bool hangs(void) {
         drain();
     }
     const bool is_hung = waiting != 0 || masked;
-    must(fq_control_step(&control, false, false) == FQ_OK && fq_free(&control) == FQ_OK, "the end");
-    for (int i = 0; i < 3; i++) must(fq_free(&seats[i]) == FQ_OK, "the end of a seat");
+    must(fq_control_step(&control, false, false) == FQ_OK && fq_free(&control.handle) == FQ_OK, "the end");
+    for (int i = 0; i < 3; i++) must(fq_free(&seats[i].handle) == FQ_OK, "the end of a seat");
     return is_hung;
 }
 

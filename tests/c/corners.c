@@ -1,7 +1,7 @@
 /* corners [NAME]: results in corner cases, each case by hand, with calls and structs of the headers only. If one is wrong it
  * prints which, and exits with 9. To be linked with --wrap for malloc, realloc and free. */
+#include "any.h"
 #include "memory.h"
-#include <fintaqush.h>
 #include <stdio.h>
 #include <stdlib.h>
 #include <string.h>
@@ -13,15 +13,16 @@ static void want(bool holds, const char *what) {
 }
 
 /* An instance that is enabled, with an interrupt's seat and a poller's. */
-static struct fq_handle control, seats[2];
-static struct fq_handle *const irq = &seats[0], *const poller = &seats[1];
+static struct fq_control control;
+static struct fq_seat seats[2];
+static struct fq_seat *const irq = &seats[0], *const poller = &seats[1];
 
 static void enabled(bool threaded) {
     want(fq_shared_bare(&control, seats, 2) == FQ_OK && fq_control_enable(&control, threaded) == FQ_OK, "it is enabled");
 }
 
 static void given_up(void) {
-    want(fq_abandon(&control) == FQ_OK && fq_abandon(irq) == FQ_OK && fq_abandon(poller) == FQ_OK && blocks == 0, "nothing is left");
+    want(fq_abandon(&control.handle) == FQ_OK && fq_abandon(&irq->handle) == FQ_OK && fq_abandon(&poller->handle) == FQ_OK && blocks == 0, "nothing is left");
 }
 
 /* A caller that took the instance as its thread, and polled its whole weight, polls again: otherwise no list would have the
@@ -70,9 +71,9 @@ static void bytes_of_an_instance(void) {
     }
 }
 
-/* After bounds that are rejected the limit is 0, and works as one. */
+/* After bounds that are rejected a struct of zeros is a limit of 0. */
 static void a_limit_out_of_bounds(void) {
-    struct fq_dql dql;
+    struct fq_dql dql = {0};
     want(fq_dql_init(&dql, 5, 4, 0, 0) == FQ_BAD_BOUNDS && fq_dql_limit(&dql) == 0 && fq_dql_avail(&dql) == 0, "min above max");
     want(fq_dql_queued(&dql, 1) == FQ_OK && fq_dql_avail(&dql) == -1 && fq_dql_completed(&dql, 1, 9) == FQ_OK && fq_dql_limit(&dql) == 0, "it goes on");
     want(fq_dql_init(&dql, 0, 1879048193, 0, 0) == FQ_BAD_BOUNDS && fq_dql_limit(&dql) == 0, "max above the greatest");
@@ -88,7 +89,7 @@ static void a_polled_instance_is_handed(void) {
 
 /* The number that is being polled counts among the 64, and returns after the others at the end of its poll. */
 static void a_list_of_64(void) {
-    struct fq_handle list = FQ_NONE;
+    struct fq_list list = FQ_NONE;
     uint32_t id = 99, len = 99;
     want(fq_list_new(&list) == FQ_OK, "a list");
     for (uint32_t i = 0; i < 64; i++) want(fq_list_push(&list, i) == FQ_OK, "a push");
@@ -96,12 +97,12 @@ static void a_list_of_64(void) {
     want(fq_list_push(&list, 0) == FQ_FULL && fq_list_len(&list, &len) == FQ_OK && len == 64, "the list is full");
     want(fq_run_polled(&list, 0, FQ_NEXT_AGAIN) == FQ_OK && fq_list_len(&list, &len) == FQ_OK && len == 64, "it is listed again");
     for (uint32_t i = 1; i < 65; i++) want(fq_run_next(&list, &id) == FQ_OK && id == i % 64 && fq_run_polled(&list, 0, FQ_NEXT_GONE) == FQ_OK, "all in turn");
-    want(fq_run_next(&list, &id) == FQ_DONE && fq_abandon(&list) == FQ_OK && blocks == 0, "the end");
+    want(fq_run_next(&list, &id) == FQ_DONE && fq_abandon(&list.handle) == FQ_OK && blocks == 0, "the end");
 }
 
 /* A device that goes away leaves the list, and the others keep their order. What only the run has can't leave. */
 static void a_device_leaves_a_list(void) {
-    struct fq_handle list = FQ_NONE;
+    struct fq_list list = FQ_NONE;
     struct fq_run_report report;
     uint32_t id = 99, len = 99;
     want(fq_list_remove(&list, 1) == FQ_BAD_HANDLE && fq_list_new(&list) == FQ_OK && fq_list_remove(&list, 1) == FQ_NOT_THERE, "an empty list");
@@ -114,7 +115,7 @@ static void a_device_leaves_a_list(void) {
     want(fq_run_end(&list, &report) == FQ_OK && fq_list_remove(&list, 4) == FQ_OK && fq_list_remove(&list, 1) == FQ_OK, "4 and 1 leave");
     want(fq_run_begin(&list, 300, 64, 1024) == FQ_OK, "a run");
     for (uint32_t i = 3; i < 6; i += 2) want(fq_run_next(&list, &id) == FQ_OK && id == i && fq_run_polled(&list, 0, FQ_NEXT_GONE) == FQ_OK, "3, then 5");
-    want(fq_run_next(&list, &id) == FQ_DONE && fq_abandon(&list) == FQ_OK && blocks == 0, "the end");
+    want(fq_run_next(&list, &id) == FQ_DONE && fq_abandon(&list.handle) == FQ_OK && blocks == 0, "the end");
 }
 
 /* Devices with their own weights, below the run's, are polled as by net_rx_action, which asks again for a device with a full
@@ -122,7 +123,7 @@ static void a_device_leaves_a_list(void) {
 static void weights_of_devices(void) {
     static const uint32_t weights[3] = {8, 16, 64}, polls[] = {0, 1, 2, 0, 1, 2, 0, 1};
     uint32_t left[3] = {20, 40, 100}, id = 99;
-    struct fq_handle list = FQ_NONE;
+    struct fq_list list = FQ_NONE;
     struct fq_run_report report;
     size_t made = 0;
     want(fq_list_new(&list) == FQ_OK, "a list");
@@ -138,24 +139,25 @@ static void weights_of_devices(void) {
         want(fq_run_end(&list, &report) == FQ_OK, "the run's end");
         if (report.polls == 0) break;
     }
-    want(made == 8 && left[0] + left[1] + left[2] == 0 && fq_abandon(&list) == FQ_OK && blocks == 0, "all is polled");
+    want(made == 8 && left[0] + left[1] + left[2] == 0 && fq_abandon(&list.handle) == FQ_OK && blocks == 0, "all is polled");
 }
 
 /* A split checks its handle before it allocates, which may fail. */
 static void a_split_of_what_is_no_ring(void) {
-    struct fq_handle list = FQ_NONE, out = FQ_NONE;
-    want(fq_list_new(&list) == FQ_OK, "a list");
+    union any list = {{false, NULL}};
+    struct fq_ring out = FQ_NONE;
+    want(fq_list_new(&list.list) == FQ_OK, "a list");
     takes = 0, refused_take = 1;
-    want(fq_ring_split(&list, &out) == FQ_BAD_HANDLE && takes == 0, "it is no ring");
+    want(fq_ring_split(&list.ring, &out) == FQ_BAD_HANDLE && takes == 0, "it is no ring");
     refused_take = 0;
-    want(fq_abandon(&list) == FQ_OK && blocks == 0, "the end");
+    want(fq_abandon(&list.handle) == FQ_OK && blocks == 0, "the end");
 }
 
 /* If an instance over a ring can't be made, whichever allocation fails, the ring is unchanged, and nothing else is set. */
 static void a_ring_whose_instance_is_refused(void) {
     uint32_t said = FQ_OUT_OF_MEMORY;
     for (long at = 1; said == FQ_OUT_OF_MEMORY; at++) {
-        struct fq_handle ring = FQ_NONE;
+        struct fq_ring ring = FQ_NONE;
         struct fq_packet out[4];
         size_t count;
         want(fq_ring_new(&ring, 4) == FQ_OK && fq_ring_put(&ring, 5, 60) == FQ_OK, "a ring");
@@ -163,10 +165,10 @@ static void a_ring_whose_instance_is_refused(void) {
         said = fq_shared_new(&ring, &control, seats, 2);
         refused_take = 0;
         if (said == FQ_OUT_OF_MEMORY) {
-            want(!control.private_set && !irq->private_set && !poller->private_set, "nothing is set");
+            want(!control.handle.private_set && !irq->handle.private_set && !poller->handle.private_set, "nothing is set");
             want(fq_ring_poll(&ring, 4, out, 4, &count) == FQ_OK && count == 1 && out[0].number == 5, "it is polled");
         }
-        want(fq_abandon(&ring) == FQ_OK, "the ring's end");
+        want(fq_abandon(&ring.handle) == FQ_OK, "the ring's end");
     }
     want(said == FQ_OK, "with memory it is made");
     given_up();
@@ -242,6 +244,21 @@ static void an_open_asks_once(void) {
     }
 }
 
+/* An open by another instance's seat enables nothing. */
+static void an_open_knows_its_seats(void) {
+    struct fq_control other = FQ_NONE;
+    struct fq_seat others[2] = {FQ_NONE, FQ_NONE};
+    uint32_t next = 99;
+    masks = 0;
+    want(fq_shared_bare(&control, seats, 2) == FQ_OK && fq_shared_bare(&other, others, 2) == FQ_OK, "two instances");
+    want(fq_control_has(&control, poller) == FQ_OK && fq_control_has(&control, irq) == FQ_OK && fq_control_has(&other, &others[1]) == FQ_OK, "its seats");
+    want(fq_control_has(&other, irq) == FQ_BAD_HANDLE && fq_control_has(&control, &others[0]) == FQ_BAD_HANDLE, "others");
+    want(fq_control_open(&control, false, &others[0], &card, &next) == FQ_BAD_HANDLE && next == FQ_NEXT_GONE && masks == 0, "another instance's seat");
+    want(fq_control_open(&control, false, poller, &card, &next) == FQ_GRANTED && fq_control_open(&other, false, &others[0], &card, &next) == FQ_GRANTED, "its own");
+    want(fq_abandon(&others[0].handle) == FQ_OK && fq_abandon(&others[1].handle) == FQ_OK && fq_abandon(&other.handle) == FQ_OK, "the end");
+    given_up();
+}
+
 /* fq_seat_end_watched and fq_seat_request read the kind from the state word: they queue for a thread that was set meanwhile, and report it. */
 static void unmask(void *at) { (void)at; }
 static bool look(void *at) { return (void)at, true; }
@@ -263,7 +280,7 @@ static void handed_to_a_thread_that_was_set_meanwhile(void) {
 
 /* A ring is stuck from the first check on if the limit is 0, and for as long as nothing is completed, also if the clock goes back. */
 static void a_stopped_ring_is_watched(void) {
-    struct fq_handle tx = FQ_NONE;
+    struct fq_tx tx = FQ_NONE;
     struct fq_tx_watchdog watchdog = {false, 0, 0};
     bool stuck = true;
     want(fq_tx_watch(&tx, &watchdog, 0, 7, &stuck) == FQ_BAD_HANDLE && !stuck && watchdog.private_since == 0, "no ring");
@@ -273,7 +290,7 @@ static void a_stopped_ring_is_watched(void) {
     want(fq_tx_watch(&tx, &watchdog, UINT64_MAX - 5, UINT64_MAX, &stuck) == FQ_OK && stuck, "as long as a clock counts");
     want(fq_tx_watch(&tx, &watchdog, 1, 4, &stuck) == FQ_OK && !stuck && fq_tx_watch(&tx, &watchdog, 1, 6, &stuck) == FQ_OK && stuck, "a clock that goes back");
     want(fq_tx_done(&tx, 1, 9) == FQ_OK && fq_tx_watch(&tx, &watchdog, 0, UINT64_MAX, &stuck) == FQ_OK && !stuck, "it is started");
-    want(fq_free(&tx) == FQ_OK && blocks == 0, "the end");
+    want(fq_free(&tx.handle) == FQ_OK && blocks == 0, "the end");
 }
 
 /* If several errors apply, a replay returns the one that the header names first. */
@@ -281,8 +298,8 @@ static void refusals_of_a_replay(void) {
     static const char good[] = "moment,device,event,value\n0,1,open,4\n";
     static const uint8_t bad[] = "?";
     uint8_t report[1];
-    struct fq_replayed told;
-    struct fq_settings settings = {0, 0, 0};
+    struct fq_replayed told = FQ_REPLAYED_INIT;
+    struct fq_settings settings = {sizeof settings, 0, 0, 0};
     want(fq_replay(&settings, bad, 1, report, 0, &told) == FQ_BAD_WEIGHT, "a weight is looked at first");
     settings.weight = 64;
     want(fq_replay(&settings, bad, 1, report, 0, &told) == FQ_BAD_BUDGET, "then budget and window");
@@ -302,8 +319,8 @@ static void runs_that_the_kernel_would_add(void) {
         uint32_t restarts;
         const char *wanted;
     } rows[] = {{FQ_UNTIL_EMPTY, ROWS RUN RUN RUN RUN LAST}, {0, given}, {1, ROWS RUN RUN LAST LAST}, {3, ROWS RUN RUN RUN RUN LAST}};
-    struct fq_settings settings = {1, 1, 1024};
-    struct fq_replayed told;
+    struct fq_settings settings = {sizeof settings, 1, 1, 1024};
+    struct fq_replayed told = FQ_REPLAYED_INIT;
     uint8_t out[512];
     for (size_t i = 0; i < sizeof rows / sizeof rows[0]; i++) {
         want(fq_raise(&settings, rows[i].restarts, (const uint8_t *)given, sizeof given - 1, out, sizeof out, &told) == FQ_OK, "runs are added");
@@ -316,18 +333,42 @@ static void runs_that_the_kernel_would_add(void) {
     want(blocks == 0, "nothing is left");
 }
 
+/* For a count of 0 the pointer of an array may be null, in each call that has one. */
+static void arrays_of_nothing(void) {
+    const struct fq_settings settings = FQ_DEFAULT_SETTINGS;
+    struct fq_machine_settings machine = {.size = sizeof machine};
+    struct fq_machine_ran ran = {.size = sizeof ran};
+    struct fq_replayed replayed = FQ_REPLAYED_INIT;
+    struct fq_ring ring = FQ_NONE;
+    size_t count = 9;
+    want(fq_version(NULL, 0) == strlen(FQ_VERSION) && fq_status_text(FQ_OK, NULL, 0) == 5, "texts");
+    want(fq_status_message(FQ_OK, NULL, 0) == 4 && fq_fault_text(1, NULL, 0) == 9, "a message, a fault");
+    want(fq_ring_new(&ring, 1) == FQ_OK && fq_ring_put_all(&ring, NULL, 0, &count) == FQ_OK && count == 0, "a burst");
+    want(fq_ring_poll(&ring, 1, NULL, 0, &count) == FQ_NO_ROOM && fq_seat_poll(poller, 1, NULL, 0, &count) == FQ_NO_ROOM, "polls");
+    want(fq_shared_new(&ring, &control, NULL, 0) == FQ_BAD_COUNT && fq_shared_bare(&control, NULL, 0) == FQ_BAD_COUNT, "seats");
+    want(fq_abandon(&ring.handle) == FQ_OK, "the ring's end");
+    want(fq_replay(&settings, NULL, 0, NULL, 0, &replayed) == FQ_BAD_TRACE && replayed.fault == FQ_FAULT_BAD_HEADER, "a replay");
+    want(fq_raise(&settings, 9, NULL, 0, NULL, 0, &replayed) == FQ_BAD_TRACE && replayed.fault == FQ_FAULT_BAD_HEADER, "a raise");
+    static const uint8_t trace[] = "moment,device,event,value\n", arrivals[] = "moment,device,bytes\n";
+    want(fq_replay(&settings, trace, sizeof trace - 1, NULL, 0, &replayed) == FQ_NO_ROOM && replayed.length > 0, "a report");
+    want(fq_machine_default(&machine) == FQ_OK, "settings");
+    want(fq_machine(&machine, NULL, 0, NULL, 0, &ran) == FQ_BAD_ARRIVALS && ran.fault == 1, "a machine");
+    want(fq_machine(&machine, arrivals, sizeof arrivals - 1, NULL, 0, &ran) == FQ_NO_ROOM && ran.length > 0, "its report");
+    want(blocks == 0, "nothing is left");
+}
+
 /* The statuses of a free and of a list are those that the header names. */
 static void frees_and_lists(void) {
-    struct fq_handle list = FQ_NONE;
-    fq_abandon(&list); /* compilers don't warn about this one */
-    want(fq_list_new(&list) == FQ_OK && fq_list_new(&list) == FQ_IN_USE && fq_free(&list) == FQ_OK && fq_free(&list) == FQ_BAD_HANDLE, "a list");
+    struct fq_list list = FQ_NONE;
+    fq_abandon(&list.handle); /* compilers don't warn about this one */
+    want(fq_list_new(&list) == FQ_OK && fq_list_new(&list) == FQ_IN_USE && fq_free(&list.handle) == FQ_OK && fq_free(&list.handle) == FQ_BAD_HANDLE, "a list");
 }
 
 /* This many buffers are used in turn, for a ring of capacity 256 and bursts of 16, of which as many are put as fit while a
  * poll's packets are read: returns how many of these are overwritten by then. */
 static unsigned written_over(uint64_t buffers) {
     static uint64_t written[400];
-    struct fq_handle ring = FQ_NONE;
+    struct fq_ring ring = FQ_NONE;
     struct fq_packet burst[16], out[64];
     unsigned over = 0;
     uint64_t first = 0;
@@ -344,7 +385,7 @@ static unsigned written_over(uint64_t buffers) {
         } while (put == 16);
         for (size_t i = 0; i < polled; i++) over += written[out[i].number % buffers] != out[i].number;
     }
-    want(fq_abandon(&ring) == FQ_OK && blocks == 0, "the end");
+    want(fq_abandon(&ring.handle) == FQ_OK && blocks == 0, "the end");
     return over;
 }
 
@@ -359,8 +400,9 @@ static const struct {
     void (*call)(void);
 } cases[] = {CASE(a_full_poll_of_a_thread), CASE(a_full_poll_of_a_busy_poller), CASE(bytes_of_an_instance), CASE(a_limit_out_of_bounds), CASE(a_polled_instance_is_handed), CASE(a_list_of_64), CASE(a_device_leaves_a_list),
     CASE(weights_of_devices), CASE(a_split_of_what_is_no_ring), CASE(a_ring_whose_instance_is_refused), CASE(buffers_in_turn),
-    CASE(ends_of_polls_on_one_thread), CASE(a_full_poll_under_a_disable), CASE(an_open_asks_once), CASE(handed_to_a_thread_that_was_set_meanwhile), CASE(a_stopped_ring_is_watched),
-    CASE(refusals_of_a_replay), CASE(runs_that_the_kernel_would_add), CASE(frees_and_lists)};
+    CASE(ends_of_polls_on_one_thread), CASE(a_full_poll_under_a_disable), CASE(an_open_asks_once), CASE(an_open_knows_its_seats),
+    CASE(handed_to_a_thread_that_was_set_meanwhile), CASE(a_stopped_ring_is_watched),
+    CASE(refusals_of_a_replay), CASE(runs_that_the_kernel_would_add), CASE(arrays_of_nothing), CASE(frees_and_lists)};
 
 int main(int count, char **words) {
     unsigned called = 0;

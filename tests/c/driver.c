@@ -3,7 +3,7 @@
  * interrupt that wasn't reported, each closed one is masked, and what returns FQ_NOT_DUE or an error has changed nothing. The same by
  * fq_driver_step, beside a driver that gets fq_driver_done and fq_driver_next in place of each step. And driver programs, by steps and
  * by reports, which poll all packets in order. It exits with 9 if something is wrong. */
-#include <fintaqush.h>
+#include "any.h"
 #include <stdio.h>
 #include <stdlib.h>
 #include <string.h>
@@ -53,7 +53,7 @@ static void act(struct fq_todo *todo) {
 
 /* ---- random calls */
 
-static struct fq_device_shown shown_of(struct fq_handle *driver, uint32_t device) {
+static struct fq_device_shown shown_of(struct fq_driver *driver, uint32_t device) {
     struct fq_device_shown shown = {sizeof shown, 9, true, true, 9, 9};
     want(fq_driver_show(driver, device, &shown) == FQ_OK && shown.state <= FQ_DEVICE_STOPPING, "what a device shows");
     return shown;
@@ -63,8 +63,19 @@ static bool same_shown(struct fq_device_shown a, struct fq_device_shown b) {
     return a.state == b.state && a.scheduled == b.scheduled && a.missed == b.missed && a.polls == b.polls && a.packets == b.packets;
 }
 
+static bool same_todo(const struct fq_todo *a, const struct fq_todo *b) {
+    return a->size == b->size && a->number == b->number && a->what == b->what && a->device == b->device && a->most == b->most && a->packets == b->packets &&
+           a->run.polls == b->run.polls && a->run.work == b->run.work && a->run.squeezed == b->run.squeezed && a->status == b->status;
+}
+
+/* Whether a call has failed with this status: there is nothing to do, and nothing to report. */
+static bool is_failed(const struct fq_todo *todo, enum fq_status status) {
+    return todo->what == FQ_TODO_FAILED && todo->status == status && todo->number == 0 && todo->device == 0 && todo->most == 0 &&
+           todo->packets == 0 && todo->run.polls == 0 && todo->run.work == 0 && !todo->run.squeezed;
+}
+
 /* Nothing that is refused changes what is due, or the device. */
-static void refused(struct fq_handle *driver, uint32_t device, uint32_t said, uint32_t wanted, const struct fq_todo *due, struct fq_device_shown before) {
+static void refused(struct fq_driver *driver, uint32_t device, uint32_t said, uint32_t wanted, const struct fq_todo *due, struct fq_device_shown before) {
     struct fq_todo again = FQ_TODO_INIT;
     want(said == wanted, "the status of a call that is refused");
     want(same_shown(shown_of(driver, device), before), "a refused call changed a device");
@@ -73,7 +84,7 @@ static void refused(struct fq_handle *driver, uint32_t device, uint32_t said, ui
          "a refused call changed what is due");
 }
 
-static void tries_what_is_refused(struct fq_handle *driver, uint32_t devices, const struct fq_todo *due) {
+static void tries_what_is_refused(struct fq_driver *driver, uint32_t devices, const struct fq_todo *due) {
     const uint32_t device = below(devices);
     const struct fq_device_shown before = shown_of(driver, device);
     struct fq_todo old = *due, small = *due;
@@ -81,9 +92,8 @@ static void tries_what_is_refused(struct fq_handle *driver, uint32_t devices, co
     old.number += 1 + below(3);
     small.size--;
     refused(driver, device, fq_driver_done(driver, &old), FQ_NOT_DUE, due, before);
-    refused(driver, device, fq_driver_done(driver, &small), FQ_BAD_SIZE, due, before);
-    refused(driver, device, fq_driver_next(driver, &small), FQ_BAD_SIZE, due, before);
-    refused(driver, device, fq_driver_step(driver, &small), FQ_BAD_SIZE, due, before);
+    refused(driver, device, fq_driver_next_sized(driver, &small), FQ_BAD_SIZE, due, before);
+    refused(driver, device, fq_driver_step_sized(driver, &small), FQ_BAD_SIZE, due, before);
     refused(driver, device, fq_driver_open(driver, devices), FQ_BAD_DEVICE, due, before);
     refused(driver, device, fq_driver_stop(driver, UINT32_MAX), FQ_BAD_DEVICE, due, before);
     refused(driver, device, fq_driver_interrupt(driver, devices), FQ_BAD_DEVICE, due, before);
@@ -95,11 +105,11 @@ static void tries_what_is_refused(struct fq_handle *driver, uint32_t devices, co
         many.packets = due->most + 1;
         refused(driver, device, fq_driver_done(driver, &many), FQ_BAD_WORK, due, before);
         refused(driver, device, fq_driver_step(driver, &many), FQ_BAD_WORK, due, before);
-        want(many.number == due->number && many.packets == due->most + 1, "a refused step changed what it was given");
+        want(is_failed(&many, FQ_BAD_WORK), "what a step of too many packets sets");
     }
 }
 
-static void interrupts(struct fq_handle *driver, uint32_t device) {
+static void interrupts(struct fq_driver *driver, uint32_t device) {
     if (!cards[device].interrupting) return;
     const struct fq_device_shown before = shown_of(driver, device);
     const uint32_t said = fq_driver_interrupt(driver, device);
@@ -109,9 +119,10 @@ static void interrupts(struct fq_handle *driver, uint32_t device) {
 }
 
 /* What the driver says is done and reported, perhaps after other calls, or forgotten. */
-static bool one_thing(struct fq_handle *driver, uint32_t devices) {
+static bool one_thing(struct fq_driver *driver, uint32_t devices) {
     struct fq_todo todo = FQ_TODO_INIT;
-    want(fq_driver_next(driver, &todo) == FQ_OK && todo.device < devices && todo.packets == 0, "what is said");
+    want(fq_driver_next(driver, &todo) == FQ_OK && todo.device < devices && todo.packets == (todo.what == FQ_TODO_LOOK), "what is said");
+    want(todo.status == FQ_OK, "no error");
     want((todo.number == 0) == (todo.what == FQ_TODO_SLEEP || todo.what == FQ_TODO_ENDED), "what has a number");
     if (below(8) == 0) tries_what_is_refused(driver, devices, &todo);
     if (below(16) == 0) return todo.what != FQ_TODO_SLEEP;
@@ -127,7 +138,7 @@ static bool one_thing(struct fq_handle *driver, uint32_t devices) {
     return todo.what != FQ_TODO_SLEEP;
 }
 
-static void rests(struct fq_handle *driver, uint32_t devices) {
+static void rests(struct fq_driver *driver, uint32_t devices) {
     struct fq_todo todo = FQ_TODO_INIT;
     if (fq_driver_next(driver, &todo) != FQ_OK || todo.what != FQ_TODO_SLEEP) return;
     for (uint32_t i = 0; i < devices; i++) {
@@ -139,7 +150,7 @@ static void rests(struct fq_handle *driver, uint32_t devices) {
 }
 
 static void random_calls(uint32_t devices, uint32_t budget, uint32_t weight, uint32_t window) {
-    struct fq_handle driver = FQ_NONE;
+    struct fq_driver driver = FQ_NONE;
     want(fq_driver_new(&driver, devices, budget, weight, window) == FQ_OK, "a driver");
     for (uint32_t i = 0; i < DEVICES; i++) cards[i] = (struct card){true, false, 0, 0};
     for (calls = 0; calls < 200000; calls++) {
@@ -161,28 +172,24 @@ static void random_calls(uint32_t devices, uint32_t budget, uint32_t weight, uin
     rests(&driver, devices);
     for (uint32_t i = 0; i < devices; i++)
         if (shown_of(&driver, i).state == FQ_DEVICE_OPEN) want(cards[i].packets == 0, "packets are left");
-    want(fq_free(&driver) == FQ_OK, "the end");
+    want(fq_free(&driver.handle) == FQ_OK, "the end");
 }
 
 /* ---- the same by steps, beside a driver that reports and asks */
 
-static bool same_todo(const struct fq_todo *a, const struct fq_todo *b) {
-    return a->size == b->size && a->number == b->number && a->what == b->what && a->device == b->device && a->most == b->most && a->packets == b->packets &&
-           a->run.polls == b->run.polls && a->run.work == b->run.work && a->run.squeezed == b->run.squeezed;
-}
-
-/* A step returns what the report returns. If that is an error nothing changes, otherwise *todo is set to what is due then. */
-static uint32_t steps(struct fq_handle *driver, struct fq_handle *twin, struct fq_todo *todo) {
+/* A step returns what the report returns, and sets *todo to what is due then, or to the error. If its size is too small, nothing changes. */
+static uint32_t steps(struct fq_driver *driver, struct fq_driver *twin, struct fq_todo *todo) {
     struct fq_todo other = *todo;
-    const uint32_t wanted = fq_driver_done(twin, &other);
-    if (wanted < FQ_NOT_ALLOWED) want(fq_driver_next(twin, &other) == FQ_OK, "what is due at the twin");
-    want(fq_driver_step(driver, todo) == wanted, "what a step returns");
-    want(same_todo(todo, &other), "what a step sets");
+    const bool is_small = todo->size < sizeof other;
+    const enum fq_status wanted = is_small ? FQ_BAD_SIZE : fq_driver_done(twin, &other);
+    if (!fq_is_error(wanted)) want(fq_driver_next(twin, &other) == FQ_OK, "what is due at the twin");
+    want(fq_driver_step_sized(driver, todo) == wanted, "what a step returns");
+    want(fq_is_error(wanted) && !is_small ? is_failed(todo, wanted) : same_todo(todo, &other), "what a step sets");
     return wanted;
 }
 
 /* One step, sometimes with a report that is wrong, or that was forgotten. */
-static uint32_t one_step(struct fq_handle *driver, struct fq_handle *twin, struct fq_todo *todo) {
+static uint32_t one_step(struct fq_driver *driver, struct fq_driver *twin, struct fq_todo *todo) {
     const struct fq_todo kept = *todo;
     const uint32_t wrong = below(16);
     if (wrong == 0) todo->size -= 1 + below(8);
@@ -192,12 +199,12 @@ static uint32_t one_step(struct fq_handle *driver, struct fq_handle *twin, struc
     const uint32_t said = steps(driver, twin, todo);
     want((wrong == 0) == (said == FQ_BAD_SIZE), "a size that is too small");
     want(wrong == 0 || said == FQ_OK || said == FQ_NOT_DUE || (wrong == 3 && said == FQ_BAD_WORK), "a step");
-    if (said >= FQ_NOT_ALLOWED) *todo = kept;
+    if (fq_is_error(said)) *todo = kept;
     else act(todo);
     return said;
 }
 
-static void other_calls(struct fq_handle *driver, struct fq_handle *twin, uint32_t devices) {
+static void other_calls(struct fq_driver *driver, struct fq_driver *twin, uint32_t devices) {
     const uint32_t device = below(devices);
     if (below(2) == 0) arrives(&cards[device]);
     if (below(2) == 0 && cards[device].interrupting) {
@@ -210,10 +217,11 @@ static void other_calls(struct fq_handle *driver, struct fq_handle *twin, uint32
 }
 
 static void random_steps(uint32_t devices, uint32_t budget, uint32_t weight, uint32_t window) {
-    struct fq_handle driver = FQ_NONE, twin = FQ_NONE;
+    struct fq_driver driver = FQ_NONE, twin = FQ_NONE;
     struct fq_todo todo = FQ_TODO_INIT;
     long made[FQ_BAD_SIZE + 1] = {0};
-    want(fq_driver_new(&driver, devices, budget, weight, window) == FQ_OK && fq_driver_new(&twin, devices, budget, weight, window) == FQ_OK, "two drivers");
+    want(fq_driver_new_salted(&driver, devices, budget, weight, window, 7) == FQ_OK, "a driver");
+    want(fq_driver_new_salted(&twin, devices, budget, weight, window, 7) == FQ_OK, "a driver with the same numbers");
     for (uint32_t i = 0; i < DEVICES; i++) cards[i] = (struct card){true, false, 0, 0};
     for (calls = 0; calls < 200000; calls++) {
         if (below(3) == 0) other_calls(&driver, &twin, devices);
@@ -221,21 +229,20 @@ static void random_steps(uint32_t devices, uint32_t budget, uint32_t weight, uin
         if (below(32) == 0) rests(&driver, devices), rests(&twin, devices);
     }
     want(made[FQ_OK] > 0 && made[FQ_NOT_DUE] > 0 && made[FQ_BAD_WORK] > 0 && made[FQ_BAD_SIZE] > 0, "a step has returned each status");
-    want(fq_free(&driver) == FQ_OK && fq_free(&twin) == FQ_OK, "the end of two drivers");
+    want(fq_free(&driver.handle) == FQ_OK && fq_free(&twin.handle) == FQ_OK, "the end of two drivers");
 }
 
 /* ---- driver programs: by one call, and by a report and a question */
 
-static void reports_and_asks(struct fq_handle *driver, struct fq_todo *todo) {
-    fq_driver_done(driver, todo);
-    fq_driver_next(driver, todo);
+static void reports_and_asks(struct fq_driver *driver, struct fq_todo *todo) {
+    want(!fq_is_error(fq_driver_done(driver, todo)) && fq_driver_next(driver, todo) == FQ_OK, "a report and a question");
 }
 
-static void goes_on(struct fq_handle *driver, struct fq_todo *todo) { fq_driver_step(driver, todo); }
+static void goes_on(struct fq_driver *driver, struct fq_todo *todo) { want(!fq_is_error(fq_driver_step(driver, todo)), "a step"); }
 
-static void program(void (*go)(struct fq_handle *driver, struct fq_todo *todo)) {
+static void program(void (*go)(struct fq_driver *driver, struct fq_todo *todo)) {
     uint64_t fetched_next = 0, polled_in_all = 0;
-    struct fq_handle driver = FQ_NONE;
+    struct fq_driver driver = FQ_NONE;
     struct fq_todo todo = FQ_TODO_INIT;
     uint32_t squeezed = 0, runs = 0;
     want(fq_driver_new(&driver, 2, 64, 64, 10) == FQ_OK && fq_driver_open(&driver, 1) == FQ_OK, "a driver");
@@ -253,53 +260,73 @@ static void program(void (*go)(struct fq_handle *driver, struct fq_todo *todo)) 
     want(fq_driver_stop(&driver, 1) == FQ_OK, "a stop");
     while (go(&driver, &todo), todo.what != FQ_TODO_SLEEP) act(&todo);
     want(shown_of(&driver, 1).state == FQ_DEVICE_CLOSED && cards[1].masked, "it is closed");
-    want(fq_abandon(&driver) == FQ_OK, "the end");
+    want(fq_abandon(&driver.handle) == FQ_OK, "the end");
 }
 
 static void without_a_driver(void) {
-    struct fq_handle none = FQ_NONE, list = FQ_NONE;
+    union any none = {{false, NULL}}, list = {{false, NULL}};
     struct fq_todo todo = FQ_TODO_INIT;
     struct fq_device_shown shown = {sizeof shown, 0, false, false, 0, 0};
-    want(fq_list_new(&list) == FQ_OK, "a list");
+    want(fq_list_new(&list.list) == FQ_OK, "a list");
     for (int i = 0; i < 2; i++) {
-        struct fq_handle *const handle = i ? &list : &none;
-        todo.what = FQ_TODO_FETCH, todo.number = 7;
-        want(fq_driver_done(handle, &todo) == FQ_BAD_HANDLE, "a report without a driver");
-        want(fq_driver_next(handle, &todo) == FQ_BAD_HANDLE && todo.what == FQ_TODO_SLEEP && todo.number == 0, "it sleeps");
-        todo.what = FQ_TODO_FETCH, todo.number = 7;
-        want(fq_driver_step(handle, &todo) == FQ_BAD_HANDLE && todo.what == FQ_TODO_SLEEP && todo.number == 0, "a step sleeps");
+        struct fq_driver *const handle = i ? &list.driver : &none.driver;
+        const struct fq_todo fetch = {sizeof fetch, 7, FQ_TODO_FETCH, 1, 2, 3, {4, 5, true}, FQ_OK};
+        todo = fetch;
+        want(fq_driver_done(handle, &todo) == FQ_BAD_HANDLE && same_todo(&todo, &fetch), "a report without a driver");
+        want(fq_driver_next(handle, &todo) == FQ_BAD_HANDLE && is_failed(&todo, FQ_BAD_HANDLE), "it fails");
+        todo = fetch;
+        want(fq_driver_step(handle, &todo) == FQ_BAD_HANDLE && is_failed(&todo, FQ_BAD_HANDLE), "a step fails");
         want(fq_driver_open(handle, 0) == FQ_BAD_HANDLE && fq_driver_stop(handle, 0) == FQ_BAD_HANDLE, "an open without a driver");
         want(fq_driver_interrupt(handle, 0) == FQ_BAD_HANDLE && fq_driver_show(handle, 0, &shown) == FQ_BAD_HANDLE, "an interrupt");
     }
-    want(fq_driver_new(&list, 1, 300, 64, 10) == FQ_IN_USE, "a driver in place of a list");
-    want(fq_driver_new(&none, 0, 0, 0, 0) == FQ_BAD_COUNT && fq_driver_new(&none, 65, 0, 0, 0) == FQ_BAD_COUNT, "too many devices");
-    want(fq_driver_new(&none, 1, 0, 65, 0) == FQ_BAD_WEIGHT && fq_driver_new(&none, 1, 300, 0, 10) == FQ_BAD_WEIGHT, "a weight");
-    want(fq_driver_new(&none, 1, 65536, 64, 10) == FQ_BAD_BUDGET && fq_driver_new(&none, 1, 300, 64, 0) == FQ_BAD_BUDGET, "a budget");
-    want(fq_free(&list) == FQ_OK, "the end");
+    want(fq_driver_new(&list.driver, 1, 300, 64, 10) == FQ_IN_USE, "a driver in place of a list");
+    want(fq_driver_new(&none.driver, 0, 0, 0, 0) == FQ_BAD_COUNT && fq_driver_new(&none.driver, 65, 0, 0, 0) == FQ_BAD_COUNT, "too many devices");
+    want(fq_driver_new(&none.driver, 1, 0, 65, 0) == FQ_BAD_WEIGHT && fq_driver_new(&none.driver, 1, 300, 0, 10) == FQ_BAD_WEIGHT, "a weight");
+    want(fq_driver_new(&none.driver, 1, 65536, 64, 10) == FQ_BAD_BUDGET && fq_driver_new(&none.driver, 1, 300, 64, 0) == FQ_BAD_BUDGET, "a budget");
+    want(fq_free(&list.handle) == FQ_OK, "the end");
 }
 
 /* If several statuses apply, each call returns the one that the header names first. */
 static void first_named(void) {
-    struct fq_handle driver = FQ_NONE;
+    struct fq_driver driver = FQ_NONE;
     struct fq_todo todo = FQ_TODO_INIT, small;
     struct fq_device_shown shown = {sizeof shown - 1, 0, false, false, 0, 0};
     todo.size--;
-    want(fq_driver_done(&driver, &todo) == FQ_BAD_HANDLE && fq_driver_step(&driver, &todo) == FQ_BAD_HANDLE, "no driver, and a small size");
-    want(fq_driver_next(&driver, &todo) == FQ_BAD_HANDLE && fq_driver_show(&driver, 9, &shown) == FQ_BAD_HANDLE, "no driver, and a small size");
+    want(fq_driver_next_sized(&driver, &todo) == FQ_BAD_SIZE && fq_driver_step_sized(&driver, &todo) == FQ_BAD_SIZE, "no driver, and a small size");
+    want(fq_driver_show(&driver, 9, &shown) == FQ_BAD_SIZE && todo.what == FQ_TODO_SLEEP, "no driver, and a small size");
     want(fq_driver_new(&driver, 1, 300, 8, 1024) == FQ_OK && fq_driver_open(&driver, 0) == FQ_OK, "a driver");
     want(fq_driver_show(&driver, 9, &shown) == FQ_BAD_SIZE, "a small size, and no device");
-    todo.size++;
-    while (fq_driver_step(&driver, &todo), todo.what != FQ_TODO_FETCH) todo.packets = 1;
+    while (fq_driver_step(&driver, &todo) == FQ_OK && todo.what != FQ_TODO_FETCH) {} /* a look that isn't answered leads to a poll */
     todo.packets = 9, todo.number++, small = todo, small.size--;
-    want(fq_driver_done(&driver, &small) == FQ_BAD_SIZE && fq_driver_step(&driver, &small) == FQ_BAD_SIZE, "a small size, and an old number");
+    want(fq_driver_step_sized(&driver, &small) == FQ_BAD_SIZE, "a small size, and an old number");
     want(fq_driver_done(&driver, &todo) == FQ_NOT_DUE && fq_driver_step(&driver, &todo) == FQ_NOT_DUE, "an old number, and too many packets");
-    want(todo.what == FQ_TODO_FETCH && todo.packets == 0 && fq_free(&driver) == FQ_OK, "the fetch is due");
+    want(todo.what == FQ_TODO_FETCH && todo.packets == 0 && fq_free(&driver.handle) == FQ_OK, "the fetch is due");
+}
+
+/* A struct of zeros is no action, what is beyond its size stays, and an action of one driver is none of another. */
+static void mistakes(void) {
+    struct fq_driver one = FQ_NONE, other = FQ_NONE;
+    struct { struct fq_todo todo; uint64_t beyond; } at;
+    memset(&at, 0, sizeof at);
+    at.beyond = 1;
+    want(fq_driver_new(&one, 1, 300, 64, 1024) == FQ_OK && fq_driver_new(&other, 1, 300, 64, 1024) == FQ_OK, "two drivers");
+    want(fq_driver_open(&one, 0) == FQ_OK && fq_driver_open(&other, 0) == FQ_OK, "two opens");
+    want(fq_driver_step(&one, &at.todo) == FQ_OK && at.todo.what == FQ_TODO_UNMASK && at.todo.size == sizeof at.todo, "a struct of zeros");
+    const struct fq_todo unmask = at.todo;
+    want(fq_driver_next(&other, &at.todo) == FQ_OK && at.todo.what == FQ_TODO_UNMASK && at.todo.number != unmask.number, "two numbers");
+    want(fq_driver_done(&other, &unmask) == FQ_NOT_DUE && fq_driver_done(&one, &at.todo) == FQ_NOT_DUE, "another driver's action");
+    want(fq_driver_done(&one, &unmask) == FQ_OK && fq_driver_done(&other, &at.todo) == FQ_OK, "its own");
+    at.todo.size = sizeof at;
+    want(fq_driver_next_sized(&one, &at.todo) == FQ_OK && at.todo.size == sizeof at && at.todo.what == FQ_TODO_LOOK, "a larger size");
+    want(fq_free(&one.handle) == FQ_OK && fq_driver_next_sized(&one, &at.todo) == FQ_BAD_HANDLE, "a driver that was freed");
+    want(is_failed(&at.todo, FQ_BAD_HANDLE) && at.todo.size == sizeof at && at.beyond == 1 && fq_free(&other.handle) == FQ_OK, "all of the struct");
 }
 
 int main(int argc, char **argv) {
     seed = argc > 1 ? strtoull(argv[1], NULL, 10) : 1;
     without_a_driver();
     first_named();
+    mistakes();
     program(goes_on);
     program(reports_and_asks);
     random_calls(1, 3, 2, 2);

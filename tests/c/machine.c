@@ -28,7 +28,7 @@ static void set(struct fq_machine_settings *settings, const char *word) {
         /* scripts/options.py: begin */
         "processors", "queues", "ring", "socket", "backlog", "budget", "weight", "window", "time-limit", "rx-nsecs",
         "rx-frames", "defer-hard-irqs", "gro-flush-timeout", "threaded", "apart", "app-wake", "interrupt", "poll",
-        "packet", "use", "wake", "heedless",
+        "packet", "use", "wake", "heedless", "rx-gap",
         /* scripts/options.py: end */
     };
     const size_t length = strcspn(word, "=");
@@ -44,8 +44,8 @@ static void refuses_sizes(struct fq_machine_settings settings, struct fq_machine
     uint8_t none = GUARD;
     const struct fq_machine_ran before = ran;
     struct fq_machine_settings kept = settings;
-    want(fq_machine_default(&kept, sizeof kept - 1) == FQ_BAD_SIZE && !memcmp(&kept, &settings, sizeof kept), "settings of another size");
-    settings.size--;
+    kept.size = --settings.size;
+    want(fq_machine_default(&kept) == FQ_BAD_SIZE && !memcmp(&kept, &settings, sizeof kept), "settings of another size");
     want(fq_machine(&settings, arrivals, 0, &none, 0, &ran) == FQ_BAD_SIZE && !memcmp(&before, &ran, sizeof ran), "settings that say another size");
     settings.size++, ran.size++;
     want(fq_machine(&settings, arrivals, 0, &none, 0, &ran) == FQ_BAD_SIZE && ran.length == before.length, "a result that says another size");
@@ -60,10 +60,10 @@ static int tell(uint32_t said, const struct fq_machine_ran *ran) {
 }
 
 int main(int count, char **words) {
-    struct fq_machine_settings settings;
+    struct fq_machine_settings settings = {.size = sizeof settings};
     struct fq_machine_ran ran = {.size = sizeof ran, .length = 1, .row = 2, .fault = 3, .setting = 4};
     uint8_t none = GUARD;
-    want(fq_machine_default(&settings, sizeof settings) == FQ_OK, "the default settings");
+    want(fq_machine_default(&settings) == FQ_OK, "the default settings");
     refuses_sizes(settings, ran);
     for (int i = 1; i < count; i++) set(&settings, words[i]);
     const size_t len = fread(arrivals, 1, sizeof arrivals, stdin);

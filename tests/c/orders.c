@@ -13,7 +13,7 @@ static struct card {
     unsigned waiting, taken;
     bool masked, raised, late; /* late: a mask that was reported, and isn't made yet */
 } cards[DEVICES];
-static struct fq_handle driver;
+static struct fq_driver driver;
 static struct fq_todo kept; /* done, and not reported yet */
 static enum mistake mistake;
 static uint64_t state;
@@ -56,6 +56,7 @@ static void act(struct fq_todo *todo) {
     case FQ_TODO_UNMASK: card->masked = false; break;
     case FQ_TODO_LOOK: todo->packets = mistake == NO_LOOK ? 0 : card->waiting; break;
     case FQ_TODO_FETCH: todo->packets = fetch(card, todo->most); break;
+    case FQ_TODO_ENDED: case FQ_TODO_SLEEP: case FQ_TODO_FAILED: break;
     }
 }
 
@@ -81,14 +82,14 @@ static void step(struct fq_todo *todo) {
 
 /* A report of what was due earlier, or never, and calls whose numbers are wrong. */
 static void stray(void) {
-    const uint64_t number = kept.number && any(2) ? any((unsigned)kept.number) : UINT64_MAX - any(2);
+    const uint64_t number = kept.number && any(2) ? kept.number - 1 - any(9) : UINT64_MAX - any(2);
     struct fq_todo todo = kept;
     todo.number = number, todo.packets = any(70);
     const enum fq_status said = fq_driver_done(&driver, &todo);
     must(said == FQ_NOT_DUE || (number == 0 && said == FQ_OK), "a stray report");
     must(fq_driver_interrupt(&driver, DEVICES + any(9)) == FQ_BAD_DEVICE, "no device");
     todo.size = any(8);
-    must(fq_driver_next(&driver, &todo) == FQ_BAD_SIZE && fq_driver_step(&driver, &todo) == FQ_BAD_SIZE, "a bad size");
+    must(fq_driver_next_sized(&driver, &todo) == FQ_BAD_SIZE && fq_driver_step_sized(&driver, &todo) == FQ_BAD_SIZE, "a bad size");
 }
 
 /* One call or event. */
@@ -145,7 +146,7 @@ static bool some_hangs(enum mistake which, unsigned long orders) {
         hung = hung || hangs();
         for (uint32_t i = 0; i < DEVICES; i++) must(fq_driver_stop(&driver, i) < FQ_NOT_ALLOWED, "the last stop");
         hung = hangs() || hung;
-        must(fq_free(&driver) == FQ_OK, "the end");
+        must(fq_free(&driver.handle) == FQ_OK, "the end");
     }
     return hung;
 }
@@ -168,7 +169,7 @@ static unsigned fetches_until_other(bool before_each_step) {
         step(&todo);
         fetches += todo.what == FQ_TODO_FETCH && todo.device == 0;
     }
-    must(fq_free(&driver) == FQ_OK, "the end");
+    must(fq_free(&driver.handle) == FQ_OK, "the end");
     return fetches - 10;
 }
 

@@ -2,6 +2,7 @@
  * arguments in and out of range, on handles of the right kind and of others, unset, freed and moved ones, while allocations
  * fail, and on an instance of any bytes. Each result and all effects are compared with model.h. A difference ends it with
  * the call's number. To be linked with --wrap for malloc, realloc and free. */
+#include "any.h"
 #include "memory.h"
 #include "model.h"
 #include <inttypes.h>
@@ -113,7 +114,7 @@ struct object {
     struct fq_answers answers;
 };
 
-static struct fq_handle handles[HANDLES];
+static union any handles[HANDLES];
 static struct object objects[HANDLES];
 static struct ring rings[2 * HANDLES];
 static struct sender senders[HANDLES];
@@ -160,7 +161,7 @@ static void new_ring(void) {
     const size_t places = below(8) ? 1 + below(PLACES) : below(2) ? 0 : 65537 + below(9);
     const uint32_t wanted = objects[i].what != NOTHING ? FQ_IN_USE : places == 0 || places > 65536 ? FQ_BAD_CAPACITY : FQ_OK;
     const long before = may_refuse(6);
-    if (!takes_memory("ring new", fq_ring_new(&handles[i], places), wanted, before)) return;
+    if (!takes_memory("ring new", fq_ring_new(&handles[i].ring, places), wanted, before)) return;
     objects[i] = object_of(RING);
     objects[i].ring = UNUSED(rings);
     *objects[i].ring = (struct ring){.users = 1, .places = places};
@@ -180,7 +181,7 @@ static void put(void) {
     const struct fq_packet packet = random_packet();
     uint32_t wanted = FQ_BAD_HANDLE;
     if (takes_puts(&objects[i])) wanted = put_into(objects[i].ring, &packet, 1) ? FQ_OK : FQ_FULL;
-    want("put", fq_ring_put(&handles[i], packet.number, packet.bytes), wanted);
+    want("put", fq_ring_put(&handles[i].ring, packet.number, packet.bytes), wanted);
 }
 
 static void put_all(void) {
@@ -194,7 +195,7 @@ static void put_all(void) {
         wanted_count = put_into(objects[i].ring, packets, many);
         wanted = wanted_count == many ? FQ_OK : FQ_FULL;
     }
-    want("put all", fq_ring_put_all(&handles[i], packets, many, &count), wanted);
+    want("put all", fq_ring_put_all(&handles[i].ring, packets, many, &count), wanted);
     hold("how many were put", count == wanted_count);
 }
 
@@ -213,7 +214,9 @@ static void given(struct ring *r, const struct fq_packet *out, size_t count, siz
     r->counts.polls++, r->counts.packets += most;
 }
 
-typedef uint32_t poll_call(struct fq_handle *, size_t, struct fq_packet *, size_t, size_t *);
+typedef uint32_t poll_call(union any *, size_t, struct fq_packet *, size_t, size_t *);
+static uint32_t ring_poll(union any *at, size_t weight, struct fq_packet *out, size_t len, size_t *count) { return fq_ring_poll(&at->ring, weight, out, len, count); }
+static uint32_t seat_poll(union any *at, size_t weight, struct fq_packet *out, size_t len, size_t *count) { return fq_seat_poll(&at->seat, weight, out, len, count); }
 
 /* A poll of this ring by one of two calls, which is allowed, or returns this status. */
 static void polls_by(poll_call *poll, const char *what, uint32_t i, uint32_t wanted, struct ring *r) {
@@ -232,7 +235,7 @@ static void polls_by(poll_call *poll, const char *what, uint32_t i, uint32_t wan
 static void poll_ring(void) {
     const uint32_t i = one_of(RING, OUTPUT);
     const bool has = objects[i].what == RING || objects[i].what == OUTPUT;
-    polls_by(fq_ring_poll, "poll of a ring", i, has ? FQ_OK : FQ_BAD_HANDLE, objects[i].ring);
+    polls_by(ring_poll, "poll of a ring", i, has ? FQ_OK : FQ_BAD_HANDLE, objects[i].ring);
 }
 
 static void split(void) {
@@ -240,7 +243,7 @@ static void split(void) {
     if (i == k) return;
     const uint32_t wanted = objects[k].what != NOTHING ? FQ_IN_USE : objects[i].what != RING ? FQ_BAD_HANDLE : FQ_OK;
     const long before = may_refuse(2);
-    if (!takes_memory("split", fq_ring_split(&handles[i], &handles[k]), wanted, before)) return;
+    if (!takes_memory("split", fq_ring_split(&handles[i].ring, &handles[k].ring), wanted, before)) return;
     objects[i].what = INPUT;
     objects[k] = object_of(OUTPUT);
     objects[k].ring = objects[i].ring, objects[k].ring->users++;
@@ -252,7 +255,7 @@ static void finish(void) {
     struct fq_totals totals = {1, 2, 3, 4};
     const struct ring *r = objects[i].ring;
     const bool is_whole = objects[i].what == RING;
-    want("finish", fq_ring_finish(&handles[i], &totals), is_whole ? FQ_OK : FQ_BAD_HANDLE);
+    want("finish", fq_ring_finish(&handles[i].ring, &totals), is_whole ? FQ_OK : FQ_BAD_HANDLE);
     if (!is_whole) hold("totals that stay", totals.put == 1 && totals.polled == 2 && totals.left == 3 && totals.bytes == 4);
     else hold("totals", totals.put == r->put && totals.polled == r->counts.packets && totals.left == r->held && totals.bytes == r->bytes);
     if (is_whole) forget(&objects[i]);
@@ -262,9 +265,9 @@ static void show_ring(void) {
     const uint32_t i = one_of(RING, INPUT);
     struct fq_ring_shown shown = {7, 8};
     const bool has = takes_puts(&objects[i]);
-    want("show of a ring", fq_ring_show(&handles[i], &shown), has ? FQ_OK : FQ_BAD_HANDLE);
-    if (has) hold("what it shows", shown.put == objects[i].ring->put && shown.places == objects[i].ring->places);
-    else hold("what stays", shown.put == 7 && shown.places == 8);
+    want("show of a ring", fq_ring_show(&handles[i].ring, &shown), has ? FQ_OK : FQ_BAD_HANDLE);
+    if (has) hold("what it shows", shown.put == objects[i].ring->put && shown.capacity == objects[i].ring->places);
+    else hold("what stays", shown.put == 7 && shown.capacity == 8);
 }
 
 /* ---- seats */
@@ -335,24 +338,24 @@ static void seat_call(void) {
     const uint32_t other = o->what == SEAT ? FQ_NOT_ALLOWED : FQ_BAD_HANDLE;
     uint32_t next = 99, wanted, wanted_next;
     switch (which) {
-    case 0: want("schedule", fq_seat_schedule(&handles[i]), seat_schedules(o)); break;
-    case 1: want("hand", fq_seat_hand(&handles[i], kind), seat_hands(o, kind)); break;
+    case 0: want("schedule", fq_seat_schedule(&handles[i].seat), seat_schedules(o)); break;
+    case 1: want("hand", fq_seat_hand(&handles[i].seat, kind), seat_hands(o, kind)); break;
     case 2:
-    case 3: want("take", fq_seat_take(&handles[i], kind), seat_takes(o, kind)); break;
-    case 4: want("requeue", fq_seat_requeue(&handles[i]), polls(o) ? model_hand(napi_of(o), o->who, FQ_LIST) : other); break;
-    case 5: want("complete", fq_seat_complete(&handles[i]), seat_completes(o)); break;
-    case 6: want("busy take", fq_seat_busy_take(&handles[i]), rests(o) ? model_busy_take(napi_of(o), o->who) : other); break;
-    case 7: want("busy stop", fq_seat_busy_stop(&handles[i]), busy_polls(o) ? model_busy_stop(napi_of(o), o->who) : other); break;
-    case 8: want_in("schedule prep", "", fq_seat_schedule_prep(&handles[i]), seat_schedules(o), ""); break;
-    case 9: want_in("complete done", "", fq_seat_complete_done(&handles[i]), seat_completes(o), ""); break;
+    case 3: want("take", fq_seat_take(&handles[i].seat, kind), seat_takes(o, kind)); break;
+    case 4: want("requeue", fq_seat_requeue(&handles[i].seat), polls(o) ? model_hand(napi_of(o), o->who, FQ_LIST) : other); break;
+    case 5: want("complete", fq_seat_complete(&handles[i].seat), seat_completes(o)); break;
+    case 6: want("busy take", fq_seat_busy_take(&handles[i].seat), rests(o) ? model_busy_take(napi_of(o), o->who) : other); break;
+    case 7: want("busy stop", fq_seat_busy_stop(&handles[i].seat), busy_polls(o) ? model_busy_stop(napi_of(o), o->who) : other); break;
+    case 8: want_in("schedule prep", "", fq_seat_schedule_prep(&handles[i].seat), seat_schedules(o), ""); break;
+    case 9: want_in("complete done", "", fq_seat_complete_done(&handles[i].seat), seat_completes(o), ""); break;
     case 10:
         wanted = hands_again(o, &wanted_next);
-        want_in("hand again", "", fq_seat_hand_again(&handles[i], &next), wanted, how(wanted_next));
+        want_in("hand again", "", fq_seat_hand_again(&handles[i].seat, &next), wanted, how(wanted_next));
         hold("where it was handed", next == wanted_next);
         break;
     default:
         if (rests(o)) napi_of(o)->threaded = kind & 1;
-        want("set threaded", fq_seat_set_threaded(&handles[i], kind & 1), rests(o) ? FQ_OK : other);
+        want("set threaded", fq_seat_set_threaded(&handles[i].seat, kind & 1), rests(o) ? FQ_OK : other);
     }
 }
 
@@ -360,7 +363,7 @@ static void poll_seat(void) {
     const uint32_t i = random_seat();
     struct object *const o = &objects[i];
     const uint32_t wanted = polls(o) || busy_polls(o) ? FQ_OK : o->what == SEAT ? FQ_NOT_ALLOWED : FQ_BAD_HANDLE;
-    polls_by(fq_seat_poll, "poll of a seat", i, wanted, wanted == FQ_OK ? o->shared->ring : NULL);
+    polls_by(seat_poll, "poll of a seat", i, wanted, wanted == FQ_OK ? o->shared->ring : NULL);
 }
 
 /* The ring whose polls are counted for the owner of its poll end, or none. */
@@ -378,7 +381,7 @@ static void counts(void) {
     struct fq_counts counts = {1, 2, 3};
     const struct ring *r = counted_ring(&objects[i]);
     const uint32_t wanted = r != NULL ? FQ_OK : objects[i].what == NOTHING ? FQ_BAD_HANDLE : FQ_NOT_ALLOWED;
-    want("count", fq_count(&handles[i], &counts), wanted);
+    want("count", fq_count(&handles[i].handle, &counts), wanted);
     if (wanted != FQ_OK) hold("counts that stay", counts.polls == 1 && counts.packets == 2 && counts.bytes == 3);
     else if (r->places != 0) hold("the counts", memcmp(&counts, &r->counts, sizeof counts) == 0);
 }
@@ -389,9 +392,9 @@ static void look(void) {
     uint64_t word = 77;
     struct fq_answers answers = {9, 9, 9, 9, 9, 9, 9};
     const uint32_t wanted = o->what == SEAT ? FQ_OK : FQ_BAD_HANDLE;
-    want("look", fq_seat_look(&handles[i], &word), wanted);
+    want("look", fq_seat_look(&handles[i].seat, &word), wanted);
     hold("the word", word == (wanted == FQ_OK ? model_word(napi_of(o)) : 77));
-    want("count of a seat", fq_seat_count(&handles[i], &answers), wanted);
+    want("count of a seat", fq_seat_count(&handles[i].seat, &answers), wanted);
     if (wanted == FQ_OK) hold("how often it was answered what", memcmp(&answers, &o->answers, sizeof answers) == 0);
     else hold("answers that stay", answers.granted == 9 && answers.changed == 9);
 }
@@ -411,7 +414,7 @@ static void interrupt(void) {
     if (kind <= FQ_THREAD) wanted = seat_schedules(&objects[i]);
     if (wanted == FQ_GRANTED) hold("the model hands", seat_hands(&objects[i], kind) == FQ_OK);
     is_masked = false;
-    want("an interrupt", fq_seat_interrupt_masked(&handles[i], kind, &card), wanted);
+    want("an interrupt", fq_seat_interrupt_masked(&handles[i].seat, kind, &card), wanted);
     hold("masked exactly where it was granted", is_masked == (wanted == FQ_GRANTED));
 }
 
@@ -421,7 +424,7 @@ static void request(void) {
     const uint32_t wanted = seat_schedules(&objects[i]);
     if (wanted == FQ_GRANTED) hold("the model hands", hands_again(&objects[i], &wanted_next) == FQ_OK);
     is_masked = false;
-    want("a request", fq_seat_request(&handles[i], &card, &next), wanted);
+    want("a request", fq_seat_request(&handles[i].seat, &card, &next), wanted);
     hold("where it was queued", next == wanted_next);
     hold("masked exactly if it was granted", is_masked == (wanted == FQ_GRANTED));
 }
@@ -454,7 +457,7 @@ static void end(void) {
     const char *state = polling_of(&objects[i]);
     uint32_t next = 99, wanted_next;
     const uint32_t wanted = ends(&objects[i], full, &wanted_next);
-    want_in(full ? "full end" : "end", state, fq_seat_end(&handles[i], full, &next), wanted, how(wanted_next));
+    want_in(full ? "full end" : "end", state, fq_seat_end(&handles[i].seat, full, &next), wanted, how(wanted_next));
     hold("how it ended", next == wanted_next);
 }
 
@@ -469,7 +472,7 @@ static void end_watched(void) {
         wanted_masked = is_there && seat_schedules(&objects[i]) == FQ_GRANTED;
         if (wanted_masked) hold("the model hands", hands_again(&objects[i], &wanted_next) == FQ_OK);
     }
-    want("end, watched", fq_seat_end_watched(&handles[i], full, &card, &next), wanted);
+    want("end, watched", fq_seat_end_watched(&handles[i].seat, full, &card, &next), wanted);
     hold("how it ended, watched", next == wanted_next);
     hold("masked, watched", is_masked == wanted_masked);
 }
@@ -482,7 +485,7 @@ static void end_unmasked(void) {
     uint32_t next = 99, wanted_next = FQ_NEXT_GONE, wanted = FQ_BAD_WEIGHT;
     const bool asks = before < weight && polls(o) && weight - 1 < 64;
     is_masked = true, most_asked = polled_more = 0;
-    const uint32_t said = fq_seat_end_unmasked(&handles[i], &card, weight, &work, &next);
+    const uint32_t said = fq_seat_end_unmasked(&handles[i].seat, &card, weight, &work, &next);
     if (weight - 1 < 64) wanted = ends(o, work == weight, &wanted_next);
     want("end, unmasked", said, wanted);
     hold("how it ended, unmasked", next == wanted_next);
@@ -511,8 +514,8 @@ static void new_shared(void) {
     else if (count < 2 || count > 8) wanted = FQ_BAD_COUNT;
     else if (!is_bare && objects[ring].what != RING) wanted = FQ_BAD_HANDLE;
     const long before = may_refuse(12);
-    const uint32_t said = is_bare ? fq_shared_bare(&handles[control], &handles[from], count)
-                                  : fq_shared_new(&handles[ring], &handles[control], &handles[from], count);
+    const uint32_t said = is_bare ? fq_shared_bare(&handles[control].control, &handles[from].seat, count)
+                                  : fq_shared_new(&handles[ring].ring, &handles[control].control, &handles[from].seat, count);
     if (!takes_memory("shared", said, wanted, before)) return;
     struct shared *const s = UNUSED(instances);
     *s = (struct shared){count + 1, model_napi_new(count), false, is_bare ? NULL : objects[ring].ring};
@@ -548,15 +551,15 @@ static void control_call(void) {
     struct object *const o = &objects[i];
     const bool threaded = below(2), is_control = o->what == CONTROL;
     const char *state = !is_control ? "" : is_off(o) ? ", off" : is_on(o) ? ", on" : ", marked";
-    if (which < 4) want("enable", fq_control_enable(&handles[i], threaded), is_control ? control_enables(o, threaded) : FQ_BAD_HANDLE);
-    else if (which < 5) want("mark", fq_control_mark(&handles[i]), is_control ? control_marks(o) : FQ_BAD_HANDLE);
-    else if (which < 8) want("try to take", fq_control_try_take(&handles[i]), is_control ? control_takes(o) : FQ_BAD_HANDLE);
-    else if (which < 11) want_in("step on", state, fq_control_step(&handles[i], true, threaded), is_control ? control_enables(o, threaded) : FQ_BAD_HANDLE, "");
+    if (which < 4) want("enable", fq_control_enable(&handles[i].control, threaded), is_control ? control_enables(o, threaded) : FQ_BAD_HANDLE);
+    else if (which < 5) want("mark", fq_control_mark(&handles[i].control), is_control ? control_marks(o) : FQ_BAD_HANDLE);
+    else if (which < 8) want("try to take", fq_control_try_take(&handles[i].control), is_control ? control_takes(o) : FQ_BAD_HANDLE);
+    else if (which < 11) want_in("step on", state, fq_control_step(&handles[i].control, true, threaded), is_control ? control_enables(o, threaded) : FQ_BAD_HANDLE, "");
     else {
         uint32_t wanted = is_control ? FQ_OK : FQ_BAD_HANDLE;
         if (is_on(o)) control_marks(o);
         if (is_control && o->shared->is_marked && control_takes(o) != FQ_TAKEN) wanted = FQ_BUSY;
-        want_in("step off", state, fq_control_step(&handles[i], false, threaded), wanted, "");
+        want_in("step off", state, fq_control_step(&handles[i].control, false, threaded), wanted, "");
     }
 }
 
@@ -578,7 +581,7 @@ static void new_sender(void) {
     uint32_t wanted = objects[i].what != NOTHING ? (uint32_t)FQ_IN_USE : model_limit_new(&limit, min, max, hold_ms, now);
     if (wanted == FQ_OK && (places < 1 || places > 65536)) wanted = FQ_BAD_CAPACITY;
     const long before = may_refuse(3);
-    if (!takes_memory("tx new", fq_tx_new(&handles[i], places, min, max, hold_ms, now), wanted, before)) return;
+    if (!takes_memory("tx new", fq_tx_new(&handles[i].tx, places, min, max, hold_ms, now), wanted, before)) return;
     objects[i] = object_of(SENDER);
     objects[i].sender = UNUSED(senders);
     *objects[i].sender = (struct sender){.users = 1, .limit = limit, .places = (uint32_t)places};
@@ -596,7 +599,7 @@ static uint32_t sends(struct sender *s, uint32_t bytes) {
 
 static void send(void) {
     const uint32_t i = one_of(SENDER, SENDER), bytes = random_object(objects[i].sender != NULL ? &objects[i].sender->limit : NULL);
-    want("send", fq_tx_send(&handles[i], bytes), objects[i].what == SENDER ? sends(objects[i].sender, bytes) : FQ_BAD_HANDLE);
+    want("send", fq_tx_send(&handles[i].tx, bytes), objects[i].what == SENDER ? sends(objects[i].sender, bytes) : FQ_BAD_HANDLE);
 }
 
 static uint32_t is_done(struct sender *s, uint32_t count) {
@@ -613,14 +616,14 @@ static uint32_t is_done(struct sender *s, uint32_t count) {
 static void done(void) {
     const uint32_t i = one_of(SENDER, SENDER), count = below(is_loaded() ? 2 : 7);
     now += below(300);
-    want("done", fq_tx_done(&handles[i], count, now), objects[i].what == SENDER ? is_done(objects[i].sender, count) : FQ_BAD_HANDLE);
+    want("done", fq_tx_done(&handles[i].tx, count, now), objects[i].what == SENDER ? is_done(objects[i].sender, count) : FQ_BAD_HANDLE);
 }
 
 static void show_sender(void) {
     const uint32_t i = one_of(SENDER, SENDER);
     struct fq_tx_shown shown = {1, 2, 3, 4, true};
     const struct sender *s = objects[i].sender;
-    want("state", fq_tx_state(&handles[i], &shown), s != NULL ? FQ_OK : FQ_BAD_HANDLE);
+    want("state", fq_tx_state(&handles[i].tx, &shown), s != NULL ? FQ_OK : FQ_BAD_HANDLE);
     if (s == NULL) hold("a state that stays", shown.queued == 1 && shown.completed == 2 && shown.limit == 3 && shown.avail == 4 && shown.stopped);
     else hold("the state", shown.queued == s->sent && shown.completed == s->done && shown.limit == s->limit.limit &&
                                shown.avail == model_avail(&s->limit) && shown.stopped == s->stopped);
@@ -636,7 +639,7 @@ static void watch(void) {
     if (s != NULL && (!s->stopped || !s->was_stopped || s->was_done != s->done)) s->was_stopped = s->stopped, s->was_done = s->done, s->since = at;
     const bool wanted = s != NULL && s->stopped && model_minus(at, s->since) >= limit_ms;
     const char *state = s == NULL ? "" : !s->stopped ? ", started" : at < s->since ? ", stopped, back" : ", stopped";
-    want_in("watch", state, fq_tx_watch(&handles[i], s != NULL ? &s->watchdog : &none, limit_ms, at, &stuck), s != NULL ? FQ_OK : FQ_BAD_HANDLE, wanted ? ", stuck" : "");
+    want_in("watch", state, fq_tx_watch(&handles[i].tx, s != NULL ? &s->watchdog : &none, limit_ms, at, &stuck), s != NULL ? FQ_OK : FQ_BAD_HANDLE, wanted ? ", stuck" : "");
     hold("stuck", stuck == wanted);
     hold("a watchdog that stays", !none.private_stopped && none.private_completed == 0 && none.private_since == 0);
     now += below(100);
@@ -647,40 +650,40 @@ static void watch(void) {
 static void new_list(void) {
     const uint32_t i = one_of(NOTHING, NOTHING);
     const long before = may_refuse(2);
-    if (!takes_memory("list new", fq_list_new(&handles[i]), objects[i].what != NOTHING ? FQ_IN_USE : FQ_OK, before)) return;
+    if (!takes_memory("list new", fq_list_new(&handles[i].list), objects[i].what != NOTHING ? FQ_IN_USE : FQ_OK, before)) return;
     objects[i] = object_of(LIST);
     objects[i].lister = UNUSED(listers);
     *objects[i].lister = (struct lister){.users = 1};
 }
 
-static void push(struct fq_handle *at, struct model_list *l) {
+static void push(struct fq_list *at, struct model_list *l) {
     const uint32_t id = below(IDS);
     want("push", fq_list_push(at, id), l != NULL ? model_push(l, id) : FQ_BAD_HANDLE);
 }
 
-static void remove_number(struct fq_handle *at, struct model_list *l) {
+static void remove_number(struct fq_list *at, struct model_list *l) {
     const uint32_t id = below(IDS);
     want("remove", fq_list_remove(at, id), l != NULL ? model_remove(l, id) : FQ_BAD_HANDLE);
 }
 
-static void begin(struct fq_handle *at, struct model_list *l) {
+static void begin(struct fq_list *at, struct model_list *l) {
     const uint32_t budget = below(200), weight = below(66), window = below(40);
     want("begin", fq_run_begin(at, budget, weight, window), l != NULL ? model_begin(l, budget, weight, window) : FQ_BAD_HANDLE);
 }
 
-static void next(struct fq_handle *at, struct model_list *l) {
+static void next(struct fq_list *at, struct model_list *l) {
     uint32_t id = 777, wanted_id = 777;
     const uint32_t wanted = l != NULL ? model_next(l, &wanted_id) : FQ_BAD_HANDLE;
     want("next", fq_run_next(at, &id), wanted);
     hold("the next number", id == wanted_id);
 }
 
-static void polled(struct fq_handle *at, struct model_list *l) {
+static void polled(struct fq_list *at, struct model_list *l) {
     const uint32_t work = below(8) ? below(10) : below(67), how = below(16) ? below(5) : 5 + below(2);
     want("polled", fq_run_polled(at, work, how), l != NULL ? model_polled(l, work, how) : FQ_BAD_HANDLE);
 }
 
-static void end_run(struct fq_handle *at, struct model_list *l) {
+static void end_run(struct fq_list *at, struct model_list *l) {
     struct fq_run_report report, wanted_report;
     memset(&report, 0, sizeof report);
     wanted_report = report;
@@ -689,16 +692,16 @@ static void end_run(struct fq_handle *at, struct model_list *l) {
     hold("its report", report.polls == wanted_report.polls && report.work == wanted_report.work && report.squeezed == wanted_report.squeezed);
 }
 
-static void length(struct fq_handle *at, struct model_list *l) {
+static void length(struct fq_list *at, struct model_list *l) {
     uint32_t len = 777;
     want("length", fq_list_len(at, &len), l != NULL ? FQ_OK : FQ_BAD_HANDLE);
     hold("the length", len == (l != NULL ? model_len(l) : 777));
 }
 
 static void call_of_list(void) {
-    static void (*const calls[])(struct fq_handle *, struct model_list *) = {push, push, push, begin, next, next, next, next, polled, polled, polled, polled, end_run, length, remove_number};
+    static void (*const calls[])(struct fq_list *, struct model_list *) = {push, push, push, begin, next, next, next, next, polled, polled, polled, polled, end_run, length, remove_number};
     const uint32_t i = one_of(LIST, LIST);
-    calls[below(sizeof calls / sizeof calls[0])](&handles[i], objects[i].lister != NULL ? &objects[i].lister->list : NULL);
+    calls[below(sizeof calls / sizeof calls[0])](&handles[i].list, objects[i].lister != NULL ? &objects[i].lister->list : NULL);
 }
 
 /* ---- any handle */
@@ -707,7 +710,7 @@ static void move(void) {
     const uint32_t i = below(HANDLES), k = below(HANDLES);
     if (i == k) return;
     const uint32_t wanted = objects[k].what != NOTHING ? FQ_IN_USE : objects[i].what == NOTHING ? FQ_BAD_HANDLE : FQ_OK;
-    want("move", fq_move(&handles[i], &handles[k]), wanted);
+    want("move", fq_move(&handles[i].handle, &handles[k].handle), wanted);
     if (wanted == FQ_OK) objects[k] = objects[i], objects[i] = object_of(NOTHING);
 }
 
@@ -726,7 +729,7 @@ static void give_up(void) {
     const bool is_abandoned = below(4) == 0;
     const uint32_t wanted = o->what == NOTHING ? FQ_BAD_HANDLE : is_abandoned || is_freeable(o) ? FQ_OK : FQ_NOT_ALLOWED;
     const long before = blocks;
-    want(is_abandoned ? "abandon" : "free", is_abandoned ? fq_abandon(&handles[i]) : fq_free(&handles[i]), wanted);
+    want(is_abandoned ? "abandon" : "free", is_abandoned ? fq_abandon(&handles[i].handle) : fq_free(&handles[i].handle), wanted);
     hold("what is freed is freed", wanted == FQ_OK ? blocks < before : blocks == before);
     if (wanted == FQ_OK) forget(o);
 }
@@ -748,8 +751,7 @@ static void limit_call(void) {
     if (which < 3) {
         struct model_limit fresh = l;
         const uint32_t wanted = model_limit_new(&fresh, min, max, hold_ms, now);
-        if (which == 0 && wanted == FQ_OK) want("init", fq_dql_init(&dql, min, max, hold_ms, now), wanted);
-        else want("renew", fq_dql_renew(&dql, min, max, hold_ms, now), wanted);
+        want("init", fq_dql_init(&dql, min, max, hold_ms, now), wanted);
         l = fresh;
     } else if (which < 5) {
         fq_dql_reset(&dql, now);
@@ -871,7 +873,7 @@ int main(int count, char **words) {
     while (kind < kinds + sizeof kinds / sizeof kinds[0] && (count < 2 || strcmp(kind->name, words[1]) != 0)) kind++;
     if (kind == kinds + sizeof kinds / sizeof kinds[0]) return fputs("usage: random limit|instance|ring|transmit|shared|list|any [CALLS [SEED]]\n", stderr), 2;
     for (call = 0; call < calls; call++) kind->calls[below((uint32_t)kind->count)]();
-    for (uint32_t i = 0; i < HANDLES; i++) want("the end", fq_abandon(&handles[i]), objects[i].what == NOTHING ? FQ_BAD_HANDLE : FQ_OK);
+    for (uint32_t i = 0; i < HANDLES; i++) want("the end", fq_abandon(&handles[i].handle), objects[i].what == NOTHING ? FQ_BAD_HANDLE : FQ_OK);
     hold("something is left on the heap", blocks == 0);
     for (const uint32_t *answer = kind->answers; calls >= 1000000 && *answer != 0; answer++)
         if (!seen[*answer]) return printf("never answered: %s\n", fq_status_name(*answer)), 1;

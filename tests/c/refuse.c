@@ -2,8 +2,8 @@
  * to return FQ_OUT_OF_MEMORY, or to change nothing if the allocation is retried; what is left is abandoned, and then nothing
  * is on the heap; and the same call succeeds as soon as allocations do. To be linked with --wrap for malloc, realloc and free.
  * It exits with 9 if one of this isn't so. */
+#include "any.h"
 #include "memory.h"
-#include <fintaqush.h>
 #include <stdio.h>
 #include <stdlib.h>
 #include <string.h>
@@ -16,36 +16,39 @@ static void want(bool holds, const char *what, long call) {
 
 /* What was made, of which nothing may be left. */
 enum { HANDLES = 10 };
-static struct fq_handle handles[HANDLES], list, tx, driver;
+static union any handles[HANDLES];
+static struct fq_list list;
+static struct fq_tx tx;
+static struct fq_driver driver;
 
 static void give_up(void) {
     for (int i = 0; i < HANDLES; i++) {
-        const uint32_t said = fq_abandon(&handles[i]);
+        const uint32_t said = fq_abandon(&handles[i].handle);
         want(said == FQ_OK || said == FQ_BAD_HANDLE, "it can't be given up", refused_take);
     }
 }
 
-static bool takes_two(struct fq_handle *ring) {
+static bool takes_two(struct fq_ring *ring) {
     return fq_ring_put(ring, 1, 60) == FQ_OK && fq_ring_put(ring, 2, 60) == FQ_OK && fq_ring_put(ring, 3, 60) == FQ_FULL;
 }
 
-static uint32_t make_ring(void) { return fq_ring_new(&handles[0], 2); }
-static bool ring_works(void) { return takes_two(&handles[0]); }
+static uint32_t make_ring(void) { return fq_ring_new(&handles[0].ring, 2); }
+static bool ring_works(void) { return takes_two(&handles[0].ring); }
 
-static uint32_t make_tx(void) { return fq_tx_new(&handles[0], 2, 0, 1000, 1000, 0); }
-static bool tx_works(void) { return fq_tx_send(&handles[0], 60) == FQ_OK && fq_tx_done(&handles[0], 1, 0) == FQ_OK; }
+static uint32_t make_tx(void) { return fq_tx_new(&handles[0].tx, 2, 0, 1000, 1000, 0); }
+static bool tx_works(void) { return fq_tx_send(&handles[0].tx, 60) == FQ_OK && fq_tx_done(&handles[0].tx, 1, 0) == FQ_OK; }
 
-static uint32_t make_list(void) { return fq_list_new(&handles[0]); }
+static uint32_t make_list(void) { return fq_list_new(&handles[0].list); }
 static bool list_works(void) {
     uint32_t id = 0;
-    return fq_list_push(&handles[0], 7) == FQ_OK && fq_run_begin(&handles[0], 300, 64, 1024) == FQ_OK &&
-           fq_run_next(&handles[0], &id) == FQ_OK && id == 7;
+    return fq_list_push(&handles[0].list, 7) == FQ_OK && fq_run_begin(&handles[0].list, 300, 64, 1024) == FQ_OK &&
+           fq_run_next(&handles[0].list, &id) == FQ_OK && id == 7;
 }
 
-static uint32_t make_driver(void) { return fq_driver_new(&handles[0], 64, 300, 64, 1024); }
+static uint32_t make_driver(void) { return fq_driver_new(&handles[0].driver, 64, 300, 64, 1024); }
 static bool driver_works(void) {
     struct fq_todo todo = FQ_TODO_INIT;
-    return fq_driver_open(&handles[0], 63) == FQ_OK && fq_driver_next(&handles[0], &todo) == FQ_OK && todo.what == FQ_TODO_UNMASK &&
+    return fq_driver_open(&handles[0].driver, 63) == FQ_OK && fq_driver_next(&handles[0].driver, &todo) == FQ_OK && todo.what == FQ_TODO_UNMASK &&
            todo.device == 63;
 }
 
@@ -54,35 +57,35 @@ static bool driver_works(void) {
 static uint32_t make_shared(void) {
     struct fq_packet out[2];
     size_t count = 0;
-    uint32_t said = fq_ring_new(&handles[0], 3);
+    uint32_t said = fq_ring_new(&handles[0].ring, 3);
     if (said != FQ_OK) return said;
-    want(fq_ring_put(&handles[0], 7, 60) == FQ_OK, "a put", refused_take);
-    said = fq_shared_new(&handles[0], &handles[1], &handles[2], 8);
+    want(fq_ring_put(&handles[0].ring, 7, 60) == FQ_OK, "a put", refused_take);
+    said = fq_shared_new(&handles[0].ring, &handles[1].control, &handles[2].seat, 8);
     if (said != FQ_OUT_OF_MEMORY) return said;
-    want(fq_ring_poll(&handles[0], 2, out, 2, &count) == FQ_OK && count == 1 && out[0].number == 7, "a ring that is whole", refused_take);
-    for (int i = 1; i < HANDLES; i++) want(!handles[i].private_set, "a handle that isn't set", refused_take);
+    want(fq_ring_poll(&handles[0].ring, 2, out, 2, &count) == FQ_OK && count == 1 && out[0].number == 7, "a ring that is whole", refused_take);
+    for (int i = 1; i < HANDLES; i++) want(!handles[i].handle.private_set, "a handle that isn't set", refused_take);
     return said;
 }
 static bool shared_works(void) {
-    return takes_two(&handles[0]) && fq_control_enable(&handles[1], false) == FQ_OK && fq_seat_schedule(&handles[9]) == FQ_GRANTED;
+    return takes_two(&handles[0].ring) && fq_control_enable(&handles[1].control, false) == FQ_OK && fq_seat_schedule(&handles[9].seat) == FQ_GRANTED;
 }
 
-static uint32_t make_bare(void) { return fq_shared_bare(&handles[1], &handles[2], 8); }
-static bool bare_works(void) { return fq_control_enable(&handles[1], false) == FQ_OK && fq_seat_schedule(&handles[9]) == FQ_GRANTED; }
+static uint32_t make_bare(void) { return fq_shared_bare(&handles[1].control, &handles[2].seat, 8); }
+static bool bare_works(void) { return fq_control_enable(&handles[1].control, false) == FQ_OK && fq_seat_schedule(&handles[9].seat) == FQ_GRANTED; }
 
 static uint32_t make_split(void) {
-    const uint32_t said = fq_ring_new(&handles[0], 2);
+    const uint32_t said = fq_ring_new(&handles[0].ring, 2);
     if (said != FQ_OK) return said;
-    const uint32_t split = fq_ring_split(&handles[0], &handles[1]);
+    const uint32_t split = fq_ring_split(&handles[0].ring, &handles[1].ring);
     struct fq_totals totals;
     /* if memory is out, the ring is unchanged */
-    if (split == FQ_OUT_OF_MEMORY) want(fq_ring_finish(&handles[0], &totals) == FQ_OK, "a ring that wasn't split", refused_take);
+    if (split == FQ_OUT_OF_MEMORY) want(fq_ring_finish(&handles[0].ring, &totals) == FQ_OK, "a ring that wasn't split", refused_take);
     return split;
 }
 static bool split_works(void) {
     struct fq_packet out[2];
     size_t count = 0;
-    return takes_two(&handles[0]) && fq_ring_poll(&handles[1], 2, out, 2, &count) == FQ_OK && count == 2;
+    return takes_two(&handles[0].ring) && fq_ring_poll(&handles[1].ring, 2, out, 2, &count) == FQ_OK && count == 2;
 }
 
 /* All calls but those that the header names: none allocates or frees. */
@@ -97,19 +100,19 @@ static void take_none(void) {
     want(make_shared() == FQ_OK && fq_list_new(&list) == FQ_OK && fq_tx_new(&tx, 2, 0, 1000, 1000, 0) == FQ_OK, "no memory", 0);
     want(fq_driver_new(&driver, 64, 300, 64, 1024) == FQ_OK, "no memory", 0);
     const long before = blocks;
-    struct fq_handle *const irq = &handles[2], *const poller = &handles[3];
+    struct fq_seat *const irq = &handles[2].seat, *const poller = &handles[3].seat;
     takes = 0;
-    bool good = fq_control_enable(&handles[1], false) == FQ_OK && fq_ring_put(&handles[0], 0, 60) == FQ_OK;
-    good = good && fq_ring_put_all(&handles[0], packets, 2, &count) == FQ_FULL && fq_seat_interrupt(irq, FQ_LIST) == FQ_GRANTED;
+    bool good = fq_control_enable(&handles[1].control, false) == FQ_OK && fq_ring_put(&handles[0].ring, 0, 60) == FQ_OK;
+    good = good && fq_ring_put_all(&handles[0].ring, packets, 2, &count) == FQ_FULL && fq_seat_interrupt(irq, FQ_LIST) == FQ_GRANTED;
     good = good && fq_seat_take(poller, FQ_LIST) == FQ_TAKEN && fq_seat_poll(poller, 2, packets, 2, &count) == FQ_OK;
-    good = good && fq_count(poller, &counts) == FQ_OK && fq_seat_look(poller, &word) == FQ_OK && fq_seat_end(poller, true, &next) == FQ_OK;
+    good = good && fq_count(&poller->handle, &counts) == FQ_OK && fq_seat_look(poller, &word) == FQ_OK && fq_seat_end(poller, true, &next) == FQ_OK;
     good = good && fq_seat_take(poller, FQ_LIST) == FQ_TAKEN && fq_seat_end(poller, false, &next) == FQ_OK;
     good = good && fq_seat_busy_take(poller) == FQ_TAKEN && fq_seat_complete(poller) == FQ_HELD && fq_seat_busy_stop(poller) == FQ_OK;
     good = good && fq_seat_complete(poller) == FQ_RELEASED && fq_seat_set_threaded(poller, true) == FQ_OK;
     good = good && fq_seat_schedule_prep(irq) == FQ_GRANTED && fq_seat_hand_again(irq, &next) == FQ_OK && next == FQ_NEXT_AGAIN_THREAD;
     good = good && fq_seat_take(poller, FQ_THREAD) == FQ_TAKEN && fq_seat_complete_done(poller) == FQ_RELEASED;
-    good = good && fq_control_mark(&handles[1]) == FQ_OK && fq_control_try_take(&handles[1]) == FQ_TAKEN;
-    good = good && fq_control_step(&handles[1], true, false) == FQ_OK && fq_control_step(&handles[1], false, false) == FQ_OK;
+    good = good && fq_control_mark(&handles[1].control) == FQ_OK && fq_control_try_take(&handles[1].control) == FQ_TAKEN;
+    good = good && fq_control_step(&handles[1].control, true, false) == FQ_OK && fq_control_step(&handles[1].control, false, false) == FQ_OK;
     for (uint32_t i = 0; i < 64; i++) good = good && fq_list_push(&list, i) == FQ_OK;
     good = good && fq_list_remove(&list, 7) == FQ_OK && fq_list_push(&list, 7) == FQ_OK;
     good = good && fq_run_begin(&list, 300, 64, 1024) == FQ_OK;
@@ -131,9 +134,9 @@ static void take_none(void) {
     }
     want(good, "a call that takes no memory", 0);
     want(takes == 0 && blocks == before, "a call takes memory, or gives it", takes);
-    struct fq_handle out = FQ_NONE;
-    want(fq_ring_split(irq, &out) == FQ_BAD_HANDLE && takes == 0 && blocks == before, "a split of a seat", takes);
-    want(fq_abandon(&list) == FQ_OK && fq_abandon(&tx) == FQ_OK && fq_free(&driver) == FQ_OK, "the end", 0);
+    struct fq_ring out = FQ_NONE;
+    want(fq_ring_split(&handles[2].ring, &out) == FQ_BAD_HANDLE && takes == 0 && blocks == before, "a split of a seat", takes);
+    want(fq_abandon(&list.handle) == FQ_OK && fq_abandon(&tx.handle) == FQ_OK && fq_free(&driver.handle) == FQ_OK, "the end", 0);
     give_up();
     want(blocks == 0, "something is left on the heap", 0);
 }
@@ -141,7 +144,7 @@ static void take_none(void) {
 static const char trace[] = "moment,device,event,value\n0,1,open,4\n0,2,open,4\n1,1,rx,100\n1,2,rx,60\n2,0,softirq,0\n3,1,tx,9\n";
 enum { ROOM = 4096, GUARD = 0xA5 };
 static uint8_t report[ROOM], wanted[ROOM];
-static struct fq_replayed replayed;
+static struct fq_replayed replayed = FQ_REPLAYED_INIT;
 
 static uint32_t make_replay(void) {
     const struct fq_settings settings = FQ_DEFAULT_SETTINGS;
@@ -157,9 +160,9 @@ static const char arrivals[] = "moment,device,bytes\n0,1,60\n10,2,60\n10,1,1500\
 static uint8_t wanted_of_machine[ROOM];
 
 static uint32_t make_machine(void) {
-    struct fq_machine_settings settings;
+    struct fq_machine_settings settings = {.size = sizeof settings};
     struct fq_machine_ran ran = {.size = sizeof ran};
-    want(fq_machine_default(&settings, sizeof settings) == FQ_OK, "the default settings", refused_take);
+    want(fq_machine_default(&settings) == FQ_OK, "the default settings", refused_take);
     settings.processors = 2, settings.threaded = 1, settings.apart = 1;
     memset(report, GUARD, ROOM);
     const uint32_t said = fq_machine(&settings, (const uint8_t *)arrivals, sizeof arrivals - 1, report, ROOM, &ran);
@@ -174,8 +177,8 @@ static const char *const raised_head = "moment,device,event,value\n0,1,open,64\n
 static size_t raised_length;
 
 static uint32_t make_raised(void) {
-    const struct fq_settings settings = {1, 1, 1024};
-    struct fq_replayed raised = {0, 0, 0};
+    const struct fq_settings settings = {sizeof settings, 1, 1, 1024};
+    struct fq_replayed raised = FQ_REPLAYED_INIT;
     char text[1024];
     int len = snprintf(text, sizeof text, "%s", raised_head);
     for (int i = 0; i < 50; i++) len += snprintf(text + len, sizeof text - (size_t)len, "%s", raised_row);

@@ -8,8 +8,9 @@
 #include <stdlib.h>
 #include <time.h>
 
-static struct fq_handle control, seats[3];
-static struct fq_handle *const irq = &seats[0], *const poller = &seats[1];
+static struct fq_control control;
+static struct fq_seat seats[3];
+static struct fq_seat *const irq = &seats[0], *const poller = &seats[1];
 static atomic_bool ends;
 
 static void want(bool holds, const char *what) {
@@ -23,7 +24,7 @@ static void *change(void *seat) {
     return NULL;
 }
 
-static uint64_t changed(struct fq_handle *seat) {
+static uint64_t changed(struct fq_seat *seat) {
     struct fq_answers answers;
     want(fq_seat_count(seat, &answers) == FQ_OK, "a seat's counts");
     return answers.changed;
@@ -72,8 +73,8 @@ int main(void) {
         want(time(NULL) < start + 60, "no attempt of some call fails");
     }
     ends = true;
-    want(pthread_join(thread, NULL) == 0 && fq_free(&control) == FQ_OK, "the end");
-    for (int i = 0; i < 3; i++) want(fq_free(&seats[i]) == FQ_OK, "the end of a seat");
+    want(pthread_join(thread, NULL) == 0 && fq_free(&control.handle) == FQ_OK, "the end");
+    for (int i = 0; i < 3; i++) want(fq_free(&seats[i].handle) == FQ_OK, "the end of a seat");
     puts("attempts fail, and each call repeats them");
     return 0;
 }

@@ -11,7 +11,7 @@ int main(int count, char **words) {
     if (count != 4 && count != 5) return 9;
     const auto number = [&](int at) { return static_cast<std::uint32_t>(std::strtoul(words[at], nullptr, 10)); };
     const std::string trace(std::istreambuf_iterator<char>(std::cin), {});
-    const fq_settings settings{number(1), number(2), number(3)};
+    const fq_settings settings{sizeof(fq_settings), number(1), number(2), number(3)};
     const auto answer = count == 5 ? fintaqush::raise_runs(trace, settings, number(4)) : fintaqush::replay(trace, settings);
     if (const auto *report = std::get_if<std::string>(&answer)) {
         std::cout << *report << std::flush;

@@ -41,7 +41,8 @@ int main(void) {
     char version_text[16];
     snprintf(version_text, sizeof version_text, "%d.%d.%d", FQ_VERSION_MAJOR, FQ_VERSION_MINOR, FQ_VERSION_PATCH);
     want(strcmp(version_text, FQ_VERSION) == 0, "the version in numbers");
-    const size_t sizes[] = {sizeof(struct fq_handle), sizeof(struct fq_dql), sizeof(struct fq_dql_made), sizeof(struct fq_napi),
+    want(fq_version_number() == FQ_VERSION_NUMBER, "the library's number");
+    const size_t sizes[] = {sizeof(struct fq_handle), sizeof(struct fq_dql), sizeof(struct fq_napi),
         sizeof(struct fq_packet), sizeof(struct fq_counts), sizeof(struct fq_totals), sizeof(struct fq_ring_shown),
         sizeof(struct fq_tx_shown), sizeof(struct fq_answers), sizeof(struct fq_run_report),
         sizeof(struct fq_todo), sizeof(struct fq_device_shown), sizeof(struct fq_tx_watchdog)};

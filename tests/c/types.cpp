@@ -60,8 +60,7 @@ static_assert(Weight::of<1>().get() == 1 && Weight().get() == 64 && !Weight::mak
 [[maybe_unused]] static void names() {
     fq_counts counts{};
     fq_tx_shown state{};
-    fq_dql_made made{};
-    static_cast<void>(counts), static_cast<void>(state), static_cast<void>(made);
+    static_cast<void>(counts), static_cast<void>(state);
 }
 
 // What ends a run is returned as its status, with what was polled until then, and the others stay listed.
@@ -121,7 +120,7 @@ static void rings() {
     want(!Ring::make(0) && !Ring::make(65537), "a ring of no places, or too many");
     want(ring && ring->put(1, 10) && ring->put_all(burst, 3) == 3 && !ring->put(5, 50), "a ring of four");
     want(ring->poll(out, Weight::of<1>()) == 1 && out[0].number == 1 && ring->counts().bytes == 10, "its first packet");
-    want(ring->shown().put == 4 && ring->shown().places == 4, "what it shows");
+    want(ring->shown().put == 4 && ring->shown().capacity == 4, "what it shows");
     is_out = true;
     want(!std::move(*ring).split() && ring->shown().put == 4, "a split without memory leaves the ring");
     is_out = false;
@@ -268,12 +267,13 @@ static void words() {
 
 struct EdgeCard {
     bool masked = true, broken = false;
-    std::uint32_t waiting = 100, taken = 0;
+    std::uint32_t waiting = 100, taken = 0, too_many = 0;
     void mask(std::uint32_t) { masked = true; }
     void unmask(std::uint32_t) { masked = false; }
     bool look(std::uint32_t) const { return waiting > 0; }
     std::uint32_t fetch(std::uint32_t, std::uint32_t most) {
         if (broken) throw 1;
+        if (too_many) return most + too_many;
         const std::uint32_t count = most < waiting ? most : waiting;
         waiting -= count, taken += count;
         return count;
@@ -286,7 +286,8 @@ static void drivers() {
     EdgeCard card;
     want(made && made->act(card).what == FQ_TODO_SLEEP, "a new driver sleeps");
     Driver driver(std::move(*made));
-    want(made->open(0) == FQ_BAD_HANDLE && made->next().what == FQ_TODO_SLEEP && !made->shown(0), "a driver that was moved from");
+    want(made->open(0) == FQ_BAD_HANDLE && made->next().what == FQ_TODO_FAILED && !made->shown(0), "a driver that was moved from");
+    want(!made->act(card) && made->act(card).status == FQ_BAD_HANDLE, "a loop over it ends");
     want(driver.open(1) == FQ_OK && driver.open(1) == FQ_NOT_DUE && driver.open(2) == FQ_BAD_DEVICE, "an open");
     const Todo unmask = driver.next();
     want(unmask.what == FQ_TODO_UNMASK && driver.done(unmask) == FQ_OK && driver.done(unmask) == FQ_NOT_DUE, "a report");
@@ -300,21 +301,25 @@ static void drivers() {
     }
     card.broken = false;
     want(is_thrown && driver.next().what == FQ_TODO_FETCH, "a fetch that throws is due again");
+    card.too_many = 1;
     Todo did = driver.act(card);
+    want(!did && did.what == FQ_TODO_FAILED && did.status == FQ_BAD_WORK, "a fetch of too many");
+    card.too_many = 0;
+    did = driver.act(card);
     want(did.what == FQ_TODO_FETCH && did.packets == 64 && did.most == 64, "a fetch");
     std::uint32_t polls = 0;
-    while ((did = driver.act(card)).what != FQ_TODO_SLEEP) polls += did.what == FQ_TODO_ENDED ? did.run.polls : 0;
+    while ((did = driver.act(card))) polls += did.what == FQ_TODO_ENDED ? did.run.polls : 0;
     want(polls == 2 && card.taken == 100 && card.waiting == 0, "all packets");
     want(driver.interrupt(1) == FQ_GRANTED && driver.interrupt(1) == FQ_MISSED && driver.stop(1) == FQ_OK && driver.interrupt(1) == FQ_DISABLED, "interrupts");
     want(driver.shown(1)->state == FQ_DEVICE_STOPPING && driver.shown(1)->packets == 100 && !driver.shown(2), "what is shown");
-    while (driver.act(card).what != FQ_TODO_SLEEP) {}
+    while (driver.act(card)) {}
     want(card.masked && driver.shown(1)->state == FQ_DEVICE_CLOSED, "a stop");
 }
 
 static void steps_of_drivers() {
     auto driver = Driver::make(1, 300, Weight::of<8>());
     EdgeCard card;
-    Todo todo FQ_TODO_INIT;
+    Todo todo;
     std::uint32_t polls = 0;
     want(driver && driver->open(0) == FQ_OK, "a driver");
     while (driver->step(todo) == FQ_OK && todo.what != FQ_TODO_SLEEP) {
@@ -324,7 +329,8 @@ static void steps_of_drivers() {
         case FQ_TODO_LOOK: todo.packets = card.look(0); break;
         case FQ_TODO_FETCH:
             todo.packets = 9;
-            want(driver->step(todo) == FQ_BAD_WORK && todo.what == FQ_TODO_FETCH && todo.packets == 9, "more than the weight");
+            want(driver->step(todo) == FQ_BAD_WORK && todo.what == FQ_TODO_FAILED && todo.status == FQ_BAD_WORK, "more than the weight");
+            todo = driver->next();
             todo.packets = card.fetch(0, todo.most), polls++;
             break;
         default: break;

@@ -10,8 +10,8 @@
     cards.py memory              whether there is enough memory for them; the exit status is 1 if not
 
 Costs and arrivals come from one recording of each card, and the costs of NAPI's timer from a second one, because the first has no timers. The
-plain model of the machine predicts the settings from these, and its values are compared with the measured ones. PROGRAM, a build of
-napi_machine, has to print the model's bytes; settings that need an option which it lacks are skipped. The last line is
+plain program of the machine predicts the settings from these, and its values are compared with the measured ones. PROGRAM, a build of
+napi_machine, has to print the same bytes; settings that need an option which it lacks are skipped. The last line is
 `N passed, M failed, K skipped`.
 """
 
@@ -31,7 +31,6 @@ sys.path[:0] = [str(TOP / "tools"), str(TOP / "tests"), str(HERE)]
 
 import emulation  # noqa: E402
 import machine  # noqa: E402
-import machine_model  # noqa: E402
 from emulation import Setting  # noqa: E402
 from fintaqush_tools import drivers, predicting  # noqa: E402
 from fintaqush_tools.machine import values_of  # noqa: E402
@@ -46,7 +45,7 @@ KEPT = HERE / "kept"
 PAGE = TOP / "docs/TIMING.md"
 BEGIN, END = "<!-- emulated cards: begin -->\n", "<!-- emulated cards: end -->"
 NO_LIMIT = 65536  # packets of a socket's buffer, which holds all
-# The values that are compared: by how much each may differ, in %, and its column in the table.
+# The values that are compared: by how much each may differ, in %, from the range in which the measured one is known; its column in the table.
 VALUES = {
     "interrupts": (2, "Interrupts"),
     "polls": (2, "Polls"),
@@ -79,8 +78,10 @@ class Card:
 
 
 FEW = "one of some 170 interrupts is 0.6 %"
-WAKES = "a poll that wakes the program takes 2.4 µs longer, and the machine has one cost for all polls"
-STARTS = f"{WAKES}; one that starts a timer takes another 2.5 µs"
+STARTS = (
+    "a poll that wakes the program takes 2.4 µs longer, and the machine has one cost for all polls; one that starts a "
+    "timer takes another 2.5 µs"
+)
 THREAD = "waking NAPI's thread takes 4.1 µs, which is no cost of the machine"
 LAZY, LAZIER = (2, 100_000), (2, 500_000)
 CARDS = (
@@ -117,16 +118,12 @@ CARDS = (
         ),
         "deferral 2 x 500 us",
         exceptions={
-            ("base", "delivered_p50"): (8, WAKES),
-            ("base", "used_p50"): (11, WAKES),
-            ("deferral 2 x 100 us", "delivered_p50"): (31, STARTS),
-            ("deferral 2 x 100 us", "used_p50"): (19, STARTS),
-            ("deferral 2 x 500 us", "delivered_p50"): (27, STARTS),
-            ("deferral 2 x 500 us", "used_p50"): (19, STARTS),
-            ("ring of 64", "used_p50"): (11, WAKES),
+            ("deferral 2 x 100 us", "delivered_p50"): (30, STARTS),
+            ("deferral 2 x 100 us", "used_p50"): (16, STARTS),
+            ("deferral 2 x 500 us", "delivered_p50"): (24, STARTS),
+            ("deferral 2 x 500 us", "used_p50"): (16, STARTS),
             ("deferral 10 x 50 us", "delivered_p50"): (35, STARTS),
-            ("deferral 10 x 50 us", "used_p50"): (21, STARTS),
-            ("threaded", "delivered_p50"): (16, THREAD),
+            ("deferral 10 x 50 us", "used_p50"): (18, STARTS),
             ("threaded", "used_p50"): (27, THREAD),
         },
     ),
@@ -199,13 +196,12 @@ def words_of(options: Options) -> list[str]:
 
 def needed_by(options: Options) -> set[str]:
     """Returns the options that differ from their defaults, without which the machine prints another report."""
-    defaults = {name: row[2] for name, row in machine_model.OPTIONS.items()}
-    return {name for name, value in options.items() if value != defaults[name]}
+    return {name for name, value in options.items() if value != machine.OPTIONS[name][2]}
 
 
 @functools.lru_cache(None)
 def modelled(words: tuple[str, ...], arrivals: str) -> str:
-    return str(machine_model.machine(words, arrivals))
+    return machine.ran(machine.plain(), words, arrivals)[0]
 
 
 def by_model(options: Options, arrivals: str) -> str:
@@ -220,28 +216,33 @@ class Line:
     setting: str
     name: str
     measured: float
+    known: tuple[float, float]  # between these the measured value is, but for chance
     predicted: float
     sent: int
     limit: int
     reason: str
 
+    def error_from(self, measured: float) -> float:
+        return predicting.error_of(self.name, measured, self.predicted, self.sent)
+
     @property
-    def error(self) -> float:
-        return predicting.error_of(self.name, self.measured, self.predicted, self.sent)
+    def beyond(self) -> float:
+        """Returns the part of the error that chance doesn't explain."""
+        return self.error_from(min(max(self.predicted, self.known[0]), self.known[1]))
 
     @property
     def is_good(self) -> bool:
-        return abs(self.error) <= self.limit
+        return abs(self.beyond) <= self.limit
 
     def cells(self) -> tuple[str, str, str]:
         """Returns the predicted and the measured value, and their difference."""
         is_time = self.name.endswith("_p50")
         values = (f"{each / 1000:.1f}" if is_time else str(each) for each in (self.predicted, self.measured))
         predicted, measured = values
-        return predicted, measured, f"{self.error:+.1f} %"
+        return predicted, measured, f"{self.error_from(self.measured):+.1f} %"
 
     def __str__(self) -> str:
-        parts = [self.card, self.setting, self.name, *self.cells()]
+        parts = [self.card, self.setting, self.name, *self.cells(), f"{self.beyond:+.1f} % beyond chance"]
         return " | ".join(parts + ([f"up to {self.limit} %: {self.reason}"] if self.reason else []))
 
 
@@ -253,8 +254,9 @@ def lines_of(card: Card, kept: Kept, predict: Predict) -> Iterator[Line]:
         for name, (limit, _) in VALUES.items():
             if name in measured and (measured[name] or name != "dropped"):
                 most, reason = card.exceptions.get((setting.name, name), (limit, ""))
-                sent = measured["sent"]
-                yield Line(card.driver, setting.name, name, measured[name], report[name], sent, most, reason)
+                value = measured[name]
+                known = measured.get(f"{name}_low", value), measured.get(f"{name}_high", value)
+                yield Line(card.driver, setting.name, name, value, known, report[name], measured["sent"], most, reason)
 
 
 # ---- the comparison

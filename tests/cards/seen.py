@@ -1,16 +1,17 @@
 """What a recording of an emulated card shows: costs, arrivals at the card, and measured values."""
 
 import struct
-from collections.abc import Iterable, Iterator
+from collections.abc import Iterable, Iterator, Sequence
+from math import sqrt
 from pathlib import Path
 
 import emulation
 from fintaqush_tools import card_costs, predicting
-from fintaqush_tools.card_costs import CardTimes
 from fintaqush_tools.commands import costs
+from fintaqush_tools.fits import WIDE
+from fintaqush_tools.instances import ANY
 from fintaqush_tools.receiving import Receiving
-from fintaqush_tools.recording import Event, Head, check_lost, events_in
-from fintaqush_tools.timeline import Timeline
+from fintaqush_tools.recording import Head, check_lost, events_in
 
 Frame = tuple[int, int]  # when it came to the card, by QEMU's virtual clock in ns, and its number
 Measured = dict[str, float]
@@ -57,47 +58,50 @@ def ahead_of(stamps: list[tuple[int, ...]]) -> int:
     return ahead
 
 
+def known_median(waits: Sequence[float]) -> tuple[float, float]:
+    """Returns between which of these sorted waits their median is, but for a chance of 5 %: 1.96 standard deviations of its rank to each side. Where
+    there is a gap between waits, a few packets of thousands decide on which side the median is."""
+    half, far = len(waits) / 2, WIDE / 2 * sqrt(len(waits))
+    return waits[max(0, int(half - far))], waits[min(len(waits) - 1, int(half + far))]
+
+
 class Seen:
     """What a recording shows, with the arrivals at the card."""
 
     def __init__(self, folder: Path, setting: emulation.Setting, frames: Iterable[Frame]) -> None:
         self.path = folder / f"{setting.file}.rec"
-        self.receiving, self.card, self.interrupts = Receiving({DEVICE}, {"card"}), CardTimes({DEVICE}), 0
+        self.receiving, self.interrupts = Receiving({DEVICE}, {"card"}), 0
         self.head: Head = {}
         stamps = rows_in(folder / f"{setting.file}.stamps")
         self.add_arrivals(frames, stamps, {row[0] for row in rows_in(folder / f"{setting.file}.read")})
         lost: list[str] = []
-        events = list(events_in(str(self.path), lost, self.head))
-        self.timeline = Timeline(None, [DEVICE], None, costs.interrupts_in(self.head, [DEVICE]))
-        for event in events:
-            self.add(event)
-        self.timeline.settle()
+        for event in events_in(str(self.path), lost, self.head):
+            self.receiving.add(event)
+            self.interrupts += event.name == "irq_handler_entry" and f"name={DEVICE}" in event.said
         check_lost(lost)
 
     def add_arrivals(self, frames: Iterable[Frame], stamps: list[tuple[int, ...]], read: set[int]) -> None:
         ahead = ahead_of(stamps)
         for time, number in sorted(frame for frame in frames if stamps[0][0] <= frame[0] <= stamps[-1][2]):
-            self.receiving.sent.append(time - ahead)
-            self.receiving.has_come.append(number in read)
-            self.receiving.sent_on.append(0)
-            self.receiving.sent_by.append("card")
-
-    def add(self, event: Event) -> None:
-        self.receiving.add(event)
-        self.card.add(event)
-        self.timeline.add(event)
-        self.interrupts += event.name == "irq_handler_entry" and f"name={DEVICE}" in event.said
+            self.receiving.append_packet(time - ahead, number in read, 0, "card", ANY)
 
     def measured(self, packet: float) -> Measured:
-        return {**predicting.measured_of(self.receiving, self.head, packet=packet), "interrupts": self.interrupts}
+        values = predicting.measured_of(self.receiving, self.head, packet=packet)
+        pairs: dict[str, Sequence[tuple[int, float]]] = {
+            "delivered_p50": self.receiving.delivered(packet),
+            "used_p50": self.receiving.used(),
+        }
+        for name, some in pairs.items():
+            if some:
+                known = known_median(sorted(end - time for time, end in some))
+                values |= {f"{name}_low": round(known[0]), f"{name}_high": round(known[1])}
+        return {**values, "interrupts": self.interrupts}
 
     def costs(self) -> dict[str, int]:
-        """Returns the costs by `fintaqush costs`, and those of cards."""
+        """Returns the costs by `fintaqush costs`, with the interrupt from the arrival at the card."""
         found = costs.object_in(str(self.path), [DEVICE])["costs"]
         values = {name.replace("_", "-"): cost["value"] for name, cost in found.items()}
-        use = costs.estimated(self.timeline, self.head)[0].get("use")
         entries = self.receiving.entries[self.receiving.processor]
-        more = card_costs.known_costs(self.card, self.timeline, use)[0]
         if interrupt := card_costs.arrival_interrupt_cost(self.receiving.sent, entries):
-            more["interrupt"] = interrupt
-        return {**values, **{name: round(cost.value) for name, cost in more.items()}}
+            values["interrupt"] = round(interrupt.value)
+        return values

@@ -13,11 +13,8 @@ import pathlib
 import re
 import sys
 
-FORMS = [
-    r"^[a-z](?:[^\n;=]|,\n)*?\n?\b{}\([^;{{}}]*\)\n\{{\n.*?^\}}\n",  # a function
-    r"^#define {}\b(?:[^\n]*\\\n)*[^\n]*\n",
-    r"^enum (?:\w+ )?\{{\n\s*{}\b.*?^\}};\n",
-]
+FORMS = [r"^[a-z](?:[^\n;=]|,\n)*?\n?\b{}\([^;{{}}]*\)\n\{{\n.*?^\}}\n",  # a function
+         r"^#define {}\b(?:[^\n]*\\\n)*[^\n]*\n", r"^enum (?:\w+ )?\{{\n\s*{}\b.*?^\}};\n"]
 
 
 def definition(text: str, name: str) -> str | None:

@@ -13,8 +13,11 @@ from collections.abc import Iterator
 from pathlib import Path
 from typing import Any
 
-from live import GROUPS, Line, judged, read_kept
+from live import GROUPS, TOP, Line, judged, read_kept
 from fintaqush_tools.pictures import LIGHT, canvas, saved
+
+sys.path.append(str(TOP / "scripts"))
+from parts import with_part  # noqa: E402
 
 BEGIN, END = "<!-- predicted and measured: begin -->", "<!-- predicted and measured: end -->"
 NAMES = {"dropped": "packets dropped", "polls": "polls", "runs": "runs", "squeezed": "squeezed runs",
@@ -44,15 +47,6 @@ def table_of(program: str) -> str:
         lines += [f"| {line.setting} | {base} | {NAMES[line.name]} | {text_of(line.name, line.predicted)} | {text_of(line.name, line.median)}, "
                   f"{text_of(line.name, min(line.measured))} to {text_of(line.name, max(line.measured))} | {line.error:+.1f} % |" for line in predicted]
     return "\n".join(lines) + "\n"
-
-
-def page_with(text: str, table: str) -> str:
-    """A page with the table between its marks."""
-    before, begin, rest = text.partition(BEGIN)
-    _, end, after = rest.partition(END)
-    if not begin or not end:
-        raise SystemExit(f"table: the page lacks {BEGIN} or {END}")
-    return f"{before}{BEGIN}\n{table}{END}{after}"
 
 
 def label_of(line: Line, is_named: bool) -> str:
@@ -99,7 +93,7 @@ def main(program: str, what: str = "", path: str = "") -> int:
         draw(program, path)
     elif what in ("--into", "--check"):
         old = Path(path).read_text(encoding="utf-8")
-        new = page_with(old, table)
+        new = with_part(old, BEGIN, END, table.splitlines())
         if what == "--check":
             return old != new
         Path(path).write_text(new, encoding="utf-8")

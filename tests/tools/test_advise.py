@@ -12,7 +12,6 @@ import struct
 import subprocess
 import unittest
 import unittest.mock
-from argparse import Namespace
 from array import array
 from collections import Counter
 from collections.abc import Sequence
@@ -24,8 +23,7 @@ import timing
 from timing import Made
 from tooltest import HAS_MACHINE, HERE, Done, InFolder, keys_of, run, skip_without
 
-from fintaqush_tools import advice, choosing, predicting
-from fintaqush_tools.commands import advise
+from fintaqush_tools import advice, predicting, verifying
 from fintaqush_tools.errors import Refusal
 from fintaqush_tools.receiving import Receiving
 from fintaqush_tools.recorded import Recording
@@ -45,8 +43,9 @@ def file_of(made: Made | str, **changes: object) -> str:
     return "fintaqush-recording 1\n" + "".join(f"{name} {value}\n" for name, value in head.items() if value != "") + "trace\n" + text
 
 
-def quiet(reader: int = 5, count: int = 80, works: Sequence[int] = (5, 15)) -> Made:
-    """Returns bursts of 5 and 15 packets, alternating, 400 us apart, each in one poll. The program reads on another processor, or on the same one."""
+def quiet(reader: int = 5, count: int = 80, works: Sequence[int] = (5, 15), flush: int = 0, period: int = 400_000) -> Made:
+    """Returns bursts of 5 and 15 packets, alternating, 400 us apart, each in one poll. The program reads on another processor, or on the same one.
+    With a flush time NAPI's timer polls once after each burst."""
     made = Made(**COSTS)
     made.reader = reader
     made.switch(made.time - 9000, timing.POLLER, "other-5", "swapper/3-0")
@@ -54,9 +53,18 @@ def quiet(reader: int = 5, count: int = 80, works: Sequence[int] = (5, 15)) -> M
     made.switch(made.time - 7000, reader, "server-60", "swapper/9-0")
     for place in range(count):
         begin, work = made.time, works[place % len(works)]
-        made.read(made.softirq_round([work]), work)
-        made.time = begin + 400_000
+        end = made.softirq_round([work])
+        made.read(end, work)
+        if flush:
+            made.timer_round(end, flush)
+        made.time = begin + period
     return made
+
+
+def deferred(works: Sequence[int] = (5, 15), period: int = 400_000) -> str:
+    """Returns the recording of these bursts with a deferral of 1 x a quarter of the period."""
+    flush = period // 4
+    return file_of(quiet(works=works, flush=flush, period=period), **{"device.vb1.napi_defer_hard_irqs": 1, "device.vb1.gro_flush_timeout": flush})
 
 
 def overloaded(count: int = 40, ring: int = 50) -> Made:
@@ -106,31 +114,40 @@ class Advise(InFolder):
 
     def test_nothing_to_change(self) -> None:
         """Each other setting delays packets."""
-        done = self.advised(file_of(quiet()), "--goal", "p99")
+        done = self.advised(deferred(), "--goal", "p99")
         self.assertIn("the fit for the 99th percentile of waits is good\n", done.stdout)
         self.assertIn("advice: change nothing, since no setting is notably better for the 99th percentile of waits\n", done.stdout)
         self.assertNotIn("to set it", done.stdout)
         rows = [tuple(line.split()[-7:]) for line in done.stdout.split("  setting ")[1].split("\nadvice:")[0].splitlines()[1:]]
         self.assertEqual((len(set(rows)), len(rows)), (8, 8))  # equal results are one row
-        self.assertRegex(done.stdout, r"threaded 0, napi_defer_hard_irqs 0, gro_flush_timeout 0, the program apart; 1 more ")
+        self.assertRegex(done.stdout, r"threaded 0, napi_defer_hard_irqs 1, gro_flush_timeout 100000, the program apart; \d+ more ")
         self.assertIn("not modelled: GRO's merging of packets; ", done.stdout)
         self.assertIn("net.core.netdev_budget isn't tried", done.stdout)
 
+    def test_deferral_needs_a_timer_of_the_recording(self) -> None:
+        """Without timers their cost is unknown: no setting with deferral is tried. With timers all are, also those without deferral."""
+        for text, timeouts in ((file_of(quiet()), {0}), (deferred(), {0, 20_000, 50_000, 100_000, 200_000, 500_000})):
+            told = self.told(text)
+            self.assertEqual({each["options"]["gro_flush_timeout"] for each in told["tried"]}, timeouts)
+            self.assertEqual(any(note.startswith("deferral isn't compared with none") for note in told["notes"]), timeouts == {0})
+        values = {row["name"]: (row["measured"], row["predicted"]) for row in told["check"]}
+        self.assertEqual((values["polls"], told["costs"]["timer"]["value"], told["costs"]["timer_wake"]["value"]), ((160, 160), 1700, 3300))
+
     def test_less_processor_time(self) -> None:
         """With a timer of 500 us, bursts 400 us apart share some polls, and only the first interrupt is left."""
-        told = self.told(file_of(quiet()), "--goal", "cpu")
+        told = self.told(deferred(), "--goal", "cpu")
         self.assertEqual({name: told["advised"]["options"][name] for name in ("threaded", "defer_hard_irqs", "gro_flush_timeout")},
                          {"threaded": 0, "defer_hard_irqs": 2, "gro_flush_timeout": 500000})
         self.assertEqual(told["set"], ["ip netns exec receiver sh -c 'echo 2 > /sys/class/net/vb1/napi_defer_hard_irqs'",
                                        "ip netns exec receiver sh -c 'echo 500000 > /sys/class/net/vb1/gro_flush_timeout'"])
-        self.assertEqual(told["advised"]["values"]["interrupts"], 1)
-        self.assertLess(told["advised"]["values"]["kernel_percent"], told["now"]["kernel_percent"])
-        cheap, dear = told["advised"]["costs_80"]["kernel_percent"], told["advised"]["costs_120"]["kernel_percent"]
-        self.assertLess(cheap, told["advised"]["values"]["kernel_percent"])
-        self.assertGreater(dear, told["advised"]["values"]["kernel_percent"])
-        limited = self.told(file_of(quiet()), "--goal", "cpu", "--p99-below", "200")
-        self.assertLess(limited["advised"]["costs_120"]["used_p99"], 200_000)
-        self.assertEqual(limited["advised"]["options"]["gro_flush_timeout"] in (0, 100000, 50000, 20000), True)
+        advised = told["advised"]
+        self.assertEqual(advised["values"]["interrupts"], 1)
+        self.assertLess(advised["values"]["kernel_percent"], told["now"]["kernel_percent"])
+        self.assertTrue(advised["low"]["kernel_percent"] < advised["values"]["kernel_percent"] < advised["high"]["kernel_percent"])
+        self.assertEqual({name: type(value) for name, value in advised["low"].items()}, {name: type(value) for name, value in advised["values"].items()})
+        limited = self.told(deferred(), "--goal", "cpu", "--p99-below", "200")
+        self.assertLess(limited["advised"]["high"]["used_p99"], 200_000)
+        self.assertIn(limited["advised"]["options"]["gro_flush_timeout"], (0, 100000, 50000, 20000))
 
     def test_a_program_on_the_processor_that_polls(self) -> None:
         """The program is advised to run on the processor that was idle for longest; the waits are those to the end of use. If none was, it stays."""
@@ -145,10 +162,10 @@ class Advise(InFolder):
         self.assertIn("note: processor 1 was idle for 90 % of the recording; what waking the program there takes isn't in the recording unless it was apart\n", done.stdout)
         self.assertNotIn("taskset", self.advised(file_of(quiet(reader=timing.POLLER)), "--goal", "p50").stdout)
 
-    def card(self) -> list[str]:
+    def card(self, works: Sequence[int] = (5, 15)) -> list[str]:
         """Returns quiet's recording as that of a card: the packets that polls take, and no sender's."""
         lines: list[str] = []
-        for line in quiet().text().splitlines(True):
+        for line in quiet(works=works).text().splitlines(True):
             found = re.search(r" (\d+)\.(\d{9}): napi_poll: .* work (\d+) ", line)
             for place in range(int(found[3]) if found else 0):
                 assert found
@@ -172,12 +189,24 @@ class Advise(InFolder):
         path.write_bytes(text)
         return path
 
+    CAPTURED: dict[str, object] = {"sender": "", "pair": "", "began.realtime": REAL, "began.monotonic": MONOTONIC, "device.vb1.address": ADDRESS}
+    BEGINS = range(10**12 + COSTS["wake"] - MONOTONIC, 10**12 + COSTS["wake"] - MONOTONIC + 80 * 400_000, 400_000)  # of the interrupts
+
+    def arriving(self, works: Sequence[int]) -> list[tuple[int, str]]:
+        """Returns packets that arrive 700 ns before the interrupts."""
+        return [(begin - 700, self.ADDRESS) for place, begin in enumerate(self.BEGINS) for _ in range(works[place % 2])]
+
+    def test_an_interrupt_from_its_arrival(self) -> None:
+        """Every other poll takes one packet, 2400 ns after its arrival: an interrupt takes 1700 in its handler. Before the first one no softirq is known."""
+        told = self.told(file_of("".join(self.card((1, 5))), **self.CAPTURED), "--capture", self.captured(*self.arriving((1, 5))), "--goal", "cpu")
+        cost = told["costs"]["interrupt"]
+        self.assertEqual((cost["value"], cost["count"], told["options"]["interrupt"], told["options"]["wake"]), (2400, 39, 2400, 0))
+        self.assertFalse(any("wake-up" in note for note in told["notes"]), told["notes"])
+
     def test_a_capture(self) -> None:
         """Its packets arrive 700 ns before the interrupt that asks for their poll. Those to other addresses and after the recording don't count."""
-        head = {"sender": "", "pair": "", "began.realtime": self.REAL, "began.monotonic": self.MONOTONIC, "device.vb1.address": self.ADDRESS}
-        text = file_of("".join(self.card()), **head)
-        begins = [10**12 + 400_000 * place + COSTS["wake"] - self.MONOTONIC for place in range(80)]
-        packets = [(begin - 700, self.ADDRESS) for place, begin in enumerate(begins) for _ in range((5, 15)[place % 2])]
+        head = self.CAPTURED
+        text, begins, packets = file_of("".join(self.card()), **head), self.BEGINS, self.arriving((5, 15))
         others = [(begin, "02:00:00:00:00:09") for begin in begins] + [(2 * 10**9, self.ADDRESS)] * 50 + [(5000, "33:33:00:00:00:01")] * 20
         told = self.told(text, "--capture", self.captured(*packets, *others), "--goal", "p50")
         values = {row["name"]: row["measured"] for row in told["check"]}
@@ -192,7 +221,7 @@ class Advise(InFolder):
         for packets, changes, words, why in refused:
             done = self.advised(file_of("".join(self.card()), **{**head, **changes}), "--capture", self.captured(*packets), *words, status=1)
             self.assertIn(why, done.stderr)
-        self.assertEqual(run("advise", self.folder / "x.rec", "--capture", self.folder / "capture.pcap", "--verify").returncode, 2)
+        self.assertEqual(run("advise", self.folder / "x.rec", "--capture", self.folder / "capture.pcap", "--verify").returncode, 64)
 
     def test_a_card(self) -> None:
         """Without a sender, packets that polls take arrived with the interrupt: the waits of test_the_recorded_setting without waking, 3300 ns."""
@@ -252,6 +281,88 @@ class Advise(InFolder):
         done = self.advised(self.two_instances(), "--goal", "p50")
         self.assertRegex(done.stdout, r"\n +1 +33 % +80 +80 +8\.[48] +8\.[48] +9\.7 +9\.6\n +3 +67 % +80 +80 +9\.7 +9\.6 +13\.8 +13\.7\n")
         self.assertIn("processor 3 limits: it has 67 % of the packets and a 99th percentile of 13.8 us; the others have up to 9.7 us\n", done.stdout)
+
+    def uneven(self) -> Made:
+        """Returns three instances: those of the queues 0 and 2 get 5 or 15 packets each at a time, and processor 3 polls both in one softirq; that of
+        queue 1 gets 5 packets 133 us later, on processor 1."""
+        made = Made(**COSTS)
+        for burst in range(120):
+            begin = made.time
+            for cpu, later, queues, count in ((timing.POLLER, 0, (0, 2), (5, 15)[burst % 2]), (1, 133_000, (1,), 5)):
+                since = len(made.lines)
+                for queue in queues:
+                    for packet in range(count):
+                        packed = f"dev=va1 skbaddr={burst:03x}{queue}{packet:x}"
+                        made.event(begin + later, timing.SENDER, "sender-7", f"net_dev_start_xmit: {packed.replace(' ', f' queue_mapping={queue} ')} vlan_tagged=0")
+                        made.event(begin + later, timing.SENDER, "sender-7", f"net_dev_xmit: {packed} len=100 rc=0")
+                time = made.handler(begin + later + COSTS["wake"], "call_function_single")
+                made.event(time, timing.POLLER, "<idle>-0", "softirq_entry: vec=3 [action=NET_RX]")
+                for queue in queues:
+                    time = made.polled(time, "<idle>-0", count)
+                    made.lines[-1] = time, made.lines[-1][1].replace("struct 0 ", f"struct a{queue} ")
+                made.event(time, timing.POLLER, "<idle>-0", "softirq_exit: vec=3 [action=NET_RX]")
+                made.lines[since:] = [(each, line.replace(f"[{timing.POLLER:03}]", f"[{cpu:03}]")) for each, line in made.lines[since:]]
+            made.time = begin + 400_000
+        return made
+
+    def test_interrupts_on_other_processors(self) -> None:
+        """Processor 3 has 80 % of the packets. A burst's last of 15 packets at the second instance waits 3300 + 2 * (1700 + 2600 + 15 * 410) ns there,
+        and half of the second part with its interrupt on processor 1. If an instance's interrupt isn't known, nothing of this is tried."""
+        head: dict[str, object] = {"program": "", "program.pids": "", **{f"device.vb1.irq.{38 + queue}.name": f"vb1-TxRx-{queue}" for queue in range(3)},
+                                   "device.vb1.irq.40.smp_affinity_list": "0-3"}
+        for place, (cpu, packets) in enumerate(((3, 1200), (1, 600), (3, 1200))):
+            head[f"instance.{place + 1}"] = f"device vb1 napi a{place} queue {place} kind receive polls 120 packets {packets} on {cpu}:120:{packets}"
+        told = self.told(file_of(self.uneven(), **head), "--goal", "p99")
+        self.assertEqual((told["now"]["delivered_p99"], told["advised"]["values"]["delivered_p99"]), (24192, 13744))
+        self.assertEqual((told["set"], told["advised"]["options"]["layout"]), (["echo 1 > /proc/irq/40/smp_affinity_list"], 1))
+        self.assertIn("irqbalance may move these interrupts back, if it runs", told["notes"])
+        self.assertIn("interrupts moved", self.advised(file_of(self.uneven(), **head), "--goal", "p99").stdout)
+        head["device.vb1.irq.39.name"] = "vb1-tx-1"
+        unknown = self.told(file_of(self.uneven(), **head), "--goal", "p99")
+        self.assertEqual({each["options"].get("layout", 0) for each in unknown["tried"]}, {0})
+
+    def test_a_backlog_with_replies(self) -> None:
+        """The backlog of processor 3 has the device's packets, that of processor 2 replies, which are other traffic. Each burst of 5 or 15 is one poll,
+        of which the k-th packet waits 7600 + 410 k ns; of 20 packets 10 are the first five of their bursts."""
+        made = Made(**COSTS)
+        for burst in range(80):
+            begin, count = made.time, (5, 15)[burst % 2]
+            for cpu, later, name, napi in ((timing.POLLER, 0, "vb1", "b3"), (2, 90_000, "va1", "b2")):
+                since, addresses = len(made.lines), [f"{napi}{burst:03x}{packet:x}" for packet in range(count)]
+                for address in addresses if name == "vb1" else ():
+                    made.event(begin, timing.SENDER, "sender-7", f"net_dev_xmit: dev=va1 skbaddr={address} len=100 rc=0")
+                time = made.handler(begin + later + COSTS["wake"], "call_function_single")
+                made.event(time, timing.POLLER, "<idle>-0", "softirq_entry: vec=3 [action=NET_RX]")
+                for address in addresses:
+                    made.event(time + 10, timing.POLLER, "<idle>-0", f"netif_receive_skb: dev={name} skbaddr={address} len=86")
+                end = made.polled(time, "<idle>-0", count, "(no_device)")
+                made.event(end, timing.POLLER, "<idle>-0", "softirq_exit: vec=3 [action=NET_RX]")
+                on = f"[{cpu:03}]"
+                made.lines[since:] = [(each, line.replace(f"[{timing.POLLER:03}]", on).replace("struct 0 ", f"struct {napi} ")) for each, line in made.lines[since:]]
+            made.time = begin + 400_000
+        head: dict[str, object] = {**BACKLOG, "sysctl.net.core.netdev_max_backlog": 1000, "events": "napi/napi_poll net/netif_receive_skb"}
+        for cpu in (2, 3):
+            head[f"instance.{cpu}"] = f"device (no_device) napi b{cpu} kind receive polls 80 packets 800 on {cpu}:80:800"
+        told = self.told(file_of(made, **head), "--goal", "p50")
+        values = {row["name"]: (row["measured"], row["predicted"]) for row in told["check"]}
+        self.assertEqual([each["processor"] for each in told["processors"]], [3])
+        self.assertEqual([values[name] for name in ("polls", "delivered_p50", "delivered_p99")], [(80, 80), (9650, 9648), (13750, 13744)])
+
+    def test_packets_that_the_processor_sent_itself(self) -> None:
+        """It sends 20 or 10 packets, 1 us apart, and polls them then: they arrive when the softirq begins, so each burst is one poll, as recorded. The
+        k-th waits 2600 + 410 k ns; the median of all is k = 8."""
+        made = Made(**COSTS)
+        for burst in range(80):
+            begin, work = made.time, 20 - 10 * (burst % 2)
+            for packet in range(work):
+                made.event(begin + 1000 * packet, timing.POLLER, "sender-7", "net_dev_xmit: dev=va1 skbaddr=0 len=100 rc=0")
+            made.event(begin + 1000 * work, timing.POLLER, "sender-7", "softirq_entry: vec=3 [action=NET_RX]")
+            made.event(made.polled(begin + 1000 * work, "sender-7", work), timing.POLLER, "sender-7", "softirq_exit: vec=3 [action=NET_RX]")
+            made.time = begin + 400_000
+        told = self.told(file_of(made, program="", **{"program.pids": ""}), "--goal", "p50")
+        values = {row["name"]: (row["measured"], row["predicted"]) for row in told["check"]}
+        self.assertEqual([values[name] for name in ("polls", "runs", "delivered_p50", "delivered_p99")], [(80, 80), (80, 80), (5880, 5880), (10800, 10800)])
+        self.assertEqual((told["fit"], {each["options"]["threaded"] for each in told["tried"]}), ("good", {0}))
 
     def test_an_instance_that_moves(self) -> None:
         """From the 41st poll on another processor polls: each is a device of the arrivals, with half of the packets."""
@@ -345,6 +456,10 @@ class Advise(InFolder):
         self.assertEqual(told["blame"], ["of the waits to delivery 65 % passed while another task had the processor (cc1 65 %), and of the slowest one in 100 64 % (cc1 64 %): no "
                                          "setting that is tried here changes that; priorities and other processors for these tasks do"])
         self.assertEqual(self.told(file_of(quiet()))["blame"], [])
+        deferred = file_of(text, **{"device.vb1.threaded": 1, "device.vb1.napi_defer_hard_irqs": 2, "device.vb1.gro_flush_timeout": 1000, "program": "", "program.pids": ""})
+        self.assertNotIn("of the waits to delivery", run("advise", self.write("x.rec", deferred), "--goal", "drops").stdout)
+        poor = self.advised(file_of(text, **{"device.vb1.threaded": 1, "program": "", "program.pids": "", "device.vb1.ethtool.ring.rx": 1}), status=1)
+        self.assertIn(f"so there is no advice for this goal; {told['blame'][0]}\n", poor.stderr)
 
     def test_other_tasks_beside_the_program(self) -> None:
         """The program reads on a separate processor: another task has 10 of 42 ms there."""
@@ -364,6 +479,22 @@ class Advise(InFolder):
             text = "".join(line for place, line in enumerate(lines) if place in kept or "sys_recvmsg" not in line)
             self.assertIn(f"the cost of a packet's use is unknown and counts as 0{ending}", self.told(file_of(text))["notes"])
 
+    def test_a_use_that_is_not_predicted(self) -> None:
+        """Another task has the program's processor, so each read comes 300 us later: waits end with the delivery then, which is predicted. If the
+        ring dropped nothing but the head's is full, that isn't either, and the fit is poor."""
+        lines = []
+        for line in quiet().text().splitlines(True):
+            found = re.search(r"\[005\].* (\d+)\.(\d{9}): ", line)
+            time = int(found[1]) * 10**9 + int(found[2]) + 300_000 if found else 0
+            lines.append(line.replace(f"{found[1]}.{found[2]}", f"{time // 10**9}.{time % 10**9:09}") if found else line)
+        text = "".join(sorted(lines, key=lambda line: group_in(r" (\d+\.\d{9}): ", line)))
+        told = self.told(file_of(text), "--goal", "p50")
+        self.assertEqual((told["fit"], {row["name"] for row in told["check"] if "used" in row["name"]}), ("fair", set()))
+        self.assertTrue(any(note.startswith("the end of use isn't predicted (wait to the end of use, p50, us: -") for note in told["notes"]), told["notes"])
+        self.assertEqual({each["options"]["apart"] for each in told["tried"]}, {1})
+        done = self.advised(file_of(text, **{"device.vb1.ethtool.ring.rx": 1}), "--goal", "p50", status=1)
+        self.assertIn("is poor: dropped: +", done.stdout)
+
     def test_what_is_set_and_not_modelled(self) -> None:
         told = self.told(file_of(quiet(), **{"sysctl.net.core.busy_read": 50, "device.vb1.ethtool.coalesce.adaptive-rx": "on", "udp.RcvbufErrors": "3 10",
                                                "device.vb1.rx-0.rps_cpus": "00000008"}))
@@ -372,22 +503,54 @@ class Advise(InFolder):
             self.assertTrue(any(note.startswith(each) for note in told["notes"]), each)
 
     def test_a_verdict(self) -> None:
-        """Before, 80 polls of 2600 ns and 410 per packet took 1.7 % of 31.6 ms. If half of the packets come, they take less; if the recording is
-        the same, the advice didn't hold."""
-        def verified(again: Made, *words: str, status: int = 0) -> Done:
-            second = self.write("again.rec", file_of(again))
-            with unittest.mock.patch.object(advise, "record_again", lambda told: Recording(str(second), told.words).read()), \
-                    unittest.mock.patch.object(advice.Machine, "with_changes", lambda *_: contextlib.nullcontext()), unittest.mock.patch("os.geteuid", lambda: 0):
-                return self.advised(file_of(quiet()), "--goal", "cpu", "--verify", *words, status=status)
+        """80 polls of 2600 ns and 410 per packet take 0.34 of 7.9 ms with 1 or 7 packets, and 0.27 with 1 or 3. Each setting is recorded three times
+        in turn, today's first. The advice holds if all of its recordings are below all of today's."""
+        often = 100_000
 
-        # 80 polls of 2600 + 410 * 1 and * 7 ns
-        self.assertRegex(verified(quiet(works=(1, 7))).stdout, r"\npolls, % of the time: 1\.7 before, 1\.1 with the advised settings \(-37 %\), [\d.]+ predicted\n$")
-        told = json.loads(verified(quiet(works=(1, 7)), "--json").stdout)
-        self.assertEqual((told["verdict"]["name"], round(told["verdict"]["before"], 2), round(told["verdict"]["measured"], 2)), ("poll_percent", 1.7, 1.07))
-        done = verified(quiet(), status=1)
-        self.assertIn("\npolls, % of the time: 1.7 before, 1.7 with the advised settings (+0 %)", done.stdout)
-        self.assertEqual(done.stderr, "fintaqush advise: applying the settings, and recording again during traffic\n"
-                         "fintaqush advise: the advised settings weren't better than those of before, which are set again\n")
+        def verified(*works: tuple[int, int], status: int = 0, words: Sequence[str] = ()) -> Done:
+            given = [self.write(f"{place}.rec", file_of(quiet(works=each, period=often))) for place, each in enumerate(works)]
+            state = {"is_changed": False}
+
+            def record_again(_: Any, told: Any) -> Recording:
+                self.assertEqual(state["is_changed"], len(given) % 2 == 1)
+                return Recording(str(given.pop(0)), told).read()
+
+            @contextlib.contextmanager
+            def with_changes(_: Any, changes: Sequence[advice.Change]) -> Any:
+                self.assertTrue(changes)
+                state["is_changed"] = True
+                yield
+                state["is_changed"] = False
+
+            with unittest.mock.patch.object(verifying, "record_again", record_again), unittest.mock.patch("os.geteuid", lambda: 0), \
+                    unittest.mock.patch.object(advice.Machine, "with_changes", with_changes):
+                done = self.advised(deferred((1, 7), often), "--goal", "cpu", "--verify", *words, status=status)
+            self.assertEqual(given, [])
+            return done
+
+        high, low = (1, 7), (1, 3)
+        # 80 * 2600 + 320 or 160 * 410 ns, of the time from the first packet to the end of the last poll: 79 * 100 us + 5000 + 2600 + 7 or 3 * 410
+        shares = [f"{100 * (80 * 2600 + count * 410) / (7_900_000 + 7600 + most * 410):.1f}" for count, most in ((320, 7), (160, 3))]
+        self.assertEqual(shares, ["4.3", "3.5"])
+        done = verified(high, low, high, low, high, low)
+        self.assertIn("\npolls, % of the time: 4.3 (4.3 to 4.3) today, 3.5 (3.5 to 3.5) with the advised settings: -19 %, better in all recordings\n", done.stdout)
+        self.assertRegex(done.stdout, r"\npredicted for these packets: [\d.]+, nine times of ten [\d.]+ to [\d.]+, which (holds|does not hold) the measured median\n$")
+        self.assertEqual(done.stderr.splitlines(), [f"fintaqush advise: recording today's settings and the advised ones during traffic, {number} of 3" for number in (1, 2, 3)])
+        told = json.loads(verified(high, low, high, low, high, low, words=["--json"]).stdout)["verdict"]
+        self.assertEqual((told["name"], told["verdict"], [[f"{each:.1f}" for each in told[name]] for name in ("today", "advised")]),
+                         ("poll_percent", "better", [["4.3"] * 3, ["3.5"] * 3]))
+        for works, what in (((high, low, high, high, high, low), "which is within their noise"), ((low, high) * 3, "worse in all recordings")):
+            done = verified(*works, status=1)
+            self.assertIn(what, done.stdout)
+            self.assertIn("fintaqush advise: the advised settings weren't better than today's, which are set again\n", done.stderr)
+
+    def test_a_verdict_without_values(self) -> None:
+        """A value that couldn't be measured in one of the recordings proves nothing."""
+        verdict = verifying.Verdict("used_p99", [50_000, 51_000], [20_000, 21_000, 22_000], 24_000, (20_500, 30_000))
+        self.assertEqual((verdict.judgement(), verdict.lines()), ("unknown", [
+            "wait to the end of use, p99, us: 50.5 (50.0 to 51.0) today, 21.0 (20.0 to 22.0) with the advised settings: -58 %, measured in too few recordings, of 3 each",
+            "predicted for these packets: 24.0, nine times of ten 20.5 to 30.0, which holds the measured median"]))
+        self.assertEqual(verifying.Verdict("used_p99", [], [9], 1, (1, 1)).lines(), ["the advice isn't verified: wait to the end of use, p99, us wasn't measured"])
 
     @skip_without("matplotlib")
     def test_the_picture(self) -> None:
@@ -415,8 +578,8 @@ class Advise(InFolder):
 
     def test_words_that_it_refuses(self) -> None:
         for words in (["--goal", "speed"], ["--max-drops", "-1"], ["--p99-below", "0"], ["--plot", "x.pdf"], ["--packets", "1"]):
-            self.assertEqual(run("advise", self.write("x.rec", file_of(quiet())), *words).returncode, 2, words)
-        self.assertEqual(run("advise").returncode, 2)
+            self.assertEqual(run("advise", self.write("x.rec", file_of(quiet())), *words).returncode, 64, words)
+        self.assertEqual(run("advise").returncode, 64)
         self.assertIn("there is no such file", run("advise", self.folder / "none").stderr)
         self.assertIn("--device vb7: it has vb1", self.advised(file_of(quiet()), "--device", "vb7", status=1).stderr)
         self.assertIn("there is no such folder", self.advised(file_of(quiet()), "--plot", self.folder / "none/x.png", status=1).stderr)
@@ -424,7 +587,7 @@ class Advise(InFolder):
     def test_a_program_that_fails(self) -> None:
         for body in ("kill -9 $$", "exit 0", "echo hello", "exit 64"):
             program = self.program("program", f"{body}")
-            done = self.advised(file_of(quiet()), "--program", program, status=1)
+            done = self.advised(file_of(quiet()), "--binary", program, status=1)
             self.assertEqual((done.stdout, done.stderr.count("\n")), ("", 1), done.stderr)
 
 
@@ -522,75 +685,11 @@ class Seen(unittest.TestCase):
     def test_few_drops(self) -> None:
         """Three drops predicted for none, of 1000 packets, are 30 % of a hundredth of them. The line has the difference and what it was divided by."""
         self.assertEqual((predicting.error_of("dropped", 0, 3, 1000), predicting.error_of("dropped", 200, 210, 1000)), (30, 5))
-        line, = advise.check_lines([("dropped", 3, 1, predicting.error_of("dropped", 3, 1, 500))], 500)
+        line, = predicting.check_lines([("dropped", 3, 1, predicting.error_of("dropped", 3, 1, 500))], 500)
         self.assertRegex(line, r"^  dropped +3 +1 +-2   judged as -20\.0 % of 10, because a ratio of few says nothing$")
-        line, = advise.check_lines([("dropped", 200, 210, 5.0)], 1000)
+        line, = predicting.check_lines([("dropped", 200, 210, 5.0)], 1000)
         self.assertRegex(line, r"^  dropped +200 +210 +\+5\.0 %$")
-        self.assertEqual([each["of"] for each in advise.objects_in([("dropped", 3, 1, -20.0), ("polls", 50, 51, 2.0)], 500)], [10, 50])
-
-
-class MadeUp(choosing.Predictions):
-    """Predictions that are given: of each setting its values, by its name, and these with other costs."""
-
-    names: dict[tuple[int, ...], str]
-
-    def __init__(self, goal: str, *settings: tuple[Any, ...]) -> None:
-        self.settings = {name: values for name, values, *_ in settings}
-        self.others = {name: more[0] if more else (values, values) for name, values, *more in settings}
-        self.goal = goal
-
-    def values(self, value: float) -> choosing.Values:
-        zero = {"kernel_percent": 1, "used_p99": 1000, "used_p50": 1000, "lost": 0}
-        return {**zero, {"p99": "used_p99", "p50": "used_p50", "cpu": "kernel_percent", "drops": "lost"}[self.goal]: value}
-
-    def of_all(self, tried: Sequence[choosing.Options]) -> list[choosing.Values]:
-        return [self.values(self.settings[self.name(options)]) for options in tried]
-
-    def band_of(self, options: choosing.Options) -> list[choosing.Values]:
-        return [self.values(value) for value in self.others[self.name(options)]]
-
-    def name(self, options: choosing.Options) -> str:
-        return self.names[tuple(options.values())]
-
-
-class Costs(unittest.TestCase):
-    def test_the_cost_of_a_timer(self) -> None:
-        """The machine has one cost for interrupts and timers: with deferral that of a timer, if it is known."""
-        costs = {"interrupt": 300, "timer": 4000, "poll": 1, "packet": 2}
-        deferral = {"defer-hard-irqs": 2, "gro-flush-timeout": 20000}
-        self.assertEqual(choosing.settings_of(costs, deferral), {"interrupt": 4000, "poll": 1, "packet": 2, **deferral})
-        self.assertEqual(choosing.settings_of(costs, {"ring": 9}), {"interrupt": 300, "poll": 1, "packet": 2, "ring": 9})
-        self.assertEqual(choosing.settings_of({"interrupt": 300}, deferral)["interrupt"], 300)
-
-
-class Choices(unittest.TestCase):
-    """Which of several settings is advised. A setting's name has a letter for each change; with an A it moves the program."""
-
-    def chosen(self, goal: str, *settings: tuple[Any, ...]) -> str:
-        predictions = MadeUp(goal, *settings)
-        tried = [{"apart": int("A" in name), **{letter: int(letter in name) for letter in "xyz"}} for name, *_ in settings]
-        predictions.names = {tuple(options.values()): name for options, (name, *_) in zip(tried, settings)}
-        words = Namespace(goal=goal, max_drops=None, p99_below=None)
-        best = choosing.Choice(words, "used", predictions, tried).best
-        assert best
-        return predictions.name(best[0])
-
-    def test_the_fewest_changes(self) -> None:
-        """Of settings within 3 %, today's before others; one that moves the program only if no other is as good."""
-        self.assertEqual(self.chosen("p99", ("-", 50), ("xA", 27.0), ("x", 27.6), ("xy", 27.1)), "x")
-        self.assertEqual(self.chosen("p99", ("-", 50), ("A", 27.0), ("xyz", 27.6)), "xyz")
-        self.assertEqual(self.chosen("p99", ("-", 50), ("xA", 27.0), ("x", 29.0)), "xA")
-        self.assertEqual(self.chosen("p99", ("-", 27.5), ("x", 27.0)), "-")
-        self.assertEqual(self.chosen("cpu", ("-", 4), ("x", 2.5), ("xA", 2.5), ("y", 2.4)), "y")
-
-    def test_what_the_costs_leave_open(self) -> None:
-        """With costs 20 % lower x is as good as xy; z is never."""
-        self.assertEqual(self.chosen("p50", ("-", 90), ("xy", 50, (40, 60)), ("x", 55, (40, 70)), ("z", 54, (43, 65))), "x")
-
-    def test_drops(self) -> None:
-        """Settings without drops are alike whatever their waits."""
-        self.assertEqual(self.chosen("drops", ("-", 900), ("xA", 0), ("xy", 0), ("x", 0)), "x")
-        self.assertEqual(self.chosen("drops", ("-", 0), ("x", 0)), "-")
+        self.assertEqual([each["of"] for each in predicting.objects_in([("dropped", 3, 1, -20.0), ("polls", 50, 51, 2.0)], 500)], [10, 50])
 
 
 @unittest.skipUnless(os.geteuid() == 0 and shutil.which("ip"), "root")

@@ -100,7 +100,7 @@ class FromPcap(Arrivals):
                 crc = crc >> 1 ^ (0xEDB88320 if crc & 1 else 0)
         self.assertEqual(flows[0], str(crc ^ 0xFFFFFFFF))
         self.taken((self.folder / "made.csv").read_text(), "--queues", "2")
-        self.assertEqual(run("from-pcap", "recorded", "none", "--flows", folder=self.folder).returncode, 2)
+        self.assertEqual(run("from-pcap", "recorded", "none", "--flows", folder=self.folder).returncode, 64)
 
     def test_more_packets_than_a_trace_has(self) -> None:
         line = "{}.{:06} eth0  In  ifindex 2 02:00:00:00:00:01 ethertype IPv4 (0x0800), length 60: UDP\n"
@@ -213,7 +213,7 @@ class FromFtrace(Arrivals):
         without = run("from-ftrace", "-", self.folder / "none", "--arrivals", "--flows", text=self.of_a_card("napi_gro_receive_entry"))
         self.assertEqual((without.returncode, without.stderr), (1, "fintaqush from-ftrace: -: --flows: only the event napi_gro_receive_entry has the hash of a packet's "
                                                                 "flow; of a capture fintaqush from-pcap computes it\n"))
-        self.assertEqual(run("from-ftrace", "-", self.folder / "none", "--flows", text="").returncode, 2)
+        self.assertEqual(run("from-ftrace", "-", self.folder / "none", "--flows", text="").returncode, 64)
 
     def test_a_trace_of_a_card(self) -> None:
         """Each poll takes its packets: three in the first run, one in the second."""
@@ -314,7 +314,7 @@ class Traffic(Arrivals):
         self.assertEqual((first, [row[:3] for row in rows], {row[3] for row in rows}), ("moment,device,bytes,flow", plain, set(range(8))))
         counts = [int(each) for each in re.findall(r"^device \d arrived (\d+)", self.taken(done.stdout, "--queues", "4"), re.M)]
         self.assertTrue(len(counts) == 4 and all(abs(each - len(rows) / 4) < 165 for each in counts), counts)
-        self.assertEqual(run("traffic", "--flows", "8").returncode, 2)
+        self.assertEqual(run("traffic", "--flows", "8").returncode, 64)
 
     def test_the_seed_decides(self) -> None:
         words = ["--kind", "poisson", "--devices", "3", "--seed"]
@@ -332,4 +332,4 @@ class Traffic(Arrivals):
 
     def test_words_that_it_refuses(self) -> None:
         for words in (["--mix", "tx=1"], ["--devices", "4097"], ["--devices", "0"]):
-            self.assertEqual(run("traffic", "--arrivals", *words).returncode, 2)
+            self.assertEqual(run("traffic", "--arrivals", *words).returncode, 64)

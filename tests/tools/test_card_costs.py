@@ -15,7 +15,8 @@ from fintaqush_tools import card_costs
 from fintaqush_tools.card_costs import CardTimes
 from fintaqush_tools.commands import costs
 from fintaqush_tools.fits import Cost
-from fintaqush_tools.recording import Event, Head, events_in, events_of
+from fintaqush_tools.options import Words
+from fintaqush_tools.recording import events_of
 from fintaqush_tools.timeline import Timeline
 
 Found = tuple[int, int, str, int, str]  # time, processor, task, its number, text
@@ -156,14 +157,9 @@ def woken_uses_in(events: Sequence[Found], device: str, program: str, call: str)
 class Recorded(unittest.TestCase):
     """Real recordings: e1000 of an emulated machine, with deferral and a program on the processor that polls; and a NAPI thread."""
 
-    def times(self, path: Path, device: str) -> tuple[CardTimes, Timeline, Head]:
-        head: Head = {}
-        events: list[Event] = list(events_in(str(path), [], head))
-        times, timeline = CardTimes([device]), Timeline(None, [device])
-        for event in events:
-            times.add(event)
-            timeline.add(event)
-        return times, timeline.settle(), head
+    def times(self, path: Path, device: str) -> tuple[CardTimes, Timeline, dict[str, Cost], list[str]]:
+        times, head = costs.times_in(Words(recording=str(path), device=[device], pair=None, irq=None))
+        return times.card, times, *costs.estimated(times, head)
 
     def same(self, cost: Optional[Cost], values: Sequence[float], what: str) -> None:
         self.assertIsNotNone(cost, what)
@@ -174,36 +170,29 @@ class Recorded(unittest.TestCase):
     def test_a_card(self) -> None:
         path = HERE / "recorded-card.rec.gz"
         events = timing.searched(gzip.decompress(path.read_bytes()).decode("ascii"))
-        times, timeline, head = self.times(path, "eth0")
-        self.same(card_costs.take_cost(times), list(takes_in(events, "eth0")), "take")
-        use = costs.estimated(timeline, head)[0]["use"]
-        uses = [max(0, each - use.value) for each in woken_uses_in(events, "eth0", "receiver", "recvfrom")]
-        self.same(card_costs.app_wake_cost(times, use), uses, "app-wake")
-        found = card_costs.timer_costs(timeline)
+        times, timeline, found, told = self.times(path, "eth0")
+        self.same(found["take"], list(takes_in(events, "eth0")), "take")
+        uses = [max(0, each - found["use"].value) for each in woken_uses_in(events, "eth0", "receiver", "recvfrom")]
+        self.same(found["app-wake"], uses, "app-wake")
         self.same(found["timer"], list(timers_in(events)), "timer")
         self.same(found["timer-wake"], list(timer_wakes_in(events, "eth0")), "timer-wake")
-        timeouts = card_costs.timeouts_of(head, ["eth0"])
-        self.assertEqual(timeouts, [100_000])
-        costs_by_name, told = card_costs.known_costs(times, timeline, use, timeouts)
-        self.assertEqual(list(costs_by_name), ["take", "app-wake", "timer", "timer-wake"])
-        self.assertEqual([line.endswith(", at a gro_flush_timeout of 100000 ns") for line in told], [False, False, True, True])
-        takes = statistics.median(takes_in(events, "eth0"))
-        self.assertRegex(told[0], rf"^take {takes:.0f} ns \(\d+ to \d+\): \d+ pairs of packets$")
         self.assertNotIn("app-wake", card_costs.known_costs(times, timeline, None)[0])
+        lines = {name: next(line for line in told if line.startswith(f"{name} ")) for name in ("take", "app-wake", "timer", "timer-wake")}
+        self.assertEqual([" at a gro_flush_timeout of 100000 ns, " in line for line in lines.values()], [False, False, True, True])
+        takes = statistics.median(takes_in(events, "eth0"))
+        self.assertRegex(lines["take"], rf"^take {takes:.0f} ns \(\d+ to \d+\): \d+ pairs of packets, half of them from \d+ to \d+$")
+        both = sum(map(len, timeline.handlers.values()))
+        self.assertEqual(found["interrupt"].count + found["timer"].count, both)
 
     def test_a_thread(self) -> None:
-        """Between veth devices no packet that GRO is given is recorded."""
+        """Between veth devices no packet that GRO is given is recorded. The program reads on the processor of the thread."""
         path = HERE / "recorded-thread.rec"
-        times, timeline, _ = self.times(path, "vb7")
-        self.assertIsNone(card_costs.take_cost(times))
-        self.same(card_costs.timer_costs(timeline)["timer"], list(timers_in(timing.searched(path.read_text()))), "timer")
-
-    def test_an_interrupt_without_timers(self) -> None:
-        """With deferral most handlers are the timer's."""
-        _, timeline, _ = self.times(HERE / "recorded-card.rec.gz", "eth0")
-        cost = card_costs.packet_interrupt_cost(timeline)
-        both = sum(map(len, timeline.handlers.values()))
-        self.assertTrue(cost and cost.count + len(timeline.handlers["the timer of napi_watchdog"]) == both, both)
+        events = timing.searched(path.read_text())
+        _, _, found, _ = self.times(path, "vb7")
+        self.assertNotIn("take", found)
+        self.same(found["timer"], list(timers_in(events)), "timer")
+        uses = [max(0, each - found["use"].value) for each in woken_uses_in(events, "vb7", "server", "recvmsg")]
+        self.same(found["app-wake"], uses, "app-wake")
 
 
 if __name__ == "__main__":

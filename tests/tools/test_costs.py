@@ -232,10 +232,11 @@ class Modelled(InFolder):
         self.assertEqual(told["costs"]["poll"]["explained"], 1)
         self.assertEqual([told["costs"]["poll"][end] for end in ("low", "high")], [2600, 2600])
 
-    def test_a_program_on_the_processor_that_polls_has_no_app_wake(self) -> None:
+    def test_a_program_on_the_processor_that_polls(self) -> None:
+        """A packet for which it slept costs app-wake more than its use, from the end of the poll to the next read."""
         told, costs = self.costs(self.rounds(reader=timing.POLLER))
-        self.assertEqual(costs, self.wanted("interrupt", "poll", "packet", "wake", "use"))
-        self.assertEqual(told["apart"], 0)
+        self.assertEqual(costs, self.wanted("interrupt", "poll", "packet", "wake", "use", "app-wake"))
+        self.assertEqual((told["apart"], told["costs"]["app_wake"]["count"]), (0, 30))
 
     def test_packets_that_are_dropped_are_no_packets_of_polls(self) -> None:
         made = self.rounds(reader=5)
@@ -254,9 +255,9 @@ class Modelled(InFolder):
                 end = made.thread_round(chance.randrange(1, 30), by_timer)
                 made.time = end + 20_000
             told, costs = self.costs(made)
-            timer = {"timer": self.COSTS["interrupt"]} if share else {}
+            timer = {"timer": self.COSTS["interrupt"], "timer-wake": self.COSTS["wake"]} if share else {}
             self.assertEqual((costs, told["threaded"]), ({**self.wanted("interrupt", "poll", "packet", "wake"), **timer}, 1))
-            self.assertEqual("by timers" in " ".join(told["text"]), share > 0)
+            self.assertEqual("timers on an idle processor" in " ".join(told["text"]), share > 0)
 
     def test_timers_take_longer(self) -> None:
         """An interrupt takes 1700 ns and a timer 4400: the median of both is neither. With timers only, an interrupt counts as long as these."""
@@ -502,15 +503,17 @@ class Recorded(InFolder):
         runs = [place for *_, place in polls if place is not None]
         handlers = [took for took in (timing.before_run(events, place) for place in runs) if took is not None]
         interrupts, timers = ([took for took, by_timer in handlers if bool(by_timer) == is_timer] for is_timer in (False, True))
-        wakes = list(timing.wakes_of(events, device))
+        wakes, timer_wakes = ([took for took, by_timer in timing.wakes_of(events, device) if by_timer == is_timer] for is_timer in (False, True))
         uses, calls, lone = timing.reads_of(events, device)
         self.assertEqual((told["polls"], told["polled"], told["processor"]), (len(polls), [device], 3))
-        found_of_each: list[Sequence[object]] = [polls, interrupts, wakes, uses, lone]
+        found_of_each: list[Sequence[object]] = [polls, interrupts, wakes, timer_wakes, uses, lone]
         self.assertEqual([len(each) for each in found_of_each], counts)
-        enough = interrupts if len(interrupts) >= 8 else timers  # if there are too few interrupts, a timer counts
-        every: list[tuple[str, list[int]]] = [("interrupt", enough), ("wake", wakes), ("use", uses), *([("timer", timers)] if timers else [])]
-        for cost, values in every:
+        # If there are too few interrupts, or wake-ups by packets, a timer counts.
+        every = {"interrupt": interrupts if len(interrupts) >= 8 else timers, "wake": wakes if len(wakes) >= 8 else timer_wakes, "use": uses}
+        every |= {"timer": timers, "timer-wake": timer_wakes} if timers else {}
+        for cost, values in every.items():
             self.assertEqual(found[cost], (timing.middle(values), len(values)), cost)
+        self.assertEqual(set(found) & {"timer", "timer-wake"}, set(every) & {"timer", "timer-wake"})
         self.check_line(polls, told["costs"])
         return found, calls, lone
 
@@ -526,15 +529,15 @@ class Recorded(InFolder):
         self.assertTrue(costs["packet"]["low"] < slope < costs["packet"]["high"])
 
     def test_a_backlog(self) -> None:
-        found, _, _ = self.check("backlog", "(no_device)", [22, 22, 13, 104, 1])
+        found, _, _ = self.check("backlog", "(no_device)", [22, 22, 13, 0, 104, 1])
         self.assertNotIn("app-wake", found)
 
     def test_a_thread_with_timers(self) -> None:
-        found, _, _ = self.check("thread", "vb7", [33, 4, 32, 9, 17])
-        self.assertNotIn("app-wake", found)
+        found, _, lone = self.check("thread", "vb7", [33, 4, 3, 29, 9, 17])
+        self.assertEqual(found["app-wake"][1], len(lone))
 
     def test_a_program_on_another_processor(self) -> None:
-        found, calls, lone = self.check("apart", "vb7", [31, 25, 26, 36, 9])
+        found, calls, lone = self.check("apart", "vb7", [31, 25, 26, 0, 36, 9])
         self.assertEqual(found["app-wake"], (timing.middle(max(0, each - statistics.median(calls)) for each in lone), 9))
 
     def test_what_it_refuses(self) -> None:

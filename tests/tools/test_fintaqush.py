@@ -17,22 +17,9 @@ from pathlib import Path
 from typing import Any
 
 from finding import group_in
-from tooltest import (
-    HAS_MACHINE,
-    MACHINE,
-    PROGRAMS,
-    SERIES,
-    TOP,
-    Done,
-    InFolder,
-    process,
-    process_to,
-    run,
-    skip_without,
-    started,
-)
+from tooltest import HAS_MACHINE, MACHINE, PROGRAMS, SERIES, TOP, Done, InFolder, process, process_to, run, skip_without, started
 
-from fintaqush_tools.cli import MODULES
+from fintaqush_tools.cli import MODULES, module_of
 
 COMMAND = TOP / "fintaqush"
 BURSTS = TOP / "examples/bursts.csv"
@@ -58,9 +45,12 @@ class Fintaqush(InFolder):
         self.assertEqual(set(MODULES.values()), modules)
 
     def test_each_goes_by_its_name(self) -> None:
+        version = group_in('#define FQ_VERSION "(.*)"', (TOP / "include/fintaqush.h").read_text())
         for name in MODULES:
             text = call(name, "--help").stdout if name == "replay" else self.succeeds(name, "--help")
             self.assertTrue(text.startswith(f"usage: fintaqush {name}"), text[:80])
+            if name != "replay":
+                self.assertEqual(self.succeeds(name, "--version"), f"fintaqush {name} of Fintaqush {version}\n")
             page = self.succeeds(name, "--manual")
             self.assertTrue(page.startswith(f".TH FINTAQUSH\\-{name.upper().replace('-', chr(92) + '-')} 1 "), page[:80])
             self.assertEqual("; 3 a condition of \\-\\-fail\\-if holds;" in page, "--fail-if" in text, page)
@@ -72,14 +62,14 @@ class Fintaqush(InFolder):
         ):
             done = call(*words, folder=self.folder)
             self.assertEqual((done.stderr, done.returncode), wanted)
-        self.fails("fintaqush raise: error: unrecognized arguments: --buget", "raise", "x", "--buget", status=2)
+        self.fails("fintaqush raise: error: unrecognized arguments: --buget", "raise", "x", "--buget", status=64)
 
     def test_a_subcommand_that_does_not_exist(self) -> None:
         for name, near in (("plto", "plot"), ("from", "from-ftrace or from-pcap"), ("whatif", "what-if"), ("Steps", "steps")):
-            said = self.fails(f"fintaqush: there is no subcommand '{name}': is {near} ", name, status=2)
+            said = self.fails(f"fintaqush: there is no subcommand '{name}': is {near} ", name, status=64)
             self.assertEqual(said.count("\n"), 1)
         self.assertNotIn("\x1b", run("\x1b[31m").stderr)
-        self.assertEqual((call().returncode, run("").returncode, run("--bad").returncode), (2, 2, 2))
+        self.assertEqual((call().returncode, run("").returncode, run("--bad").returncode), (64, 64, 64))
 
     def test_from_any_folder_and_by_a_link(self) -> None:
         (self.folder / "link").symlink_to(COMMAND)
@@ -104,7 +94,7 @@ class Fintaqush(InFolder):
             expected = process(SERIES, *own, text=text)
             self.assertEqual((expected.returncode, call("series", *words, text=text).stdout), (0, expected.stdout))
         for wrong in (["--every", "0"], ["--restarts", "1"], ["--rows", "--polls"], ["--rows", "--every", "2"]):
-            self.assertEqual(run("series", *wrong, text=text).returncode, 2)
+            self.assertEqual(run("series", *wrong, text=text).returncode, 64)
 
     @HAS_MACHINE
     def test_the_machine(self) -> None:
@@ -144,8 +134,32 @@ class Fintaqush(InFolder):
         self.assertIn("With 16 there are 793 runs, of which 312 are squeezed; with 300 there are 528, and 0 are squeezed.", printed)
         self.assertRegex(printed, r"dropped 3 packets")  # as recorded
         self.assertEqual(re.findall(r"^ +(\d+) +(yes|no) ", printed, re.M), [(str(size), apart) for size in (6, 12, 48) for apart in ("no", "yes")])
-        why = "fintaqush try: fintaqush-try.html exists and isn't overwritten\n"
-        self.fails(why, "try", "--out", "fintaqush-try.html", folder=self.folder)
+        why = "fintaqush try: fintaqush-try.html exists and isn't overwritten; --force replaces it\n"
+        self.fails(why, "try", folder=self.folder)
+
+
+class Options(InFolder):
+    """The options that all subcommands have in common, and messages about wrong ones."""
+
+    def test_messages_are_short(self) -> None:
+        """One line of usage, whatever the subcommand's options are, and one with the error, which has the nearest option."""
+        for name, words, near in (("what-if", ["--budgte", "3"], ": is --budget meant?"), ("record", ["--device", "lo", "--out", "x", "--progam=y"], ": is --program meant?"),
+                                  ("plot", ["--series", "a", "b", "--json"], ""), ("traffic", ["--xyz"], "")):
+            done = run(name, *words)
+            usage, error = done.stderr.splitlines()
+            self.assertEqual((done.returncode, usage[:17], error.startswith(f"fintaqush {name}: error: ")), (2, "usage: fintaqush ", True))
+            self.assertTrue(error.endswith(near), error)
+
+    def test_each_option_means_one_thing(self) -> None:
+        """The same name has the same form in all subcommands, but for what FILE and NAME are."""
+        forms: dict[str, set[tuple[object, ...]]] = {}
+        for name in MODULES:
+            for action in module_of(name).parser()._actions:
+                for option in set(action.option_strings) & {"--program", "--binary", "--flows", "--device", "--force", "--json", "--quiet"}:
+                    is_flag = action.nargs == 0 or action.const is not None
+                    forms.setdefault(option, set()).add((is_flag, str(action.metavar).partition("|")[0] if not is_flag else ""))
+        self.assertEqual({option: len(each) for option, each in forms.items()}, dict.fromkeys(forms, 1), forms)
+        self.assertEqual(set(forms), {"--program", "--binary", "--flows", "--device", "--force", "--json", "--quiet"})
 
 
 class Starts(InFolder):
@@ -190,7 +204,7 @@ class Starts(InFolder):
 
     def test_no_environment(self) -> None:
         """Without PATH a shell finds python3 in its own folders, and Python doesn't know its own name."""
-        calls: list[list[object]] = [["--version"], ["plot", "--help"], ["raise", BURSTS, "--program", SERIES], ["replay", "--help"], ["completion", "bash"]]
+        calls: list[list[object]] = [["--version"], ["plot", "--help"], ["raise", BURSTS, "--binary", SERIES], ["replay", "--help"], ["completion", "bash"]]
         for words in calls:
             done = process("env", "-i", COMMAND, *words)
             self.assertEqual((done.stderr.count("\n") <= 1, done.returncode), (True, 0), done.stderr)

@@ -129,12 +129,15 @@ class Plot(InFolder):
 
     @skip_without("matplotlib")
     def test_a_picture_that_is_there(self) -> None:
-        """It is replaced only with --force; this is checked before the replay, which would fail here."""
-        old = self.write("picture.svg", "old\n")
-        done = run("plot", TOP / "examples/bursts.csv", "--out", old, SERIES="/bin/false")
+        """One that isn't named is replaced only with --force; this is checked before the replay, which would fail here."""
+        old = self.write("plot.png", "old\n")
+        done = run("plot", TOP / "examples/bursts.csv", folder=self.folder, SERIES="/bin/false")
         self.assertEqual((done.stderr, done.returncode, old.read_text()),
-                         (f"fintaqush plot: {old} exists: --force replaces it, --out names another file\n", 1, "old\n"))
-        self.assertIn("/bin/false ended with status 1", run("plot", TOP / "examples/bursts.csv", "--force", "--out", old, SERIES="/bin/false").stderr)
+                         ("fintaqush plot: plot.png exists and isn't overwritten; --force replaces it\n", 1, "old\n"))
+        cases: list[list[object]] = [["--force"], ["--out", old]]
+        for words in cases:
+            done = run("plot", TOP / "examples/bursts.csv", *words, folder=self.folder, SERIES="/bin/false")
+            self.assertIn("/bin/false ended with status 1", done.stderr)
 
     def test_a_missing_library_is_told_before_any_work(self) -> None:
         old = self.write("picture.svg", "old")
@@ -149,10 +152,10 @@ class Plot(InFolder):
         self.assertIn("not a series of napi_series", self.plot("a,b\n1,2\n").stderr)
         self.assertIn("the series has no rows", self.plot(self.HEAD).stderr)
         self.assertIn("nothing to draw", self.plot(self.HEAD + "1,0,1,on,0,0,0,0,,,,,,,\n").stderr)
-        self.assertIn("there is no device 3; these are: 1", self.plot(self.ROWS, "--device", "3").stderr)
+        self.assertIn("there is no device 3; these are: 1", self.plot(self.ROWS, "--limit-of", "3").stderr)
         self.assertIn("line 2: not a line of a series", self.plot(self.HEAD + "a,b\n").stderr)
-        self.assertEqual(self.plot(self.ROWS, "--out", "picture.jpg").returncode, 2)
-        self.assertEqual(self.plot(self.ROWS, "--budget", "3").returncode, 2)
+        self.assertEqual(self.plot(self.ROWS, "--out", "picture.jpg").returncode, 64)
+        self.assertEqual(self.plot(self.ROWS, "--budget", "3").returncode, 64)
         for wrong, why in (("--buget", "'--buget' is no option: is --budget meant, a whole number, 1..=65535?\n"),
                            ("--unit", "'--unit' is no option\n")):
             for more in (NO_WORDS, ["--raise"]):
@@ -160,7 +163,7 @@ class Plot(InFolder):
                 self.assertEqual((done.stderr, done.returncode), (f"fintaqush plot: usage fault 64: {why}", 1))
         self.assertIn("the series hasn't all rows", run("plot", TOP / "examples/bursts.csv", "--every", "2", "--raise", "--json").stderr)
         self.assertIn("--beside: No closing quotation", run("plot", TOP / "examples/bursts.csv", "--beside", "'").stderr)
-        self.assertEqual(run("plot").returncode, 2)
+        self.assertEqual(run("plot").returncode, 64)
 
     def test_what_a_title_says(self) -> None:
         """The number of squeezed runs with each setting, and the range of the limit."""

@@ -59,7 +59,7 @@ class Shown(InFolder):
 
     @HAS_MACHINE
     def test_settings_of_advise(self) -> None:
-        slow = self.program("slow", f"sleep 0.6\nexec '{MACHINE}' \"$@\"")
+        slow = self.program("slow", f"sleep 1.5\nexec '{MACHINE}' \"$@\"")
         self.check(r"predicting \d+ settings, \d+ %", "advise", HERE / "recorded-apart.rec", "--goal", "p50", MACHINE=slow)
 
     def test_what_is_made_and_what_is_read(self) -> None:

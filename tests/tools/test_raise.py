@@ -217,5 +217,5 @@ class Raise(InFolder):
     def test_refusals(self) -> None:
         self.assertIn("trace fault 6 UnknownDevice row 1", run("raise", "-", text=HEADER + "0,1,rx,60\n").stderr)
         for words in (["--weight", "65"], ["--budget", "0"], ["--restarts", "-1"], ["--restarts", "x"]):
-            self.assertEqual(run("raise", "-", *words, text=HEADER).returncode, 2)
+            self.assertEqual(run("raise", "-", *words, text=HEADER).returncode, 64)
         self.assertEqual(run("raise", "-", text=HEADER).stdout, HEADER)

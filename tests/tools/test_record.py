@@ -15,7 +15,7 @@ import unittest
 import unittest.mock
 from argparse import Namespace
 from collections import Counter
-from collections.abc import Iterable, Iterator, Sequence
+from collections.abc import Iterator, Sequence
 from pathlib import Path
 from typing import Any
 
@@ -78,7 +78,7 @@ class Refused(InFolder):
     def test_words(self) -> None:
         for words in (NO_WORDS, ["--device", "lo"], ["--out", "x"], ["0", "--device", "lo", "--out", "x"], ["5", "6", "--device", "lo", "--out", "x"],
                       ["--device", "lo", "--out", "x", "--buffer", "0"], ["--device", "lo", "--out", "x", "--processors", "3-1"]):
-            self.assertIn("usage: fintaqush record", self.refused(*words, status=2))
+            self.assertIn("usage: fintaqush record", self.refused(*words, status=64))
 
     def test_without_root_it_says_so_at_once(self) -> None:
         front = [] if os.geteuid() else ["unshare", "-U"]  # run without root
@@ -163,29 +163,64 @@ class Advice(unittest.TestCase):
                                                   "fewer processors (--processors), or less traffic")
 
 
+class Buffer(tracing.Instance):
+    """A made-up buffer with a clock of its own: `rate` and `speed` are the MB that come in a second and that can be read in one."""
+
+    def __init__(self, rate: float, speed: float = 20) -> None:
+        super().__init__("")
+        self.rate, self.speed, self.now, self.level, self.most = rate * tracing.MEGABYTE, speed * tracing.MEGABYTE, 0.0, 0.0, 0.0
+        self.checks = self.pieces = 0
+
+    def monotonic(self) -> float:
+        return self.now
+
+    def sleep(self, seconds: float) -> None:
+        self.now += seconds
+        self.level += self.rate * seconds
+        self.most = max(self.most, self.level / tracing.MEGABYTE)
+
+    def statistics(self) -> Iterator[tuple[int, int]]:
+        self.checks += 1
+        yield from ((7, 0), (int(self.level), 0))
+
+    def drain(self) -> bool:
+        self.pieces += 1
+        self.sleep(record.PIECE / self.speed)
+        self.level = max(0, self.level - record.PIECE)
+        return not self.level
+
+
 class Waits(unittest.TestCase):
-    """How long it records, with made-up sizes of the fullest buffer at each check."""
+    """How long it records, and what it does meanwhile."""
 
-    def looks(self, sizes: Iterable[int], seconds: float) -> tuple[bool, int]:
-        """Returns whether it ends early, and after how many checks."""
-        left = iter(sizes)
-        taken: list[int] = []
+    def waited(self, buffer: Buffer, seconds: float, megabytes: int) -> bool:
+        """Returns whether it ends early."""
+        with unittest.mock.patch.object(record, "time", buffer):
+            return record.wait(buffer, Namespace(seconds=seconds, buffer=megabytes), buffer.drain)
 
-        class Looked(tracing.Instance):
-            def statistics(self) -> Iterator[tuple[int, int]]:
-                taken.append(next(left))
-                yield from ((7, 0), (taken[-1], 0))
+    def test_buffers_that_hold_all_need_no_work(self) -> None:
+        """15 MB of 32 are never emptied, and checked when 16 could be full: at 100 MB/s after 160 ms, and after 10 ms at the end, but at least 20 ms
+        later. Buffers of 1100 MB can't be half full within 5 s, so one check is made."""
+        for megabytes, checks in ((32, range(31, 250)), (1100, range(1, 2))):
+            buffer = Buffer(3)
+            self.assertFalse(self.waited(buffer, 5, megabytes))
+            self.assertEqual((round(buffer.now, 6), buffer.pieces), (5, 0))
+            self.assertIn(buffer.checks, checks)
 
-        with unittest.mock.patch.multiple(record, LOOKS=0.001, PAUSE=0.0001):
-            return record.wait(Looked(""), Namespace(seconds=seconds, buffer=1), lambda: True), len(taken)
+    def test_larger_recordings_are_emptied(self) -> None:
+        """10 MB come in a second and 20 can be read; from half of 8 MB they are read at once."""
+        buffer = Buffer(10)
+        self.assertFalse(self.waited(buffer, 20, 8))
+        self.assertTrue(buffer.now >= 20 and 100 <= buffer.pieces * record.PIECE / tracing.MEGABYTE <= 200, buffer.pieces)
+        self.assertTrue(4 <= buffer.most <= 5, buffer.most)
 
     def test_it_ends_before_a_buffer_is_full(self) -> None:
-        """Eight tenths of 2^20 bytes are 838860, which the 17th check of these exceeds."""
-        self.assertEqual(self.looks(range(50_000, 10**7, 50_000), 60), (True, 17))
-
-    def test_it_ends_in_time(self) -> None:
-        is_full, count = self.looks([838_860] * 10**6, 0.05)
-        self.assertTrue(not is_full and 1 <= count <= 60)
+        """Up to 100 MB come in a second, of which 20 can be read: it ends with over 0.8 of the buffer, and loses nothing."""
+        for rate in (25, 50, 100):
+            buffer = Buffer(rate)
+            self.assertTrue(self.waited(buffer, 60, 32))
+            self.assertTrue(0.8 * 32 < buffer.most <= 32, buffer.most)
+            self.assertLess(buffer.now, 10)
 
 
 class Lines(InFolder):
@@ -456,7 +491,7 @@ class Recorded(InFolder):
         self.assertEqual((process.returncode, self.names(), (self.folder / "made").read_text()), (1, ["made"], "old\n"))
 
     def test_a_recording_that_is_larger_than_its_buffers(self) -> None:
-        """They are emptied meanwhile: 16000 packets are some 3 MB of events, of which a processor's buffer holds one."""
+        """They are emptied meanwhile, each time that one is half full: 16000 packets are some 3 MB of events, of which a processor's buffer holds one."""
         process = self.start("--buffer", "1", seconds="6")
         self.send(400, 40, 40, 0.01)
         _, said = process.communicate(timeout=100)
@@ -468,7 +503,7 @@ class Recorded(InFolder):
     def test_a_buffer_that_is_too_small(self) -> None:
         """If it isn't emptied until the end, the recording ends early: the file is written, the exit status is 1, and the last line says which buffer
         holds the whole time."""
-        tool = self.tool("""record.LOOKS, drained, end, ended = 0.02, record.is_drained, tracing.Instance.end, []
+        tool = self.tool("""drained, end, ended = record.is_drained, tracing.Instance.end, []
 tracing.Instance.end = lambda self: (end(self), ended.append(self))
 record.is_drained = lambda pipe, file: not ended or drained(pipe, file)""")
         process = subprocess.Popen([sys.executable, "-BEs", "-c", tool, "record", "60", "--device", self.ends[1], "--netns", self.receiving, "--buffer", "1", "--out",

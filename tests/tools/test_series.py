@@ -53,26 +53,19 @@ class Series(unittest.TestCase):
         self.assertEqual((done.stderr, done.returncode), ("", 0))
         self.assertEqual(done.stdout, series_by_reports(rows, words, every, header))
 
-    def test_a_trace_of_version_2_agrees_with_the_reports_of_its_prefixes(self) -> None:
-        header, *rows = (TOP / "examples/busy-poll.csv").read_text().splitlines()
-        self.assertEqual(header, "moment,device,event,value,2")
-        for words in (NO_WORDS, ["--budget", "2"]):
-            self.check_prefixes(rows, words, 1, f"{header}\n")
-
-    def test_small_traces_agree_with_the_reports_of_their_prefixes(self) -> None:
-        traces = [MIXED.split()] + [(TOP / f"examples/{name}.csv").read_text().split()[1:]
-                                    for name in ("two-packets", "bursts", "queue-limit")]
-        for rows in traces:
-            for words in (NO_WORDS, ["--budget", "2"], ["--weight=1", "--window", "1"]):
-                self.check_prefixes(rows, words)
-            self.check_prefixes(rows, [], 3)
-            self.check_prefixes(rows, ["--budget", "1"], len(rows) + 1)
-
-    def test_a_recorded_piece_agrees_with_the_reports_of_its_prefixes(self) -> None:
-        rows = (TOP / "examples/linux-napi-disable.csv").read_text().split()[1:]
-        self.check_prefixes(rows[:600], ["--budget", "64"], 7)
-        rows = (TOP / "examples/linux-veth-threaded.csv").read_text().split()[1:]
-        self.check_prefixes(rows[:600], [], 7)
+    def test_it_agrees_with_the_reports_of_prefixes(self) -> None:
+        """Small traces of both versions, and pieces of recordings."""
+        traces = {name: (TOP / f"examples/{name}.csv").read_text().split() for name in (
+            "two-packets", "bursts", "queue-limit", "busy-poll", "linux-napi-disable", "linux-veth-threaded")}
+        self.assertEqual(traces["busy-poll"][0], "moment,device,event,value,2")
+        for name, (header, *rows) in {**traces, "mixed": [HEADER.strip(), *MIXED.split()]}.items():
+            if name.startswith("linux"):
+                self.check_prefixes(rows[:600], ["--budget", "64"] if "disable" in name else [], 7)
+                continue
+            for words in (NO_WORDS, ["--budget", "2"], ["--weight=1", "--window", "1"])[: 2 if name == "busy-poll" else 3]:
+                self.check_prefixes(rows, words, 1, f"{header}\n")
+            self.check_prefixes(rows, [], 3, f"{header}\n")
+            self.check_prefixes(rows, ["--budget", "1"], len(rows) + 1, f"{header}\n")
 
     def test_by_hand(self) -> None:
         """A packet arrives and is polled. The limit of 0 stops the queue at its first 100 bytes, so that the second packet is held back; their
@@ -82,16 +75,9 @@ class Series(unittest.TestCase):
                          "3,4,0,,,,,,,,,,1,1,0,,, 1:1\n4,5,1,on,0,1,0,1,100,0,-100,1,,,,0,,\n5,6,1,on,0,1,0,1,100,0,-100,1,,,,0,,\n"
                          "6,7,1,on,0,1,0,1,0,100,100,0,,,,0,,\n")
 
-    def test_what_a_run_polls(self) -> None:
-        """By hand, with a budget of 2 packets and a weight of 1: the run polls both devices once and requeues both, and device 2 is empty then;
-        the next run finds it empty, and takes device 1's second packet, again a whole weight."""
-        text = HEADER + "0,1,open,8\n0,2,open,8\n1,1,rx,60\n1,1,rx,60\n1,2,rx,60\n2,0,softirq,0\n3,0,softirq,0\n"
-        lines = process(SERIES, "--budget", "2", "--weight", "1", text=text).stdout.splitlines()
-        self.assertEqual([line.split(",")[-2:] for line in lines[3:]], [[" 1", ""], [" 1", ""], [" 1 2", ""], [" 1 2", " 1:1 2:1"], [" 1", " 1:1 2:0"]])
-
     def test_polls_by_hand(self) -> None:
-        """The run above, poll by poll: both polls are of a whole weight. In the next run device 1 takes its second packet; device 2 has none left
-        and no missed request, so it completes."""
+        """With a budget of 2 packets and a weight of 1 the run polls both devices once, of a whole weight, and requeues both. In the next
+        run device 1 takes its second packet; device 2 has none left and no missed request, so it completes."""
         text = HEADER + "0,1,open,8\n0,2,open,8\n1,1,rx,60\n1,1,rx,60\n1,2,rx,60\n2,0,softirq,0\n3,0,softirq,0\n"
         lines = process(SERIES, "--polls", "--budget", "2", "--weight", "1", text=text).stdout.splitlines()
         self.assertEqual(lines[0], NAMES.strip() + ",ended")

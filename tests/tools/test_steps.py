@@ -243,7 +243,7 @@ class Steps(InFolder):
         self.assertEqual([bool(step.get("squeezed")) for step in page["sides"][0]["steps"]][10:12], [True, True])
         self.assertFalse(any(step.get("squeezed") for step in page["sides"][1]["steps"]))
         for wrong in ("--budget", "--budget x", "'", "3"):
-            self.assertEqual(run("steps", trace, "--out", "x.html", "--beside", wrong, folder=self.folder).returncode, 2)
+            self.assertEqual(run("steps", trace, "--out", "x.html", "--beside", wrong, folder=self.folder).returncode, 64)
 
     # Clicks on a mark and on a poll, plays, pauses and steps with keys, and reports the row and the list after each.
     CLICKS = """<script>
@@ -298,4 +298,4 @@ setTimeout(() => { by('play').click(); told.push(by('play').getAttribute('aria-l
         for text, why in ((HEADER + rows, "501 rows, and a page has at most 500: --rows 1:200 has the first of them"), ("x\n", "trace fault 1 BadHeader row 0")):
             self.fails(why, "steps", "-", "--out", "page.html", text=text, folder=self.folder)
             self.assertEqual(self.names(), [])
-        self.assertEqual(run("steps", "-").returncode, 2)
+        self.assertEqual(run("steps", "-").returncode, 64)

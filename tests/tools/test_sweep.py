@@ -41,7 +41,7 @@ class Sweep(InFolder):
         self.out = self.folder / "rows"
 
     def sweep(self, *words: object, **variables: Any) -> Done:
-        settings = ["--budget", "2,300", "--weight", "2,64", "--program", REPLAY]
+        settings = ["--budget", "2,300", "--weight", "2,64", "--binary", REPLAY]
         return run("sweep", self.folder, *settings, "--out", self.out, *words, **variables)
 
     def rows(self) -> list[dict[str, str]]:
@@ -89,7 +89,7 @@ total devices 3 runs 2 polls 7 work 80 squeezed 2
         """With a program that prints this report: rows of all three kinds poll, each number has a digit of its own, and the greatest limit is
         neither the first queue's nor the last one's."""
         program = self.program("program", f"cat > '{self.folder}/read'\ncat '{self.write('report', self.REPORT)}'")
-        done = run("sweep", self.folder / "burst.csv", "--out", self.out, "--program", program)
+        done = run("sweep", self.folder / "burst.csv", "--out", self.out, "--binary", program)
         self.assertEqual((done.returncode, len(self.rows())), (0, 1), done.stderr)
         self.assertEqual([self.rows()[0][name] for name in ("polls", "work", "squeezed", "dropped", "left", "greatest_limit")],
                          [str(1 + 200 + 40000 + 6 + 800), str(10 + 3000 + 500000 + 70 + 9000), "2", "321", "9870", "1500"])
@@ -134,12 +134,12 @@ total devices 3 runs 2 polls 7 work 80 squeezed 2
             self.assertEqual((done.returncode, done.stderr.count("fintaqush sweep: --fail-if")), (status, status // 3), condition)
         self.assertIn("fintaqush sweep: --fail-if 'squeezed>0': squeezed is 1 with trace ", self.sweep("--resume", "--fail-if", "squeezed>0").stderr)
         for condition in ("squeezed", "squeezed>0us", "nothing>0", "squeezed>", "squeezed>1e3"):
-            self.assertEqual(self.sweep("--fail-if", condition).returncode, 2, condition)
+            self.assertEqual(self.sweep("--fail-if", condition).returncode, 64, condition)
 
     def test_two_calls_on_one_file_lose_no_row(self) -> None:
         """Each replays other windows, at the same time; the file has the rows of both, each once."""
         slow = self.program("slow", f"sleep 0.05\nexec '{REPLAY}' \"$@\"")
-        words = [self.folder, "--budget", "2,300", "--resume", "--jobs", "2", "--out", self.out, "--program", slow]
+        words = [self.folder, "--budget", "2,300", "--resume", "--jobs", "2", "--out", self.out, "--binary", slow]
         windows = [[str(10 * call + each) for each in range(1, 10)] for call in range(3)]
         with ThreadPoolExecutor(3) as pool:
             ended = list(pool.map(lambda window: process(*START, "sweep", *words, "--window", ",".join(window)), windows))
@@ -151,7 +151,7 @@ total devices 3 runs 2 polls 7 work 80 squeezed 2
         """A changed trace is replayed again, and its old rows are removed; a renamed one isn't replayed, and keeps its rows."""
         played = self.folder / "played"
         program = self.program("program", f"echo >> '{played}'\nexec '{REPLAY}' \"$@\"")
-        words = ["--resume", "--program", program]
+        words = ["--resume", "--binary", program]
         self.assertEqual(self.sweep(*words).returncode, 0)
         before = self.rows()
         played.unlink()
@@ -180,7 +180,7 @@ total devices 3 runs 2 polls 7 work 80 squeezed 2
         """Sixteen tasks, each with its part, are terminated at any time, as a cancelled job is, and started again until all have finished."""
         slow = self.program("slow", f"sleep 0.05\nexec '{REPLAY}' \"$@\"")
         windows = ",".join(str(number) for number in range(1, 33))
-        words = [self.folder, "--budget", "2,300", "--window", windows, "--program", slow]
+        words = [self.folder, "--budget", "2,300", "--window", windows, "--binary", slow]
 
         def task(number: int) -> tuple[bool, list[str]]:
             more = ["--resume", "--jobs", "1", "--part", f"{number}/16", "--out", self.folder / f"rows-{number}"]
@@ -203,7 +203,7 @@ total devices 3 runs 2 polls 7 work 80 squeezed 2
                 self.assertTrue(ended, said)
                 self.assertNotIn("Traceback", "".join(said))
         parts = [line for number in range(1, 17) for line in (self.folder / f"rows-{number}").read_text().splitlines()[1:]]
-        self.assertEqual(run("sweep", *words, "--out", self.out, "--program", REPLAY).returncode, 0)
+        self.assertEqual(run("sweep", *words, "--out", self.out, "--binary", REPLAY).returncode, 0)
         self.assertEqual(sorted(parts), sorted(self.out.read_text().splitlines()[1:]))
         self.assertEqual(len(parts), 2 * 2 * 32)
         self.assertEqual([name for name in self.names() if name.startswith(".")], [])
@@ -229,18 +229,18 @@ total devices 3 runs 2 polls 7 work 80 squeezed 2
         for body in ("kill -9 $$", "exit 0", "echo hello", "echo 'memory fault 11 OutOfMemory' >&2; exit 4",
                      "echo 'trace fault 10 ReadFailed' >&2; exit 2", "exit 64"):
             program = self.program("program", f"{body}")
-            done = self.sweep("--resume", "--program", program)
+            done = self.sweep("--resume", "--binary", program)
             self.assertEqual(done.returncode, 1)
             self.assertIn("8 rows are missing: --resume tries them again", done.stderr)
             self.assertEqual(self.rows(), [])
         program.write_text(f"#!/bin/sh\necho >> '{self.folder}/calls'\nexec '{REPLAY}' \"$@\"\n")
-        self.assertEqual(self.sweep("--resume", "--program", program).returncode, 0)
+        self.assertEqual(self.sweep("--resume", "--binary", program).returncode, 0)
         self.check_rows()
         # It fails twice, and then succeeds.
         self.out.unlink()
         program.write_text(f"#!/bin/sh\nd='{self.folder}/'$2-$4; if mkdir \"$d\" 2> /dev/null || mkdir \"$d\"b 2> /dev/null; then exit 7; fi\n"
                            f"exec '{REPLAY}' \"$@\"\n")
-        self.assertEqual(self.sweep("--program", program).returncode, 0)
+        self.assertEqual(self.sweep("--binary", program).returncode, 0)
         self.check_rows()
 
     def test_runs_raised_anew(self) -> None:
@@ -379,22 +379,11 @@ for job in range(first, last + 1):
         self.assertIn("not a file of sweep", self.sweep("--resume").stderr)
         self.assertEqual(self.out.read_text(), "mine\n")
 
-    def test_parts_are_all_of_it(self) -> None:
-        self.sweep()
-        whole = self.rows()
-        parts = []
-        for part in ("1/3", "2/3", "3/3"):
-            self.out = self.folder / part.replace("/", "-")
-            self.assertEqual(self.sweep("--part", part).returncode, 0)
-            parts.append(self.rows())
-        self.assertEqual([len(rows) for rows in parts], [3, 3, 2])
-        self.assertCountEqual([tuple(row.values()) for rows in parts for row in rows], [tuple(row.values()) for row in whole])
-
     def test_words_that_it_refuses(self) -> None:
         for words in (["--budget", "64,x"], ["--part", "4/3"], NO_WORDS, ["--budget", "0"], ["--weight", "65"], ["--jobs", "0"],
                       ["--restarts", "3"], ["--window", "65536"]):
             done = run("sweep", *([self.folder] if words else []), *words, "--out", self.out)
-            self.assertEqual((done.returncode, self.out.exists()), (2, False), words)
-        self.assertIn("no such trace", run("sweep", self.folder / "none", "--program", REPLAY).stderr)
-        self.assertIn("not a program", run("sweep", self.folder, "--program", "/dev/null", "--out", self.out).stderr)
+            self.assertEqual((done.returncode, self.out.exists()), (64, False), words)
+        self.assertIn("no such trace", run("sweep", self.folder / "none", "--binary", REPLAY).stderr)
+        self.assertIn("not a program", run("sweep", self.folder, "--binary", "/dev/null", "--out", self.out).stderr)
         self.assertIn("no such folder", run("sweep", self.folder, "--out", self.folder / "none/rows").stderr)

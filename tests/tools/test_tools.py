@@ -50,7 +50,7 @@ class FromFtrace(InFolder):
           <idle>-0     [001]   100.000100: net_dev_xmit:         dev=veth0 skbaddr=0xffff888 len=90 rc=0
           <idle>-0     [001]   100.002100: softirq_entry:        vec=3 [action=NET_RX]
           <idle>-0     [001]   100.002200: napi_poll:            napi poll on napi struct 0xffff9 for device veth1 work 1 budget 64
-""", "--pair", "veth0:veth1", "--places", 16)
+""", "--pair", "veth0:veth1", "--capacity", 16)
         self.assertEqual(rows, ["0,1,open,16", "0,2,open,16", "0,1,rx,90", "2,0,softirq,0"])
         self.assertEqual(work, ["polls 1 work 1"])
 
@@ -464,7 +464,7 @@ class Traffic(InFolder):
 
     def test_words_that_it_refuses(self) -> None:
         for words in (["--mix", "busy=1"], ["--mix", "rx=1"], ["--bytes", "9:1"], ["--devices", "17"], ["--rate", "0"]):
-            self.assertEqual(run("traffic", *words).returncode, 2)
+            self.assertEqual(run("traffic", *words).returncode, 64)
         self.assertIn("more than 100000 packets", run("traffic", "--rate", "9999999", "--seconds", "99999").stderr)
 
 
@@ -496,12 +496,19 @@ class CompareRuns(InFolder):
 
     def test_refusals(self) -> None:
         trace = self.write("burst.csv", self.BURST)
-        self.assertEqual(run("compare", trace, "--budget", "1").returncode, 2)
-        self.assertEqual(run("compare", trace, "--", "--budget", "0").returncode, 2)
+        self.assertEqual(run("compare", trace, "--budget", "1").returncode, 64)
+        self.assertEqual(run("compare", trace, "--", "--budget", "0").returncode, 64)
         self.assertIn("trace fault 1 BadHeader row 0", run("compare", "-", "--", text="x\n").stderr)
 
 
 class Report2Json(InFolder):
+    def objects_in(self, text: str) -> list[dict[str, Any]]:
+        """Returns the objects of a report, without what all of them begin with: the version, and the tool."""
+        objects: list[dict[str, Any]] = list(map(json.loads, text.splitlines()))
+        for each in objects:
+            self.assertEqual([(name, each.pop(name)) for name in list(each)[:2]], [("version", 1), ("tool", "replay")])
+        return objects
+
     def test_every_line_of_a_report(self) -> None:
         done = run("json", text="""softirq 4 polls 2 work 3 squeezed 1
 kthread 5 device 16 polls 6 work 7
@@ -517,7 +524,7 @@ total devices 3 runs 1 polls 2 work 3 squeezed 1
 """)
         self.assertEqual(done.stderr, "")
         napi = {"line": "napi", "granted": 0, "missed": 0, "disabled": 0, "again": 0, "released": 0}
-        self.assertEqual(list(map(json.loads, done.stdout.splitlines())), [
+        self.assertEqual(self.objects_in(done.stdout), [
             {"line": "softirq", "row": 4, "polls": 2, "work": 3, "squeezed": True},
             {"line": "kthread", "row": 5, "device": 16, "polls": 6, "work": 7},
             {"line": "device", "device": 1, "state": "pending", "arrived": 1, "dropped": 2, "polled": 3, "bytes": 4, "left": 5,
@@ -540,7 +547,7 @@ napi 1 granted 0 missed 0 disabled 0 again 0 released 1 word 65 held 3
 list
 total devices 1 runs 0 polls 0 work 0 squeezed 0
 """)
-        objects = list(map(json.loads, done.stdout.splitlines()))
+        objects = self.objects_in(done.stdout)
         self.assertEqual(objects[0], {"line": "busy", "row": 7, "device": 1, "polls": 4, "work": 2})
         self.assertEqual((objects[2]["held"], objects[2]["flags"]), (3, ["SCHED", "IN_BUSY_POLL"]))
 
@@ -558,7 +565,7 @@ device 2 arrived 2 bytes 160
 tx 2 sent 1 held 0 done 1 denied 0 limit 100 avail 100 stopped 1
 total devices 2
 """)
-        self.assertEqual(list(map(json.loads, done.stdout.splitlines())), [
+        self.assertEqual(self.objects_in(done.stdout), [
             {"line": "device", "device": 1, "arrived": 3, "bytes": 1620}, {"line": "device", "device": 2, "arrived": 2, "bytes": 160},
             {"line": "tx", "device": 2, "sent": 1, "held": 0, "done": 1, "denied": 0, "limit": 100, "avail": 100, "stopped": True},
             {"line": "total", "devices": 2}])

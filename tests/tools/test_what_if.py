@@ -1,4 +1,4 @@
-"""Tests of fintaqush what-if. Expected values are computed by hand, or by the plain model of the machine."""
+"""Tests of fintaqush what-if. Expected values are computed by hand, or by the plain program of the machine."""
 
 from __future__ import annotations
 
@@ -10,8 +10,8 @@ import re
 from fractions import Fraction
 from typing import Any
 
-import machine_model
-from tooltest import HAS_MACHINE, MACHINE, NO_WORDS, START, InFolder, process, run, skip_without
+import machine
+from tooltest import HAS_MACHINE, MACHINE, NO_WORDS, START, TOP, InFolder, process, run, skip_without
 
 HEADER = "moment,device,bytes\n"
 
@@ -30,8 +30,8 @@ class WhatIf(InFolder):
         return list(csv.DictReader(io.StringIO(done.stdout)))
 
     def modelled(self, text: str, *words: str) -> dict[str, str]:
-        """Returns the values of a row, by the plain model."""
-        lines = [line.split() for line in machine_model.machine(list(words), text).splitlines()]
+        """Returns the values of a row, by the plain program."""
+        lines = [line.split() for line in machine.ran(machine.plain(), words, text)[0].splitlines()]
         of = {kind: [dict(zip(line[skip::2], map(int, line[skip + 1 :: 2]))) for line in lines if line[0] == kind]
               for kind, skip in (("device", 0), ("processor", 0), ("time", 0), ("application", 0), ("total", 1))}
         told: dict[str, int | str] = {name: of["total"][0][name] for name in ("arrived", "dropped", "refused", "used")}
@@ -63,7 +63,7 @@ class WhatIf(InFolder):
                                                     "used_per_second")], ["1", "1", "18", "20", "50.00", "40.00", "10.00", "0.00", "1", "50000000"])
 
     def test_each_option(self) -> None:
-        """Every option of the machine is a dimension; the rows are those of the plain model."""
+        """Every option of the machine is a dimension; the rows are those of the plain program."""
         for words in (["--gro-flush-timeout", "30000", "--defer-hard-irqs", "3"], ["--threaded", "1", "--wake", "2000"], ["--backlog", "1", "--ring", "2"],
                       ["--rx-nsecs", "9000", "--rx-frames", "3"], ["--apart", "1", "--app-wake", "2500"], ["--time-limit", "5000"], ["--socket", "3"],
                       ["--window", "1"]):
@@ -136,21 +136,26 @@ class WhatIf(InFolder):
         self.assertEqual((told[0]["arrived"], isinstance(told[0]["use_percent"], float)), (300, True))
 
     def test_json_in_a_file(self) -> None:
-        words: list[object] = [self.arrivals, "--budget", "2,300", "--json", "--band", "0"]
-        told, out = run("what-if", *words).stdout, self.folder / "q.json"
-        done = run("what-if", *words, "--out", out)
-        self.assertEqual((done.returncode, done.stdout, out.read_text(), len(told.splitlines())), (0, "", told, 2), done.stderr)
-        done = run("what-if", *words, "--out", out)
-        self.assertEqual((done.returncode, out.read_text()), (1, told))
-        self.assertIn("exists and isn't overwritten", done.stderr)
-        for more in (["--resume"], ["--part", "1/2"]):
-            self.assertEqual(run("what-if", *words, "--out", self.folder / "other", *more).returncode, 2)
+        """With a file the results are printed too, as CSV or as a table; without it only JSON is."""
+        words: list[object] = [self.arrivals, "--budget", "2,300", "--band", "0"]
+        told, out = run("what-if", *words, "--json").stdout, self.folder / "q.json"
+        for form in (NO_WORDS, ["--table"]):
+            done = run("what-if", *words, *form, "--json", out)
+            self.assertEqual((done.returncode, done.stdout, out.read_text(), len(told.splitlines())), (0, run("what-if", *words, *form).stdout, told, 2), done.stderr)
+        others: list[list[object]] = [["--csv"], ["--table"], ["--out", self.folder / "other"]]
+        for more in others:
+            self.assertEqual(run("what-if", *words, *more, "--json").returncode, 64)
+        searched = run("what-if", self.arrivals, "--until", "drops", "--ring", "8", "--json", out)
+        self.assertEqual((searched.returncode, json.loads(out.read_text())["until"]), (0, "drops"), searched.stderr)
+
+    def test_a_trace_is_named(self) -> None:
+        self.fails("bursts.csv: a trace, whose runs are given; arrivals are made by --arrivals of", "what-if", TOP / "examples/bursts.csv")
 
     def test_json_keys_are_identifiers(self) -> None:
         """Also with generated traffic and a searched load; each object has the format's version."""
         calls: list[list[object]] = [[self.arrivals], [self.arrivals, "--until", "drops", "--ring", "8"], ["--traffic", "--rate 1000", "--seeds", "2"]]
         for words in calls:
-            done = run("what-if", "--json", *words)
+            done = run("what-if", *words, "--json")
             self.assertEqual(done.returncode, 0, done.stderr)
             told = json.loads(done.stdout)
             self.assertEqual((told["version"], [name for name in told if not name.isidentifier()]), (1, []))
@@ -190,7 +195,7 @@ class WhatIf(InFolder):
                 self.assertEqual(done.returncode, 0, done.stderr)
                 self.assertTrue(end.read(100).startswith(begins))
         self.assertTrue(run("what-if", self.arrivals, "--budget", "1,300").stdout.startswith("budget,"))
-        self.assertEqual(run("what-if", self.arrivals, "--csv", "--table").returncode, 2)
+        self.assertEqual(run("what-if", self.arrivals, "--csv", "--table").returncode, 64)
 
     def test_what_follows(self) -> None:
         """Rings of 1 and 256 of bursts of five packets; an order that depends on the costs (test_the_band_of_costs); budgets."""
@@ -207,14 +212,14 @@ class WhatIf(InFolder):
         self.assertIn("no setting here changes the 99th percentile of waits to the end of use", told)
 
     def lost_at(self, load: str, *words: str) -> tuple[int, int]:
-        """Returns the drops in the plain model for these arrivals at a load, and its 99th percentile of waits."""
+        """Returns the drops in the plain program for these arrivals at a load, and its 99th percentile of waits."""
         rows = (line.split(",") for line in self.arrivals.read_text().split()[1:])
         scaled = HEADER + "".join(f"{int(int(moment) // Fraction(load))},{device},{size}\n" for moment, device, size in rows)
         told = self.modelled(scaled, *words)
         return int(told["dropped"]) + int(told["refused"]), int(told["used_p99"])
 
     def test_the_load_at_which_it_breaks(self) -> None:
-        """A packet every 10 us, and a ring of one: in the plain model one load holds and the other breaks, and they are at most 1 % apart."""
+        """A packet every 10 us, and a ring of one: in the plain program one load holds and the other breaks, and they are at most 1 % apart."""
         self.arrivals.write_text(HEADER + "".join(f"{10_000 * place},1,60\n" for place in range(300)))
         words = ["--ring", "1", "--interrupt", "1000", "--poll", "1000", "--packet", "1000", "--use", "0"]
         row, = self.rows(*words, "--until", "drops")
@@ -241,7 +246,7 @@ class WhatIf(InFolder):
         self.assertEqual(sorted(name for name in self.names() if name != "arrivals.csv"), [])
 
     def test_made_traffic_over_seeds(self) -> None:
-        """The median, the minimum and the maximum of the plain model's values for each seed's arrivals; one row per setting."""
+        """The median, the minimum and the maximum of the plain program's values for each seed's arrivals; one row per setting."""
         words = ["--kind", "poisson", "--rate", "100000", "--seconds", "0.01"]
         of = [run("traffic", "--arrivals", *words, "--seed", seed).stdout for seed in (1, 2, 3)]
         told = self.repeated(" ".join(words), "--seeds", "3", "--threaded", "0,1")
@@ -275,7 +280,7 @@ class WhatIf(InFolder):
         out.write_text("\n".join(lines[:2]) + "\n")
         calls = self.folder / "calls"
         program = self.program("program", f"echo >> '{calls}'\nexec '{MACHINE}' \"$@\"")
-        self.assertEqual(self.rows("--budget", "1,2,3", "--out", out, "--resume", "--program", program), whole)
+        self.assertEqual(self.rows("--budget", "1,2,3", "--out", out, "--resume", "--binary", program), whole)
         self.assertEqual((out.read_text().splitlines(), calls.read_text()), (lines, "\n\n"))
         parts = [row for part in ("1/2", "2/2") for row in self.rows("--budget", "1,2,3,4", "--part", part)]
         self.assertEqual([row["budget"] for row in parts], ["1", "3", "2", "4"])
@@ -289,7 +294,7 @@ class WhatIf(InFolder):
         parts = [(self.folder / f"rows-{part}.csv").read_text().splitlines(True) for part in range(1, 5)]
         out = self.write("all.csv", "".join(parts[0][:1] + [line for lines in parts for line in lines[1:]]))
         none = self.program("none", "exit 1")
-        self.assertEqual(self.rows(*words, "--resume", "--out", out, "--program", none), self.rows(*words))
+        self.assertEqual(self.rows(*words, "--resume", "--out", out, "--binary", none), self.rows(*words))
 
     @skip_without("matplotlib")
     def test_the_picture(self) -> None:
@@ -323,8 +328,8 @@ class WhatIf(InFolder):
         for words in (["--budget", "65536"], ["--load", "0"], ["--load", "1e3"], ["--weight", "0"], ["--slice", "1"], ["--longest", "1"], ["--threaded", "2"], ["--band", "91"], ["--band", "20", "--part", "1/2"], ["--budget", "1,,2"], ["--plot", "x.pdf"], ["--resume"],
                       ["--until", "drop"], ["--until", "p99=x"], ["--until", "drops", "--load", "1,2"], ["--until", "drops", "--out", "x"], ["--seeds", "2"], ["--traffic", "--rate 1"],
                       ["--until", "drops", "--plot", "x.png"]):
-            self.assertEqual(run("what-if", self.arrivals, *words).returncode, 2, words)
-        self.assertEqual(run("what-if").returncode, 2)
+            self.assertEqual(run("what-if", self.arrivals, *words).returncode, 64, words)
+        self.assertEqual(run("what-if").returncode, 64)
         self.assertIn("there is no such file", run("what-if", self.folder / "none").stderr)
         self.assertIn("a regular file", run("what-if", "-", text="").stderr)
         self.arrivals.write_text(HEADER + "1,1,60\n0,1,60\n")
@@ -333,4 +338,4 @@ class WhatIf(InFolder):
     def test_what_fails_is_no_row(self) -> None:
         for body in ("kill -9 $$", "exit 0", "echo hello", "echo 'arrivals fault 10 ReadFailed row 0' >&2; exit 2", "exit 64"):
             program = self.program("program", f"{body}")
-            self.fails("1 rows are missing", "what-if", self.arrivals, "--program", program)
+            self.fails("1 rows are missing", "what-if", self.arrivals, "--binary", program)

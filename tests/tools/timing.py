@@ -67,6 +67,17 @@ class Made:
             self.sent(time + 700, works[0])
         return time
 
+    def timer_round(self, end: int, flush: int) -> int:
+        """Adds NAPI's timer, which a poll started at its end, and a softirq whose poll finds no packet; returns its end."""
+        due = end + flush
+        self.event(end - 1, POLLER, "<idle>-0", f"hrtimer_start: hrtimer=1 function=napi_watchdog expires={due} softexpires=0 mode=REL|PINNED")
+        begin = due + self.costs["wake"]
+        time = self.handler(begin, "local_timer", f"hrtimer_expire_entry: hrtimer=1 function=napi_watchdog now={begin}")
+        self.event(time, POLLER, "<idle>-0", "softirq_entry: vec=3 [action=NET_RX]")
+        time = self.polled(time, "<idle>-0", 0)
+        self.event(time, POLLER, "<idle>-0", "softirq_exit: vec=3 [action=NET_RX]")
+        return time
+
     def thread_round(self, work: int, by_timer: bool) -> int:
         """Adds packets that wait for the thread's timer, or that wake the thread; the poll sets the timer again."""
         due = self.timer if by_timer else self.time
@@ -207,8 +218,8 @@ def reads_of(events: list[Event], device: str) -> tuple[list[int], list[int], li
     return uses, found, lone
 
 
-def wakes_of(events: list[Event], device: str) -> Iterator[int]:
-    """Yields the time from each run's cause (a packet, or a timer's due time) to its beginning, minus the interrupt."""
+def wakes_of(events: list[Event], device: str) -> Iterator[tuple[int, bool]]:
+    """Yields the time from each run's cause (a packet, or a timer's due time) to its beginning, minus the interrupt, and whether it was a timer."""
     came = [time for time, _, _, _, said in events if re.match(r"net_dev_xmit: dev=va7 .*rc=0$", said)]
     taken = last = 0
     for place, (time, cpu, _, _, said) in enumerate(events):
@@ -223,9 +234,9 @@ def wakes_of(events: list[Event], device: str) -> Iterator[int]:
             took, _ = before_run(events, at) or (0, False)
             if expired and expired[4].startswith("hrtimer"):
                 due = next(group_in(r"expires=(\d+)", each[4]) for each in events[:at][::-1] if each[4].startswith("hrtimer_start"))
-                yield begin[0] - int(due) - took
+                yield begin[0] - int(due) - took, True
             elif found[1] != "0" and last <= came[taken] <= begin[0] and had_other(events, cpu, came[taken], at):
-                yield begin[0] - came[taken] - took
+                yield begin[0] - came[taken] - took, False
         taken, last = taken + int(found[1]), time
 
 

@@ -3,7 +3,6 @@ napi_machine, also for the tools."""
 
 from __future__ import annotations
 
-import atexit
 import contextlib
 import io
 import os
@@ -22,6 +21,7 @@ from typing import IO, Any, TypeVar
 HERE = Path(__file__).resolve().parent
 TOP = HERE.parent.parent
 sys.path += [str(TOP / "tests"), str(TOP / "tools"), str(TOP / "bench")]
+import machine  # noqa: E402
 import needs  # noqa: E402
 
 from fintaqush_tools import cli, errors  # noqa: E402
@@ -35,11 +35,7 @@ REPLAY = os.environ.get("PROGRAM") or str(TOP / "crates/napi_replay/out/napi_rep
 SERIES = os.environ.get("SERIES") or str(TOP / "crates/napi_series/out/napi_series")
 MACHINE = os.environ.get("MACHINE") or str(TOP / "crates/napi_machine/out/napi_machine")
 if not os.path.exists(MACHINE) and shutil.which("g++"):
-    # If napi_machine isn't built, the tools are tested with the bench's C++ program in its place.
-    built = tempfile.mkdtemp()
-    atexit.register(shutil.rmtree, built)
-    MACHINE = f"{built}/machine"
-    subprocess.run(["g++", "-std=c++17", "-O2", TOP / "bench/machine.cc", "-o", MACHINE], check=True)
+    MACHINE = machine.plain()  # if napi_machine isn't built, the tools are tested with the bench's program in its place
 PROGRAMS = {"PROGRAM": REPLAY, "SERIES": SERIES, "MACHINE": MACHINE}
 HAS_MACHINE = unittest.skipUnless(os.path.exists(MACHINE), "g++")
 HEADER = "moment,device,event,value\n"
@@ -66,25 +62,11 @@ def with_programs(variables: dict[str, object]) -> dict[str, str]:
     return {**os.environ, **PROGRAMS, **{name: str(value) for name, value in variables.items()}}
 
 
-def process(
-    *command: object,
-    text: str = "",
-    folder: Path | str | None = None,
-    out: int | IO[str] = subprocess.PIPE,
-    **variables: object,
-) -> Done:
+def process(*command: object, text: str = "", folder: Path | str | None = None, out: int | IO[str] = subprocess.PIPE,
+            **variables: object) -> Done:
     """Runs a command as a process, with our programs."""
-    return subprocess.run(
-        texts_of(command),
-        input=text,
-        stdout=out,
-        stderr=subprocess.PIPE,
-        encoding="utf-8",
-        errors="surrogateescape",
-        check=False,
-        cwd=folder,
-        env=with_programs(variables),
-    )
+    return subprocess.run(texts_of(command), input=text, stdout=out, stderr=subprocess.PIPE, encoding="utf-8", errors="surrogateescape",
+                          check=False, cwd=folder, env=with_programs(variables))
 
 
 def limited(limit: str, *words: object, start: Sequence[str] = tuple(START), **others: Any) -> Done:
@@ -96,10 +78,7 @@ def started(*command: object, folder: Path | str | None = None, **others: Any) -
     """Starts a process, with our programs, and with pipes for both outputs."""
     pipes = {"stdout": subprocess.PIPE, "stderr": subprocess.PIPE, "stdin": subprocess.DEVNULL}
     ends: dict[str, Any] = {**pipes, **others.pop("ends", {})}
-    child: subprocess.Popen[str] = subprocess.Popen(
-        texts_of(command), text=True, cwd=folder, env=with_programs(others), **ends
-    )
-    return child
+    return subprocess.Popen(texts_of(command), text=True, cwd=folder, env=with_programs(others), **ends)
 
 
 @contextlib.contextmanager
@@ -140,9 +119,7 @@ class Printed(io.TextIOWrapper):
 
 
 @contextlib.contextmanager
-def surroundings(
-    text: str | None, folder: Path | str | None, variables: dict[str, object]
-) -> Iterator[tuple[Printed, Printed]]:
+def surroundings(text: str | None, folder: Path | str | None, variables: dict[str, object]) -> Iterator[tuple[Printed, Printed]]:
     """The input, the working folder and the environment variables of a call. Yields the files that take its outputs."""
     here = os.getcwd()
     with contextlib.ExitStack() as undo, taken(text) as given, Printed() as out, Printed() as said:
@@ -164,9 +141,7 @@ def call(name: str, words: Sequence[object]) -> int:
         errors.clean_up()
 
 
-def run(
-    name: str, *words: object, text: str | None = "", folder: Path | str | None = None, **variables: object
-) -> Done:
+def run(name: str, *words: object, text: str | None = "", folder: Path | str | None = None, **variables: object) -> Done:
     """Calls a subcommand, in this process, and returns its status and outputs. The variables are of its environment."""
     with surroundings(text, folder, variables) as (out, said):
         status = call(name, words)
@@ -252,9 +227,7 @@ class InFolder(unittest.TestCase):
         self.assertEqual((done.stderr, done.returncode), ("", 0), words)
         return done.stdout
 
-    def converted(
-        self, tool: str, source: object, *words: object, ends: Sequence[str] = ("csv", "notes"), **others: Any
-    ) -> list[str]:
+    def converted(self, tool: str, source: object, *words: object, ends: Sequence[str] = ("csv", "notes"), **others: Any) -> list[str]:
         """Calls a subcommand that makes files from a source, under the name `made`, and returns their texts."""
         self.forget("made")
         self.succeeds(tool, source, "made", *words, folder=self.folder, **others)

@@ -10,7 +10,8 @@ from collections.abc import Iterator, Mapping, Sequence
 from dataclasses import dataclass
 from typing import Any
 
-from fintaqush_tools import observed
+from fintaqush_tools import drivers, observed
+from fintaqush_tools.choosing import timeout_of
 from fintaqush_tools.errors import Refusal
 from fintaqush_tools.machine import OPTIONS
 from fintaqush_tools.processes import ran
@@ -21,7 +22,8 @@ VETH_RING = 256  # entries of veth's ring, which ethtool doesn't report
 SOCKET = 65536  # packets: a recording doesn't have the socket buffer's size in packets, so this holds all
 FLUSHES = (0, 20_000, 50_000, 100_000, 200_000, 500_000)  # ns
 DEFERRALS = 2
-COALESCED = (0, 10_000, 25_000, 50_000, 100_000)  # ns; igb and e1000e take none from 4 to 9 us
+COALESCED = (0, 10, 25, 50, 100)  # us
+COALESCING = ("rx-nsecs", "rx-gap")  # the options that rx-usecs sets
 LARGER = (1, 2, 4, 8, 16)
 NOT_MODELLED = (
     "GRO's merging of packets",
@@ -30,6 +32,7 @@ NOT_MODELLED = (
     "RPS after a device's own polls",
     "adaptive coalescing",
 )
+MOVED, SPREAD = 1, 2  # layouts: interrupts on other processors; an equal part of the hashes for each queue
 IDLE = 0.8  # least share of the time in which a processor for the program was idle
 COMM = 15  # characters of a task's name that the kernel keeps
 WRITE = 'echo "$3" > "/sys/class/net/$1/$2"'  # device and value are arguments of the shell, never part of the command
@@ -44,6 +47,11 @@ def number_in(head: Head, key: str, default: int) -> int:
 def within_range(option: str, value: int) -> int:
     low, high, _ = OPTIONS[option]
     return max(low, min(high, value))
+
+
+def usecs_of(time: int) -> int:
+    """Returns the rx-usecs that set a time of the machine, in ns: some drivers set it only nearly."""
+    return (time + 500) // 1000
 
 
 def options_of(head: Head, device: str, is_apart: int, processors: int = 1) -> dict[str, int]:
@@ -75,10 +83,14 @@ def options_of(head: Head, device: str, is_apart: int, processors: int = 1) -> d
                 "defer-hard-irqs": of_device("napi_defer_hard_irqs", 0),
                 "gro-flush-timeout": of_device("gro_flush_timeout", 0),
                 "threaded": min(1, of_device("threaded", 0)),
-                "rx-nsecs": 1000 * of_device("ethtool.coalesce.rx-usecs", 0),
-                "rx-frames": of_device("ethtool.coalesce.rx-frames", 0),
             }
         )
+        timer = {
+            "rx-nsecs": 1000 * drivers.usecs_in(head, device),
+            "rx-frames": of_device("ethtool.coalesce.rx-frames", 0),
+        }
+        own = drivers.options_of(head, device) or timer
+        options.update({name: value for name, value in own.items() if name in OPTIONS})
     return {name: within_range(name, value) for name, value in options.items()}
 
 
@@ -88,6 +100,9 @@ def unmodelled_in(head: Head, device: str) -> Iterator[str]:
         yield "busy polling is on (net.core.busy_read, busy_poll)"
     if head.get(f"device.{device}.ethtool.coalesce.adaptive-rx") == "on":
         yield "adaptive coalescing is on (ethtool -C adaptive-rx)"
+    own = drivers.options_of(head, device) if head.get("polled") != BACKLOG else {}
+    if lacking := [f"--{name} {value}" for name, value in own.items() if value and name not in OPTIONS]:
+        yield f"this napi_machine lacks {' '.join(lacking)} of {drivers.name_in(head, device)}"
     before, after = map(int, head.get("udp.RcvbufErrors", "0 0").split())
     if after > before:
         yield f"{after - before} packets were dropped at a full socket (see net.core.rmem_max and SO_RCVBUF)"
@@ -106,41 +121,67 @@ def rings_of(head: Head, device: str, options: Mapping[str, int]) -> list[int]:
     return sorted({min(most, now * times) for times in LARGER})
 
 
-def candidates(head: Head, device: str, options: dict[str, int], has_program: bool) -> list[dict[str, int]]:
-    """Returns all settings to try, the recorded one first."""
+def candidates(
+    head: Head, device: str, options: dict[str, int], has_program: bool, has_timer: bool, is_sent_here: bool = False
+) -> list[dict[str, int]]:
+    """Returns all settings to try, the recorded one first. Deferral is compared with none only if a timer's cost is known.
+    `is_sent_here` is whether the processor that polls sends the packets."""
     places: list[dict[str, int]] = [{}, {"apart": 0}, {"apart": 1}] if has_program else [{}]
     rings: list[dict[str, int]] = [{}, *({"ring": ring} for ring in rings_of(head, device, options))]
     tried = [options]
-    for changes in itertools.product(*of_interrupts(head, device, options), places, rings):
+    for changes in itertools.product(*of_interrupts(head, device, options, is_sent_here), places, rings):
         chosen = {**options, **{name: value for change in changes for name, value in change.items()}}
-        is_both = (
-            chosen.get("gro-flush-timeout") and chosen.get("rx-nsecs") and chosen["rx-nsecs"] != options.get("rx-nsecs")
+        is_both = chosen.get("gro-flush-timeout") and any(
+            chosen.get(name) and chosen[name] != options.get(name) for name in COALESCING
         )
-        if chosen not in tried and not is_both:
+        is_known = has_timer or bool(timeout_of(chosen)) == bool(timeout_of(options))
+        if chosen not in tried and not is_both and is_known:
             tried.append(chosen)
     return tried
 
 
-def of_interrupts(head: Head, device: str, options: Mapping[str, int]) -> list[list[dict[str, int]]]:
+def has_deferral(head: Head, device: str, options: Mapping[str, int]) -> bool:
+    """Returns whether deferral can be set; a backlog has none."""
+    attributes = {f"device.{device}.napi_defer_hard_irqs", f"device.{device}.gro_flush_timeout"}
+    return not options.get("backlog") and attributes <= head.keys()
+
+
+def of_interrupts(
+    head: Head, device: str, options: Mapping[str, int], is_sent_here: bool
+) -> list[list[dict[str, int]]]:
     """Returns the settings of deferral, of coalescing and of threads to try; a backlog has none."""
     deferrals: list[dict[str, int]] = [{}]
     coalescing: list[dict[str, int]] = [{}]
     threads: list[dict[str, int]] = [{}]
     if not options.get("backlog"):
-        if {f"device.{device}.napi_defer_hard_irqs", f"device.{device}.gro_flush_timeout"} <= head.keys():
+        if has_deferral(head, device, options):
             deferrals += [
                 {"defer-hard-irqs": DEFERRALS if flush else 0, "gro-flush-timeout": flush} for flush in FLUSHES
             ]
         if f"device.{device}.threaded" in head and options.get("processors", 1) == 1:
-            # Without a thread a veth pair's sender polls, on its own processor.
-            stays = head.get("sender") and options["threaded"]
-            threads += [{"threaded": 1}] if stays else [{"threaded": 0}, {"threaded": 1}]
+            # Without a thread a veth pair's sender polls, on its own processor; then what waking a thread takes isn't known.
+            stays = is_sent_here or head.get("sender") and options["threaded"]
+            threads += [] if stays else [{"threaded": 0}, {"threaded": 1}]
         if (
             f"device.{device}.ethtool.coalesce.rx-usecs" in head
             and head.get(f"device.{device}.ethtool.coalesce.adaptive-rx") != "on"
         ):
-            coalescing += [{"rx-nsecs": time} for time in COALESCED]
+            coalescing += [
+                each for each in drivers.coalescing_of(head, device, COALESCED) if each.keys() <= OPTIONS.keys()
+            ]
     return [deferrals, coalescing, threads]
+
+
+def interrupts_of(head: Head, device: str) -> dict[int, str]:
+    """Returns the interrupt of each queue that receives, by their names, as eth0-TxRx-3, virtio0-input.3 or
+    mlx5_comp3@pci:.."""
+    found = {}
+    for key, name in head.items():
+        irq = re.fullmatch(rf"device\.{re.escape(device)}\.irq\.(\d+)\.name", key)
+        queue = re.search(r"(?:rx|input|comp)[^0-9]*(\d+)", name, re.I)
+        if irq and queue:
+            found[int(queue[1])] = irq[1]
+    return found
 
 
 # ---- how settings are applied
@@ -153,7 +194,7 @@ def thread_of(device: str) -> str:
 
 @dataclass
 class Change:
-    """One change of a setting; `kind` is sysctl, sysfs, ring, coalesce, threads or program."""
+    """One change of a setting; `kind` is sysctl, sysfs, ring, coalesce, threads, table, irq or program."""
 
     kind: str
     name: str
@@ -169,6 +210,12 @@ class Machine:
         self.head, self.device, self.netns, self.processor = head, device, head.get("netns", ""), processor
         self.idle = dict(idle or {})
         self.pids = [int(each) for each in head.get("program.pids", "").split()]
+        self.interrupts: dict[str, int] = {}  # the processor of each interrupt with layout MOVED
+        self.queues = 0  # that have packets with layout SPREAD
+
+    def idle_processors(self) -> list[int]:
+        """Returns the processors that were nearly always idle, the one that was for longest first."""
+        return [number for number, share in sorted(self.idle.items(), key=lambda pair: -pair[1]) if share >= IDLE]
 
     def other_processor(self) -> int | None:
         """Returns a processor for the program, other than the one that polls: the one that was idle for longest, if that is nearly always."""
@@ -192,8 +239,15 @@ class Machine:
             changes.append(Change("sysctl", "netdev_max_backlog", chosen["ring"] - 1, now["ring"] - 1))
         elif is_new("ring"):
             changes.append(Change("ring", "rx", chosen["ring"], now["ring"]))
-        if is_new("rx-nsecs"):
-            changes.append(Change("coalesce", "rx-usecs", chosen["rx-nsecs"] // 1000, now["rx-nsecs"] // 1000))
+        for name in filter(is_new, COALESCING):
+            usecs = drivers.usecs_in(self.head, self.device)
+            changes.append(Change("coalesce", "rx-usecs", usecs_of(chosen[name]), usecs))
+        if chosen.get("layout") == SPREAD:
+            changes.append(Change("table", "equal", self.queues, None))
+        if chosen.get("layout") == MOVED:
+            for irq, processor in self.interrupts.items():
+                before = self.head.get(f"device.{self.device}.irq.{irq}.smp_affinity_list", "")
+                changes.append(Change("irq", irq, processor, before))
         if is_new("apart"):
             changes.append(
                 Change(
@@ -208,7 +262,9 @@ class Machine:
     def notes_on(self, changes: Sequence[Change]) -> Iterator[str]:
         """Yields notes on what the commands don't show."""
         for change in changes:
-            if change.kind == "threads":
+            if change.kind == "irq" and change is changes[-1]:
+                yield "irqbalance may move these interrupts back, if it runs"
+            elif change.kind == "threads":
                 yield f"the thread is pinned to processor {change.value}, which polls now; any other one that does nothing else is as good"
             elif change.kind == "sysfs" and change.name == "threaded" and not change.value:
                 yield "without a thread the processor polls that takes the interrupt, or on which a veth pair's sender runs"
@@ -228,6 +284,8 @@ class Machine:
             if front
             else f"echo {change.value} > {attribute}",
             "threads": f"for task in $(pgrep '^{thread_of(self.device)}'); do taskset -pc {change.value} $task; done",
+            "table": f"{front}ethtool -X {self.device} {change.name} {change.value}",
+            "irq": f"echo {change.value} > /proc/irq/{change.name}/smp_affinity_list",
             "ring": f"{front}ethtool -G {self.device} rx {change.value}",
             "coalesce": f"{front}ethtool -C {self.device} rx-usecs {change.value}",
             "program": f"for task in $(pgrep -x '{change.name[:COMM]}'); do taskset -apc {change.value} $task; done",
@@ -236,11 +294,14 @@ class Machine:
     def apply(self, change: Change, value: object) -> None:
         """Applies a change on this machine."""
         within = observed.within(self.netns)
-        if change.kind == "sysctl":
-            with open(f"/proc/sys/net/core/{change.name}", "w", encoding="ascii") as file:
+        if change.kind in ("sysctl", "irq"):
+            path = f"sys/net/core/{change.name}" if change.kind == "sysctl" else f"irq/{change.name}/smp_affinity_list"
+            with open(f"/proc/{path}", "w", encoding="ascii") as file:
                 file.write(f"{value}\n")
         elif change.kind == "sysfs":
             self.run([*within, "sh", "-c", WRITE, "sh", self.device, change.name, str(value)])
+        elif change.kind == "table":
+            raise Refusal("--verify doesn't change the card's table of hashes, because it couldn't restore it")
         elif change.kind in ("ring", "coalesce"):
             self.run(
                 [*within, "ethtool", "-G" if change.kind == "ring" else "-C", self.device, change.name, str(value)]

@@ -117,9 +117,8 @@ def child(memory: int = 0, nice: int = 0) -> None:
 def kit() -> str:
     """Returns the folder of the toolchain."""
     if not shutil.which("rt"):
-        raise Refusal(
-            "there is no rt on PATH, which proves and builds the program: see 'What it needs' in README.md", 69
-        )
+        why = "there is no rt on PATH, which proves and builds the program: see 'What it needs' in README.md"
+        raise Refusal(why, 69)
     return os.path.dirname(subprocess.run(["rt", "doc"], stdout=subprocess.PIPE, text=True, check=False).stdout.strip())
 
 
@@ -162,9 +161,8 @@ class Crate:
         self.is_program, self.is_archive = os.path.exists(f"{self.folder}/src/main.rt"), "staticlib" in kind
         self.is_library = not self.is_program and not self.is_archive
         out = f"{self.folder}/out/{CPU}" if CPU and self.is_archive else f"{self.folder}/out"
-        self.made = (
-            f"{BUILT}/{name}.rlib" if self.is_library else f"{out}/{name if self.is_program else f'lib{name}.a'}"
-        )
+        file = name if self.is_program else f"lib{name}.a"
+        self.made = f"{BUILT}/{name}.rlib" if self.is_library else f"{out}/{file}"
 
     @functools.cached_property
     def all(self) -> list[Crate]:
@@ -190,9 +188,8 @@ class Crate:
 
     def own(self) -> str:
         """Returns a checksum of its line in crates.txt and of its files, as they are now."""
-        return sum_of(
-            [self.name, self.kind, *self.uses, *(f"{it} {sums().of(f'{self.folder}/{it}')}" for it in self.texts())]
-        )
+        files = (f"{it} {sums().of(f'{self.folder}/{it}')}" for it in self.texts())
+        return sum_of([self.name, self.kind, *self.uses, *files])
 
     @functools.cached_property
     def sources(self) -> str:
@@ -202,9 +199,8 @@ class Crate:
     def sum(self) -> str:
         """Returns a checksum of its sources, of those of the crates below it, and of what was built; of a library, which another kit can't
         read, also of the kit."""
-        made = (
-            [sums().of(f"{self.made}/format"), read(f"{kit()}/KIT-ID")] if self.is_library else [sums().of(self.made)]
-        )
+        made = [sums().of(f"{self.made}/format" if self.is_library else self.made)]
+        made += [read(f"{kit()}/KIT-ID")] if self.is_library else []
         return sum_of([*(it.sources for it in self.all), *made])
 
     def is_built(self) -> bool:
@@ -224,29 +220,16 @@ class Crate:
     def words(self, verb: str, jobs: int) -> list[str]:
         """Returns the prover's command that checks or builds it with this many processes, over the libraries that are built."""
         root, at = "src/main.rt" if self.is_program else "src/lib.rt", kit()
-        words = [
-            f"{at}/bin/rattle",
-            verb,
-            "--crate-name",
-            self.name,
-            root,
-            "--jobs",
-            str(jobs),
-            "-L",
-            f"dependency={BUILT}",
-        ]
+        words = [f"{at}/bin/rattle", verb, "--crate-name", self.name, root, "--jobs", str(jobs)]
+        words += ["-L", f"dependency={BUILT}"]
         words += ["--antt-project", f"{at}/rattle/logic/antt-project.json", "--logic-built", f"{at}/logic_built"]
         uses = (f"{name}={BUILT if name in crates() else f'{at}/rlibs'}/{name}.rlib" for name in ("std", *self.uses))
         return [*words, "-L", f"dependency={at}/rlibs", *(word for it in uses for word in ("--extern", it))]
 
     def begin(self, jobs: int, place: int) -> subprocess.Popen[bytes]:
         """Starts to prove and build it, with this many processes, at a lower priority than that of crates before it."""
-        command = [
-            *self.words("build", jobs),
-            "-o",
-            f"{self.made}.new",
-            *["--crate-type", "staticlib"] * self.is_archive,
-        ]
+        command = [*self.words("build", jobs), "-o", f"{self.made}.new"]
+        command += ["--crate-type", "staticlib"] * self.is_archive
         command += ["--statements"] if self.is_library else ["--toolchain", f"{kit()}/toolchain", "--backend", "llvm"]
         command += ["--cpu", CPU] if CPU and self.is_archive else []
         self.begun = self.times()
@@ -261,23 +244,15 @@ class Crate:
         new = f"{self.made}.new"
         if status == 0 and self.is_program:
             os.replace(new, f"{BUILT}/{self.name}.o")
-            command = [
-                f"{kit()}/bin/rattle-link",
-                "--target",
-                "x86_64-unknown-linux-gnu",
-                "--toolchain",
-                f"{kit()}/toolchain",
-                "-o",
-                new,
-            ]
+            command = [f"{kit()}/bin/rattle-link", "--target", "x86_64-unknown-linux-gnu"]
+            command += ["--toolchain", f"{kit()}/toolchain", "-o", new]
             command += [f"{BUILT}/{self.name}.o", f"{kit()}/c/libos_c.a", f"{kit()}/c/liblibc_c.a"]
             with open(self.log, "ab") as log:
                 status = subprocess.run(command, stdout=log, stderr=log, preexec_fn=child, check=False).returncode
         if status != 0:
             why = "\n".join((re.findall(".*error.*", said := read(self.log)) or said.splitlines()[-5:])[:5])
-            raise Refusal(
-                f"{self.name} couldn't be built, status {status}; {self.log} has all that was said:\n{why}", 70
-            )
+            where = f"{self.log} has all that was said"
+            raise Refusal(f"{self.name} couldn't be built, status {status}; {where}:\n{why}", 70)
         os.rename(new, self.made)
         self.stands(self.begun)
 
@@ -361,9 +336,8 @@ class Proving:
     def prove(self, beside: Callable[[], None]) -> None:
         """Proves and builds; meanwhile calls `beside` again and again."""
         count = len(self.every)
-        say(
-            f"proving and building {self.names} and what they stand on, {count} crates: on 4 cores some {count // 3 + 1} minutes"
-        )
+        about = f"{count} crates: on 4 cores some {count // 3 + 1} minutes"
+        say(f"proving and building {self.names} and what they stand on, {about}")
         self.remove_old()
         try:
             while self.left or self.at_work:

@@ -20,7 +20,7 @@ CLOCK = (
 def times_in(capture: str, address: str) -> list[int]:
     """Returns the times of the packets to a link address and of broadcasts, in ns of CLOCK_REALTIME. Multicasts are left out, because a card
     accepts only those that its driver has enabled."""
-    packets, _ = from_pcap.packets_in(Words(capture=capture, count=None, flows=False), [])
+    packets, _ = from_pcap.packets_in(Words(capture=capture, count=None, flows=False, way=from_pcap.IN), [])
     return [
         moment
         for moment, kind, _ in packets.in_order()

@@ -9,16 +9,18 @@ from __future__ import annotations
 
 import bisect
 import re
-from collections.abc import Iterable, Sequence
+from collections.abc import Callable, Iterable, Sequence
+from dataclasses import replace
 from typing import Optional
 
-from fintaqush_tools.fits import Cost, cost_of
-from fintaqush_tools.recording import POLLED, Event, Head
-from fintaqush_tools.timeline import RETURNED, SHORT_SWITCH, SWITCH, TIMER, Timeline
+from fintaqush_tools.fits import FEWEST, Cost, cost_of
+from fintaqush_tools.recording import POLLED, Event, Head, fields_in
+from fintaqush_tools.timeline import RETURNED, TIMER, Timeline, switched
 
 GIVEN = re.compile(r"dev=(\S+) ")
 TO_GRO = {"napi_gro_receive_entry", "napi_gro_frags_entry"}  # a driver passes a packet to GRO
 QUIET = 200_000  # ns without a poll before an arrival, after which the card and the processor are idle
+SLOW = 100_000  # ns: a wake-up that takes longer waits for the scheduler, if another task had the processor
 SOON = 10_000  # ns from such an arrival to the softirq that its interrupt requests
 
 
@@ -44,18 +46,23 @@ class CardTimes:
 
     def add(self, event: Event) -> None:
         """Processes the next event of the recording."""
-        if event.name in TO_GRO:
-            self.take(event)
-        elif event.name == "netif_receive_skb":
-            self.taken.pop(event.cpu, None)  # GRO passes its batch to the stack
-        elif event.name == "napi_poll":
-            self.poll(event)
-        elif event.name == "sched_switch":
-            self.switch(event)
-        elif event.name.startswith("sys_exit_"):
-            self.end_read(event)
-        elif event.name.startswith("sys_enter_"):
-            self.begin_read(event)
+        if look := self.look_at(event.name):
+            look(event)
+
+    def look_at(self, name: str) -> Optional[Callable[[Event], None]]:
+        """Returns what handles the events of this name."""
+        if name.startswith("sys_"):
+            return self.end_read if name.startswith("sys_exit_") else self.begin_read
+        return {
+            **dict.fromkeys(TO_GRO, self.take),
+            "netif_receive_skb": self.end_batch,
+            "napi_poll": self.poll,
+            "sched_switch": self.switch,
+        }.get(name)
+
+    def end_batch(self, event: Event) -> None:
+        """GRO passes its batch to the stack."""
+        self.taken.pop(event.cpu, None)
 
     def take(self, event: Event) -> None:
         found = GIVEN.match(event.said)
@@ -72,14 +79,14 @@ class CardTimes:
             self.poll_end, self.poll_on, self.was_lone = event.time, event.cpu, int(work) == 1
 
     def switch(self, event: Event) -> None:
-        found = SWITCH.match(event.said) or SHORT_SWITCH.match(event.said)
-        if found and not found[2].startswith("R"):
-            self.sleeps[int(found[1])] = self.delivered
+        task, is_sleep, *_ = switched(event)
+        if is_sleep:
+            self.sleeps[task] = self.delivered
 
     def end_read(self, event: Event) -> None:
         """A read returns, perhaps of the only packet since the program slept."""
-        found, before = RETURNED.search(event.said), self.sleeps.pop(event.pid, None)
-        if not found or not 0 < int(found[1], 16) < 1 << 31 or before is None:
+        found, before = fields_in(RETURNED, event.said), self.sleeps.pop(event.pid, None)
+        if not found or not 0 < int(found[0], 16) < 1 << 31 or before is None:
             return
         if self.delivered - before == 1 and self.was_lone and event.cpu == self.poll_on:
             self.woken[event.pid] = self.poll_end
@@ -88,6 +95,10 @@ class CardTimes:
         """The program reads again, after the use of the packet; a poll since then would have taken some of that time."""
         if self.woken.pop(event.pid, None) == self.poll_end:
             self.woken_uses.append(event.time - self.poll_end)
+
+
+def told_half(cost: Cost) -> str:
+    return f"half of them from {cost.middle[0]:.0f} to {cost.middle[1]:.0f}"
 
 
 def take_cost(times: CardTimes) -> Optional[Cost]:
@@ -100,12 +111,26 @@ def app_wake_cost(times: CardTimes, use: Optional[Cost]) -> Optional[Cost]:
     return cost_of(times.woken_uses, "single packets", use.value) if use else None
 
 
+def wakes_by(times: Timeline, kind: str) -> tuple[list[int], int]:
+    """Returns the times of the wake-ups by `packets` or by `timers`, and how many of them waited while another task had the
+    processor. These count if a program reads, which is such a task, or if there are too few others."""
+    idle, busy = times.wakes[kind], times.busy_wakes[kind]
+    return (idle + busy, len(busy)) if times.reads.tasks or len(idle) < FEWEST else (idle, 0)
+
+
+def is_by_scheduler(cost: Cost, busy: int) -> bool:
+    """Returns whether most of these wake-ups waited for another task, and for so long that the scheduler decided it."""
+    return 2 * busy > cost.count and cost.value > SLOW
+
+
 def timer_costs(times: Timeline) -> dict[str, Cost]:
     """Returns `timer`, the cost of the handler of NAPI's timer, and `timer-wake`, that of waking an idle processor by it. Both grow with the
     time that the processor slept, so `timeouts_of` has to be printed with them."""
+    took, busy = wakes_by(times, "timers")
+    wake = cost_of(took, "timers on an idle processor")
     found = {
         "timer": cost_of(times.handlers.get(TIMER, []), "handlers of NAPI's timer"),
-        "timer-wake": cost_of(times.wakes.get("timers", []), "timers on an idle processor"),
+        "timer-wake": None if wake and is_by_scheduler(wake, busy) else wake,
     }
     return {name: cost for name, cost in found.items() if cost}
 
@@ -114,12 +139,6 @@ def timeouts_of(head: Head, devices: Iterable[str]) -> list[int]:
     """Returns the gro_flush_timeout of the recorded devices, in ns, without 0."""
     texts = (head.get(f"device.{device}.gro_flush_timeout", "") for device in devices)
     return sorted({int(text) for text in texts if text.isdigit()} - {0})
-
-
-def packet_interrupt_cost(times: Timeline) -> Optional[Cost]:
-    """Returns the cost of the interrupts that packets request, without those of NAPI's timer, if both kinds were recorded."""
-    kinds = {name: took for name, took in times.handlers.items() if name != TIMER}
-    return cost_of([each for took in kinds.values() for each in took], "handlers without NAPI's timer")
 
 
 def arrival_interrupt_cost(arrivals: Sequence[int], softirqs: Sequence[int]) -> Optional[Cost]:
@@ -140,7 +159,9 @@ def known_costs(
     packet's use if the program reads on the processor that polls; `timeouts` are the recorded gro_flush_timeout, in ns.
     """
     found = {"take": take_cost(times), "app-wake": app_wake_cost(times, use)}
-    costs = {**{name: cost for name, cost in found.items() if cost}, **timer_costs(timeline)}
-    told = [f"{name} {cost.interval()}: {cost.count} {cost.source}" for name, cost in costs.items()]
-    at = f", at a gro_flush_timeout of {' and '.join(map(str, timeouts))} ns"
-    return costs, [line + at if timeouts and line.startswith("timer") else line for line in told]
+    costs = {name: cost for name, cost in found.items() if cost}
+    at = f" at a gro_flush_timeout of {' and '.join(map(str, timeouts))} ns" if timeouts else ""
+    for name, cost in timer_costs(timeline).items():
+        costs[name] = replace(cost, source=f"{cost.source}{at}")
+    told = [f"{name} {cost.interval()}: {cost.count} {cost.source}, {told_half(cost)}" for name, cost in costs.items()]
+    return costs, told

@@ -8,7 +8,8 @@ from concurrent.futures import ThreadPoolExecutor
 from typing import Any, Optional
 
 from fintaqush_tools import predicting
-from fintaqush_tools.machine import COSTS, values_of, values_on, with_costs
+from fintaqush_tools.bands import ALIKE, Costs, Doubt, Interval
+from fintaqush_tools.machine import COSTS, values_of, values_on
 from fintaqush_tools.options import Words
 from fintaqush_tools.progress import Progress
 
@@ -16,8 +17,6 @@ Options = dict[str, int]
 Values = dict[str, Any]
 Tried = tuple[Options, Values]  # a setting and its results
 
-BAND = (80, 120)  # % of the costs
-NOTABLE = 0.03  # relative difference below which two settings are equally good
 GOALS = {
     "p99": "the 99th percentile of waits",
     "p50": "the median wait",
@@ -31,26 +30,51 @@ def numeric(value: Any) -> float:
     return float(value) if isinstance(value, str) else int(value)
 
 
+def timeout_of(options: Mapping[str, int]) -> int:
+    """Returns the timeout of NAPI's timer in ns, or 0 if polls don't wait for it."""
+    return options.get("gro-flush-timeout", 0) if options.get("defer-hard-irqs") else 0
+
+
 def settings_of(costs: Mapping[str, int], options: Options) -> Options:
-    """Returns the machine's options. It has one cost for interrupts and timers, and with deferral nearly all are timers."""
-    is_deferred = options.get("defer-hard-irqs") and options.get("gro-flush-timeout")
-    timer = {"interrupt": costs["timer"]} if is_deferred and "timer" in costs else {}
-    return {**{name: costs[name] for name in COSTS if name in costs}, **timer, **options}
+    """Returns the machine's options. `costs` may have `app-wake-apart`, the wake-up of a program with a processor of its own. If
+    the costs of NAPI's timer are unknown, they are those of interrupts; if the machine has none, those of interrupts are they
+    if there is deferral, because nearly all are timers then.
+    """
+    values = {name: costs[name] for name in COSTS if name in costs}
+    if options.get("apart") and "app-wake-apart" in costs:
+        values["app-wake"] = costs["app-wake-apart"]
+    for name, of_timer in (("interrupt", "timer"), ("wake", "timer-wake")):
+        if name in costs and (of_timer in COSTS or timeout_of(options)):
+            values[of_timer if of_timer in COSTS else name] = costs.get(of_timer, costs[name])
+    if "take" in values:
+        values["take"] = min(values["take"], values["packet"])
+    return {**values, **options}
 
 
 class Predictions:
     """Runs napi_machine for several settings at once."""
 
-    def __init__(self, made: str, costs: dict[str, int], arrivals: str, devices: Collection[int]) -> None:
-        """`costs` has that of a NAPI timer too. `devices` are those whose waits count."""
-        self.made, self.costs, self.arrivals, self.devices = made, costs, arrivals.encode(), devices
+    doubt: Doubt  # needed for bands
 
-    def report(self, options: Options, percent: int = 100) -> str:
-        return predicting.reported(self.made, self.arrivals, with_costs(settings_of(self.costs, options), percent))
+    def __init__(self, made: str, costs: Costs, arrivals: str, devices: Collection[int]) -> None:
+        """`costs` are those of `settings_of`. `devices` are those whose waits count."""
+        self.made, self.costs = made, costs
+        # By the value of `layout`: the arrivals, and the devices whose waits count.
+        self.layouts: dict[int, tuple[bytes, Collection[int]]] = {0: (arrivals.encode(), devices)}
 
-    def of(self, options: Options, percent: int = 100) -> Values:
-        """Returns the results of a setting, with all costs scaled to `percent`."""
-        values = values_of(self.report(options, percent), self.devices)
+    def on_others(self, arrivals: str, devices: Collection[int]) -> Predictions:
+        """Returns predictions by the same costs for other arrivals."""
+        others = Predictions(self.made, self.costs, arrivals, devices)
+        others.doubt = self.doubt
+        return others
+
+    def report(self, options: Options, costs: Costs | None = None) -> str:
+        settings = settings_of(costs or self.costs, {name: options[name] for name in options if name != "layout"})
+        return predicting.reported(self.made, self.layouts[options.get("layout", 0)][0], settings)
+
+    def of(self, options: Options, costs: Costs | None = None) -> Values:
+        """Returns the results of a setting, with other costs if some are given."""
+        values = values_of(self.report(options, costs), self.layouts[options.get("layout", 0)][1])
         return {
             **{name: numeric(value) for name, value in values.items()},
             "kernel_percent": float(values["interrupt_percent"]) + float(values["poll_percent"]),
@@ -60,7 +84,7 @@ class Predictions:
 
     def on(self, options: Options) -> list[dict[str, int]]:
         """Returns the results of a setting for each processor."""
-        return values_on(self.report(options), self.devices)
+        return values_on(self.report(options), self.layouts[0][1])
 
     def of_all(self, tried: Sequence[Options]) -> list[Values]:
         """Returns the results of each setting."""
@@ -74,9 +98,13 @@ class Predictions:
             pool.shutdown(cancel_futures=True)
         return values
 
-    def band_of(self, options: Options) -> list[Values]:
-        """Returns the results with all costs 20 % lower and higher."""
-        return [self.of(options, percent) for percent in BAND]
+    def sides_of(self, options: Options) -> list[Values]:
+        """Returns the results with the other costs that the recording may have."""
+        return [self.of(options, costs) for _, costs in self.doubt.sides]
+
+    def band(self, name: str, options: Options, values: Values, sides: Sequence[Values]) -> Interval:
+        """Returns the band of a value of a setting; `values` and `sides` are its results."""
+        return self.doubt.band(name, values[name], [each[name] for each in sides], timeout_of(options))
 
 
 class Choice:
@@ -100,23 +128,23 @@ class Choice:
 
     def fewest_changes(self, best: Tried, allowed: Sequence[Tried]) -> Tried:
         """Returns the setting with the fewest changes among those that are as good as the best one: within 3 % of it, with the costs as they are
-        or 20 % lower or higher."""
-        band = self.predictions.band_of(best[0])
-        most = max(self.value(values) for values in (best[1], *band)) * (1 + NOTABLE)
+        or as they may be."""
+        sides = self.predictions.sides_of(best[0])
+        most = max(self.value(values) for values in (best[1], *sides)) * (1 + ALIKE)
         near = [pair for pair in allowed if self.value(pair[1]) <= most]
         for pair in sorted(near, key=lambda pair: (*self.changes_of(pair[0]), *self.key(pair[1]))):
-            others = self.predictions.band_of(pair[0])
-            is_alike = self.is_alike(pair[1], best[1]) or any(map(self.is_alike, others, band))
+            others = self.predictions.sides_of(pair[0])
+            is_alike = self.is_alike(pair[1], best[1]) or any(map(self.is_alike, others, sides))
             if is_alike and (not self.has_room or self.is_safe(pair[0])):
                 return pair
         return best
 
     def is_alike(self, values: Values, best: Values) -> bool:
-        return self.value(values) <= self.value(best) * (1 + NOTABLE)
+        return self.value(values) <= self.value(best) * (1 + ALIKE)
 
     def changes_of(self, options: Options) -> tuple[bool, int]:
         """Returns whether a setting moves the program, and how many options it changes."""
-        changed = {name for name in options if options[name] != self.now.get(name)}
+        changed = {name for name in options if options[name] != self.now.get(name) and name != "processors"}
         return "apart" in changed, len(changed)
 
     def value(self, values: Mapping[str, Any]) -> float:
@@ -140,13 +168,14 @@ class Choice:
         )
 
     def is_safe(self, options: Options) -> bool:
-        """Returns whether a setting is within the limits with all costs 20 % lower and higher too."""
-        return all(map(self.is_allowed, self.predictions.band_of(options)))
+        """Returns whether a setting is within the limits with the other costs too."""
+        return all(map(self.is_allowed, self.predictions.sides_of(options)))
 
-    def warnings(self, best: Options, band: Sequence[Values], today: Sequence[Values]) -> Iterator[str]:
-        """Yields warnings about the best setting."""
+    def warnings(self, best: Options, sides: Sequence[Values], today: Sequence[Values]) -> Iterator[str]:
+        """Yields warnings about the best setting; `sides` and `today` are its results and those of today's with the
+        other costs."""
         if not self.has_room:
-            yield "with costs 20 % lower or higher it exceeds the limits"
-        for percent, values, old in zip(BAND, band, today):
+            yield "with other costs that the recording may have it exceeds the limits"
+        for (what, _), values, old in zip(self.predictions.doubt.sides, sides, today):
             if best != self.now and self.key(old) < self.key(values):
-                yield f"with costs 20 % {'lower' if percent < 100 else 'higher'} today's setting is better"
+                yield f"with {what} today's setting is better"

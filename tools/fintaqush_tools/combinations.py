@@ -3,6 +3,7 @@ at once on all processors, or by GNU parallel on many machines. Existing rows ar
 
 from __future__ import annotations
 
+import argparse
 import contextlib
 import csv
 import errno
@@ -23,7 +24,7 @@ from typing import IO, Any
 
 from fintaqush_tools.errors import Refusal, unfinished, why
 from fintaqush_tools.files import check_target, write_whole
-from fintaqush_tools.options import Parser, Words, add_program, number, pair
+from fintaqush_tools.options import Parser, Words, add_binary, as_options, number, pair
 from fintaqush_tools.places import TOP
 from fintaqush_tools.processes import begun, read_now
 from fintaqush_tools.progress import Program, Progress, can_be_shown, say, share_of
@@ -50,21 +51,14 @@ def sum_of(file: IO[bytes]) -> str:
 
 def add_words(parser: Parser, what: str, out: dict[str, Any]) -> None:
     """Adds the options of a tool that makes rows."""
-    import argparse
-
     parser.add_argument("--out", **out)
     parser.add_argument("--resume", action="store_true", help="continue an existing file")
-    parser.add_argument(
-        "--part",
-        type=pair("/", "3/16"),
-        metavar="K/N",
-        help="only part K of N: every Nth row from the Kth on, for a job array",
-    )
+    text = "only part K of N: every Nth row from the Kth on, for a job array"
+    parser.add_argument("--part", type=pair("/", "3/16"), metavar="K/N", help=text)
     parser.add_argument("--jobs", type=number(1, 999999), help="programs to run at once (one per processor)")
-    parser.add_argument(
-        "--sshloginfile", help="GNU parallel's file of machines; without it all replays run on this machine"
-    )
-    add_program(parser, what)
+    text = "GNU parallel's file of machines; without it all replays run on this machine"
+    parser.add_argument("--sshloginfile", help=text)
+    add_binary(parser, what)
     parser.add_argument("--play", nargs="+", help=argparse.SUPPRESS)
 
 
@@ -107,6 +101,11 @@ def fault_of(made: str, status: int, said: bytes, faults: re.Pattern[str]) -> st
     return fault
 
 
+def told_in(rows: Sequence[Row]) -> list[Row]:
+    """Returns the rows that have results."""
+    return [row for row in rows if str(row["status"]) == "0"]
+
+
 class Counted:
     """Reports the number of rows on standard error: as a progress line on a terminal, else at each tenth if the file is kept."""
 
@@ -142,10 +141,8 @@ class Combinations:
         try:
             return self.row_of(made, key), ""
         except (Refusal, OSError, UnicodeError, MemoryError) as error:
-            return (
-                None,
-                f"{shown(key[0])} {' '.join(f'--{name} {value}' for name, value in zip(self.key[2:], key[2:]))}: {why(error)}",
-            )
+            words = as_options(dict(zip(self.key[2:], key[2:])))
+            return None, f"{' '.join([shown(key[0]), *words])}: {why(error)}"
 
     def line_of(self, row: Row) -> str:
         """Formats a row as a line of the file."""
@@ -171,32 +168,15 @@ class Combinations:
         process that fails is tried again, on another machine if there are several."""
         jobs = words.jobs or os.cpu_count() or 1
         some = max(1, min(32, len(keys) // (4 * jobs)))
-        command = [
-            "parallel",
-            "--will-cite",
-            "--line-buffer",
-            "--quote",
-            "--retries",
-            TRIES,
-            "--jobs",
-            words.jobs or "100%",
-            "--max-args",
-            some,
-            "--workdir",
-            os.getcwd(),
-            "--sshloginfile",
-            words.sshloginfile,
-            f"{TOP}/fintaqush",
-            self.tool,
-            "--program",
-            made,
-            "--play",
-        ]
+        options = {"retries": TRIES, "jobs": words.jobs or "100%", "max-args": some, "workdir": os.getcwd()}
+        options["sshloginfile"] = words.sshloginfile
+        command = ["parallel", "--will-cite", "--line-buffer", "--quote", *as_options(options)]
+        command += [f"{TOP}/fintaqush", self.tool, "--binary", made, "--play"]
         with tempfile.TemporaryFile() as lines:
             # a file, because a pipe that is full in both directions would deadlock
             lines.write(b"".join(os.fsencode(f"{','.join(key[1:])},{key[0]}\n") for key in keys))
             lines.seek(0)
-            with begun(list(map(str, command)), set(), stdin=lines, stdout=subprocess.PIPE) as process:
+            with begun(command, set(), stdin=lines, stdout=subprocess.PIPE) as process:
                 try:
                     for raw in process.stdout or ():
                         line = raw.decode("utf-8", "surrogateescape")
@@ -210,11 +190,10 @@ class Combinations:
         """Makes the rows on this machine, with a pool of threads that each run a program."""
 
         def tries(key: Key) -> tuple[Row | None, str]:
-            for left in range(TRIES - 1, -1, -1):
-                row, told = self.try_row(made, key)
-                if row or not left:
-                    return row, told
-            return None, ""
+            row, told = self.try_row(made, key)
+            for _ in range(TRIES - 1):
+                row, told = (row, told) if row else self.try_row(made, key)
+            return row, told
 
         pool = ThreadPoolExecutor(words.jobs or os.cpu_count())
         try:
@@ -244,21 +223,19 @@ class Combinations:
         rows = list(csv.DictReader(lines[1:], self.columns))
         for place, row in enumerate(rows, 2):
             if None in row or None in row.values():
-                raise Refusal(
-                    f"{shown(path)}: row {place} isn't a row of {self.tool}: `sed -i {place}d {shlex.quote(shown(path))}` removes it, and "
-                    "--resume makes the missing rows"
+                removes = (
+                    f"`sed -i {place}d {shlex.quote(shown(path))}` removes it, and --resume makes the missing rows"
                 )
+                raise Refusal(f"{shown(path)}: row {place} isn't a row of {self.tool}: {removes}")
         return {self.key_of(row): row for row in rows}
 
     def repaired_head(self, path: str, lines: Sequence[str]) -> str:
         """Returns the command that repairs a damaged first line, if the second one is a row."""
         rows = list(csv.reader(lines[1:2]))
-        is_row = bool(rows) and len(rows[0]) == len(self.columns)
-        return (
-            f"; if only its first line is damaged: `sed -i '1c {self.head.strip()}' {shlex.quote(shown(path))}` repairs it"
-            if is_row
-            else ""
-        )
+        if not rows or len(rows[0]) != len(self.columns):
+            return ""
+        command = f"sed -i '1c {self.head.strip()}' {shlex.quote(shown(path))}"
+        return f"; if only its first line is damaged: `{command}` repairs it"
 
     def append(self, path: str, row: Row) -> None:
         """Appends a row. An incomplete line that a killed call left is removed."""
@@ -279,9 +256,8 @@ class Combinations:
         with locked(path) as file:
             rows = self.rows_in(file, path)
             others = [row for key, row in rows.items() if key not in asked and (key[0], *key[2:]) not in settings]
-            write_whole(
-                path, self.head + "".join(map(self.line_of, others + [rows[key] for key in keys if key in rows]))
-            )
+            own = [rows[key] for key in keys if key in rows]
+            write_whole(path, self.head + "".join(map(self.line_of, others + own)))
         return rows
 
     def play_missing(self, made: str, words: Words, rows: Mapping[Key, Row], missing: Sequence[Key]) -> None:
@@ -315,11 +291,8 @@ class Combinations:
         with locked(words.out) as file:
             rows = self.rows_in(file, words.out)
         others = {(key[0], *key[2:]) for key in rows} - {(key[0], *key[2:]) for key in keys}
-        self.tell(
-            words,
-            f"{len(keys)} rows, of which {len(set(keys) & set(rows))} are there"
-            + (f"; {len(others)} others of {shown(words.out)} stay" if others else ""),
-        )
+        stay = f"; {len(others)} others of {shown(words.out)} stay" if others else ""
+        self.tell(words, f"{len(keys)} rows, of which {len(set(keys) & set(rows))} are there{stay}")
         return rows
 
     def make(self, made: str, words: Words, keys: Sequence[Key]) -> list[Row]:
@@ -335,7 +308,5 @@ class Combinations:
         refused = sum(1 for key in keys if key in rows and str(rows[key]["status"]) != "0")
         self.tell(words, f"{len(keys) - len(left)} rows in {shown(words.out)}, of which {refused} are refused")
         if left:
-            raise Refusal(
-                f"{len(left)} rows are missing" + (": --resume tries them again" if not words.is_passing else "")
-            )
+            raise Refusal(f"{len(left)} rows are missing" + ": --resume tries them again" * (not words.is_passing))
         return [rows[key] for key in keys]

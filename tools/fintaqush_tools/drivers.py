@@ -6,7 +6,7 @@ A source is a file of Linux, the number of a line, and a part of that line, in D
 
 from __future__ import annotations
 
-from collections.abc import Iterator
+from collections.abc import Iterator, Sequence
 from dataclasses import dataclass
 from typing import NamedTuple, Optional
 
@@ -340,6 +340,18 @@ def options_of(head: Head, device: str) -> dict[str, int]:
         "gro-batch": min(MOST_BATCH, batch),
         "heedless": int(driver.heedless),
     }
+
+
+def coalescing_of(head: Head, device: str, choices: Sequence[int]) -> list[dict[str, int]]:
+    """Returns the machine's option for each of these rx-usecs, without those that the recorded device's driver doesn't take, or
+    whose effect isn't known. What an unknown driver takes isn't known, so they are all a card's timer."""
+    driver = driver_in(head, device)
+    if not driver:
+        return [{"rx-nsecs": 1000 * usecs} for usecs in choices]
+    taken = [usecs for usecs in choices if driver.accepts(usecs)]
+    if driver.coalescing == GAP:
+        return [{"rx-gap": driver.gap_of(usecs)} for usecs in taken]
+    return [{"rx-nsecs": 1000 * usecs} for usecs in taken] if driver.coalescing == TIMER else []
 
 
 def notes_on(head: Head, device: str) -> Iterator[str]:

@@ -18,6 +18,8 @@ if TYPE_CHECKING:
 
     Main = Callable[[Sequence[str]], Optional[int]]
 
+BAD_USAGE = 64  # the exit status for wrong options, as of the programs (EX_USAGE)
+
 unfinished: set[str] = set()  # files that are being written
 running: set[Popen[bytes]] = set()  # our programs that are running
 

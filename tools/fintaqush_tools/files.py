@@ -25,7 +25,7 @@ def check_target(path: str, replaces: bool = True) -> None:
     if os.path.isdir(path):
         raise Refusal(f"{shown(path)}: this is a folder")
     if not replaces and os.path.lexists(path):
-        raise Refusal(f"{shown(path)} exists and isn't overwritten")
+        raise Refusal(f"{shown(path)} exists and isn't overwritten; --force replaces it")
     if not os.path.isdir(folder):
         raise Refusal(f"{shown(folder)}: there is no such folder")
     if os.path.exists(path) and not os.path.isfile(path):
@@ -82,13 +82,13 @@ def write_whole(path: str, text: str | Iterable[str], replaces: bool = True) -> 
             file.writelines([text] if isinstance(text, str) else text)
 
 
-def write_all(texts: Mapping[str, str | Iterable[str]]) -> None:
-    """Writes new files, by name: all of them, or none."""
-    made = []
+def write_all(texts: Mapping[str, str | Iterable[str]], replaces: bool = False) -> None:
+    """Writes files, by name: all of them, or, unless they replace others, none."""
+    made: list[str] = []
     try:
         for path, text in texts.items():
-            write_whole(path, text, replaces=False)
-            made.append(path)
+            write_whole(path, text, replaces)
+            made += [] if replaces else [path]
     except BaseException:
         for path in made:
             unlink(path)

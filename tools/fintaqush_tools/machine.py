@@ -8,7 +8,10 @@ from pathlib import Path
 from typing import Any
 
 from fintaqush_tools.errors import Refusal
+from fintaqush_tools.options import as_options
 from fintaqush_tools.texts import is_number, shown
+
+Line = Mapping[str, int]  # the numbers of a line of a report, by their names
 
 # The options, made of their table by scripts/options.py.
 TABLE: list[dict[str, Any]] = json.loads(Path(__file__).with_name("options.json").read_text(encoding="utf-8"))
@@ -16,28 +19,17 @@ TABLE: list[dict[str, Any]] = json.loads(Path(__file__).with_name("options.json"
 OPTIONS: dict[str, tuple[int, int, int]] = {it["name"]: (it["least"], it["most"], it["default"]) for it in TABLE}
 MEANS: dict[str, str] = {it["name"]: it["what"] for it in TABLE}
 IN_NS = tuple(it["name"] for it in TABLE if it["unit"] == "ns")
-COSTS = ("interrupt", "poll", "packet", "use", "wake", "app-wake")
+COSTS = tuple(
+    name
+    for name in ("interrupt", "poll", "packet", "use", "wake", "app-wake", "take", "timer", "timer-wake")
+    if name in OPTIONS
+)
 LINES = ("device", "processor", "time", "application", "total")
 SHARES = ("interrupt", "poll", "use", "idle")
 PERCENTILES = {"p50": "wait50", "p99": "wait99", "p999": "wait999"}
 WAITS = [f"{end}_{name}" for end in ("delivered", "used") for name in PERCENTILES]
-TOTALS, COUNTS = ("arrived", "dropped", "refused", "used"), (
-    "interrupts",
-    "timers",
-    "runs",
-    "polls",
-    "squeezed",
-    "late",
-)
-VALUES = [
-    *TOTALS,
-    *WAITS,
-    *(f"{name}_percent" for name in SHARES),
-    *COUNTS,
-    "wakes",
-    "queues_of_a_processor",
-    "used_per_second",
-]
+TOTALS = ("arrived", "dropped", "refused", "used")
+COUNTS = ("interrupts", "timers", "runs", "polls", "squeezed", "late")
 # What each result is, for --help and pages.
 ARE = {
     "arrived": "packets that arrived",
@@ -49,15 +41,10 @@ ARE = {
         for end, what, of in (("delivered", "delivery by a poll", "device"), ("used", "the end of use", "processor"))
         for name, per_cent in (("p50", "50"), ("p99", "99"), ("p999", "99.9"))
     },
-    **{
-        f"{name}_percent": f"the share of all processors' time that {what}, in %"
-        for name, what in (
-            ("interrupt", "interrupts and timers take"),
-            ("poll", "polls take"),
-            ("use", "the application takes; of its own processors with --apart 1"),
-            ("idle", "is idle"),
-        )
-    },
+    "interrupt_percent": "the share of all processors' time that interrupts and timers take, in %",
+    "poll_percent": "the share of all processors' time that polls take, in %",
+    "use_percent": "the share of all processors' time that the application takes; of its own processors with --apart 1, in %",
+    "idle_percent": "the share of all processors' time that is idle, in %",
     "interrupts": "interrupts",
     "timers": "expired NAPI timers",
     "runs": "runs of the softirq",
@@ -68,6 +55,7 @@ ARE = {
     "queues_of_a_processor": "the most queues with packets that one processor has",
     "used_per_second": "packets used in a second, up to the end of the last work",
 }
+VALUES = list(ARE)
 
 
 def help_of(name: str) -> str:
@@ -92,9 +80,7 @@ def lines_of(report: str) -> dict[str, list[dict[str, int]]]:
     return lines
 
 
-def greatest_waits(
-    lines: Sequence[Mapping[str, int]], what: str, numbers: Collection[int] | None = None
-) -> dict[str, int]:
+def greatest_waits(lines: Sequence[Line], what: str, numbers: Collection[int] | None = None) -> dict[str, int]:
     """Returns the percentiles of the line where they are the greatest, of all lines or of those with these numbers."""
     some = [line for line in lines if numbers is None or line["number"] in numbers]
     return {f"{what}_{name}": max((line[wait] for line in some), default=0) for name, wait in PERCENTILES.items()}
@@ -126,11 +112,8 @@ def values_of(report: str, devices: Collection[int] | None = None) -> dict[str, 
     values["wakes"] = sum(line["wakes"] for line in lines["application"])
     processors = [(line["number"] - 1) % len(lines["processor"]) for line in lines["device"]]
     end = max(line["end"] for line in [*lines["time"], *lines["application"]])
-    return {
-        **values,
-        "queues_of_a_processor": max(map(processors.count, set(processors)), default=0),
-        "used_per_second": values["used"] * 10**9 // end if end else 0,
-    }
+    values["queues_of_a_processor"] = max(map(processors.count, set(processors)), default=0)
+    return {**values, "used_per_second": values["used"] * 10**9 // end if end else 0}
 
 
 def identifier(name: str) -> str:
@@ -138,7 +121,7 @@ def identifier(name: str) -> str:
     return name.replace("-", "_")
 
 
-def share(lines: Sequence[Mapping[str, int]], name: str) -> str:
+def share(lines: Sequence[Line], name: str) -> str:
     """Returns a time as a percentage of the total time."""
     whole = sum(line["end"] for line in lines)
     return f"{100 * sum(line[name] for line in lines) / whole if whole else 0:.2f}"
@@ -146,14 +129,4 @@ def share(lines: Sequence[Mapping[str, int]], name: str) -> str:
 
 def option_words(settings: Mapping[str, Any]) -> list[str]:
     """Returns the command-line options of napi_machine for these settings, without those that have their default."""
-    return [
-        word for name, value in settings.items() if int(value) != OPTIONS[name][2] for word in (f"--{name}", str(value))
-    ]
-
-
-def with_costs(settings: Mapping[str, Any], percent: int) -> dict[str, Any]:
-    """Returns the settings with each cost scaled to `percent`."""
-    return {
-        name: min(OPTIONS[name][1], (int(value) * percent + 50) // 100) if name in COSTS else value
-        for name, value in settings.items()
-    }
+    return as_options({name: value for name, value in settings.items() if int(value) != OPTIONS[name][2]})

@@ -4,15 +4,16 @@ from __future__ import annotations
 
 import argparse
 import os
+import re
 import sys
 from collections.abc import Callable, Sequence
 from typing import IO, Any, NoReturn
 
-from fintaqush_tools.errors import Refusal
-from fintaqush_tools.places import version
+from fintaqush_tools.errors import BAD_USAGE, Refusal
+from fintaqush_tools.places import version, with_pages
 from fintaqush_tools.progress import Program
 from fintaqush_tools.settings import MOST, USUAL
-from fintaqush_tools.texts import is_number, shown
+from fintaqush_tools.texts import is_number, nearest, shown
 
 Words = argparse.Namespace  # the options and arguments of a call
 
@@ -40,10 +41,33 @@ class Parser(argparse.ArgumentParser):
     def print_help(self, file: IO[str] | None = None) -> None:
         (file or sys.stdout).write(self.format_help())
 
+    def format_help(self) -> str:
+        self.usage = self.usage or self.short_usage()
+        return super().format_help()
+
+    def format_usage(self) -> str:
+        self.usage = self.usage or self.short_usage()
+        return super().format_usage()
+
+    def short_usage(self) -> str:
+        """Returns the usage with only the options that are required; --help lists the others."""
+        parts, ends = ["%(prog)s"], {"?": "[{}]", "*": "[{} ..]", "+": "{} .."}
+        for action in self._actions:
+            name = str(action.metavar or action.dest.upper())
+            if not action.option_strings:
+                parts.append(ends.get(str(action.nargs), "{}").format(name))
+            elif action.required:
+                parts.append(f"{action.option_strings[0]} {name}")
+        return " ".join([*parts, "[OPTION ..]"])
+
     def error(self, message: str) -> NoReturn:
+        unknown = re.match(r"unrecognized arguments: (-[^\s=]+)", message)
+        near = nearest(unknown[1], sorted(self._option_string_actions), 4, 2, 0.7) if unknown else []
+        message += f": is {' or '.join(near)} meant?" if near else ""
         if self.raises:
             raise Refusal(message)
-        super().error(message)
+        self.print_usage(sys.stderr)
+        self.exit(BAD_USAGE, f"{self.prog}: error: {message}\n")
 
 
 def parser_of(text: str, **others: Any) -> Parser:
@@ -53,7 +77,7 @@ def parser_of(text: str, **others: Any) -> Parser:
         "formatter_class": argparse.RawDescriptionHelpFormatter,
         "allow_abbrev": False,
     }
-    parser = Parser(description=text, **{**how, **others})
+    parser = Parser(description=with_pages(text), **{**how, **others})
     told = f"{parser.prog} of Fintaqush {version()}"
     parser.add_argument(
         "--version", action=Printed, nargs=0, const=told, dest=argparse.SUPPRESS, help="print the version"
@@ -113,14 +137,19 @@ def settings_of(words: Words) -> list[str]:
     return as_options(given_settings(words))
 
 
-def add_program(parser: argparse.ArgumentParser, what: str = "napi_serial or napi_replay") -> None:
-    """Adds the option for another build of the program."""
-    parser.add_argument("--program", help=f"another build of {what} (built if needed)")
+def add_binary(parser: argparse.ArgumentParser, what: str = "napi_serial or napi_replay") -> None:
+    """Adds the option for another build of a program."""
+    parser.add_argument("--binary", metavar="FILE", help=f"another build of {what} (built if needed)")
 
 
 def add_out(parser: argparse.ArgumentParser, what: str) -> None:
     """Adds the option for the output file."""
     parser.add_argument("--out", metavar="FILE", help=f"the file for the {what} (standard output)")
+
+
+def add_force(parser: argparse.ArgumentParser, names: str) -> None:
+    """Adds the option that lets a tool replace files whose names it makes itself; one that --out names is replaced anyway."""
+    parser.add_argument("--force", action="store_true", help=f"replace existing files: {names}")
 
 
 def add_raise(parser: argparse.ArgumentParser, more: str = "") -> None:

@@ -5,6 +5,7 @@ bars, line, dots), a name, and the name of a colour."""
 
 from __future__ import annotations
 
+import contextlib
 import html
 import importlib.util
 import io
@@ -14,7 +15,7 @@ import site
 import sys
 import tempfile
 import textwrap
-from collections.abc import Mapping, Sequence
+from collections.abc import Iterator, Mapping, Sequence
 from pathlib import Path
 from typing import Any
 
@@ -28,44 +29,27 @@ Picture = dict[str, Any]
 
 ENDS = (".png", ".svg", ".html")
 # On the page text has a contrast of at least 4.5 and curves of at least 3; colour-blind readers can distinguish the first eight colours.
-LIGHT = {
-    "blue": "#0063a6",
-    "orange": "#b85000",
-    "green": "#00805c",
-    "purple": "#9b4b86",
-    "brown": "#7a5c00",
-    "sky": "#2b83ba",
-    "red": "#c22a1e",
-    "black": "#1c1c1c",
-    "grey": "#757575",
-    "pale": "#8fa3bd",
-    "page": "#ffffff",
-    "text": "#1d1d1d",
-    "quiet": "#555555",
-    "grid": "#dddddd",
-}
-DARK = {
-    "blue": "#6cb4ff",
-    "orange": "#ffa45c",
-    "green": "#4fd6a8",
-    "purple": "#e3a6d3",
-    "brown": "#e0c060",
-    "sky": "#9ad8f8",
-    "red": "#ff8577",
-    "black": "#ededed",
-    "grey": "#a3a3a3",
-    "pale": "#6f86a6",
-    "page": "#16181c",
-    "text": "#ececec",
-    "quiet": "#b9b9b9",
-    "grid": "#3a3d44",
-}
-COLORS = ("blue", "orange", "green", "purple", "brown", "sky", "red", "black")
+SHADES = """
+blue #0063a6 #6cb4ff
+orange #b85000 #ffa45c
+green #00805c #4fd6a8
+purple #9b4b86 #e3a6d3
+brown #7a5c00 #e0c060
+sky #2b83ba #9ad8f8
+red #c22a1e #ff8577
+black #1c1c1c #ededed
+grey #757575 #a3a3a3
+pale #8fa3bd #6f86a6
+page #ffffff #16181c
+text #1d1d1d #ececec
+quiet #555555 #b9b9b9
+grid #dddddd #3a3d44
+""".split()
+LIGHT, DARK = dict(zip(SHADES[::3], SHADES[1::3])), dict(zip(SHADES[::3], SHADES[2::3]))
+COLORS = tuple(SHADES[: 8 * 3 : 3])
 SHAPES = "os^Dv*Xp"  # matplotlib's names for the marks of lines
 MARK = "^"
-PACKAGES = (
-    "/usr/lib/python3/dist-packages"  # Debian's packages, which another build of the same version of Python can use
-)
+PACKAGES = "/usr/lib/python3/dist-packages"  # Debian's, which another build of the same version of Python can use
 DYGRAPHS = ("/usr/share/javascript/dygraphs/dygraph.min.js", "/usr/share/javascript/dygraphs/dygraph.min.css")
 NEEDS = {
     "matplotlib": "it needs matplotlib for Python (Debian: apt install python3-matplotlib)",
@@ -110,73 +94,37 @@ def matplotlib() -> Any:
 
 def styles(colors: Mapping[str, str]) -> dict[str, Any]:
     """Returns matplotlib's settings for these colours. Names aren't parsed as formulas, and text in an .svg stays text."""
-    return {
-        "text.color": colors["text"],
-        "axes.labelcolor": colors["text"],
-        "xtick.color": colors["quiet"],
-        "ytick.color": colors["quiet"],
-        "axes.edgecolor": colors["quiet"],
-        "axes.facecolor": colors["page"],
-        "figure.facecolor": colors["page"],
-        "savefig.facecolor": colors["page"],
-        "grid.color": colors["grid"],
-        "font.size": 9,
-        "text.parse_math": False,
-        "svg.fonttype": "none",
-        "svg.hashsalt": "fintaqush",
-        "axes.spines.top": False,
-        "axes.spines.right": False,
-        "axes.grid": True,
-        "axes.grid.axis": "y",
-        "axes.axisbelow": True,
-        "axes.formatter.useoffset": False,
-        "axes.unicode_minus": False,
-        "hatch.color": colors["page"],
+    of = {
+        "text": ("text.color", "axes.labelcolor"),
+        "quiet": ("xtick.color", "ytick.color", "axes.edgecolor"),
+        "page": ("axes.facecolor", "figure.facecolor", "savefig.facecolor", "hatch.color"),
+        "grid": ("grid.color",),
     }
+    off = "text.parse_math axes.spines.top axes.spines.right axes.formatter.useoffset axes.unicode_minus"
+    others = {"font.size": 9, "svg.fonttype": "none", "svg.hashsalt": "fintaqush", "axes.grid.axis": "y"}
+    on = {"axes.grid": True, "axes.axisbelow": True}
+    named = {setting: colors[name] for name, settings in of.items() for setting in settings}
+    return {**named, **dict.fromkeys(off.split(), False), **others, **on}
 
 
-class canvas:
-    """A context manager for a figure of matplotlib with a size in pixels."""
+def cache() -> str | None:
+    """Returns the user's folder for the library's list of fonts, if it can be written."""
+    folder = os.environ.get("XDG_CACHE_HOME") or os.path.expanduser("~/.cache")
+    name = os.path.join(folder, "fintaqush", "matplotlib")
+    with contextlib.suppress(OSError):
+        os.makedirs(name, exist_ok=True)
+    return name if os.access(name, os.W_OK) else None
 
-    settings: Any
-    folder: tempfile.TemporaryDirectory[str] | None
 
-    def __init__(self, size: tuple[int, int], colors: Mapping[str, str] | None = None) -> None:
-        self.size, self.colors, self.folder = size, colors or LIGHT, None
+@contextlib.contextmanager
+def canvas(size: tuple[int, int], colors: Mapping[str, str] = LIGHT) -> Iterator[Any]:
+    """Yields a figure of matplotlib with a size in pixels."""
+    with contextlib.ExitStack() as stack:
+        os.environ["MPLCONFIGDIR"] = cache() or stack.enter_context(tempfile.TemporaryDirectory())
+        stack.enter_context(matplotlib().rc_context(styles(colors)))
+        from matplotlib.figure import Figure
 
-    def __enter__(self) -> Any:
-        os.environ["MPLCONFIGDIR"] = self.cache()
-        try:
-            library = matplotlib()
-            self.settings = library.rc_context(styles(self.colors))
-            self.settings.__enter__()
-            from matplotlib.figure import Figure
-        except BaseException:
-            self.close()
-            raise
-        return Figure(figsize=(self.size[0] / 100, self.size[1] / 100), dpi=100, layout="constrained")
-
-    def __exit__(self, *error: Any) -> None:
-        self.settings.__exit__(*error)
-        self.close()
-
-    def cache(self) -> str:
-        """Sets the folder for the library's list of fonts: the user's, or a temporary one."""
-        name = os.path.join(
-            os.environ.get("XDG_CACHE_HOME") or os.path.expanduser("~/.cache"), "fintaqush", "matplotlib"
-        )
-        try:
-            os.makedirs(name, exist_ok=True)
-            if os.access(name, os.W_OK):
-                return name
-        except OSError:
-            pass
-        self.folder = tempfile.TemporaryDirectory()
-        return self.folder.name
-
-    def close(self) -> None:
-        if self.folder:
-            self.folder.cleanup()
+        yield Figure(figsize=(size[0] / 100, size[1] / 100), dpi=100, layout="constrained")
 
 
 def saved(figure: Any, end: str, title: str, alternative: str) -> bytes:
@@ -187,11 +135,8 @@ def saved(figure: Any, end: str, title: str, alternative: str) -> bytes:
         return made.getvalue()
     figure.savefig(made, format="svg", metadata={"Date": None, "Creator": None, "Title": title})
     text = made.getvalue().decode()
-    dark = "".join(
-        f'[style*="{kind}: {LIGHT[name]}"]{{{kind}:{DARK[name]}!important}}'
-        for name in LIGHT
-        for kind in ("fill", "stroke")
-    )
+    both = [(name, kind) for name in LIGHT for kind in ("fill", "stroke")]
+    dark = "".join(f'[style*="{kind}: {LIGHT[name]}"]{{{kind}:{DARK[name]}!important}}' for name, kind in both)
     inside = (
         f"<title>{html.escape(title)}</title><desc>{html.escape(alternative)}</desc>"
         f"<style>text{{fill:{LIGHT['text']}}}@media (prefers-color-scheme:dark){{text{{fill:{DARK['text']}!important}}{dark}}}</style>"
@@ -218,13 +163,9 @@ def draw_curve(axes: Any, each: Curve, colors: Mapping[str, str]) -> None:
         if each.get("marked"):
             axes.plot(x, y, MARK, color=color, markersize=4.5, label=name)
     else:
-        line = {
-            "line": {"linestyle": "--" if each.get("dashed") else "-", "linewidth": 1.6},
-            "dots": {"linestyle": ""},
-        }[each["kind"]]
-        axes.plot(
-            x, y, marker=SHAPES[each.get("shape", 0)], markersize=each.get("size", 5), color=color, label=name, **line
-        )
+        style = "" if each["kind"] == "dots" else "--" if each.get("dashed") else "-"
+        shape, size = SHAPES[each.get("shape", 0)], each.get("size", 5)
+        axes.plot(x, y, style + shape, markersize=size, linewidth=1.6, color=color, label=name)
 
 
 def draw_panel(axes: Any, panel: Mapping[str, Any], axis: Mapping[str, Any]) -> None:
@@ -234,16 +175,9 @@ def draw_panel(axes: Any, panel: Mapping[str, Any], axis: Mapping[str, Any]) -> 
     axes.set_ylabel(panel["label"])
     named = axes.get_legend_handles_labels()[1] if panel.get("legend", True) else []
     if named:
-        axes.legend(
-            loc="lower right",
-            bbox_to_anchor=(1, 1),
-            ncol=min(4, len(named)) if max(map(len, named)) < 24 else 1 + (len(named) > 4),
-            frameon=False,
-            fontsize=8,
-            borderaxespad=0.1,
-            handlelength=1.6,
-            columnspacing=1.2,
-        )
+        columns = min(4, len(named)) if max(map(len, named)) < 24 else 1 + (len(named) > 4)
+        spaces = {"borderaxespad": 0.1, "handlelength": 1.6, "columnspacing": 1.2}
+        axes.legend(loc="lower right", bbox_to_anchor=(1, 1), ncol=columns, frameon=False, fontsize=8, **spaces)
     if panel["heading"]:
         axes.set_title(panel["heading"], loc="left", fontsize=8.5, pad=20 if named else 6)
     axes.set_xlim(axis["low"], axis["high"])
@@ -264,9 +198,8 @@ def draw_panel(axes: Any, panel: Mapping[str, Any], axis: Mapping[str, Any]) -> 
 def drawn(picture: Picture, end: str, size: tuple[int, int], colors: Mapping[str, str]) -> bytes:
     """Returns the bytes of an .svg or a .png."""
     panels = picture["panels"]
-    title = "\n".join(
-        line for each in picture["title"].split("\n") for line in textwrap.wrap(each, max(20, size[0] // 8)) or [""]
-    )
+    wide = max(20, size[0] // 8)
+    title = "\n".join(line for each in picture["title"].split("\n") for line in textwrap.wrap(each, wide) or [""])
     with canvas((size[0], size[1] * len(panels) + 20 + 16 * (title.count("\n") + 1)), colors) as figure:
         columns = figure.subplots(len(panels), 1, sharex=True, squeeze=False)
         figure.suptitle(title, fontsize=10.5)
@@ -292,26 +225,16 @@ def merged(curves: Sequence[Curve]) -> list[list[Any]]:
 
 def page_of(picture: Picture, height: int) -> bytes:
     """Returns the page, which includes the library."""
-    panels = [
-        {
-            **panel,
-            "curves": [{name: value for name, value in each.items() if name != "points"} for each in panel["curves"]],
-            "rows": merged(panel["curves"]),
-        }
-        for panel in picture["panels"]
-    ]
+    panels = []
+    for panel in picture["panels"]:
+        curves = [{name: value for name, value in each.items() if name != "points"} for each in panel["curves"]]
+        panels.append({**panel, "curves": curves, "rows": merged(panel["curves"])})
     data = {"axis": picture["axis"], "panels": panels, "height": height}
     library, style = (Path(path).read_text(encoding="utf-8").replace("</script", "<\\/script") for path in DYGRAPHS)
-    palettes = [";".join(f"--{name}:{value}" for name, value in colors.items()) for colors in (LIGHT, DARK)]
-    texts = {
-        "TITLE": html.escape(picture["title"]),
-        "ALTERNATIVE": html.escape(alternative_of(picture)),
-        "LIBRARY": library,
-        "STYLE": re.sub("/\\*#.*", "", style),
-        "LIGHT": palettes[0],
-        "DARK": palettes[1],
-    }
-    return filled("plot.html", data, **texts).encode()
+    light, dark = (";".join(f"--{name}:{value}" for name, value in colors.items()) for colors in (LIGHT, DARK))
+    texts = {"TITLE": html.escape(picture["title"]), "ALTERNATIVE": html.escape(alternative_of(picture))}
+    css = re.sub("/\\*#.*", "", style)
+    return filled("plot.html", data, **texts, LIBRARY=library, STYLE=css, LIGHT=light, DARK=dark).encode()
 
 
 # ---- both

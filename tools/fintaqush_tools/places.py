@@ -6,6 +6,12 @@ TOP = os.path.dirname(os.path.dirname(os.path.dirname(os.path.realpath(__file__)
 IS_CHECKOUT = os.path.exists(f"{TOP}/crates.txt")
 HOME = TOP if IS_CHECKOUT else os.path.dirname(os.path.dirname(TOP))
 TEMPLATES = os.path.dirname(os.path.realpath(__file__))
+DOCS = f"{TOP}/docs/" if os.path.exists(f"{TOP}/docs/TOOLS.md") and not IS_CHECKOUT else "docs/"
+
+
+def with_pages(text: str) -> str:
+    """Returns a text that names pages as docs/NAME.md, with their place in an installation."""
+    return text.replace("docs/", DOCS)
 
 
 def version() -> str:
@@ -24,4 +30,4 @@ def version() -> str:
 def usage_text(called: str) -> str:
     """Returns the usage text of the launcher, with the name that it was called by."""
     with open(f"{TOP}/docs/usage.txt", encoding="utf-8") as file:
-        return file.read().replace("./replay", called)
+        return with_pages(file.read().replace("./replay", called))

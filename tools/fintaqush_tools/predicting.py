@@ -30,6 +30,17 @@ MEASURED = {
     "used_p99": ("us", 1000),
     "poll_percent": ("%", 1),
 }
+TOLD = {
+    "dropped": "dropped",
+    "polls": "polls",
+    "runs": "runs",
+    "squeezed": "squeezed runs",
+    "delivered_p50": "wait to delivery, p50, us",
+    "delivered_p99": "wait to delivery, p99, us",
+    "used_p50": "wait to the end of use, p50, us",
+    "used_p99": "wait to the end of use, p99, us",
+    "poll_percent": "polls, % of the time",
+}
 COUNTS = {"dropped", "polls", "runs", "squeezed"}
 GRADES = ((15, "good"), (40, "fair"))  # the largest error in % for each grade
 SIZE = 60  # bytes of an arrival, which the machine doesn't use
@@ -187,3 +198,38 @@ def grade_of(rows: Sequence[Compared], names: Collection[str] | None = None) -> 
     """Returns good, fair or poor, by the largest error of the values with these names, or of all."""
     worst = worst_of(rows, [row[0] for row in rows] if names is None else names)
     return next((grade for most, grade in GRADES if worst and abs(worst[3]) <= most), "poor")
+
+
+# ---- how the values are printed
+
+
+def us(value: float) -> str:
+    return f"{value / 1000:.1f}"
+
+
+def told_value(name: str, value: float) -> str:
+    """Returns a measured or predicted value in its unit."""
+    unit, _ = MEASURED[name]
+    return us(value) if unit == "us" else f"{value:.1f}" if unit == "%" else str(value)
+
+
+def check_lines(rows: Sequence[Compared], packets: float) -> Iterator[str]:
+    """Yields the lines that compare the recorded settings with their prediction. A difference of few is a number, with
+    what it was divided by."""
+    for name, measured, value, error in rows:
+        told = [told_value(name, each) for each in (measured, value)]
+        base = base_of(name, measured, packets)
+        difference = (
+            f"{error:+8.1f} %"
+            if base == max(1, measured) or value == measured
+            else f"{value - measured:+8d}   judged as {error:+.1f} % of {base:.0f}, because a ratio of few says nothing"
+        )
+        yield f"  {TOLD[name]:34} {told[0]:>12} {told[1]:>12} {difference}"
+
+
+def objects_in(rows: Sequence[Compared], packets: float) -> list[dict[str, Any]]:
+    """Returns the same for a program: `of` is the number by which the difference was divided."""
+    return [
+        {"name": name, "measured": measured, "predicted": value, "error": error, "of": base_of(name, measured, packets)}
+        for name, measured, value, error in rows
+    ]

@@ -8,12 +8,12 @@ import bisect
 import re
 from array import array
 from collections import Counter, defaultdict
-from collections.abc import Collection, Iterable, Sequence
+from collections.abc import Callable, Collection, Iterable, Sequence
 from typing import Optional, Union
 
 from fintaqush_tools.arriving import BY_PAIR, BY_POLL, BY_STACK, KINDS, PollBegins, packet_of
 from fintaqush_tools.instances import ANY, Place, Routes
-from fintaqush_tools.recording import NET_RX, POLLED, SENT, SOFTIRQ, Event, is_by_thread
+from fintaqush_tools.recording import NET_RX, POLLED, SENT, SOFTIRQ, Event, fields_in, is_by_thread
 from fintaqush_tools.tasks import Tasks
 
 Marked = Union[int, tuple[str, int]]  # a processor, or a thread
@@ -32,12 +32,13 @@ def agree(pairs: Sequence[tuple[float, float]]) -> bool:
 
 
 class Received:
-    """A packet that a poll took: when it arrived by that poll, its device, its processor, and the instance once it is known."""
+    """A packet that a poll took: when it arrived by that poll, its device, its processor, the hash of its flow, and the
+    instance once it is known."""
 
-    __slots__ = ("time", "device", "cpu", "place")
+    __slots__ = ("time", "device", "cpu", "flow", "place")
 
-    def __init__(self, time: int, device: str, cpu: int) -> None:
-        self.time, self.device, self.cpu, self.place = time, device, cpu, ANY
+    def __init__(self, time: int, device: str, cpu: int, flow: int) -> None:
+        self.time, self.device, self.cpu, self.flow, self.place = time, device, cpu, flow, ANY
 
 
 class Receiving:
@@ -67,6 +68,8 @@ class Receiving:
     received: dict[str, list[Received]]
     taken: defaultdict[int, list[Received]]
     packets_of: Counter[Place]
+    known: Optional[dict[Place, list[tuple[int, int, int]]]]
+    looks: dict[str, Optional[Callable[[Event], None]]]
 
     def __init__(
         self, polled: set[str], senders: set[str], receivers: Iterable[str] = (), routes: Optional[Routes] = None
@@ -78,6 +81,7 @@ class Receiving:
         self.sent, self.has_come = (array("Q"), bytearray())
         # The processor, the device and the tasks that sent it; the instance that gets it, if that is known.
         self.sent_on, self.sent_by, self.sending, self.sent_to = (array("H"), [], set(), [])
+        self.flows = array("L")  # of a card's packets: the hash of the flow, or 0
         # The packets whose instance isn't known yet; how many packets a backlog received since its last poll.
         self.unplaced, self.moved, self.taken = {}, Counter(), defaultdict(list)
         # For each poll.
@@ -93,35 +97,56 @@ class Receiving:
         # By processor: when its softirqs began; its NAPI timers.
         self.entries, self.timers = (defaultdict(lambda: array("Q")), Counter())
         self.reads, self.reading = [], {}  # for each read its end, and the beginning of the next read by that task
-        self.mark, self.tasks = {}, Tasks()
+        self.mark, self.tasks, self.known, self.looks = {}, Tasks(), None, {}
 
     def add(self, event: Event) -> None:
         """Processes the next event of the recording."""
         self.span = (self.span[0] if self.span else event.time, event.time)
         if self.receivers:
             self.begins.look(event)
-        if event.name == BY_PAIR:
-            self.add_packet(event)
-        elif event.name in KINDS:
-            self.add_received(event)
-        elif event.name == "net_dev_start_xmit":
-            self.routes.start(event)
-        elif event.name == "napi_poll":
-            self.add_poll(event)
-        elif event.name in ("softirq_entry", "softirq_exit") and int(event.parts(SOFTIRQ)[0]) == NET_RX:
-            self.mark[event.cpu] = event.time if event.name == "softirq_entry" else 0
-            if self.mark[event.cpu]:
-                self.entries[event.cpu].append(event.time)
-        elif event.name == "hrtimer_expire_entry":
-            found = TIMER.match(event.said)
-            self.timers[event.cpu] += found is not None and found[1] == "napi_watchdog"
-        elif event.name == "sched_switch":
-            name, number, _ = self.tasks.switch(event, self.span[0])
-            if name.startswith("napi/"):
-                self.mark["thread", number] = event.time
-        elif event.name.startswith("sys_exit_"):
-            self.reading[event.pid] = event.time
-        elif event.name.startswith("sys_enter_") and event.pid in self.reading:
+        try:
+            look = self.looks[event.name]
+        except KeyError:
+            look = self.looks[event.name] = self.look_at(event.name)
+        if look:
+            look(event)
+
+    def look_at(self, name: str) -> Optional[Callable[[Event], None]]:
+        """Returns what handles the events of this name."""
+        if name.startswith("sys_"):
+            return self.end_read if name.startswith("sys_exit_") else self.begin_read
+        return {
+            **dict.fromkeys(KINDS, self.add_received),
+            BY_PAIR: self.add_packet,
+            "net_dev_start_xmit": self.routes.start,
+            "napi_poll": self.add_poll,
+            "softirq_entry": self.mark_softirq,
+            "softirq_exit": self.mark_softirq,
+            "hrtimer_expire_entry": self.count_timer,
+            "sched_switch": self.switch,
+        }.get(name)
+
+    def mark_softirq(self, event: Event) -> None:
+        if int(event.parts(SOFTIRQ)[0]) != NET_RX:
+            return
+        self.mark[event.cpu] = event.time if event.name == "softirq_entry" else 0
+        if self.mark[event.cpu]:
+            self.entries[event.cpu].append(event.time)
+
+    def count_timer(self, event: Event) -> None:
+        found = fields_in(TIMER, event.said)
+        self.timers[event.cpu] += found is not None and found[0] == "napi_watchdog"
+
+    def switch(self, event: Event) -> None:
+        name, number, _ = self.tasks.switch(event, self.span[0] if self.span else 0)
+        if name.startswith("napi/"):
+            self.mark["thread", number] = event.time
+
+    def end_read(self, event: Event) -> None:
+        self.reading[event.pid] = event.time
+
+    def begin_read(self, event: Event) -> None:
+        if event.pid in self.reading:
             self.reads.append((self.reading.pop(event.pid), event.time))
 
     def add_packet(self, event: Event) -> None:
@@ -146,9 +171,9 @@ class Receiving:
             if place and address in self.unplaced:
                 self.sent_to[self.unplaced.pop(address)] = place
                 self.moved[event.cpu] += 1
-        name, _, _ = packet_of(event)
+        name, _, flow = packet_of(event)
         if name in self.receivers:
-            packet = Received(self.begins.of(event), name, event.cpu)
+            packet = Received(self.begins.of(event), name, event.cpu, flow)
             self.received[KINDS[event.name]].append(packet)
             self.taken[event.cpu].append(packet)
 
@@ -187,11 +212,12 @@ class Receiving:
             return ""
         for packet in sorted(self.received[kind], key=lambda packet: packet.time):
             self.append_packet(packet.time, True, packet.cpu, packet.device, packet.place)
+            self.flows.append(packet.flow)
         return kind
 
     def replace_arrivals(self, times: Sequence[int], device: str) -> None:
         """Takes other arrivals at the one instance that polls."""
-        count = len(times)
+        count, self.flows = len(times), array("L")
         self.sent, self.has_come = array("Q", times), bytearray(b"\1" * count)
         self.sent_on, self.sent_by = array("H", [self.processor] * count), [device] * count
         self.sent_to = [self.places[0]] * count
@@ -297,7 +323,10 @@ class Receiving:
         return found if at <= len(came) and agree(times) else []
 
     def deliveries(self) -> dict[Place, list[tuple[int, int, int]]]:
-        """Returns the matched packets of each instance. Returns nothing if polls of several instances count as those of one."""
+        """Returns the matched packets of each instance; those that are known already, because arrivals may have been
+        delayed since then. Returns nothing if polls of several instances count as those of one."""
+        if self.known is not None:
+            return self.known
         if not self.ended or ANY in self.places and len(set(self.sent_by)) != 1:
             return {}
         came = self.came_by_place()

@@ -43,10 +43,8 @@ def number(text: object) -> float:
 def spread(rows: Sequence[dict[str, Any]], settings: Iterable[str], values: Iterable[str]) -> dict[str, Any]:
     """Combines rows with the same settings into one: for each value the median (of an even number the lower one), the minimum and the maximum."""
     row = {name: rows[0][name] for name in settings}
-    row.update(
-        status=max(int(each["status"]) for each in rows),
-        fault=next((each["fault"] for each in rows if each["fault"]), ""),
-    )
+    row["status"] = max(int(each["status"]) for each in rows)
+    row["fault"] = next((each["fault"] for each in rows if each["fault"]), "")
     for name in values:
         of = sorted((each[name] for each in rows), key=number)
         row.update({name: of[(len(of) - 1) // 2], f"{name}_least": of[0], f"{name}_most": of[-1]})

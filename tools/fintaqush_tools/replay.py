@@ -12,9 +12,10 @@ import threading
 from collections.abc import Iterator, Sequence
 from typing import IO, Any, Optional
 
-from fintaqush_tools import builds
+from fintaqush_tools import builds, errors
 from fintaqush_tools.builds import build, child, crates, kit, write
 from fintaqush_tools.errors import Refusal
+from fintaqush_tools.files import write_whole
 from fintaqush_tools.places import IS_CHECKOUT, TOP, usage_text, version
 from fintaqush_tools.progress import say, show
 from fintaqush_tools.reports import lines_of
@@ -69,11 +70,8 @@ CAUSES = {  # by the error's number and the line after it: the first that fits
 
 def for_bash(name: str) -> str:
     """Returns the name itself if it is printable, otherwise quoted for bash, so that a terminal doesn't interpret it."""
-    return (
-        name
-        if name.isprintable()
-        else "$'%s'" % re.sub(rb"[^ -~]|['\\]", lambda it: b"\\%03o" % ord(it[0]), os.fsencode(name)).decode()
-    )
+    raw = re.sub(rb"[^ -~]|['\\]", lambda it: b"\\%03o" % ord(it[0]), os.fsencode(name))
+    return name if name.isprintable() else f"$'{raw.decode()}'"
 
 
 def cause_of(fault: int, line: str, fields: int) -> str:
@@ -96,14 +94,11 @@ def record_in(lines: Sequence[str], row: int) -> tuple[int, int, int, int] | Non
 
 def about() -> str:
     """Returns what --version prints."""
-    sources, of_kit = (
-        subprocess.run(["/usr/bin/env", *it], capture_output=True, text=True, check=False).stdout.strip()
-        for it in (("git", "-C", TOP, "describe", "--always", "--dirty"), ("rt", "version"))
-    )
-    serial, every = (
-        "proved and built" if crates()[name].is_built() else "not built here yet"
-        for name in ("napi_serial", "napi_replay")
-    )
+    asked = (("git", "-C", TOP, "describe", "--always", "--dirty"), ("rt", "version"))
+    done = (subprocess.run(["/usr/bin/env", *it], capture_output=True, text=True, check=False) for it in asked)
+    sources, of_kit = (it.stdout.strip() for it in done)
+    built = (crates()[name].is_built() for name in ("napi_serial", "napi_replay"))
+    serial, every = ("proved and built" if it else "not built here yet" for it in built)
     return (
         f"replay of Fintaqush {version()}\nit replays traces of version 1 and 2 by the NAPI polling of Linux 6.6\n"
         f"sources: {sources or 'no git history here'}\n"
@@ -115,10 +110,9 @@ class Run:
     """A program that runs on the trace of a call, with this many MiB of memory: its status, its output if that is kept, and its
     messages."""
 
-    told: tuple[Optional[bytes], bytes]
-
     def __init__(self, call: Call, command: Sequence[str], memory: int = 0, is_kept: bool = True, **where: Any) -> None:
-        self.call, self.told = call, (None, b"")
+        self.call = call
+        self.told: tuple[Optional[bytes], bytes] = (None, b"")
         self.process = subprocess.Popen(
             command,
             stdin=subprocess.PIPE,
@@ -143,33 +137,25 @@ class Run:
         self.reader.join()
         if self.call.failed:
             raise self.call.failed
-        output, said = self.told
-        return (
-            128 - status if (status := self.process.returncode) < 0 else status,
-            output,
-            said.decode(errors="replace"),
-        )
+        (output, said), status = self.told, self.process.returncode
+        return 128 - status if status < 0 else status, output, said.decode(errors="replace")
 
 
 class First:
     """The report of an unproved run, which is printed once, as soon as it is complete, while the program is still being proved and
     built."""
 
-    answer: Answer | None
-
     def __init__(self, call: Call) -> None:
-        self.call, self.run, self.answer = call, call.begin_unproved(), None
+        self.call, self.run = call, call.begin_unproved()
+        self.answer: Answer | None = None
 
     def tell(self) -> None:
         """Waits for the report, unless it was printed."""
         if not self.answer:
             result = self.run.result()
             show("")
-            self.answer = self.call.end_unproved(
-                result,
-                "this was an UNPROVED run; the proof goes on. Ctrl-C leaves what is proved by "
-                "then, and the next call goes on from there",
-            )
+            more = "Ctrl-C leaves what is proved by then, and the next call goes on from there"
+            self.answer = self.call.end_unproved(result, f"this was an UNPROVED run; the proof goes on. {more}")
 
     def look(self) -> None:
         if self.run.is_over():
@@ -185,17 +171,16 @@ class First:
 class Call:
     """A call of the launcher. An argument that is neither one of its own options nor a file is left to the program to reject."""
 
-    words: list[str]
-    files: list[str]
-    own: set[str]
-    failed: Refusal | None
     rest: Iterator[bytes]
 
     def __init__(self, given: Sequence[str]) -> None:
-        self.words, self.files, self.own, rest = [], [], set(), iter(given)
+        self.words, self.files, self.own, self.json, rest = list[str](), list[str](), set[str](), "", iter(given)
         for word in rest:
             if word in ("-h", "--help", "--version", "--unproved", "--build", "--json"):
                 self.own.add(word)
+            elif word.startswith("--json="):
+                self.own.add("--json")
+                self.json = word.partition("=")[2]
             elif word == "-" or word and word[0] != "-":
                 self.files.append(word)
             else:
@@ -204,7 +189,8 @@ class Call:
         self.crate = crates()["napi_replay" if is_every else "napi_serial"]
         self.memory = os.environ.get("REPLAY_MEMORY", "2048")
         self.name = None if self.files in ([], ["-"]) else for_bash(self.files[0])
-        self.which, self.kept, self.failed = self.name or "standard input", bytearray(), None
+        self.which, self.kept = self.name or "standard input", bytearray()
+        self.failed: Refusal | None = None
 
     def answer(self) -> int:
         if not re.fullmatch("[1-9][0-9]{0,6}|unlimited", self.memory):
@@ -221,9 +207,8 @@ class Call:
         is_ready = is_unproved or self.crate.is_built()
         self.check(self.open(), is_ready)
         if is_unproved and not IS_CHECKOUT:
-            raise Refusal(
-                "--unproved runs the sources of a checkout, and this is an installed program, which is proved", 64
-            )
+            why = "--unproved runs the sources of a checkout, and this is an installed program, which is proved"
+            raise Refusal(why, 64)
         if is_unproved:
             say("an unproved run: the program is made anew each time and nothing is checked (up to a minute)")
             return self.end_unproved(self.begin_unproved().result(), "this was an UNPROVED run")[0]
@@ -271,11 +256,8 @@ class Call:
             return "no trace: name a file, or give one on standard input"
         try:
             # `/proc/kmsg` is a file too, but a read at its end would block
-            end = (
-                os.open(self.files[0], os.O_RDONLY | (os.O_NONBLOCK if os.path.isfile(self.files[0]) else 0))
-                if self.name
-                else 0
-            )
+            no_wait = os.O_NONBLOCK if self.name and os.path.isfile(self.files[0]) else 0
+            end = os.open(self.files[0], os.O_RDONLY | no_wait) if self.name else 0
             os.read(end, 0)  # a folder can be opened too
         except OSError as error:
             why = f"it can't be read: {(error.strerror or '').lower()}"
@@ -320,21 +302,31 @@ class Call:
     def finish(self, status: int, output: bytes | None, said: str) -> int:
         """Prints the output, if it was kept, and the messages; then one line that explains the error, if there is more to say."""
         is_json = "--json" in self.own and status == 0
-        if output and not write(lines_of(output.decode()).encode() if is_json else output):
+        if output and is_json and self.json:
+            self.put_json(output)
+        elif output and not write(lines_of(output.decode()).encode() if is_json else output):
             raise Refusal(f"the report couldn't be written{' as JSON' * is_json}", 4)
         write(said.encode(), 2)
         fault = re.search(r"^trace fault (\d+) \w+ row (\d+)$", said, re.M)
         if status == 64:
             say(f"{judge(self.words) or 'the program knows no such words'} (see {CALLED} --help)")
         elif said == "memory fault 11 OutOfMemory\n" and self.memory != "unlimited":
-            say(
-                f"{self.which}: it takes more memory than the program may have, {self.memory} MiB (REPLAY_MEMORY sets that)"
-            )
+            most = f"{self.memory} MiB (REPLAY_MEMORY sets that)"
+            say(f"{self.which}: it takes more memory than the program may have, {most}")
         elif status not in (0, 141) and not said:  # (141: who read the report has enough)
             say(f"{self.crate.name} ended with status {status}, and no line of it is there")
         elif fault and len(self.kept) <= MOST_KEPT and (why := self.explain(int(fault[1]), int(fault[2]))):
             say(f"{self.which}{why}")
         return status
+
+    def put_json(self, output: bytes) -> None:
+        """Writes the report as JSON to the file of --json=FILE, and prints it."""
+        try:
+            write_whole(self.json, lines_of(output.decode()))
+        except (OSError, Refusal) as error:
+            raise Refusal(f"the report couldn't be written as JSON: {errors.why(error)}", 4) from None
+        if not write(output):
+            raise Refusal("the report couldn't be written", 4)
 
     def explain(self, fault: int, row: int) -> str:
         """Prints the line of the trace that the error names, its text and the likely cause. Rows count records, so nothing is printed if

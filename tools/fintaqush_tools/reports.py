@@ -12,35 +12,25 @@ if TYPE_CHECKING:
 from fintaqush_tools.errors import Refusal
 from fintaqush_tools.texts import is_number
 
+FORMAT = 1  # version of the JSON of all tools
 # docs/FORMATS.md, "The state word".
-BITS = {
-    0: "SCHED",
-    1: "MISSED",
-    2: "DISABLE",
-    3: "NPSVC",
-    6: "IN_BUSY_POLL",
-    8: "THREADED",
-    9: "SCHED_THREADED",
-    32: "QUEUED",
-    33: "TO_THREAD",
-}
+FLAGS = "SCHED MISSED DISABLE NPSVC IN_BUSY_POLL THREADED SCHED_THREADED QUEUED TO_THREAD".split()
+BITS = dict(zip((0, 1, 2, 3, 6, 8, 9, 32, 33), FLAGS))
 
 # The lines of a report; in threads mode `device` and `total` have fewer fields, and in version 2 `napi` also has `held`.
-SHAPES = [
-    shape.split()
-    for shape in (
-        "softirq ROW polls N work N squeezed FLAG",
-        "kthread ROW device N polls N work N",
-        "busy ROW device N polls N work N",
-        "device DEVICE STATE arrived N dropped N polled N bytes N left N polls N",
-        "device DEVICE arrived N bytes N",
-        "napi DEVICE granted N missed N disabled N again N released N word N",
-        "napi DEVICE granted N missed N disabled N again N released N word N held N",
-        "tx DEVICE sent N held N done N denied N limit N avail Z stopped FLAG",
-        "total devices N runs N polls N work N squeezed N",
-        "total devices N",
-    )
-]
+LINES = """\
+softirq ROW polls N work N squeezed FLAG
+kthread ROW device N polls N work N
+busy ROW device N polls N work N
+device DEVICE STATE arrived N dropped N polled N bytes N left N polls N
+device DEVICE arrived N bytes N
+napi DEVICE granted N missed N disabled N again N released N word N
+napi DEVICE granted N missed N disabled N again N released N word N held N
+tx DEVICE sent N held N done N denied N limit N avail Z stopped FLAG
+total devices N runs N polls N work N squeezed N
+total devices N
+"""
+SHAPES = [line.split() for line in LINES.splitlines()]
 STATES = {"FLAG": ("0", "1"), "STATE": ("on", "off", "pending")}
 NUMBERS = ("N", "Z", "ROW", "DEVICE")  # of which Z may be negative
 ROWS = ("softirq", "kthread", "busy")
@@ -102,7 +92,8 @@ def json_of(value: object) -> str:
 
 def lines_of(report: str) -> str:
     """Returns the lines of JSON for a whole report."""
-    return "".join(f"{json_of(told)}\n" for told in objects_of(report))
+    head: Line = {"version": FORMAT, "tool": "replay"}
+    return "".join(f"{json_of({**head, **told})}\n" for told in objects_of(report))
 
 
 def objects_of(text: str) -> list[Line]:

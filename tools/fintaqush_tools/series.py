@@ -15,9 +15,9 @@ from fintaqush_tools.trace import Row
 Line = dict[str, Any]
 Kind = tuple[str, Callable[[str], Any]]  # of a field: its pattern, and its conversion
 
-COLUMNS = "row,moment,device,state,waiting,arrived,dropped,polled,in_flight,limit,avail,stopped,polls,work,squeezed,word,list,gave".split(
-    ","
-)
+COLUMNS = (
+    "row moment device state waiting arrived dropped polled in_flight limit avail stopped polls work squeezed word list gave"
+).split()
 NUMBER: Kind = ("-?[0-9]{0,20}", lambda value: int(value) if value else None)
 # The fields that aren't numbers: their pattern, and their conversion.
 OTHERS: dict[str, Kind] = {
@@ -26,7 +26,7 @@ OTHERS: dict[str, Kind] = {
     "list": ("( [0-9]{1,2})*", lambda value: [int(number) for number in value.split()]),
     "gave": (
         "( [0-9]{1,2}:[0-9]{1,20})*",
-        lambda value: {int(device): int(count) for device, count in (each.split(":") for each in value.split())},
+        lambda value: {int(a): int(b) for a, b in re.findall(r"(\d+):(\d+)", value)},
     ),
     "ended": ("(complete|again|repoll|absent)?", str),
 }
@@ -40,11 +40,10 @@ def read_series(text: str) -> list[Line]:
     rows: list[Line] = []
     polls: list[Line] = []
     for line in reader:
-        if None in line or not all(
-            re.fullmatch(OTHERS.get(name, NUMBER)[0], value or "") for name, value in line.items()
-        ):
+        kinds = {name: OTHERS.get(name, NUMBER) for name in line}
+        if None in line or not all(re.fullmatch(kinds[name][0], value or "") for name, value in line.items()):
             raise Refusal(f"line {reader.line_num}: not a line of a series of napi_series")
-        told = {name: OTHERS.get(name, NUMBER)[1](value or "") for name, value in line.items()}
+        told = {name: kinds[name][1](value or "") for name, value in line.items()}
         if told.get("ended"):
             polls.append(told)
         else:

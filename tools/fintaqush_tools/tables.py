@@ -58,10 +58,8 @@ def table(rows: Sequence[Row], varied: Iterable[str]) -> list[str]:
             same.append(f"{heading(name)} {cells[0]}")
         else:
             columns.append((heading(name), cells))
-    return [
-        *aligned(list(zip(*([first, *cells] for first, cells in columns)))),
-        *([f"the same in all rows: {', '.join(same)}"] if same else []),
-    ]
+    lines = aligned(list(zip(*([first, *cells] for first, cells in columns))))
+    return [*lines, f"the same in all rows: {', '.join(same)}"] if same else lines
 
 
 # ---- conclusions
@@ -69,6 +67,10 @@ def table(rows: Sequence[Row], varied: Iterable[str]) -> list[str]:
 
 def lost(row: Row) -> int:
     return int(row["dropped"]) + int(row["refused"])
+
+
+def lost_percent(row: Row) -> float:
+    return 100 * lost(row) / max(1, int(row["arrived"]))
 
 
 def listed(places: Sequence[int]) -> str:
@@ -84,11 +86,9 @@ def of_waits(rows: Sequence[Row]) -> list[str]:
     if len(set(waits)) == 1:
         return ["no setting here changes the 99th percentile of waits to the end of use"]
     best, worst = min(waits), max(waits)
-    places = [place for place, wait in enumerate(waits, 1) if wait == best]
-    return [
-        f"{listed(places)}: the lowest 99th percentile of waits to the end of use, {digits(best / 1000)} µs; the highest is {digits(worst / 1000)} µs, of row "
-        f"{waits.index(worst) + 1}"
-    ]
+    places = listed([place for place, wait in enumerate(waits, 1) if wait == best])
+    least, most = f"{digits(best / 1000)} µs", f"{digits(worst / 1000)} µs, of row {waits.index(worst) + 1}"
+    return [f"{places}: the lowest 99th percentile of waits to the end of use, {least}; the highest is {most}"]
 
 
 def of_seeds(rows: Sequence[Row]) -> list[str]:
@@ -98,9 +98,8 @@ def of_seeds(rows: Sequence[Row]) -> list[str]:
         return []
     if int(rows[order[0]][f"{P99}_most"]) < int(rows[order[1]][f"{P99}_least"]):
         return []
-    return [
-        f"rows {order[0] + 1} and {order[1] + 1} overlap in their 99th percentiles over the seeds: which one is lower may be chance"
-    ]
+    both = f"rows {order[0] + 1} and {order[1] + 1}"
+    return [f"{both} overlap in their 99th percentiles over the seeds: which one is lower may be chance"]
 
 
 def of_losses(rows: Sequence[Row]) -> list[str]:
@@ -108,9 +107,7 @@ def of_losses(rows: Sequence[Row]) -> list[str]:
     places = [place for place, row in enumerate(rows, 1) if lost(row)]
     if not places:
         return ["no packet is lost in any row"] if len(rows) > 1 else ["no packet is lost"]
-    return [
-        f"{listed(places)}: packets are lost, up to {100 * max(lost(row) / max(1, int(row['arrived'])) for row in rows):.1f} %"
-    ]
+    return [f"{listed(places)}: packets are lost, up to {max(map(lost_percent, rows)):.1f} %"]
 
 
 def of_budgets(rows: Sequence[Row]) -> list[str]:

@@ -7,9 +7,7 @@ from array import array
 from collections import Counter, defaultdict
 from collections.abc import Collection
 
-from fintaqush_tools.errors import Refusal
 from fintaqush_tools.recording import Event
-from fintaqush_tools.texts import shown
 
 Task = tuple[str, int, int]  # its name, its number and its priority
 
@@ -34,10 +32,7 @@ class Tasks:
 
     def switch(self, event: Event, first: int) -> Task:
         """Handles a switch; `first` is when the recording began. Returns the next task."""
-        found = SWITCH.match(event.said)
-        if not found:
-            raise Refusal(f"line {event.line}: sched_switch says {shown(event.said[:60])!r}, an unknown format")
-        last, process, priority, following, thread, next_priority = found.groups()
+        last, process, priority, following, thread, next_priority = event.parts(SWITCH)
         task = following, int(thread), int(next_priority)
         since, _ = self.running.get(event.cpu, (first, task))
         self.times[event.cpu][last, int(process), int(priority)] += event.time - since

@@ -43,14 +43,12 @@ def last_line(said: bytes, otherwise: str) -> str:
 
 def aligned(rows: Sequence[Sequence[str]], left: int = 0) -> list[str]:
     """Returns the lines of a table: the first `left` columns are aligned to the left, the others to the right."""
-    wide = [max(map(len, column)) for column in zip(*rows)]
-    return [
-        "  ".join(
-            cell.ljust(width) if place < left else cell.rjust(width)
-            for place, (cell, width) in enumerate(zip(row, wide))
-        ).rstrip()
-        for row in rows
-    ]
+    wide, lines = [max(map(len, column)) for column in zip(*rows)], []
+    for row in rows:
+        cells = [cell.ljust(width) for cell, width in zip(row[:left], wide)]
+        cells += [cell.rjust(width) for cell, width in zip(row[left:], wide[left:])]
+        lines.append("  ".join(cells).rstrip())
+    return lines
 
 
 def as_rows(key: str, value: str, numbers: Mapping[str, object] | Mapping[int, object]) -> list[dict[str, object]]:

@@ -4,12 +4,12 @@ from __future__ import annotations
 
 import re
 from collections import Counter, defaultdict, deque
-from collections.abc import Iterable
+from collections.abc import Callable, Iterable
+from dataclasses import dataclass, field
 from typing import Any, Optional
 
-from fintaqush_tools.errors import Refusal
 from fintaqush_tools.instances import Place, Routes
-from fintaqush_tools.recording import BACKLOG, NET_RX, POLLED, SENT, SOFTIRQ, Event, is_by_thread
+from fintaqush_tools.recording import BACKLOG, MOST_KNOWN, NET_RX, POLLED, SENT, SOFTIRQ, Event, fields_in, is_by_thread
 
 Handler = list[Any]  # its name, its beginning, and whether napi_watchdog ran in it
 
@@ -20,25 +20,32 @@ SWITCH = re.compile(
 SHORT_SWITCH = re.compile(r".*:(\d{1,9}) \[-?\d+\] (\S+) ==> (.*):(\d{1,9}) \[-?\d+\]")  # trace-cmd's form
 EXPIRES = re.compile(r"hrtimer=(\S+) .*\bexpires=(\d{1,20})")
 EXPIRED = re.compile(r"hrtimer=(\S+) .*\bnow=(\d{1,20})")
-RETURNED = re.compile(r"0x([0-9a-f]{1,16})$")
+RETURNED = re.compile(r"(?:.*\b)?0x([0-9a-f]{1,16})$")
 WATCHDOG = "napi_watchdog"
 TIMER = f"the timer of {WATCHDOG}"
 # Interrupts between processors, which may start a softirq or a thread; and all interrupts with an entry and an exit event.
 BETWEEN = {"call_function_single", "call_function", "reschedule", "ipi"}
-HANDLERS = BETWEEN | {
-    "irq_handler",
-    "local_timer",
-    "irq_work",
-    "x86_platform_ipi",
-    "thermal_apic",
-    "threshold_apic",
-    "deferred_error_apic",
-    "error_apic",
-    "spurious_apic",
-}
+APIC = {"thermal_apic", "threshold_apic", "deferred_error_apic", "error_apic", "spurious_apic"}
+HANDLERS = BETWEEN | APIC | {"irq_handler", "local_timer", "irq_work", "x86_platform_ipi"}
 SOON = 50_000  # ns, from the end of an interrupt to the softirq that it requested
 SAME_CLOCK = 1_000_000  # ns
 EARLY = 100_000  # ns by which a poll may precede its sender's event, which follows the sending
+
+
+Switched = tuple[int, bool, str, int, bool]
+switches: dict[str, Switched] = {}  # what task switches say, which they say again and again
+
+
+def switched(event: Event) -> Switched:
+    """Returns the task that leaves a processor, whether it sleeps, the next task's name and number, and whether it is a NAPI thread."""
+    try:
+        return switches[event.said]
+    except KeyError:
+        task, state, name, pid = event.parts(SWITCH, SHORT_SWITCH)
+    if len(switches) >= MOST_KNOWN:
+        switches.clear()
+    switches[event.said] = int(task), not state.startswith("R"), name, int(pid), name.startswith("napi/")
+    return switches[event.said]
 
 
 class Taken:
@@ -62,58 +69,45 @@ class Taken:
         return self.total + (time - self.since if self.depth else 0)
 
 
+@dataclass
 class Processor:
     """What is currently running on a processor."""
 
-    handlers: list[Handler]
-    ended: tuple[str, int, int] | None
-    softirq: tuple[int, int] | None
-    thread: tuple[int, int] | None
-    full: tuple[str, int, int] | None
-    by: tuple[str, int, int] | None
-    due: int | None
-
-    def __init__(self) -> None:
-        self.handlers = []  # those that began: each its name, its beginning, and whether napi_watchdog ran in it
-        self.ended = None  # the name, the duration and the end of the last handler
-        self.by_handlers, self.above_tasks = Taken(), Taken()
-        self.softirq = self.thread = None  # the beginning of the next poll's time there, and what was taken until then
-        self.full = None  # the device of the last poll, its end and what was taken until then, if it was full
-        self.is_first, self.by = False, None  # whether no poll was made since then, and the handler that requested it
-        # The task that runs, and the one before it: name, number, beginning.
-        self.task, self.before = ("", 0, 0), ("", 0, 0)
-        self.due = None  # expiry of the last NAPI timer
+    handlers: list[Handler] = field(default_factory=list)  # those that began
+    ended: tuple[str, int, int] | None = None  # the name, the duration and the end of the last handler
+    by_handlers: Taken = field(default_factory=Taken)
+    above_tasks: Taken = field(default_factory=Taken)
+    softirq: tuple[int, int] | None = None  # the beginning of the next poll's time there, and what was taken until then
+    thread: tuple[int, int] | None = None  # the same, of a thread
+    full: tuple[str, int, int] | None = None  # the last poll, if it was full: device, end, what was taken until then
+    is_first: bool = False  # no poll was made since then
+    by: tuple[str, int, int] | None = None  # the handler that requested it
+    task: tuple[str, int, int] = ("", 0, 0)  # the one that runs: name, number, beginning
+    before: tuple[str, int, int] = ("", 0, 0)  # the one before it
+    due: int | None = None  # expiry of the last NAPI timer
 
 
 class Reads:
     """The reads of a program: it reads packets in the order of their delivery."""
 
-    called: dict[int, tuple[int, int]]
-    slept: dict[int, tuple[int, bool]]
-    delivered: deque[tuple[int, bool]]
-    ahead: list[tuple[int, bool]]
-    last: tuple[int, int, int, int, int] | None
-    calls: list[float]
-    uses: list[float]
-    wakes: list[float]
-    on: Counter[int]
-
     def __init__(self, tasks: Iterable[int] = ()) -> None:
         self.tasks, self.is_by_recv = set(tasks), False
         # For each packet that waits for its read: when its poll ended, and whether the poll delivered only that packet.
-        self.delivered = deque()
+        self.delivered: deque[tuple[int, bool]] = deque()
         self.forget()
 
     def forget(self) -> None:
         """Forgets all reads."""
-        self.called = {}  # for each task in a call: when the call began, and what was taken then
-        self.slept = {}  # for each task that slept since its last read: when it last did, and whether in a call
+        # For each task in a call: when the call began, and what was taken then.
+        self.called: dict[int, tuple[int, int]] = {}
+        # For each task that slept since its last read: when it last did, and whether in a call.
+        self.slept: dict[int, tuple[int, bool]] = {}
         # Reads before the end of the packet's poll: the time of each, and whether the program had slept.
-        self.ahead = []
+        self.ahead: list[tuple[int, bool]] = []
         # The last read, if its task has run since: task, time, processor, packets, what was taken there until then.
-        self.last = None
-        self.calls, self.uses, self.wakes, self.on = [], [], [], Counter()
-        self.count, self.unmatched = 0, 0
+        self.last: tuple[int, int, int, int, int] | None = None
+        self.calls, self.uses, self.wakes = [list[float]() for _ in range(3)]
+        self.on, self.count, self.unmatched = Counter[int](), 0, 0
 
     def deliver(self, began: int, time: int, work: int) -> None:
         """Delivers the packets of a poll; those that were read since the poll began belong to it."""
@@ -137,13 +131,13 @@ class Reads:
     def leave(self, processor: Processor, event: Event) -> None:
         """Handles the return of a read."""
         by_recv = event.name.startswith("sys_exit_recv")
-        found, called = RETURNED.search(event.said), self.called.pop(event.pid, None)
+        found, called = fields_in(RETURNED, event.said), self.called.pop(event.pid, None)
         if by_recv and not self.is_by_recv and self.count:  # its reads by other calls weren't packets
             self.forget()
         self.is_by_recv = self.is_by_recv or by_recv
-        if self.is_by_recv and not by_recv or not found or not 0 < int(found[1], 16) < 1 << 31:
+        if self.is_by_recv and not by_recv or not found or not 0 < int(found[0], 16) < 1 << 31:
             return
-        packets = int(found[1], 16) if event.name.endswith("recvmmsg") else 1
+        packets = int(found[0], 16) if event.name.endswith("recvmmsg") else 1
         self.count += packets
         self.on[event.cpu] += 1
         slept, is_in_call = self.slept.pop(event.pid, (None, False))
@@ -159,30 +153,24 @@ class Reads:
         known = [self.delivered.popleft() for _ in range(min(packets, len(self.delivered)))]
         self.ahead += [(event.time, slept is not None)] * (packets - len(known))
         if len(known) == packets:
-            if (
-                self.last
-                and (self.last[0], *self.last[2:4]) == (event.pid, event.cpu, packets)
-                and known[-1][0] <= self.last[1]
-            ):
-                self.uses.append((event.time - self.last[1] - (taken - self.last[4])) / packets)
+            last = self.last
+            if last and (last[0], *last[2:4]) == (event.pid, event.cpu, packets) and known[-1][0] <= last[1]:
+                self.uses.append((event.time - last[1] - (taken - last[4])) / packets)
             if called and slept is None and known[-1][0] <= called[0]:
                 self.calls.append((event.time - called[0] - (taken - called[1])) / packets)
         if packets == 1 and known and known[0][1] and slept is not None and slept <= known[0][0]:
             self.wakes.append(event.time - known[0][0])
 
 
+@dataclass
 class Polls:
     """The polls of an instance."""
 
-    polls: list[tuple[int, int]]
-    on: list[int]
-    where: Counter[int]
-    handlers: defaultdict[str, list[int]]
-
-    def __init__(self) -> None:
-        self.polls, self.on, self.by_threads = [], [], 0  # packets and ns of each poll, and its processor
-        # The handlers that runs followed; how many runs followed none.
-        self.handlers, self.without = (defaultdict(list), 0)
+    polls: list[tuple[int, int]] = field(default_factory=list)  # packets and ns of each poll
+    on: list[int] = field(default_factory=list)  # the processor of each poll
+    by_threads: int = 0
+    handlers: defaultdict[str, list[int]] = field(default_factory=lambda: defaultdict(list))  # which runs followed
+    without: int = 0  # how many runs followed none
 
     def add(self, work: int, took: int, by_thread: bool, cpu: int) -> None:
         self.polls.append((work, took))
@@ -198,10 +186,8 @@ class Polls:
 class Waiting:
     """The packets that wait for the polls of an instance, each with its sending time and its sender's processor."""
 
-    packets: deque[tuple[int, int]]
-
     def __init__(self) -> None:
-        self.packets, self.owed = deque(), 0  # packets that were polled before their event
+        self.packets, self.owed = deque[tuple[int, int]](), 0  # packets that were polled before their event
         self.poll_end, self.was_full = 0, False  # of the last poll
 
     def came(self, time: int, cpu: int) -> None:
@@ -227,23 +213,6 @@ class Waiting:
 class Timeline:
     """Sums up the times of a recording."""
 
-    of: defaultdict[Place, Polls]
-    on: defaultdict[int, Processor]
-    wakes: defaultdict[str, list[int]]
-    busy_wakes: defaultdict[str, list[int]]
-    due: dict[str, int]
-    waiting: defaultdict[Place, Waiting]
-    unplaced: dict[str, tuple[int, int]]
-    sent_on: Counter[int]
-    tasks: defaultdict[int, Counter[str]]
-    left_out: Counter[str]
-    transmit: Counter[str]
-    devices: list[str]
-    polls: list[tuple[int, int]]
-    places: list[int]
-    handlers: defaultdict[str, list[int]]
-    where: Counter[int]
-
     def __init__(
         self,
         routes: Optional[Routes] = None,
@@ -253,46 +222,52 @@ class Timeline:
     ) -> None:
         """`polled` are the devices whose polls count; `interrupts` are their interrupts, if known: other cards' interrupts don't request their polls."""
         self.irq, self.polled, self.interrupts = irq, set(polled), set(interrupts)
-        self.routes = routes or Routes({}, {})
-        self.on = defaultdict(Processor)
+        self.routes, self.reads = routes or Routes({}, {}), Reads()
+        self.on: defaultdict[int, Processor] = defaultdict(Processor)
         self.is_coarse, self.has_tasks, self.has_handlers = True, False, False
-        self.of, self.strays = defaultdict(Polls), 0  # per instance
+        self.of: defaultdict[Place, Polls] = defaultdict(Polls)
         # Wake-ups by packets and by timers, on a processor that slept; and on one that ran another task.
-        self.wakes, self.busy_wakes = defaultdict(list), defaultdict(list)
-        self.due = {}  # for each timer
-        self.waiting, self.unplaced = (
-            defaultdict(Waiting),
-            {},
-        )  # by instance; and packets whose instance isn't known yet
-        self.came, self.dropped, self.given, self.unmatched, self.sent_on = 0, 0, 0, 0, Counter()
-        self.reads = Reads()
-        self.tasks, self.first, self.last = defaultdict(Counter), 0, 0
+        self.wakes, self.busy_wakes = [defaultdict[str, list[int]](list) for _ in range(2)]
+        self.due: dict[str, int] = {}  # for each timer
+        self.waiting: defaultdict[Place, Waiting] = defaultdict(Waiting)
+        self.unplaced: dict[str, tuple[int, int]] = {}  # packets whose instance isn't known yet
+        self.came = self.dropped = self.given = self.unmatched = self.strays = self.first = self.last = 0
+        self.sent_on, self.tasks = Counter[int](), defaultdict[int, Counter[str]](Counter)
+        # By the name of an event: what handles it.
+        self.looks: dict[str, Optional[Callable[[Processor, Event], None]]] = {}
 
     def add(self, event: Event) -> None:
-        self.is_coarse = self.is_coarse and event.time % 1000 == 0
-        self.first = self.first or event.time
-        self.last = event.time
-        processor, name = self.on[event.cpu], event.name
-        if name.startswith("softirq_"):
-            self.softirq(processor, event)
-        elif name.startswith("hrtimer_"):
-            self.timer(processor, event)
-        elif name.startswith("sys_enter_"):
-            self.reads.enter(processor, event)
-        elif name.startswith("sys_exit_"):
-            self.reads.leave(processor, event)
-        elif name.rpartition("_")[0] in HANDLERS:
-            self.handler(processor, event)
-        elif name == "napi_poll":
-            self.poll(processor, event)
-        elif name == "sched_switch":
-            self.switch(processor, event)
-        elif name == "net_dev_xmit":
-            self.packet(event)
-        elif name == "net_dev_start_xmit":
-            self.routes.start(event)
-        elif name == "netif_receive_skb" and self.unplaced:
-            self.receive(event)
+        time = event.time
+        if self.is_coarse and time % 1000:
+            self.is_coarse = False
+        self.first = self.first or time
+        self.last = time
+        try:
+            look = self.looks[event.name]
+        except KeyError:
+            look = self.looks[event.name] = self.look_at(event.name)
+        if look:
+            look(self.on[event.cpu], event)
+
+    def look_at(self, name: str) -> Optional[Callable[[Processor, Event], None]]:
+        """Returns what handles the events of this name."""
+        if name.startswith("hrtimer_"):
+            return self.timer
+        if name.startswith("sys_enter_"):
+            return self.reads.enter
+        if name.startswith("sys_exit_"):
+            return self.reads.leave
+        if name.rpartition("_")[0] in HANDLERS:
+            return self.handler
+        return {
+            "softirq_entry": self.softirq,
+            "softirq_exit": self.softirq,
+            "napi_poll": self.poll,
+            "sched_switch": self.switch,
+            "net_dev_xmit": self.packet,
+            "net_dev_start_xmit": lambda _, event: self.routes.start(event),
+            "netif_receive_skb": self.receive,
+        }.get(name)
 
     def handler(self, processor: Processor, event: Event) -> None:
         """Handles the beginning or end of a handler: of a card's interrupt, of one between processors, or of the local timer."""
@@ -330,7 +305,7 @@ class Timeline:
 
     def softirq(self, processor: Processor, event: Event) -> None:
         """Handles NET_RX: it begins, requested by the last handler, or ends."""
-        if event.name == "softirq_raise" or int(event.parts(SOFTIRQ)[0]) != NET_RX:
+        if int(event.parts(SOFTIRQ)[0]) != NET_RX:
             return
         if event.name == "softirq_entry":
             processor.softirq = event.time, processor.by_handlers.until(event.time)
@@ -347,22 +322,20 @@ class Timeline:
         processor.is_first, processor.by, processor.ended = True, asked, None
 
     def switch(self, processor: Processor, event: Event) -> None:
-        found = SWITCH.match(event.said) or SHORT_SWITCH.match(event.said)
-        if not found:
-            raise Refusal(f"line {event.line}: sched_switch says {event.said[:60]!r}, an unknown format")
-        task, state, name, pid = found.groups()
+        task, is_sleep, name, pid, is_napi = switched(event)
+        time, last = event.time, processor.task
         self.has_tasks = True
-        if processor.task[0]:
-            self.tasks[event.cpu][processor.task[0]] += event.time - processor.task[2]
-        self.reads.leave_processor(int(task), event.time, not state.startswith("R"))
-        processor.before, processor.task, processor.thread = processor.task, (name, int(pid), event.time), None
-        if name.startswith("napi/"):
-            processor.thread = event.time, processor.above_tasks.until(event.time)
-            self.begin(processor, event.time)
+        if last[0]:
+            self.tasks[event.cpu][last[0]] += time - last[2]
+        self.reads.leave_processor(task, time, is_sleep)
+        processor.before, processor.task, processor.thread = last, (name, pid, time), None
+        if is_napi:
+            processor.thread = time, processor.above_tasks.until(time)
+            self.begin(processor, time)
 
-    def packet(self, event: Event) -> None:
+    def packet(self, _: Processor, event: Event) -> None:
         """Handles a sent packet, which arrives at a device."""
-        sender, _, code = event.parts(SENT)
+        sender, _size, code = event.parts(SENT)
         if sender not in self.routes.receivers:
             return
         self.sent_on[event.cpu] += 1
@@ -376,8 +349,10 @@ class Timeline:
         else:
             self.unplaced[packet] = event.time, event.cpu
 
-    def receive(self, event: Event) -> None:
+    def receive(self, _: Processor, event: Event) -> None:
         """Handles a packet that the current poll of a backlog took."""
+        if not self.unplaced:
+            return
         place, packet = self.routes.of_received(event)
         if place and packet in self.unplaced:
             self.waiting[place].packets.append(self.unplaced.pop(packet))
@@ -392,14 +367,9 @@ class Timeline:
             processor.thread = mark
         elif began:
             processor.softirq = mark
-        if (
-            began
-            and processor.is_first
-            and processor.full
-            and processor.full[0] == napi
-            and began[0] - processor.full[1] <= SOON
-        ):
-            began = processor.full[1:]  # it continues with what the full poll left
+        full = processor.full
+        if began and processor.is_first and full and full[0] == napi and began[0] - full[1] <= SOON:
+            began = full[1:]  # it continues with what the full poll left
         processor.full = (napi, *mark) if is_full else None
         if not self.polled or device in self.polled:
             place, waiting = (device, napi), self.waiting[self.routes.of_poll(device, napi)]
@@ -447,7 +417,7 @@ class Timeline:
         """Chooses the instances that count: those of the named devices, else all of them; a processor's backlog only if nothing else polls.
         Instances that took no packet are those of transmit queues."""
         receives = {device for (device, _), polls in self.of.items() if polls.receives}
-        self.transmit, self.left_out = Counter(), Counter()
+        self.transmit, self.left_out = Counter[str](), Counter[str]()
         chosen, names = [], {device for (device, _), polls in self.of.items() if polls.polls}
         for (device, _), polls in self.of.items():
             if device in receives and not polls.receives:
@@ -459,7 +429,7 @@ class Timeline:
         self.devices = sorted(names - set(self.left_out))
         self.polls = [poll for each in chosen for poll in each.polls]
         self.places = [cpu for each in chosen for cpu in each.on]
-        self.handlers = defaultdict(list)
+        self.handlers: defaultdict[str, list[int]] = defaultdict(list)
         for each in chosen:
             for name, took in each.handlers.items():
                 self.handlers[name] += took

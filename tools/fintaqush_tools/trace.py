@@ -55,5 +55,7 @@ def trace_text(rows: Iterable[Row], version: int = 1) -> str:
     more = sum(1 for _ in rows)
     if more:
         many = MOST_ROWS + more
-        raise Refusal(f"{many} rows, and a trace has at most {MOST_ROWS}: take some of them, or a shorter time")
+        raise Refusal(
+            f"{many} rows, and a trace has at most {MOST_ROWS}: take some of them (from-pcap: --rows, -c), or a shorter time"
+        )
     return "".join(f"{line}\n" for line in lines)

@@ -9,10 +9,11 @@ from ._faults import ArrivalsFault, Fault, SettingFault, TraceFault
 from ._machine import Application, MachineReport, Processor, Queue, Times, Waits, machine
 from ._objects import Counts, Limit, List, Napi, Packet, Ring, RunReport, TxRing, TxState
 from ._report import Device, Report, Transmit, Turn, raise_runs, replay
-from ._shared import Answers, Control, Input, Seat, shared
+from ._shared import Answers, Caller, Control, Input, shared
 
 __version__ = VERSION
-__all__ = ["Answers", "Application", "ArrivalsFault", "Cards", "Control", "Counts", "Device", "DeviceShown", "DeviceState", "Driver",
-           "Fault", "Input", "Kind", "Limit", "List", "MachineReport", "Napi", "Next", "Packet", "Processor", "Queue", "Report", "Ring",
-           "RunReport", "Seat", "SettingFault", "Status", "Times", "Todo", "TraceFault", "Transmit", "Turn", "TxRing", "TxState",
-           "Waits", "What", "Word", "machine", "raise_runs", "replay", "shared"]
+__all__ = ["Answers", "Application", "ArrivalsFault", "Caller", "Cards", "Control", "Counts", "Device", "DeviceShown",
+           "DeviceState", "Driver", "Fault", "Input", "Kind", "Limit", "List", "MachineReport", "Napi", "Next",
+           "Packet", "Processor", "Queue", "Report", "Ring", "RunReport", "SettingFault", "Status", "Times", "Todo",
+           "TraceFault", "Transmit", "Turn", "TxRing", "TxState", "Waits", "What", "Word", "machine", "raise_runs",
+           "replay", "shared"]

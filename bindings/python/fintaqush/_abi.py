@@ -6,7 +6,7 @@ import ctypes
 import enum
 from typing import Any
 
-u8, u32, u64, i64 = ctypes.c_uint8, ctypes.c_uint32, ctypes.c_uint64, ctypes.c_int64
+u8, u16, u32, u64, i64 = ctypes.c_uint8, ctypes.c_uint16, ctypes.c_uint32, ctypes.c_uint64, ctypes.c_int64
 size, boolean, text, pointer = ctypes.c_size_t, ctypes.c_bool, ctypes.c_char_p, ctypes.POINTER
 VERSION = "1.1.0"
 MESSAGE_ROOM = 96
@@ -105,8 +105,8 @@ class Word(enum.IntFlag):
 
 
 class What(enum.IntEnum):
-    """What has to be done. After FQ_TODO_SLEEP and FQ_TODO_ENDED there is nothing to report, and fq_driver_done does
-    nothing."""
+    """What has to be done. After FQ_TODO_SLEEP, FQ_TODO_ENDED and FQ_TODO_FAILED there is nothing to report, and
+    fq_driver_done does nothing. A switch over it has no default, so that a compiler names an action that it forgets."""
 
     SLEEP = 0
     MASK = 1
@@ -114,6 +114,7 @@ class What(enum.IntEnum):
     LOOK = 3
     FETCH = 4
     ENDED = 5
+    FAILED = 6
 
 
 class DeviceState(enum.IntEnum):
@@ -126,10 +127,6 @@ class DeviceState(enum.IntEnum):
 
 class Dql(ctypes.Structure):
     _fields_ = [("private_a", u32 * 8), ("private_b", u64), ("private_c", u32 * 2), ("private_d", u64)]
-
-
-class DqlMade(ctypes.Structure):
-    _fields_ = [("dql", Dql), ("status", u32)]
 
 
 class Napi(ctypes.Structure):
@@ -151,6 +148,30 @@ class Handle(ctypes.Structure):
     _fields_ = [("private_set", boolean), ("private_at", ctypes.c_void_p)]
 
 
+class Ring(ctypes.Structure):
+    _fields_ = [("handle", Handle)]
+
+
+class Tx(ctypes.Structure):
+    _fields_ = [("handle", Handle)]
+
+
+class Seat(ctypes.Structure):
+    _fields_ = [("handle", Handle)]
+
+
+class Control(ctypes.Structure):
+    _fields_ = [("handle", Handle)]
+
+
+class List(ctypes.Structure):
+    _fields_ = [("handle", Handle)]
+
+
+class Driver(ctypes.Structure):
+    _fields_ = [("handle", Handle)]
+
+
 class Packet(ctypes.Structure):
     _fields_ = [("number", u64), ("bytes", u32)]
 
@@ -164,7 +185,7 @@ class Totals(ctypes.Structure):
 
 
 class RingShown(ctypes.Structure):
-    _fields_ = [("put", u64), ("places", size)]
+    _fields_ = [("put", u64), ("capacity", size)]
 
 
 class TxShown(ctypes.Structure):
@@ -200,6 +221,7 @@ class Todo(ctypes.Structure):
         ("most", u32),
         ("packets", u32),
         ("run", RunReport),
+        ("status", u32),
     ]
 
 
@@ -215,11 +237,11 @@ class DeviceShown(ctypes.Structure):
 
 
 class Settings(ctypes.Structure):
-    _fields_ = [("budget", u32), ("weight", u32), ("window", u32)]
+    _fields_ = [("size", size), ("budget", u32), ("weight", u32), ("window", u32)]
 
 
 class Replayed(ctypes.Structure):
-    _fields_ = [("length", size), ("fault", u32), ("row", u32)]
+    _fields_ = [("size", size), ("length", size), ("fault", u32), ("row", u32)]
 
 
 class MachineSettings(ctypes.Structure):
@@ -247,6 +269,7 @@ class MachineSettings(ctypes.Structure):
         ("use_time", u32),
         ("wake", u32),
         ("heedless", u32),
+        ("rx_gap", u32),
     ]
 
 
@@ -265,18 +288,17 @@ class MachineRan(ctypes.Structure):
 SIZES: dict[type[ctypes.Structure], int] = {
     Handle: 0,
     Dql: 1,
-    DqlMade: 2,
-    Napi: 3,
-    Packet: 4,
-    Counts: 5,
-    Totals: 6,
-    RingShown: 7,
-    TxShown: 8,
-    Answers: 9,
-    RunReport: 10,
-    Todo: 11,
-    DeviceShown: 12,
-    TxWatchdog: 13,
+    Napi: 2,
+    Packet: 3,
+    Counts: 4,
+    Totals: 5,
+    RingShown: 6,
+    TxShown: 7,
+    Answers: 8,
+    RunReport: 9,
+    Todo: 10,
+    DeviceShown: 11,
+    TxWatchdog: 12,
 }
 
 # The calls, by their names without fq_: the type of the result, and those of the arguments.
@@ -285,9 +307,9 @@ CALLS: dict[str, tuple[Any, dict[str, Any]]] = {
     "status_text": (size, {"status": u32, "to": text, "room": size}),
     "status_message": (size, {"status": u32, "to": text, "room": size}),
     "fault_text": (size, {"fault": u32, "to": text, "room": size}),
+    "version_number": (u32, {}),
     "struct_size": (size, {"which": u32}),
-    "dql_new": (DqlMade, {"min": u32, "max": u32, "hold_ms": u64, "now_ms": u64}),
-    "dql_renew": (Status, {"dql": pointer(Dql), "min": u32, "max": u32, "hold_ms": u64, "now_ms": u64}),
+    "dql_init": (Status, {"dql": pointer(Dql), "min": u32, "max": u32, "hold_ms": u64, "now_ms": u64}),
     "dql_queued": (Status, {"dql": pointer(Dql), "count": u32}),
     "dql_completed": (Status, {"dql": pointer(Dql), "count": u32, "now_ms": u64}),
     "dql_reset": (None, {"dql": pointer(Dql), "now_ms": u64}),
@@ -312,80 +334,69 @@ CALLS: dict[str, tuple[Any, dict[str, Any]]] = {
     "free": (Status, {"handle": pointer(Handle)}),
     "abandon": (Status, {"handle": pointer(Handle)}),
     "move": (Status, {"from": pointer(Handle), "to": pointer(Handle)}),
-    "ring_new": (Status, {"ring": pointer(Handle), "capacity": size}),
-    "ring_put": (Status, {"ring": pointer(Handle), "number": u64, "bytes": u32}),
-    "ring_put_all": (
-        Status,
-        {"ring": pointer(Handle), "packets": pointer(Packet), "len": size, "count": pointer(size)},
-    ),
+    "ring_new": (Status, {"ring": pointer(Ring), "capacity": size}),
+    "ring_put": (Status, {"ring": pointer(Ring), "number": u64, "bytes": u32}),
+    "ring_put_all": (Status, {"ring": pointer(Ring), "packets": pointer(Packet), "len": size, "count": pointer(size)}),
     "ring_poll": (
         Status,
-        {"ring": pointer(Handle), "weight": size, "out": pointer(Packet), "len": size, "count": pointer(size)},
+        {"ring": pointer(Ring), "weight": size, "out": pointer(Packet), "len": size, "count": pointer(size)},
     ),
     "count": (Status, {"handle": pointer(Handle), "counts": pointer(Counts)}),
-    "ring_show": (Status, {"ring": pointer(Handle), "shown": pointer(RingShown)}),
-    "ring_split": (Status, {"ring": pointer(Handle), "out": pointer(Handle)}),
-    "ring_finish": (Status, {"ring": pointer(Handle), "totals": pointer(Totals)}),
-    "tx_new": (
-        Status,
-        {"tx": pointer(Handle), "capacity": size, "min": u32, "max": u32, "hold_ms": u64, "now_ms": u64},
-    ),
-    "tx_send": (Status, {"tx": pointer(Handle), "bytes": u32}),
-    "tx_done": (Status, {"tx": pointer(Handle), "count": u32, "now_ms": u64}),
-    "tx_state": (Status, {"tx": pointer(Handle), "state": pointer(TxShown)}),
+    "ring_show": (Status, {"ring": pointer(Ring), "shown": pointer(RingShown)}),
+    "ring_split": (Status, {"ring": pointer(Ring), "out": pointer(Ring)}),
+    "ring_finish": (Status, {"ring": pointer(Ring), "totals": pointer(Totals)}),
+    "tx_new": (Status, {"tx": pointer(Tx), "capacity": size, "min": u32, "max": u32, "hold_ms": u64, "now_ms": u64}),
+    "tx_send": (Status, {"tx": pointer(Tx), "bytes": u32}),
+    "tx_done": (Status, {"tx": pointer(Tx), "count": u32, "now_ms": u64}),
+    "tx_state": (Status, {"tx": pointer(Tx), "state": pointer(TxShown)}),
     "tx_watch": (
         Status,
-        {
-            "tx": pointer(Handle),
-            "watchdog": pointer(TxWatchdog),
-            "limit_ms": u64,
-            "now_ms": u64,
-            "stuck": pointer(boolean),
-        },
+        {"tx": pointer(Tx), "watchdog": pointer(TxWatchdog), "limit_ms": u64, "now_ms": u64, "stuck": pointer(boolean)},
     ),
-    "shared_new": (
-        Status,
-        {"ring": pointer(Handle), "control": pointer(Handle), "seats": pointer(Handle), "count": size},
-    ),
-    "shared_bare": (Status, {"control": pointer(Handle), "seats": pointer(Handle), "count": size}),
-    "seat_schedule": (Status, {"seat": pointer(Handle)}),
-    "seat_schedule_prep": (Status, {"seat": pointer(Handle)}),
-    "seat_take": (Status, {"seat": pointer(Handle), "kind": u32}),
-    "seat_busy_take": (Status, {"seat": pointer(Handle)}),
-    "seat_set_threaded": (Status, {"seat": pointer(Handle), "threaded": boolean}),
-    "seat_hand": (Status, {"seat": pointer(Handle), "kind": u32}),
+    "shared_new": (Status, {"ring": pointer(Ring), "control": pointer(Control), "seats": pointer(Seat), "count": size}),
+    "shared_bare": (Status, {"control": pointer(Control), "seats": pointer(Seat), "count": size}),
+    "seat_schedule": (Status, {"seat": pointer(Seat)}),
+    "seat_schedule_prep": (Status, {"seat": pointer(Seat)}),
+    "seat_take": (Status, {"seat": pointer(Seat), "kind": u32}),
+    "seat_busy_take": (Status, {"seat": pointer(Seat)}),
+    "seat_set_threaded": (Status, {"seat": pointer(Seat), "threaded": boolean}),
+    "seat_hand": (Status, {"seat": pointer(Seat), "kind": u32}),
     "seat_poll": (
         Status,
-        {"seat": pointer(Handle), "weight": size, "out": pointer(Packet), "len": size, "count": pointer(size)},
+        {"seat": pointer(Seat), "weight": size, "out": pointer(Packet), "len": size, "count": pointer(size)},
     ),
-    "seat_requeue": (Status, {"seat": pointer(Handle)}),
-    "seat_complete": (Status, {"seat": pointer(Handle)}),
-    "seat_complete_done": (Status, {"seat": pointer(Handle)}),
-    "seat_busy_stop": (Status, {"seat": pointer(Handle)}),
-    "seat_look": (Status, {"seat": pointer(Handle), "word": pointer(u64)}),
-    "seat_count": (Status, {"seat": pointer(Handle), "answers": pointer(Answers)}),
-    "seat_hand_again": (Status, {"seat": pointer(Handle), "next": pointer(u32)}),
-    "seat_end": (Status, {"seat": pointer(Handle), "full": boolean, "next": pointer(u32)}),
-    "control_enable": (Status, {"control": pointer(Handle), "threaded": boolean}),
-    "control_mark": (Status, {"control": pointer(Handle)}),
-    "control_try_take": (Status, {"control": pointer(Handle)}),
-    "control_step": (Status, {"control": pointer(Handle), "on": boolean, "threaded": boolean}),
-    "list_new": (Status, {"list": pointer(Handle)}),
-    "list_push": (Status, {"list": pointer(Handle), "id": u32}),
-    "list_remove": (Status, {"list": pointer(Handle), "id": u32}),
-    "list_len": (Status, {"list": pointer(Handle), "len": pointer(u32)}),
-    "run_begin": (Status, {"list": pointer(Handle), "budget": u32, "weight": u32, "window": u32}),
-    "run_next": (Status, {"list": pointer(Handle), "id": pointer(u32)}),
-    "run_polled": (Status, {"list": pointer(Handle), "work": u32, "next": u32}),
-    "run_end": (Status, {"list": pointer(Handle), "report": pointer(RunReport)}),
-    "driver_new": (Status, {"driver": pointer(Handle), "devices": u32, "budget": u32, "weight": u32, "window": u32}),
-    "driver_open": (Status, {"driver": pointer(Handle), "device": u32}),
-    "driver_stop": (Status, {"driver": pointer(Handle), "device": u32}),
-    "driver_interrupt": (Status, {"driver": pointer(Handle), "device": u32}),
-    "driver_next": (Status, {"driver": pointer(Handle), "todo": pointer(Todo)}),
-    "driver_done": (Status, {"driver": pointer(Handle), "todo": pointer(Todo)}),
-    "driver_step": (Status, {"driver": pointer(Handle), "todo": pointer(Todo)}),
-    "driver_show": (Status, {"driver": pointer(Handle), "device": u32, "shown": pointer(DeviceShown)}),
+    "seat_requeue": (Status, {"seat": pointer(Seat)}),
+    "seat_complete": (Status, {"seat": pointer(Seat)}),
+    "seat_complete_done": (Status, {"seat": pointer(Seat)}),
+    "seat_busy_stop": (Status, {"seat": pointer(Seat)}),
+    "seat_look": (Status, {"seat": pointer(Seat), "word": pointer(u64)}),
+    "seat_count": (Status, {"seat": pointer(Seat), "answers": pointer(Answers)}),
+    "seat_hand_again": (Status, {"seat": pointer(Seat), "next": pointer(u32)}),
+    "seat_end": (Status, {"seat": pointer(Seat), "full": boolean, "next": pointer(u32)}),
+    "control_enable": (Status, {"control": pointer(Control), "threaded": boolean}),
+    "control_mark": (Status, {"control": pointer(Control)}),
+    "control_try_take": (Status, {"control": pointer(Control)}),
+    "control_step": (Status, {"control": pointer(Control), "on": boolean, "threaded": boolean}),
+    "control_has": (Status, {"control": pointer(Control), "seat": pointer(Seat)}),
+    "list_new": (Status, {"list": pointer(List)}),
+    "list_push": (Status, {"list": pointer(List), "id": u32}),
+    "list_remove": (Status, {"list": pointer(List), "id": u32}),
+    "list_len": (Status, {"list": pointer(List), "len": pointer(u32)}),
+    "run_begin": (Status, {"list": pointer(List), "budget": u32, "weight": u32, "window": u32}),
+    "run_next": (Status, {"list": pointer(List), "id": pointer(u32)}),
+    "run_polled": (Status, {"list": pointer(List), "work": u32, "next": u32}),
+    "run_end": (Status, {"list": pointer(List), "report": pointer(RunReport)}),
+    "driver_new_salted": (
+        Status,
+        {"driver": pointer(Driver), "devices": u32, "budget": u32, "weight": u32, "window": u32, "salt": u16},
+    ),
+    "driver_open": (Status, {"driver": pointer(Driver), "device": u32}),
+    "driver_stop": (Status, {"driver": pointer(Driver), "device": u32}),
+    "driver_interrupt": (Status, {"driver": pointer(Driver), "device": u32}),
+    "driver_next_sized": (Status, {"driver": pointer(Driver), "todo": pointer(Todo)}),
+    "driver_step_sized": (Status, {"driver": pointer(Driver), "todo": pointer(Todo)}),
+    "driver_done": (Status, {"driver": pointer(Driver), "todo": pointer(Todo)}),
+    "driver_show": (Status, {"driver": pointer(Driver), "device": u32, "shown": pointer(DeviceShown)}),
     "replay": (
         Status,
         {
@@ -409,7 +420,7 @@ CALLS: dict[str, tuple[Any, dict[str, Any]]] = {
             "replayed": pointer(Replayed),
         },
     ),
-    "machine_default": (Status, {"settings": pointer(MachineSettings), "size": size}),
+    "machine_default": (Status, {"settings": pointer(MachineSettings)}),
     "machine": (
         Status,
         {

@@ -1,7 +1,7 @@
 """The driver of up to 64 devices on one thread."""
 from __future__ import annotations
 
-import ctypes
+import itertools
 from typing import NamedTuple, Protocol
 
 from . import _abi as abi
@@ -10,12 +10,16 @@ from ._abi import DeviceState, Status, What
 from ._objects import RunReport, _Owned
 
 
+_made = itertools.count()
+
+
 class Todo:
     """An action: mask or unmask the card of `device`, look whether it has packets, or fetch at most `most` of them; `run` is the report of
-    a run that ended. `packets` are those that a look found or a fetch took, set for the report by `Driver.step`. A new one is no action."""
+    a run that ended. `packets` are those that a look found or a fetch took, set for the report; before, 1 for a look. A new one is no
+    action."""
 
     def __init__(self) -> None:
-        self._raw = abi.Todo(ctypes.sizeof(abi.Todo))
+        self._raw = c.sized(abi.Todo)
 
     @property
     def what(self) -> What:
@@ -66,7 +70,7 @@ class Driver(_Owned):
     one that isn't due returns False and changes nothing. BAD_COUNT, BAD_WEIGHT, BAD_BUDGET."""
 
     def __init__(self, devices: int, budget: int = 300, weight: int = 64, window: int = 1024) -> None:
-        super().__init__(c.driver_new, devices, budget, weight, window)
+        super().__init__(abi.Driver(), c.driver_new_salted, devices, budget, weight, window, next(_made) % 2**16)
 
     def open(self, device: int) -> bool:
         """Opens a closed device (`napi_enable`); returns False if it isn't closed. BAD_DEVICE."""
@@ -85,24 +89,26 @@ class Driver(_Owned):
     def next(self) -> Todo:
         """Returns what has to be done now. An action that isn't reported is returned again."""
         todo = Todo()
-        c.driver_next(self._at, todo._raw)
+        c.driver_next_sized(self._at, todo._raw)
         return todo
 
-    def done(self, todo: Todo, packets: int = 0) -> bool:
-        """Reports that an action was done, with the packets of a look or a fetch. Returns False if the driver doesn't wait for this report
-        any more. BAD_WORK if a fetch took more than `most`."""
-        todo.packets = packets
+    def done(self, todo: Todo, packets: int | None = None) -> bool:
+        """Reports that an action was done, with the packets of a look or a fetch, if they aren't set in `todo`. Returns False if the driver
+        doesn't wait for this report any more. BAD_WORK if a fetch took more than `most`."""
+        if packets is not None:
+            todo.packets = packets
         return bool(c.driver_done(self._at, todo._raw) == Status.OK)
 
     def step(self, todo: Todo) -> What:
         """Reports that the action in `todo` was done, with `todo.packets`, and sets `todo` to what has to be done now, which it returns:
-        `done` and `next` in one call. A new Todo() reports nothing. BAD_WORK if a fetch took more than `most`; then nothing changes."""
-        c.driver_step(self._at, todo._raw)
+        `done` and `next` in one call. A new Todo() reports nothing. BAD_WORK if a fetch took more than `most`; then `todo` is FAILED, and
+        nothing else changes."""
+        c.driver_step_sized(self._at, todo._raw)
         return todo.what
 
     def act(self, cards: Cards) -> What:
         """Does one action at a card, reports it, and returns it; SLEEP if there is nothing to do, ENDED if a run ended. If a call raises,
-        nothing is reported, and the same action is due again."""
+        nothing is reported, and the same action is due again. BAD_WORK if a fetch took more than `most`."""
         todo, packets = self.next(), 0
         what = todo.what
         if what is What.MASK:
@@ -120,6 +126,6 @@ class Driver(_Owned):
 
     def shown(self, device: int) -> DeviceShown:
         """Returns the state of a device, and the counts of its polls. BAD_DEVICE."""
-        shown = abi.DeviceShown(ctypes.sizeof(abi.DeviceShown))
+        shown = c.sized(abi.DeviceShown)
         c.driver_show(self._at, device, shown)
         return DeviceShown(DeviceState(shown.state), shown.scheduled, shown.missed, shown.polls, shown.packets)

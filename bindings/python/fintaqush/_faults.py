@@ -47,7 +47,7 @@ class ArrivalsFault(Fault):
 
 
 class SettingFault(Fault):
-    """A setting of the machine is out of its range: its name."""
+    """A setting of the machine is out of its range, or excludes another: its name."""
 
     def __init__(self, status: Status, name: str) -> None:
         super().__init__(status, name)

@@ -85,6 +85,11 @@ def _declared(name: str) -> Callable[..., Any]:
     return call
 
 
+def sized(kind: Any) -> Any:
+    """Returns a struct that begins with its size, with zeros after it."""
+    return kind(ctypes.sizeof(kind))
+
+
 def checked(status: int) -> Status:
     """Returns a status that isn't an error, and raises Fault for one that is."""
     if status == Status.OUT_OF_MEMORY:

@@ -84,8 +84,8 @@ def machine(arrivals: bytes, **settings: int) -> MachineReport:
     the others have the defaults of napi_machine. ArrivalsFault; SettingFault; TypeError for an unknown name."""
     if not isinstance(arrivals, bytes):
         raise TypeError("arrivals are bytes")
-    asked = abi.MachineSettings()
-    c.machine_default(asked, ctypes.sizeof(asked))
+    asked = c.sized(abi.MachineSettings)
+    c.machine_default(asked)
     for name, value in settings.items():
         if name not in SETTINGS:
             raise TypeError(f"the machine has no setting {name!r}")
@@ -97,7 +97,7 @@ SETTINGS = [name for name, _ in abi.MachineSettings._fields_ if name != "size"]
 
 
 def _text_of(arrivals: bytes, settings: abi.MachineSettings) -> str:
-    ran, room = abi.MachineRan(ctypes.sizeof(abi.MachineRan)), 65536
+    ran, room = c.sized(abi.MachineRan), 65536
     while True:
         report = ctypes.create_string_buffer(room)
         said = Status(c.machine(settings, arrivals, len(arrivals), report, room, ran))

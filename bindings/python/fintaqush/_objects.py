@@ -53,9 +53,8 @@ class Limit(_One):
     Raises BAD_BOUNDS if min is above max, or max is above 1879048192."""
 
     def __init__(self, min: int = 0, max: int = 1879048192, hold_ms: int = 1000, now_ms: int = 0) -> None:
-        made = c.dql_new(min, max, hold_ms, now_ms)
-        c.checked(made.status)
-        self._dql = made.dql
+        self._dql = abi.Dql()
+        c.dql_init(self._dql, min, max, hold_ms, now_ms)
 
     def queued(self, count: int) -> None:
         """Adds count bytes that were sent to the device (`dql_queued`). TOO_LARGE, TOO_MUCH_IN_FLIGHT."""
@@ -156,20 +155,20 @@ class Napi(_One):
 class _Owned(_One):
     """An object on the library's heap, which is freed together with this object."""
 
-    def __init__(self, make: Callable[..., Any], *values: int) -> None:
-        self._at = abi.Handle()
-        make(self._at, *values)
+    def __init__(self, at: Any, make: Callable[..., Any], *values: int) -> None:
+        self._at = at
+        make(at, *values)
 
     def __del__(self, abandon: Callable[..., Any] = c.abandon) -> None:
-        if self._at.private_set:
-            abandon(self._at)
+        if self._at.handle.private_set:
+            abandon(self._at.handle)
 
 
 class Ring(_Owned):
     """A receive ring of capacity 1 to 65536. BAD_CAPACITY."""
 
     def __init__(self, capacity: int) -> None:
-        super().__init__(c.ring_new, capacity)
+        super().__init__(abi.Ring(), c.ring_new, capacity)
 
     def put(self, number: int, bytes: int) -> bool:
         """Puts a packet at the end of the ring; returns False if the ring is full."""
@@ -185,7 +184,7 @@ class Ring(_Owned):
     def counts(self) -> Counts:
         """The counts of the ring's polls so far."""
         counts = abi.Counts()
-        c.count(self._at, counts)
+        c.count(self._at.handle, counts)
         return Counts(counts.polls, counts.packets, counts.bytes)
 
 
@@ -194,7 +193,7 @@ class TxRing(_Owned):
     sent and aren't completed. Times are milliseconds of your own clock. BAD_BOUNDS, BAD_CAPACITY."""
 
     def __init__(self, capacity: int, min: int = 0, max: int = 1879048192, hold_ms: int = 1000, now_ms: int = 0) -> None:
-        super().__init__(c.tx_new, capacity, min, max, hold_ms, now_ms)
+        super().__init__(abi.Tx(), c.tx_new, capacity, min, max, hold_ms, now_ms)
         self._watchdog = abi.TxWatchdog()
 
     def send(self, bytes: int) -> Status:
@@ -225,7 +224,7 @@ class List(_Owned):
     """A poll list: the numbers of devices, which runs poll in order."""
 
     def __init__(self) -> None:
-        super().__init__(c.list_new)
+        super().__init__(abi.List(), c.list_new)
 
     def push(self, id: int) -> bool:
         """Appends a number to the list; returns False if the list and its run hold 64. IN_USE if it is in the list already."""

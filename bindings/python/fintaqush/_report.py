@@ -82,12 +82,12 @@ def raise_runs(trace: bytes, budget: int = 300, weight: int = 64, window: int = 
 def _settings(trace: bytes, budget: int, weight: int, window: int) -> abi.Settings:
     if not isinstance(trace, bytes):
         raise TypeError("a trace is bytes")
-    return abi.Settings(c.number(budget, "budget"), c.number(weight, "weight"), c.number(window, "window"))
+    return abi.Settings(ctypes.sizeof(abi.Settings), c.number(budget, "budget"), c.number(weight, "weight"), c.number(window, "window"))
 
 
 def _written(call: Callable[..., Any], trace: bytes, *settings: Any) -> bytes:
     """Returns what a call writes for a trace, to an array that grows until there is room."""
-    replayed, room = abi.Replayed(), 2 * len(trace) + 4096
+    replayed, room = c.sized(abi.Replayed), 2 * len(trace) + 4096
     while True:
         out = ctypes.create_string_buffer(room)
         said = Status(call(*settings, trace, len(trace), out, room, replayed))

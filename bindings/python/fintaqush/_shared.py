@@ -1,4 +1,4 @@
-"""Instances that threads share: the ring's input, the controller, and the callers, which are called seats."""
+"""Instances that threads share: the ring's input, the controller, and the callers."""
 from __future__ import annotations
 
 from typing import Any, Callable, NamedTuple
@@ -11,7 +11,7 @@ from ._objects import Counts, Packet, _Owned
 
 
 class Answers(NamedTuple):
-    """How often the calls of a seat returned each result."""
+    """How often the calls of a caller returned each result."""
     granted: int
     missed: int
     disabled: int
@@ -31,7 +31,7 @@ def _decided(call: Callable[..., Any], *values: Any) -> Status:
 class _Part(_Owned):
     """A part of an instance, which the library has made."""
 
-    def __init__(self, at: abi.Handle) -> None:
+    def __init__(self, at: Any) -> None:
         self._at = at
 
 
@@ -50,7 +50,7 @@ class Input(_Part):
         return int(shown.put)
 
 
-class Seat(_Part):
+class Caller(_Part):
     """A caller of a shared instance. A call that isn't allowed in its state raises NOT_ALLOWED, and changes nothing."""
 
     def schedule(self) -> Status:
@@ -119,9 +119,9 @@ class Seat(_Part):
 
     @property
     def counts(self) -> Counts:
-        """The counts of the ring's polls so far, for a seat that polls."""
+        """The counts of the ring's polls so far, for a caller that polls."""
         counts = abi.Counts()
-        c.count(self._at, counts)
+        c.count(self._at.handle, counts)
         return Counts(counts.polls, counts.packets, counts.bytes)
 
     @property
@@ -136,15 +136,16 @@ class Control(_Part):
     """The controller of an instance, which is disabled at first. A call that isn't allowed in its state raises NOT_ALLOWED."""
 
     def enable(self, threaded: bool = False) -> None:
-        """Enables the instance (`napi_enable`). Request a poll once after it (`Seat.request`), or enable by `open`: an earlier request
+        """Enables the instance (`napi_enable`). Request a poll once after it (`Caller.request`), or enable by `open`: an earlier request
         isn't polled, and a masked card would wait forever."""
         c.control_step(self._at, True, threaded)
 
-    def open(self, seat: Seat, threaded: bool = False, mask: Callable[[], object] = lambda: None) -> tuple[Status, Next]:
-        """Opens a driver's instance: enables it, and requests a poll once by a seat that owns nothing. Returns what `Seat.request`
-        returns."""
+    def open(self, caller: Caller, threaded: bool = False, mask: Callable[[], object] = lambda: None) -> tuple[Status, Next]:
+        """Opens a driver's instance: enables it, and requests a poll once by a caller that owns nothing. Returns what `Caller.request`
+        returns. BAD_HANDLE, and nothing is done, if the caller is another instance's."""
+        c.control_has(self._at, caller._at)
         self.enable(threaded)
-        return seat.request(mask)
+        return caller.request(mask)
 
     def mark(self) -> None:
         """Marks a disable as pending (the first step of `napi_disable`)."""
@@ -155,13 +156,13 @@ class Control(_Part):
         return _decided(c.control_try_take, self._at) is Status.TAKEN
 
 
-def shared(capacity: int, seats: int = 2) -> tuple[Input, Control, list[Seat]]:
-    """Makes a disabled instance over a ring of capacity 1 to 65536; returns the ring's input, the controller and 2 to 8 seats.
+def shared(capacity: int, callers: int = 2) -> tuple[Input, Control, list[Caller]]:
+    """Makes a disabled instance over a ring of capacity 1 to 65536; returns the ring's input, the controller and 2 to 8 callers.
     BAD_CAPACITY, BAD_COUNT."""
-    if not 2 <= seats <= 8:
+    if not 2 <= callers <= 8:
         raise Fault(Status.BAD_COUNT)
-    ring, control, made = abi.Handle(), abi.Handle(), (abi.Handle * seats)()
+    ring, control, made = abi.Ring(), abi.Control(), (abi.Seat * callers)()
     c.ring_new(ring, capacity)
     owned = Input(ring)
-    c.shared_new(ring, control, made, seats)
-    return owned, Control(control), [Seat(made[i]) for i in range(seats)]
+    c.shared_new(ring, control, made, callers)
+    return owned, Control(control), [Caller(made[i]) for i in range(callers)]

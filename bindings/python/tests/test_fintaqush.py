@@ -264,7 +264,7 @@ class TestShared(Refusals):
         self.refused(Status.BAD_CAPACITY, shared, 0)
 
     def test_threads(self):
-        """Each packet is polled once and in order: one thread has the input and the seat of an interrupt handler, another one polls."""
+        """Each packet is polled once and in order: one thread has the input and the caller of an interrupt handler, another one polls."""
         input, control, (interrupts, poller) = shared(64)
         polled, due, packets = [], threading.Semaphore(0), 2000
 
@@ -428,7 +428,7 @@ class TestDriver(Refusals):
         card.waiting = 100
         driver.open(0)
         while (what := driver.step(todo)) is not What.SLEEP:
-            self.assertEqual((todo.what, todo.packets), (what, 0))
+            self.assertEqual((todo.what, todo.packets), (what, int(what is What.LOOK)))
             if what is What.MASK:
                 card.mask(0)
             elif what is What.UNMASK:
@@ -438,7 +438,7 @@ class TestDriver(Refusals):
             elif what is What.FETCH:
                 todo.packets = 9
                 self.refused(Status.BAD_WORK, driver.step, todo)
-                self.assertEqual((todo.what, todo.packets), (What.FETCH, 9))
+                self.assertEqual((todo.what, driver.step(todo)), (What.FAILED, What.FETCH))
                 todo.packets = card.fetch(0, todo.most)
         self.assertEqual((card.masked, card.taken, driver.shown(0).polls, driver.shown(0).packets), (False, 100, 13, 100))
         driver.stop(0)
@@ -456,12 +456,15 @@ class TestDriver(Refusals):
         self.assertTrue(driver.done(first))
         self.assertFalse(driver.done(first))
         self.assertTrue(driver.done(fintaqush.Todo()))  # nothing to report
-        self.assertTrue(driver.done(driver.next(), 5))
+        self.assertTrue(driver.done(driver.next()))  # a look that isn't answered leads to a poll
         self.assertTrue(driver.done(driver.next()))
         fetch = driver.next()
+        self.assertFalse(Driver(1).done(fetch, 8))  # another driver's action
         self.assertEqual((fetch.what, fetch.most), (What.FETCH, 8))
         self.refused(Status.BAD_WORK, driver.done, fetch, 9)
         self.assertTrue(driver.done(driver.next(), 8))
+        card.fetch = lambda device, most: most + 1
+        self.refused(Status.BAD_WORK, driver.act, card)
         card.fetch = lambda device, most: [][0]
         with self.assertRaises(IndexError):
             while driver.act(card) is not What.SLEEP:
@@ -513,6 +516,8 @@ class TestMachine(Refusals):
         for name, value in (("weight", 65), ("backlog", 2), ("wake", 10**9 + 1), ("processors", 0)):
             with self.assertRaisesRegex(SettingFault, f"^FQ_BAD_SETTING: {name}$"):
                 machine(self.ARRIVALS, **{name: value})
+        with self.assertRaisesRegex(SettingFault, "^FQ_BAD_SETTING: rx_gap$"):
+            machine(self.ARRIVALS, rx_gap=20000, rx_frames=2)
         for values in ((self.ARRIVALS.decode(), {}), (self.ARRIVALS, {"size": 96}), (self.ARRIVALS, {"use": 1})):
             with self.assertRaises(TypeError):
                 machine(values[0], **values[1])

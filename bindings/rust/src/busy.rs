@@ -12,7 +12,7 @@ use crate::sys;
 #[derive(Debug)]
 #[must_use = "an instance whose poller is dropped is polled by nobody"]
 pub struct Busy {
-    pub(crate) at: Handle,
+    pub(crate) at: Handle<sys::fq_seat>,
 }
 
 impl Busy {
@@ -27,12 +27,12 @@ impl Busy {
     }
 
     /// The counts of the results of its calls, since the instance was made.
-    pub fn answers(&mut self) -> Answers {
+    pub fn answers(&self) -> Answers {
         self.at.answers()
     }
 
     /// The counts of the ring's polls.
-    pub fn counts(&mut self) -> Counts {
+    pub fn counts(&self) -> Counts {
         self.at.counts()
     }
 

@@ -55,7 +55,7 @@ use crate::words::{Kind, Next, Prep};
 #[derive(Debug)]
 #[must_use = "a caller that is dropped never calls again"]
 pub struct Caller {
-    pub(crate) at: Handle,
+    pub(crate) at: Handle<sys::fq_seat>,
 }
 
 impl Caller {
@@ -152,7 +152,7 @@ impl Caller {
     }
 
     /// The counts of the results of its calls, since the instance was made.
-    pub fn answers(&mut self) -> Answers {
+    pub fn answers(&self) -> Answers {
         self.at.answers()
     }
 
@@ -192,7 +192,7 @@ impl Caller {
 #[derive(Debug)]
 #[must_use = "an instance that is granted and not handed over is polled by nobody"]
 pub struct Granted {
-    pub(crate) at: Handle,
+    pub(crate) at: Handle<sys::fq_seat>,
 }
 
 impl Granted {
@@ -216,7 +216,7 @@ impl Granted {
 }
 
 // Queues a granted instance on the list or for its thread.
-fn hand(at: &mut Handle, kind: Kind) {
+fn hand(at: &mut Handle<sys::fq_seat>, kind: Kind) {
     match calls::seat_hand(at.raw(), kind.number()) {
         sys::FQ_OK => {}
         said => unexpected("seat_hand", said),
@@ -224,7 +224,7 @@ fn hand(at: &mut Handle, kind: Kind) {
 }
 
 // Queues a granted instance as its state word says.
-fn hand_again(at: &mut Handle) -> Next {
+fn hand_again(at: &mut Handle<sys::fq_seat>) -> Next {
     let mut next = sys::FQ_NEXT_GONE;
     match calls::seat_hand_again(at.raw(), &mut next) {
         sys::FQ_OK => Next::of("seat_hand_again", next),

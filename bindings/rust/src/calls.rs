@@ -23,19 +23,19 @@ pub(crate) fn fault_text(fault: u32, to: &mut [u8]) -> usize {
     unsafe { fq_fault_text(fault, to.as_mut_ptr().cast(), to.len()) }
 }
 
+pub(crate) fn version_number() -> u32 {
+    // SAFETY: each reference and each slice leads to whole objects, to which no other argument leads.
+    unsafe { fq_version_number() }
+}
+
 pub(crate) fn struct_size(which: u32) -> usize {
     // SAFETY: each reference and each slice leads to whole objects, to which no other argument leads.
     unsafe { fq_struct_size(which) }
 }
 
-pub(crate) fn dql_new(min: u32, max: u32, hold_ms: u64, now_ms: u64) -> fq_dql_made {
+pub(crate) fn dql_init(dql: &mut fq_dql, min: u32, max: u32, hold_ms: u64, now_ms: u64) -> u32 {
     // SAFETY: each reference and each slice leads to whole objects, to which no other argument leads.
-    unsafe { fq_dql_new(min, max, hold_ms, now_ms) }
-}
-
-pub(crate) fn dql_renew(dql: &mut fq_dql, min: u32, max: u32, hold_ms: u64, now_ms: u64) -> u32 {
-    // SAFETY: each reference and each slice leads to whole objects, to which no other argument leads.
-    unsafe { fq_dql_renew(dql, min, max, hold_ms, now_ms) }
+    unsafe { fq_dql_init(dql, min, max, hold_ms, now_ms) }
 }
 
 pub(crate) fn dql_queued(dql: &mut fq_dql, count: u32) -> u32 {
@@ -158,23 +158,23 @@ pub(crate) fn move_(from: &mut fq_handle, to: &mut fq_handle) -> u32 {
     unsafe { fq_move(from, to) }
 }
 
-pub(crate) fn ring_new(ring: &mut fq_handle, capacity: usize) -> u32 {
+pub(crate) fn ring_new(ring: &mut fq_ring, capacity: usize) -> u32 {
     // SAFETY: each reference and each slice leads to whole objects, to which no other argument leads.
     unsafe { fq_ring_new(ring, capacity) }
 }
 
-pub(crate) fn ring_put(ring: &mut fq_handle, number: u64, bytes: u32) -> u32 {
+pub(crate) fn ring_put(ring: &mut fq_ring, number: u64, bytes: u32) -> u32 {
     // SAFETY: each reference and each slice leads to whole objects, to which no other argument leads.
     unsafe { fq_ring_put(ring, number, bytes) }
 }
 
-pub(crate) fn ring_put_all(ring: &mut fq_handle, packets: &[fq_packet], count: &mut usize) -> u32 {
+pub(crate) fn ring_put_all(ring: &mut fq_ring, packets: &[fq_packet], count: &mut usize) -> u32 {
     // SAFETY: each reference and each slice leads to whole objects, to which no other argument leads.
     unsafe { fq_ring_put_all(ring, packets.as_ptr(), packets.len(), count) }
 }
 
 pub(crate) fn ring_poll(
-    ring: &mut fq_handle,
+    ring: &mut fq_ring,
     weight: usize,
     out: &mut [fq_packet],
     count: &mut usize,
@@ -183,28 +183,28 @@ pub(crate) fn ring_poll(
     unsafe { fq_ring_poll(ring, weight, out.as_mut_ptr(), out.len(), count) }
 }
 
-pub(crate) fn count(handle: &mut fq_handle, counts: &mut fq_counts) -> u32 {
+pub(crate) fn count(handle: &fq_handle, counts: &mut fq_counts) -> u32 {
     // SAFETY: each reference and each slice leads to whole objects, to which no other argument leads.
     unsafe { fq_count(handle, counts) }
 }
 
-pub(crate) fn ring_show(ring: &mut fq_handle, shown: &mut fq_ring_shown) -> u32 {
+pub(crate) fn ring_show(ring: &fq_ring, shown: &mut fq_ring_shown) -> u32 {
     // SAFETY: each reference and each slice leads to whole objects, to which no other argument leads.
     unsafe { fq_ring_show(ring, shown) }
 }
 
-pub(crate) fn ring_split(ring: &mut fq_handle, out: &mut fq_handle) -> u32 {
+pub(crate) fn ring_split(ring: &mut fq_ring, out: &mut fq_ring) -> u32 {
     // SAFETY: each reference and each slice leads to whole objects, to which no other argument leads.
     unsafe { fq_ring_split(ring, out) }
 }
 
-pub(crate) fn ring_finish(ring: &mut fq_handle, totals: &mut fq_totals) -> u32 {
+pub(crate) fn ring_finish(ring: &mut fq_ring, totals: &mut fq_totals) -> u32 {
     // SAFETY: each reference and each slice leads to whole objects, to which no other argument leads.
     unsafe { fq_ring_finish(ring, totals) }
 }
 
 pub(crate) fn tx_new(
-    tx: &mut fq_handle,
+    tx: &mut fq_tx,
     capacity: usize,
     min: u32,
     max: u32,
@@ -215,23 +215,23 @@ pub(crate) fn tx_new(
     unsafe { fq_tx_new(tx, capacity, min, max, hold_ms, now_ms) }
 }
 
-pub(crate) fn tx_send(tx: &mut fq_handle, bytes: u32) -> u32 {
+pub(crate) fn tx_send(tx: &mut fq_tx, bytes: u32) -> u32 {
     // SAFETY: each reference and each slice leads to whole objects, to which no other argument leads.
     unsafe { fq_tx_send(tx, bytes) }
 }
 
-pub(crate) fn tx_done(tx: &mut fq_handle, count: u32, now_ms: u64) -> u32 {
+pub(crate) fn tx_done(tx: &mut fq_tx, count: u32, now_ms: u64) -> u32 {
     // SAFETY: each reference and each slice leads to whole objects, to which no other argument leads.
     unsafe { fq_tx_done(tx, count, now_ms) }
 }
 
-pub(crate) fn tx_state(tx: &mut fq_handle, state: &mut fq_tx_shown) -> u32 {
+pub(crate) fn tx_state(tx: &fq_tx, state: &mut fq_tx_shown) -> u32 {
     // SAFETY: each reference and each slice leads to whole objects, to which no other argument leads.
     unsafe { fq_tx_state(tx, state) }
 }
 
 pub(crate) fn tx_watch(
-    tx: &mut fq_handle,
+    tx: &fq_tx,
     watchdog: &mut fq_tx_watchdog,
     limit_ms: u64,
     now_ms: u64,
@@ -242,51 +242,51 @@ pub(crate) fn tx_watch(
 }
 
 pub(crate) fn shared_new(
-    ring: &mut fq_handle,
-    control: &mut fq_handle,
-    seats: &mut [fq_handle],
+    ring: &mut fq_ring,
+    control: &mut fq_control,
+    seats: &mut [fq_seat],
 ) -> u32 {
     // SAFETY: each reference and each slice leads to whole objects, to which no other argument leads.
     unsafe { fq_shared_new(ring, control, seats.as_mut_ptr(), seats.len()) }
 }
 
-pub(crate) fn shared_bare(control: &mut fq_handle, seats: &mut [fq_handle]) -> u32 {
+pub(crate) fn shared_bare(control: &mut fq_control, seats: &mut [fq_seat]) -> u32 {
     // SAFETY: each reference and each slice leads to whole objects, to which no other argument leads.
     unsafe { fq_shared_bare(control, seats.as_mut_ptr(), seats.len()) }
 }
 
-pub(crate) fn seat_schedule(seat: &mut fq_handle) -> u32 {
+pub(crate) fn seat_schedule(seat: &mut fq_seat) -> u32 {
     // SAFETY: each reference and each slice leads to whole objects, to which no other argument leads.
     unsafe { fq_seat_schedule(seat) }
 }
 
-pub(crate) fn seat_schedule_prep(seat: &mut fq_handle) -> u32 {
+pub(crate) fn seat_schedule_prep(seat: &mut fq_seat) -> u32 {
     // SAFETY: each reference and each slice leads to whole objects, to which no other argument leads.
     unsafe { fq_seat_schedule_prep(seat) }
 }
 
-pub(crate) fn seat_take(seat: &mut fq_handle, kind: u32) -> u32 {
+pub(crate) fn seat_take(seat: &mut fq_seat, kind: u32) -> u32 {
     // SAFETY: each reference and each slice leads to whole objects, to which no other argument leads.
     unsafe { fq_seat_take(seat, kind) }
 }
 
-pub(crate) fn seat_busy_take(seat: &mut fq_handle) -> u32 {
+pub(crate) fn seat_busy_take(seat: &mut fq_seat) -> u32 {
     // SAFETY: each reference and each slice leads to whole objects, to which no other argument leads.
     unsafe { fq_seat_busy_take(seat) }
 }
 
-pub(crate) fn seat_set_threaded(seat: &mut fq_handle, threaded: bool) -> u32 {
+pub(crate) fn seat_set_threaded(seat: &mut fq_seat, threaded: bool) -> u32 {
     // SAFETY: each reference and each slice leads to whole objects, to which no other argument leads.
     unsafe { fq_seat_set_threaded(seat, threaded) }
 }
 
-pub(crate) fn seat_hand(seat: &mut fq_handle, kind: u32) -> u32 {
+pub(crate) fn seat_hand(seat: &mut fq_seat, kind: u32) -> u32 {
     // SAFETY: each reference and each slice leads to whole objects, to which no other argument leads.
     unsafe { fq_seat_hand(seat, kind) }
 }
 
 pub(crate) fn seat_poll(
-    seat: &mut fq_handle,
+    seat: &mut fq_seat,
     weight: usize,
     out: &mut [fq_packet],
     count: &mut usize,
@@ -295,148 +295,154 @@ pub(crate) fn seat_poll(
     unsafe { fq_seat_poll(seat, weight, out.as_mut_ptr(), out.len(), count) }
 }
 
-pub(crate) fn seat_requeue(seat: &mut fq_handle) -> u32 {
+pub(crate) fn seat_requeue(seat: &mut fq_seat) -> u32 {
     // SAFETY: each reference and each slice leads to whole objects, to which no other argument leads.
     unsafe { fq_seat_requeue(seat) }
 }
 
-pub(crate) fn seat_complete(seat: &mut fq_handle) -> u32 {
+pub(crate) fn seat_complete(seat: &mut fq_seat) -> u32 {
     // SAFETY: each reference and each slice leads to whole objects, to which no other argument leads.
     unsafe { fq_seat_complete(seat) }
 }
 
-pub(crate) fn seat_complete_done(seat: &mut fq_handle) -> u32 {
+pub(crate) fn seat_complete_done(seat: &mut fq_seat) -> u32 {
     // SAFETY: each reference and each slice leads to whole objects, to which no other argument leads.
     unsafe { fq_seat_complete_done(seat) }
 }
 
-pub(crate) fn seat_busy_stop(seat: &mut fq_handle) -> u32 {
+pub(crate) fn seat_busy_stop(seat: &mut fq_seat) -> u32 {
     // SAFETY: each reference and each slice leads to whole objects, to which no other argument leads.
     unsafe { fq_seat_busy_stop(seat) }
 }
 
-pub(crate) fn seat_look(seat: &mut fq_handle, word: &mut u64) -> u32 {
+pub(crate) fn seat_look(seat: &mut fq_seat, word: &mut u64) -> u32 {
     // SAFETY: each reference and each slice leads to whole objects, to which no other argument leads.
     unsafe { fq_seat_look(seat, word) }
 }
 
-pub(crate) fn seat_count(seat: &mut fq_handle, answers: &mut fq_answers) -> u32 {
+pub(crate) fn seat_count(seat: &fq_seat, answers: &mut fq_answers) -> u32 {
     // SAFETY: each reference and each slice leads to whole objects, to which no other argument leads.
     unsafe { fq_seat_count(seat, answers) }
 }
 
-pub(crate) fn seat_hand_again(seat: &mut fq_handle, next: &mut u32) -> u32 {
+pub(crate) fn seat_hand_again(seat: &mut fq_seat, next: &mut u32) -> u32 {
     // SAFETY: each reference and each slice leads to whole objects, to which no other argument leads.
     unsafe { fq_seat_hand_again(seat, next) }
 }
 
-pub(crate) fn seat_end(seat: &mut fq_handle, full: bool, next: &mut u32) -> u32 {
+pub(crate) fn seat_end(seat: &mut fq_seat, full: bool, next: &mut u32) -> u32 {
     // SAFETY: each reference and each slice leads to whole objects, to which no other argument leads.
     unsafe { fq_seat_end(seat, full, next) }
 }
 
-pub(crate) fn control_enable(control: &mut fq_handle, threaded: bool) -> u32 {
+pub(crate) fn control_enable(control: &mut fq_control, threaded: bool) -> u32 {
     // SAFETY: each reference and each slice leads to whole objects, to which no other argument leads.
     unsafe { fq_control_enable(control, threaded) }
 }
 
-pub(crate) fn control_mark(control: &mut fq_handle) -> u32 {
+pub(crate) fn control_mark(control: &mut fq_control) -> u32 {
     // SAFETY: each reference and each slice leads to whole objects, to which no other argument leads.
     unsafe { fq_control_mark(control) }
 }
 
-pub(crate) fn control_try_take(control: &mut fq_handle) -> u32 {
+pub(crate) fn control_try_take(control: &mut fq_control) -> u32 {
     // SAFETY: each reference and each slice leads to whole objects, to which no other argument leads.
     unsafe { fq_control_try_take(control) }
 }
 
-pub(crate) fn control_step(control: &mut fq_handle, on: bool, threaded: bool) -> u32 {
+pub(crate) fn control_step(control: &mut fq_control, on: bool, threaded: bool) -> u32 {
     // SAFETY: each reference and each slice leads to whole objects, to which no other argument leads.
     unsafe { fq_control_step(control, on, threaded) }
 }
 
-pub(crate) fn list_new(list: &mut fq_handle) -> u32 {
+pub(crate) fn control_has(control: &fq_control, seat: &fq_seat) -> u32 {
+    // SAFETY: each reference and each slice leads to whole objects, to which no other argument leads.
+    unsafe { fq_control_has(control, seat) }
+}
+
+pub(crate) fn list_new(list: &mut fq_list) -> u32 {
     // SAFETY: each reference and each slice leads to whole objects, to which no other argument leads.
     unsafe { fq_list_new(list) }
 }
 
-pub(crate) fn list_push(list: &mut fq_handle, id: u32) -> u32 {
+pub(crate) fn list_push(list: &mut fq_list, id: u32) -> u32 {
     // SAFETY: each reference and each slice leads to whole objects, to which no other argument leads.
     unsafe { fq_list_push(list, id) }
 }
 
-pub(crate) fn list_remove(list: &mut fq_handle, id: u32) -> u32 {
+pub(crate) fn list_remove(list: &mut fq_list, id: u32) -> u32 {
     // SAFETY: each reference and each slice leads to whole objects, to which no other argument leads.
     unsafe { fq_list_remove(list, id) }
 }
 
-pub(crate) fn list_len(list: &mut fq_handle, len: &mut u32) -> u32 {
+pub(crate) fn list_len(list: &fq_list, len: &mut u32) -> u32 {
     // SAFETY: each reference and each slice leads to whole objects, to which no other argument leads.
     unsafe { fq_list_len(list, len) }
 }
 
-pub(crate) fn run_begin(list: &mut fq_handle, budget: u32, weight: u32, window: u32) -> u32 {
+pub(crate) fn run_begin(list: &mut fq_list, budget: u32, weight: u32, window: u32) -> u32 {
     // SAFETY: each reference and each slice leads to whole objects, to which no other argument leads.
     unsafe { fq_run_begin(list, budget, weight, window) }
 }
 
-pub(crate) fn run_next(list: &mut fq_handle, id: &mut u32) -> u32 {
+pub(crate) fn run_next(list: &mut fq_list, id: &mut u32) -> u32 {
     // SAFETY: each reference and each slice leads to whole objects, to which no other argument leads.
     unsafe { fq_run_next(list, id) }
 }
 
-pub(crate) fn run_polled(list: &mut fq_handle, work: u32, next: u32) -> u32 {
+pub(crate) fn run_polled(list: &mut fq_list, work: u32, next: u32) -> u32 {
     // SAFETY: each reference and each slice leads to whole objects, to which no other argument leads.
     unsafe { fq_run_polled(list, work, next) }
 }
 
-pub(crate) fn run_end(list: &mut fq_handle, report: &mut fq_run_report) -> u32 {
+pub(crate) fn run_end(list: &mut fq_list, report: &mut fq_run_report) -> u32 {
     // SAFETY: each reference and each slice leads to whole objects, to which no other argument leads.
     unsafe { fq_run_end(list, report) }
 }
 
-pub(crate) fn driver_new(
-    driver: &mut fq_handle,
+pub(crate) fn driver_new_salted(
+    driver: &mut fq_driver,
     devices: u32,
     budget: u32,
     weight: u32,
     window: u32,
+    salt: u16,
 ) -> u32 {
     // SAFETY: each reference and each slice leads to whole objects, to which no other argument leads.
-    unsafe { fq_driver_new(driver, devices, budget, weight, window) }
+    unsafe { fq_driver_new_salted(driver, devices, budget, weight, window, salt) }
 }
 
-pub(crate) fn driver_open(driver: &mut fq_handle, device: u32) -> u32 {
+pub(crate) fn driver_open(driver: &mut fq_driver, device: u32) -> u32 {
     // SAFETY: each reference and each slice leads to whole objects, to which no other argument leads.
     unsafe { fq_driver_open(driver, device) }
 }
 
-pub(crate) fn driver_stop(driver: &mut fq_handle, device: u32) -> u32 {
+pub(crate) fn driver_stop(driver: &mut fq_driver, device: u32) -> u32 {
     // SAFETY: each reference and each slice leads to whole objects, to which no other argument leads.
     unsafe { fq_driver_stop(driver, device) }
 }
 
-pub(crate) fn driver_interrupt(driver: &mut fq_handle, device: u32) -> u32 {
+pub(crate) fn driver_interrupt(driver: &mut fq_driver, device: u32) -> u32 {
     // SAFETY: each reference and each slice leads to whole objects, to which no other argument leads.
     unsafe { fq_driver_interrupt(driver, device) }
 }
 
-pub(crate) fn driver_next(driver: &mut fq_handle, todo: &mut fq_todo) -> u32 {
+pub(crate) fn driver_next_sized(driver: &mut fq_driver, todo: &mut fq_todo) -> u32 {
     // SAFETY: each reference and each slice leads to whole objects, to which no other argument leads.
-    unsafe { fq_driver_next(driver, todo) }
+    unsafe { fq_driver_next_sized(driver, todo) }
 }
 
-pub(crate) fn driver_done(driver: &mut fq_handle, todo: &fq_todo) -> u32 {
+pub(crate) fn driver_step_sized(driver: &mut fq_driver, todo: &mut fq_todo) -> u32 {
+    // SAFETY: each reference and each slice leads to whole objects, to which no other argument leads.
+    unsafe { fq_driver_step_sized(driver, todo) }
+}
+
+pub(crate) fn driver_done(driver: &mut fq_driver, todo: &fq_todo) -> u32 {
     // SAFETY: each reference and each slice leads to whole objects, to which no other argument leads.
     unsafe { fq_driver_done(driver, todo) }
 }
 
-pub(crate) fn driver_step(driver: &mut fq_handle, todo: &mut fq_todo) -> u32 {
-    // SAFETY: each reference and each slice leads to whole objects, to which no other argument leads.
-    unsafe { fq_driver_step(driver, todo) }
-}
-
-pub(crate) fn driver_show(driver: &mut fq_handle, device: u32, shown: &mut fq_device_shown) -> u32 {
+pub(crate) fn driver_show(driver: &fq_driver, device: u32, shown: &mut fq_device_shown) -> u32 {
     // SAFETY: each reference and each slice leads to whole objects, to which no other argument leads.
     unsafe { fq_driver_show(driver, device, shown) }
 }
@@ -481,9 +487,9 @@ pub(crate) fn raise(
     }
 }
 
-pub(crate) fn machine_default(settings: &mut fq_machine_settings, size: usize) -> u32 {
+pub(crate) fn machine_default(settings: &mut fq_machine_settings) -> u32 {
     // SAFETY: each reference and each slice leads to whole objects, to which no other argument leads.
-    unsafe { fq_machine_default(settings, size) }
+    unsafe { fq_machine_default(settings) }
 }
 
 pub(crate) fn machine(

@@ -49,12 +49,12 @@ impl Mode for Marked {}
 #[derive(Debug)]
 #[must_use = "without its controller an instance is never disabled"]
 pub struct Control<M: Mode> {
-    at: Handle,
+    at: Handle<sys::fq_control>,
     mode: PhantomData<M>,
 }
 
 impl<M: Mode> Control<M> {
-    pub(crate) fn of(at: Handle) -> Control<M> {
+    pub(crate) fn of(at: Handle<sys::fq_control>) -> Control<M> {
         Control {
             at,
             mode: PhantomData,
@@ -64,7 +64,7 @@ impl<M: Mode> Control<M> {
 
 impl Control<Off> {
     /// The counts of the ring's polls.
-    pub fn counts(&mut self) -> Counts {
+    pub fn counts(&self) -> Counts {
         self.at.counts()
     }
 
@@ -89,16 +89,20 @@ impl Control<Off> {
     }
 
     /// Opens the device of a driver: enables the instance, and requests a poll once by this caller, with [`mask`](Card::mask)
-    /// if the request is granted. Returns what [`request_masked`](Caller::request_masked) returns.
+    /// if the request is granted. Returns what [`request_masked`](Caller::request_masked) returns; `Err`, and nothing is done, if
+    /// the caller is another instance's.
     pub fn open(
-        self,
+        mut self,
         threaded: bool,
         caller: &mut Caller,
         card: &mut impl Card,
-    ) -> (Control<On>, Prep, Next) {
+    ) -> Result<(Control<On>, Prep, Next), Control<Off>> {
+        if calls::control_has(self.at.raw(), caller.at.raw()) != sys::FQ_OK {
+            return Err(self);
+        }
         let on = self.enable(threaded);
         let (prep, next) = caller.request_masked(card);
-        (on, prep, next)
+        Ok((on, prep, next))
     }
 }
 

@@ -40,10 +40,10 @@ impl Dql {
     /// Returns a new limit between `min` and `max`, with the hold time `hold_ms` (`dql_init`). Fails with
     /// [`BAD_BOUNDS`](Fault::BAD_BOUNDS).
     pub fn new(min: u32, max: u32, hold_ms: u64, now_ms: u64) -> Result<Dql, Fault> {
-        let made = calls::dql_new(min, max, hold_ms, now_ms);
-        Fault::unless_made(made.status)?;
+        let mut raw = sys::fq_dql::default();
+        Fault::unless_made(calls::dql_init(&mut raw, min, max, hold_ms, now_ms))?;
         Ok(Dql {
-            raw: made.dql,
+            raw,
             by_one: PhantomData,
         })
     }

@@ -6,6 +6,10 @@ use crate::list::RunReport;
 use crate::packets::Weight;
 use crate::sys;
 use crate::words::Prep;
+use std::sync::atomic::{AtomicU16, Ordering};
+
+// How many drivers the program has made, so that each numbers its actions from another number on.
+static MADE: AtomicU16 = AtomicU16::new(0);
 
 /// What a driver has to do next.
 #[derive(Clone, Copy, Debug, PartialEq, Eq)]
@@ -38,22 +42,11 @@ pub struct Todo {
 impl Todo {
     /// No action, for the first [`Driver::step`]: there is nothing to report.
     pub const NONE: Todo = Todo {
-        raw: sys::fq_todo {
-            size: std::mem::size_of::<sys::fq_todo>(),
-            number: 0,
-            what: sys::FQ_TODO_SLEEP,
-            device: 0,
-            most: 0,
-            packets: 0,
-            run: RunReport {
-                polls: 0,
-                work: 0,
-                squeezed: false,
-            },
-        },
+        raw: sys::fq_todo::INIT,
     };
 
-    /// Sets the packets that a look found or a fetch took, for the report by [`Driver::step`].
+    /// Sets the packets that a look found or a fetch took, for the report by [`Driver::step`]. Without it, a look counts as one
+    /// that found packets.
     pub fn set_packets(&mut self, packets: u32) {
         self.raw.packets = packets;
     }
@@ -62,7 +55,8 @@ impl Todo {
     pub fn what(&self) -> What {
         let sys::fq_todo { device, most, .. } = self.raw;
         match self.raw.what {
-            sys::FQ_TODO_SLEEP => What::Sleep,
+            // a failed step has returned why
+            sys::FQ_TODO_SLEEP | sys::FQ_TODO_FAILED => What::Sleep,
             sys::FQ_TODO_MASK => What::Mask(device),
             sys::FQ_TODO_UNMASK => What::Unmask(device),
             sys::FQ_TODO_LOOK => What::Look(device),
@@ -147,7 +141,7 @@ pub struct DeviceShown {
 /// let mut card = Card { masked: true, packets: 100 };
 /// let mut driver = Driver::new(1, 300, Weight::MAX, 1024)?;
 /// driver.open(0)?;
-/// while driver.act(&mut card) != What::Sleep {}
+/// while driver.act(&mut card)? != What::Sleep {}
 /// assert_eq!((card.masked, card.packets), (false, 0));
 /// assert_eq!(driver.shown(0)?.polls, 2);
 /// # Ok(())
@@ -183,7 +177,7 @@ pub struct DeviceShown {
 /// ```
 #[derive(Debug)]
 pub struct Driver {
-    at: Handle,
+    at: Handle<sys::fq_driver>,
 }
 
 impl Driver {
@@ -193,7 +187,8 @@ impl Driver {
     pub fn new(devices: u32, budget: u32, weight: Weight, window: u32) -> Result<Driver, Fault> {
         let mut at = Handle::NONE;
         let weight = weight.get() as u32;
-        let said = calls::driver_new(at.raw(), devices, budget, weight, window);
+        let salt = MADE.fetch_add(1, Ordering::Relaxed);
+        let said = calls::driver_new_salted(at.raw(), devices, budget, weight, window, salt);
         Fault::unless_made(said)?;
         Ok(Driver { at })
     }
@@ -223,7 +218,7 @@ impl Driver {
     /// Returns what has to be done now. An action that isn't reported is returned again.
     pub fn next(&mut self) -> Todo {
         let mut todo = Todo::NONE;
-        match calls::driver_next(self.at.raw(), &mut todo.raw) {
+        match calls::driver_next_sized(self.at.raw(), &mut todo.raw) {
             sys::FQ_OK => todo,
             said => unexpected("driver_next", said),
         }
@@ -243,9 +238,9 @@ impl Driver {
     /// Reports that the action in `todo` was done, with its packets, and sets `todo` to what has to be done now, which it
     /// returns: [`done`](Driver::done) and [`next`](Driver::next) in one call. [`Todo::NONE`] reports nothing, and a report that
     /// the driver doesn't wait for any more changes nothing. Fails with [`BAD_WORK`](Fault::BAD_WORK) if a fetch took too many
-    /// packets; then nothing has changed, and `todo` is still that fetch.
+    /// packets; then `todo` is no action, and nothing else has changed.
     pub fn step(&mut self, todo: &mut Todo) -> Result<What, Fault> {
-        match calls::driver_step(self.at.raw(), &mut todo.raw) {
+        match calls::driver_step_sized(self.at.raw(), &mut todo.raw) {
             sys::FQ_OK | sys::FQ_NOT_DUE => Ok(todo.what()),
             sys::FQ_BAD_WORK => Err(Fault::BAD_WORK),
             said => unexpected("driver_step", said),
@@ -253,13 +248,13 @@ impl Driver {
     }
 
     /// Does one action at a card, reports it, and returns it; returns [`What::Sleep`] if there is nothing to do,
-    /// [`What::Ended`] if a run ended. If a call of the card panics, or a fetch returns too many packets, nothing is reported,
-    /// and the same action is due again.
-    pub fn act<C: Cards>(&mut self, cards: &mut C) -> What {
+    /// [`What::Ended`] if a run ended. If a call of the card panics, nothing is reported, and the same action is due again. Fails
+    /// with [`BAD_WORK`](Fault::BAD_WORK) if a fetch returned too many packets.
+    pub fn act<C: Cards>(&mut self, cards: &mut C) -> Result<What, Fault> {
         let todo = self.next();
         let what = todo.what();
         let packets = match what {
-            What::Sleep | What::Ended(_) => return what,
+            What::Sleep | What::Ended(_) => return Ok(what),
             What::Mask(device) => {
                 cards.mask(device);
                 0
@@ -271,21 +266,16 @@ impl Driver {
             What::Look(device) => u32::from(cards.look(device)),
             What::Fetch { device, most } => cards.fetch(device, most),
         };
-        let _ = self.done(todo, packets);
-        what
+        match self.done(todo, packets) {
+            Err(Fault::BAD_WORK) => Err(Fault::BAD_WORK),
+            _ => Ok(what),
+        }
     }
 
     /// Returns the state of a device, and the counts of its polls. Fails with [`BAD_DEVICE`](Fault::BAD_DEVICE).
-    pub fn shown(&mut self, device: u32) -> Result<DeviceShown, Fault> {
-        let mut shown = sys::fq_device_shown {
-            size: std::mem::size_of::<sys::fq_device_shown>(),
-            state: 0,
-            scheduled: false,
-            missed: false,
-            polls: 0,
-            packets: 0,
-        };
-        let said = calls::driver_show(self.at.raw(), device, &mut shown);
+    pub fn shown(&self, device: u32) -> Result<DeviceShown, Fault> {
+        let mut shown = sys::fq_device_shown::INIT;
+        let said = calls::driver_show(&self.at.0, device, &mut shown);
         Fault::unless_made(said)?;
         Ok(DeviceShown {
             state: match shown.state {

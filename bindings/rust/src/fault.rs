@@ -68,7 +68,7 @@ impl Fault {
     pub const BAD_DEVICE: Fault = Fault(sys::FQ_BAD_DEVICE);
     /// A struct's size is not one that the library knows.
     pub const BAD_SIZE: Fault = Fault(sys::FQ_BAD_SIZE);
-    /// Machine: a setting of the machine is out of its range.
+    /// Machine: a setting of the machine is out of its range, or excludes another.
     pub const BAD_SETTING: Fault = Fault(sys::FQ_BAD_SETTING);
     /// Machine: the bytes are not arrivals.
     pub const BAD_ARRIVALS: Fault = Fault(sys::FQ_BAD_ARRIVALS);

@@ -4,24 +4,45 @@ use crate::fault::unexpected;
 use crate::packets::{Answers, Counts, RingShown};
 use crate::sys;
 
+// A kind of objects, by its handle in C.
+pub(crate) trait Object {
+    // A handle without an object.
+    const UNSET: Self;
+    // What handles of all kinds have.
+    fn handle(&self) -> &sys::fq_handle;
+    fn handle_mut(&mut self) -> &mut sys::fq_handle;
+}
+
+macro_rules! objects {
+    ($($kind:ident)*) => {$(
+        impl Object for sys::$kind {
+            const UNSET: Self = sys::$kind {
+                handle: sys::fq_handle {
+                    private_set: false,
+                    private_at: std::ptr::null_mut(),
+                },
+            };
+            fn handle(&self) -> &sys::fq_handle {
+                &self.handle
+            }
+            fn handle_mut(&mut self) -> &mut sys::fq_handle {
+                &mut self.handle
+            }
+        }
+    )*};
+}
+objects! { fq_ring fq_tx fq_seat fq_control fq_list fq_driver }
+
 // Owns an object of the library; its drop abandons the object.
 #[derive(Debug)]
-pub(crate) struct Handle(pub(crate) sys::fq_handle);
+pub(crate) struct Handle<O: Object>(pub(crate) O);
 
 // SAFETY: a handle may move from thread to thread if one call is ordered before the next. Safe Rust orders a move between
 // threads by a release and its acquire; on x86-64, the only platform of the library, these order its accesses as a lock or a
 // thread's start and join do.
-unsafe impl Send for Handle {}
+unsafe impl<O: Object> Send for Handle<O> {}
 
-impl Handle {
-    // A handle without an object.
-    pub(crate) const NONE: Handle = Handle(Handle::UNSET);
-    // What it has in C.
-    pub(crate) const UNSET: sys::fq_handle = sys::fq_handle {
-        private_set: false,
-        private_at: std::ptr::null_mut(),
-    };
-
+impl Handle<sys::fq_seat> {
     // Reads the state word, for a caller.
     pub(crate) fn look(&mut self) -> u64 {
         let mut word = 0;
@@ -32,42 +53,49 @@ impl Handle {
     }
 
     // The counts of the results of a caller's calls.
-    pub(crate) fn answers(&mut self) -> Answers {
+    pub(crate) fn answers(&self) -> Answers {
         let mut answers = Answers::default();
-        match calls::seat_count(self.raw(), &mut answers) {
+        match calls::seat_count(&self.0, &mut answers) {
             sys::FQ_OK => answers,
             said => unexpected("seat_count", said),
         }
     }
+}
 
+impl Handle<sys::fq_ring> {
     // The state of the input of a ring.
-    pub(crate) fn shown(&mut self) -> RingShown {
+    pub(crate) fn shown(&self) -> RingShown {
         let mut shown = RingShown::default();
-        match calls::ring_show(self.raw(), &mut shown) {
+        match calls::ring_show(&self.0, &mut shown) {
             sys::FQ_OK => shown,
             said => unexpected("ring_show", said),
         }
     }
+}
+
+impl<O: Object> Handle<O> {
+    // A handle without an object.
+    pub(crate) const NONE: Handle<O> = Handle(O::UNSET);
 
     // The counts of a ring's polls, for an object that has its poll end.
-    pub(crate) fn counts(&mut self) -> Counts {
+    pub(crate) fn counts(&self) -> Counts {
         let mut counts = Counts::default();
-        match calls::count(self.raw(), &mut counts) {
+        match calls::count(self.0.handle(), &mut counts) {
             sys::FQ_OK => counts,
             said => unexpected("count", said),
         }
     }
 
     // Returns the handle for a call.
-    pub(crate) fn raw(&mut self) -> &mut sys::fq_handle {
+    pub(crate) fn raw(&mut self) -> &mut O {
         &mut self.0
     }
 }
 
-impl Drop for Handle {
+impl<O: Object> Drop for Handle<O> {
     fn drop(&mut self) {
-        if self.0.private_set {
-            calls::abandon(&mut self.0);
+        if self.0.handle().private_set {
+            calls::abandon(self.0.handle_mut());
         }
     }
 }

@@ -21,7 +21,7 @@ pub struct Polled {
 /// A poll list of one thread: numbers of devices, which runs of the softirq poll in order.
 #[derive(Debug)]
 pub struct List {
-    at: Handle,
+    at: Handle<sys::fq_list>,
 }
 
 impl List {
@@ -45,16 +45,16 @@ impl List {
     }
 
     /// Returns how many numbers the list holds, including those of a run over it.
-    pub fn len(&mut self) -> usize {
+    pub fn len(&self) -> usize {
         let mut len = 0;
-        match calls::list_len(self.at.raw(), &mut len) {
+        match calls::list_len(&self.at.0, &mut len) {
             sys::FQ_OK => len as usize,
             said => unexpected("list_len", said),
         }
     }
 
     /// Returns whether the list is empty.
-    pub fn is_empty(&mut self) -> bool {
+    pub fn is_empty(&self) -> bool {
         self.len() == 0
     }
 

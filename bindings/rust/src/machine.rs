@@ -11,10 +11,8 @@ pub use crate::sys::fq_machine_settings as MachineSettings;
 impl Default for MachineSettings {
     /// Returns the defaults of `napi_machine`.
     fn default() -> MachineSettings {
-        let size = std::mem::size_of::<MachineSettings>();
-        // SAFETY: all members are integers, for which 0 is a value.
-        let mut settings: MachineSettings = unsafe { std::mem::zeroed() };
-        match calls::machine_default(&mut settings, size) {
+        let mut settings = MachineSettings::INIT;
+        match calls::machine_default(&mut settings) {
             sys::FQ_OK => settings,
             said => crate::fault::unexpected("machine_default", said),
         }
@@ -33,7 +31,7 @@ pub enum MachineFault {
         /// The message of the error, as `napi_machine` prints it.
         message: String,
     },
-    /// The setting with this number is out of its range: 1 for `processors`, 2 for `queues`, and so on.
+    /// The setting with this number is out of its range, or excludes another: 1 for `processors`, 2 for `queues`, and so on.
     Setting(u32),
     /// The call failed with [`OUT_OF_MEMORY`](Fault::OUT_OF_MEMORY), or because `size` isn't that of the struct.
     Refused(Fault),
@@ -43,7 +41,10 @@ impl fmt::Display for MachineFault {
     fn fmt(&self, f: &mut fmt::Formatter<'_>) -> fmt::Result {
         match self {
             MachineFault::Arrivals { message, .. } => f.write_str(message),
-            MachineFault::Setting(number) => write!(f, "setting {number} is out of its range"),
+            MachineFault::Setting(number) => write!(
+                f,
+                "setting {number} is out of its range, or excludes another"
+            ),
             MachineFault::Refused(fault) => fault.fmt(f),
         }
     }
@@ -67,14 +68,7 @@ impl Error for MachineFault {}
 /// ```
 pub fn machine(arrivals: &[u8], settings: &MachineSettings) -> Result<Vec<u8>, MachineFault> {
     let mut report = vec![0; 4096];
-    let mut ran = sys::fq_machine_ran {
-        size: std::mem::size_of::<sys::fq_machine_ran>(),
-        length: 0,
-        row: 0,
-        fault: 0,
-        setting: 0,
-        message: [0; 64],
-    };
+    let mut ran = sys::fq_machine_ran::INIT;
     loop {
         let said = calls::machine(settings, arrivals, &mut report, &mut ran);
         match said {

@@ -26,7 +26,7 @@ use std::sync::atomic::{fence, Ordering};
 #[derive(Debug)]
 #[must_use = "an instance whose poller is dropped is polled by nobody"]
 pub struct Polling {
-    pub(crate) at: Handle,
+    pub(crate) at: Handle<sys::fq_seat>,
 }
 
 impl Polling {
@@ -41,12 +41,12 @@ impl Polling {
     }
 
     /// The counts of the results of its calls, since the instance was made.
-    pub fn answers(&mut self) -> Answers {
+    pub fn answers(&self) -> Answers {
         self.at.answers()
     }
 
     /// The counts of the ring's polls.
-    pub fn counts(&mut self) -> Counts {
+    pub fn counts(&self) -> Counts {
         self.at.counts()
     }
 
@@ -134,7 +134,11 @@ impl Polling {
 }
 
 // Polls with a handle that has the poll context.
-pub(crate) fn poll<'b>(at: &mut Handle, weight: Weight, batch: &'b mut Batch) -> &'b [Packet] {
+pub(crate) fn poll<'b>(
+    at: &mut Handle<sys::fq_seat>,
+    weight: Weight,
+    batch: &'b mut Batch,
+) -> &'b [Packet] {
     let at = at.raw();
     batch.filled_by(|out, count| calls::seat_poll(at, weight.get(), out, count))
 }

@@ -15,6 +15,7 @@ impl Default for Settings {
             budget: 300,
             weight: 64,
             window: 1024,
+            ..Settings::INIT
         }
     }
 }
@@ -81,7 +82,7 @@ pub fn replay(trace: &[u8], settings: &Settings) -> Result<Vec<u8>, NoReport> {
 ///
 /// # fn main() -> Result<(), fintaqush::NoReport> {
 /// let trace = "moment,device,event,value\n0,1,open,8\n1,1,rx,60\n1,1,rx,60\n2,0,softirq,0\n";
-/// let small = Settings { budget: 1, weight: 1, window: 1024 };
+/// let small = Settings { budget: 1, weight: 1, ..Settings::default() };
 /// let raised = raise_runs(trace.as_bytes(), &small, None)?;
 /// // Two runs take a packet each. Each poll was full, and a packet came while a poll was requested, so a third run polls without a packet.
 /// assert_eq!(raised, [trace, "2,0,softirq,0\n", "2,0,softirq,0\n"].concat().into_bytes());
@@ -103,7 +104,7 @@ pub fn raise_runs(
 fn written(call: impl Fn(&mut [u8], &mut sys::fq_replayed) -> u32) -> Result<Vec<u8>, NoReport> {
     let mut out = vec![0; 4096];
     loop {
-        let mut replayed = sys::fq_replayed::default();
+        let mut replayed = sys::fq_replayed::INIT;
         match call(&mut out, &mut replayed) {
             sys::FQ_NO_ROOM => out.resize(replayed.length, 0),
             sys::FQ_BAD_TRACE => {

@@ -24,7 +24,7 @@ use crate::sys;
 /// ```
 #[derive(Debug)]
 pub struct Ring {
-    pub(crate) at: Handle,
+    pub(crate) at: Handle<sys::fq_ring>,
 }
 
 impl Ring {
@@ -65,12 +65,12 @@ impl Ring {
     }
 
     /// Returns its capacity, and how many packets were put.
-    pub fn shown(&mut self) -> RingShown {
+    pub fn shown(&self) -> RingShown {
         self.at.shown()
     }
 
     /// The counts of the ring's polls.
-    pub fn counts(&mut self) -> Counts {
+    pub fn counts(&self) -> Counts {
         self.at.counts()
     }
 
@@ -107,7 +107,7 @@ impl Ring {
 /// The consumer's end of a ring that was split.
 #[derive(Debug)]
 pub struct Output {
-    at: Handle,
+    at: Handle<sys::fq_ring>,
 }
 
 impl Output {
@@ -117,7 +117,7 @@ impl Output {
     }
 
     /// The counts of the ring's polls.
-    pub fn counts(&mut self) -> Counts {
+    pub fn counts(&self) -> Counts {
         self.at.counts()
     }
 }
@@ -125,12 +125,12 @@ impl Output {
 /// The producer's end of a ring that belongs to an instance or that was split.
 #[derive(Debug)]
 pub struct Input {
-    pub(crate) at: Handle,
+    pub(crate) at: Handle<sys::fq_ring>,
 }
 
 impl Input {
     /// Returns its capacity, and how many packets were put.
-    pub fn shown(&mut self) -> RingShown {
+    pub fn shown(&self) -> RingShown {
         self.at.shown()
     }
 
@@ -149,19 +149,19 @@ impl Input {
     }
 }
 
-fn poll<'b>(ring: &mut Handle, weight: Weight, batch: &'b mut Batch) -> &'b [Packet] {
+fn poll<'b>(ring: &mut Handle<sys::fq_ring>, weight: Weight, batch: &'b mut Batch) -> &'b [Packet] {
     let at = ring.raw();
     batch.filled_by(|out, count| calls::ring_poll(at, weight.get(), out, count))
 }
 
-fn put(ring: &mut Handle, packet: Packet) -> Result<(), Fault> {
+fn put(ring: &mut Handle<sys::fq_ring>, packet: Packet) -> Result<(), Fault> {
     match calls::ring_put(ring.raw(), packet.number, packet.bytes) {
         said @ (sys::FQ_OK | sys::FQ_FULL) => Fault::unless_made(said),
         said => unexpected("ring_put", said),
     }
 }
 
-fn put_all(ring: &mut Handle, packets: &[Packet]) -> usize {
+fn put_all(ring: &mut Handle<sys::fq_ring>, packets: &[Packet]) -> usize {
     let mut count = 0;
     match calls::ring_put_all(ring.raw(), packets, &mut count) {
         sys::FQ_OK | sys::FQ_FULL => count,

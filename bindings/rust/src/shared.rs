@@ -3,8 +3,9 @@ use crate::caller::Caller;
 use crate::calls;
 use crate::control::{Control, Off};
 use crate::fault::Fault;
-use crate::handle::Handle;
+use crate::handle::{Handle, Object};
 use crate::ring::{Input, Ring};
+use crate::sys;
 
 /// A new instance that threads share: the input of its ring, its controller, and its callers, 2 to
 /// 8. Each goes to a thread of its own; a caller that isn't needed may be dropped.
@@ -43,7 +44,7 @@ impl<const CALLERS: usize> Shared<CALLERS> {
     pub fn new(capacity: usize) -> Result<Shared<CALLERS>, Fault> {
         let mut ring = Ring::new(capacity)?;
         let mut control = Handle::NONE;
-        let mut seats = [Handle::UNSET; CALLERS];
+        let mut seats = [<sys::fq_seat as Object>::UNSET; CALLERS];
         Fault::unless_made(calls::shared_new(ring.at.raw(), control.raw(), &mut seats))?;
         Ok(Shared {
             input: Input { at: ring.at },
@@ -68,7 +69,7 @@ impl<const CALLERS: usize> Bare<CALLERS> {
     /// [`OUT_OF_MEMORY`](Fault::OUT_OF_MEMORY).
     pub fn new() -> Result<Bare<CALLERS>, Fault> {
         let mut control = Handle::NONE;
-        let mut seats = [Handle::UNSET; CALLERS];
+        let mut seats = [<sys::fq_seat as Object>::UNSET; CALLERS];
         Fault::unless_made(calls::shared_bare(control.raw(), &mut seats))?;
         Ok(Bare {
             control: Control::of(control),

@@ -77,7 +77,7 @@ pub const FQ_BAD_TRACE: u32 = 120;
 pub const FQ_BAD_DEVICE: u32 = 121;
 /// A struct's size is not one that the library knows.
 pub const FQ_BAD_SIZE: u32 = 122;
-/// Machine: a setting of the machine is out of its range.
+/// Machine: a setting of the machine is out of its range, or excludes another.
 pub const FQ_BAD_SETTING: u32 = 123;
 /// Machine: the bytes are not arrivals.
 pub const FQ_BAD_ARRIVALS: u32 = 124;
@@ -86,30 +86,28 @@ pub const FQ_BAD_ARRIVALS: u32 = 124;
 pub const FQ_STRUCT_HANDLE: u32 = 0;
 /// `FQ_STRUCT_DQL` of `enum fq_struct`.
 pub const FQ_STRUCT_DQL: u32 = 1;
-/// `FQ_STRUCT_DQL_MADE` of `enum fq_struct`.
-pub const FQ_STRUCT_DQL_MADE: u32 = 2;
 /// `FQ_STRUCT_NAPI` of `enum fq_struct`.
-pub const FQ_STRUCT_NAPI: u32 = 3;
+pub const FQ_STRUCT_NAPI: u32 = 2;
 /// `FQ_STRUCT_PACKET` of `enum fq_struct`.
-pub const FQ_STRUCT_PACKET: u32 = 4;
+pub const FQ_STRUCT_PACKET: u32 = 3;
 /// `FQ_STRUCT_COUNTS` of `enum fq_struct`.
-pub const FQ_STRUCT_COUNTS: u32 = 5;
+pub const FQ_STRUCT_COUNTS: u32 = 4;
 /// `FQ_STRUCT_TOTALS` of `enum fq_struct`.
-pub const FQ_STRUCT_TOTALS: u32 = 6;
+pub const FQ_STRUCT_TOTALS: u32 = 5;
 /// `FQ_STRUCT_RING_SHOWN` of `enum fq_struct`.
-pub const FQ_STRUCT_RING_SHOWN: u32 = 7;
+pub const FQ_STRUCT_RING_SHOWN: u32 = 6;
 /// `FQ_STRUCT_TX_SHOWN` of `enum fq_struct`.
-pub const FQ_STRUCT_TX_SHOWN: u32 = 8;
+pub const FQ_STRUCT_TX_SHOWN: u32 = 7;
 /// `FQ_STRUCT_ANSWERS` of `enum fq_struct`.
-pub const FQ_STRUCT_ANSWERS: u32 = 9;
+pub const FQ_STRUCT_ANSWERS: u32 = 8;
 /// `FQ_STRUCT_RUN_REPORT` of `enum fq_struct`.
-pub const FQ_STRUCT_RUN_REPORT: u32 = 10;
+pub const FQ_STRUCT_RUN_REPORT: u32 = 9;
 /// `FQ_STRUCT_TODO` of `enum fq_struct`.
-pub const FQ_STRUCT_TODO: u32 = 11;
+pub const FQ_STRUCT_TODO: u32 = 10;
 /// `FQ_STRUCT_DEVICE_SHOWN` of `enum fq_struct`.
-pub const FQ_STRUCT_DEVICE_SHOWN: u32 = 12;
+pub const FQ_STRUCT_DEVICE_SHOWN: u32 = 11;
 /// `FQ_STRUCT_TX_WATCHDOG` of `enum fq_struct`.
-pub const FQ_STRUCT_TX_WATCHDOG: u32 = 13;
+pub const FQ_STRUCT_TX_WATCHDOG: u32 = 12;
 
 /// On a poll list.
 pub const FQ_LIST: u32 = 0;
@@ -140,6 +138,8 @@ pub const FQ_TODO_LOOK: u32 = 3;
 pub const FQ_TODO_FETCH: u32 = 4;
 /// A run ended, with the report `run` (`net_rx_action`): do other work first, if there is some.
 pub const FQ_TODO_ENDED: u32 = 5;
+/// Nothing, because the call failed, with the error `status`: a loop has to end.
+pub const FQ_TODO_FAILED: u32 = 6;
 
 /// Closed, and its card is masked.
 pub const FQ_DEVICE_CLOSED: u32 = 0;
@@ -198,22 +198,12 @@ pub const FQ_UNTIL_EMPTY: u32 = 4294967295;
 
 /// A byte queue limit. It isn't copied, and only calls write its fields.
 #[repr(C)]
-#[derive(Debug)]
+#[derive(Debug, Default)]
 pub struct fq_dql {
     pub(crate) private_a: [u32; 8],
     pub(crate) private_b: u64,
     pub(crate) private_c: [u32; 2],
     pub(crate) private_d: u64,
-}
-
-/// What `fq_dql_new` returns.
-#[repr(C)]
-#[derive(Debug)]
-pub struct fq_dql_made {
-    /// The limit; a limit of 0 unless the status is `FQ_OK`.
-    pub dql: fq_dql,
-    /// `FQ_OK` or `FQ_BAD_BOUNDS`.
-    pub status: u32,
 }
 
 /// An instance of one thread. Each flag is set unless its byte is 0.
@@ -242,12 +232,60 @@ pub struct fq_napi {
     pub controller: u32,
 }
 
-/// A handle to an object of the library. It isn't copied, and only calls write its fields.
+/// What the handles of all kinds of objects have in common. It isn't copied, and only calls write its fields.
 #[repr(C)]
 #[derive(Debug)]
 pub struct fq_handle {
     pub(crate) private_set: bool,
     pub(crate) private_at: *mut c_void,
+}
+
+/// The handles, with a type for each kind of object. The calls on an object of any kind take its member:
+/// `fq_free(&ring.handle)`. A receive ring, or its input or its poll end.
+#[repr(C)]
+#[derive(Debug)]
+pub struct fq_ring {
+    pub(crate) handle: fq_handle,
+}
+
+/// The handles, with a type for each kind of object. The calls on an object of any kind take its member:
+/// `fq_free(&ring.handle)`. A transmit ring.
+#[repr(C)]
+#[derive(Debug)]
+pub struct fq_tx {
+    pub(crate) handle: fq_handle,
+}
+
+/// The handles, with a type for each kind of object. The calls on an object of any kind take its member:
+/// `fq_free(&ring.handle)`. A caller of a shared instance.
+#[repr(C)]
+#[derive(Debug)]
+pub struct fq_seat {
+    pub(crate) handle: fq_handle,
+}
+
+/// The handles, with a type for each kind of object. The calls on an object of any kind take its member:
+/// `fq_free(&ring.handle)`. The controller of a shared instance.
+#[repr(C)]
+#[derive(Debug)]
+pub struct fq_control {
+    pub(crate) handle: fq_handle,
+}
+
+/// The handles, with a type for each kind of object. The calls on an object of any kind take its member:
+/// `fq_free(&ring.handle)`. A poll list, and the run over it.
+#[repr(C)]
+#[derive(Debug)]
+pub struct fq_list {
+    pub(crate) handle: fq_handle,
+}
+
+/// The handles, with a type for each kind of object. The calls on an object of any kind take its member:
+/// `fq_free(&ring.handle)`. A driver.
+#[repr(C)]
+#[derive(Debug)]
+pub struct fq_driver {
+    pub(crate) handle: fq_handle,
 }
 
 /// A packet.
@@ -292,8 +330,8 @@ pub struct fq_totals {
 pub struct fq_ring_shown {
     /// The packets put so far, a count that saturates; minus the packets of `fq_count`, it is the number in the ring.
     pub put: u64,
-    /// The ring's capacity in packets.
-    pub places: usize,
+    /// In packets.
+    pub capacity: usize,
 }
 
 /// The state of a transmit ring.
@@ -357,20 +395,41 @@ pub struct fq_run_report {
 #[repr(C)]
 #[derive(Clone, Copy, Debug, PartialEq, Eq)]
 pub struct fq_todo {
-    /// The size of this struct: set by the caller, once (`FQ_TODO_INIT`), because the struct may grow.
+    /// The size of this struct, which `fq_driver_next` and `fq_driver_step` set, because it may grow.
     pub size: usize,
     /// The number under which to report it: each action has another one; 0 if there is nothing to report.
     pub number: u64,
-    /// What has to be done: a number of enum `fq_what`.
+    /// What has to be done.
     pub what: u32,
-    /// The device; 0 for `FQ_TODO_SLEEP` and `FQ_TODO_ENDED`.
+    /// The device; 0 if the action is at none.
     pub device: u32,
     /// The packets that a fetch may take, the driver's weight; 0 for anything else.
     pub most: u32,
-    /// The packets of a look and a fetch: 0 at first; the caller sets it after a look and a fetch.
+    /// Set by the caller after a look and a fetch; before that 1 for a look, so that packets aren't forgotten, else
+    /// 0.
     pub packets: u32,
     /// The report of the run that ended; all 0 for anything else.
     pub run: fq_run_report,
+    /// The error after `FQ_TODO_FAILED`, otherwise `FQ_OK`.
+    pub status: u32,
+}
+
+impl fq_todo {
+    /// Its size, and zeros.
+    pub const INIT: fq_todo = fq_todo {
+        size: std::mem::size_of::<fq_todo>(),
+        number: 0,
+        what: 0,
+        device: 0,
+        most: 0,
+        packets: 0,
+        run: fq_run_report {
+            polls: 0,
+            work: 0,
+            squeezed: false,
+        },
+        status: 0,
+    };
 }
 
 /// The state of a device, and the counts of its polls.
@@ -392,10 +451,24 @@ pub struct fq_device_shown {
     pub packets: u64,
 }
 
+impl fq_device_shown {
+    /// Its size, and zeros.
+    pub const INIT: fq_device_shown = fq_device_shown {
+        size: std::mem::size_of::<fq_device_shown>(),
+        state: 0,
+        scheduled: false,
+        missed: false,
+        polls: 0,
+        packets: 0,
+    };
+}
+
 /// The settings of a replay.
 #[repr(C)]
 #[derive(Clone, Copy, Debug, PartialEq, Eq)]
 pub struct fq_settings {
+    /// The size of this struct, which the caller sets.
+    pub size: usize,
     /// Packets that a run polls before it is squeezed, 1 to 65535 (`netdev_budget`).
     pub budget: u32,
     /// Packets that one poll returns at most, 1 to 64 (`NAPI_POLL_WEIGHT`).
@@ -404,10 +477,22 @@ pub struct fq_settings {
     pub window: u32,
 }
 
+impl fq_settings {
+    /// Its size, and zeros.
+    pub const INIT: fq_settings = fq_settings {
+        size: std::mem::size_of::<fq_settings>(),
+        budget: 0,
+        weight: 0,
+        window: 0,
+    };
+}
+
 /// What a replay returns besides its status.
 #[repr(C)]
-#[derive(Clone, Copy, Debug, Default, PartialEq, Eq)]
+#[derive(Clone, Copy, Debug, PartialEq, Eq)]
 pub struct fq_replayed {
+    /// The size of this struct, which the caller sets.
+    pub size: usize,
     /// The length of the report or trace in bytes, even if there is no room for it; 0 if there is none.
     pub length: usize,
     /// The trace's fault: a number of enum `fq_fault`; 0 if it has none.
@@ -416,12 +501,22 @@ pub struct fq_replayed {
     pub row: u32,
 }
 
+impl fq_replayed {
+    /// Its size, and zeros.
+    pub const INIT: fq_replayed = fq_replayed {
+        size: std::mem::size_of::<fq_replayed>(),
+        length: 0,
+        fault: 0,
+        row: 0,
+    };
+}
+
 /// The settings of the machine. The members after `size` are the options of `napi_machine`, with their ranges and
 /// defaults.
 #[repr(C)]
 #[derive(Clone, Copy, Debug, PartialEq, Eq)]
 pub struct fq_machine_settings {
-    /// The size of this struct, which `fq_machine_default` sets.
+    /// The size of this struct, which the caller sets.
     pub size: usize,
     /// Processors that receive; queue q belongs to processor (q - 1) mod N, and each serves at most 64 queues, 1 to
     /// 64 (1).
@@ -475,6 +570,39 @@ pub struct fq_machine_settings {
     /// 1: the driver unmasks the queue whatever `napi_complete_done` returns (vmxnet3, tg3, be2net, mana), 0 to 1
     /// (0).
     pub heedless: u32,
+    /// Least time between two interrupts of a card (ethtool -C rx-usecs of igb, ixgbe, e1000, e1000e, in us there);
+    /// not with rx-nsecs or rx-frames, 0 to 1000000000 ns (0).
+    pub rx_gap: u32,
+}
+
+impl fq_machine_settings {
+    /// Its size, and zeros.
+    pub const INIT: fq_machine_settings = fq_machine_settings {
+        size: std::mem::size_of::<fq_machine_settings>(),
+        processors: 0,
+        queues: 0,
+        ring: 0,
+        socket: 0,
+        backlog: 0,
+        budget: 0,
+        weight: 0,
+        window: 0,
+        time_limit: 0,
+        rx_nsecs: 0,
+        rx_frames: 0,
+        defer_hard_irqs: 0,
+        gro_flush_timeout: 0,
+        threaded: 0,
+        apart: 0,
+        app_wake: 0,
+        interrupt: 0,
+        poll: 0,
+        packet: 0,
+        use_time: 0,
+        wake: 0,
+        heedless: 0,
+        rx_gap: 0,
+    };
 }
 
 /// What a run of the machine returns besides its status.
@@ -489,10 +617,23 @@ pub struct fq_machine_ran {
     pub row: u64,
     /// The number of that fault, 1 to 8; 0 if they have none.
     pub fault: u32,
-    /// The first setting that is out of its range: 1 for processors, 2 for queues and so on; 0 if none is.
+    /// The first setting that is out of its range, or `rx_gap` if it excludes another: 1 for processors, 2 for queues
+    /// and so on; 0 if none is rejected.
     pub setting: u32,
     /// The message of the fault of the arrivals, as `napi_machine` prints it, with a terminating 0; otherwise empty.
     pub message: [c_char; 64],
+}
+
+impl fq_machine_ran {
+    /// Its size, and zeros.
+    pub const INIT: fq_machine_ran = fq_machine_ran {
+        size: std::mem::size_of::<fq_machine_ran>(),
+        length: 0,
+        row: 0,
+        fault: 0,
+        setting: 0,
+        message: [0; 64],
+    };
 }
 
 /// Returns the name of a status, for example "`FQ_GRANTED`"; "?" for an unknown number.

@@ -31,7 +31,7 @@ pub use crate::sys::fq_tx_watchdog as TxWatchdog;
 /// ```
 #[derive(Debug)]
 pub struct TxRing {
-    at: Handle,
+    at: Handle<sys::fq_tx>,
 }
 
 impl TxRing {
@@ -66,8 +66,8 @@ impl TxRing {
 
     /// Returns whether it has been stopped, with no byte completed, for `limit_ms` since the first call that found it stopped
     /// (`dev_watchdog`): call it in each tick of a timer.
-    pub fn watch(&mut self, watchdog: &mut TxWatchdog, limit_ms: u64, now_ms: u64) -> bool {
-        let (at, mut stuck) = (self.at.raw(), false);
+    pub fn watch(&self, watchdog: &mut TxWatchdog, limit_ms: u64, now_ms: u64) -> bool {
+        let (at, mut stuck) = (&self.at.0, false);
         match calls::tx_watch(at, watchdog, limit_ms, now_ms, &mut stuck) {
             sys::FQ_OK => stuck,
             said => unexpected("tx_watch", said),
@@ -75,9 +75,9 @@ impl TxRing {
     }
 
     /// Returns the state of the ring.
-    pub fn state(&mut self) -> TxState {
+    pub fn state(&self) -> TxState {
         let mut state = TxState::default();
-        match calls::tx_state(self.at.raw(), &mut state) {
+        match calls::tx_state(&self.at.0, &mut state) {
             sys::FQ_OK => state,
             said => unexpected("tx_state", said),
         }

@@ -482,6 +482,7 @@ const ONE: Settings = Settings {
     budget: 1,
     weight: 1,
     window: 1024,
+    ..Settings::INIT
 };
 
 // With one packet per run, three runs take a packet each. Each poll was full and a request was missed, so a fourth run polls
@@ -626,7 +627,7 @@ fn an_open_asks_once_and_a_request_goes_by_the_word() {
         assert_eq!(interrupts.request(), (Prep::Missed, Next::Gone));
         let mut card = Model::default();
         let kind = if threaded { Kind::Thread } else { Kind::List };
-        let (_on, prep, next) = control.open(threaded, &mut poller, &mut card);
+        let (_on, prep, next) = control.open(threaded, &mut poller, &mut card).unwrap();
         assert_eq!((prep, next), (Prep::Granted, Next::Again(kind)));
         assert!(card.masked);
         assert_eq!(interrupts.request(), (Prep::Missed, Next::Gone));
@@ -799,11 +800,11 @@ fn polls_are_counted_of_whoever_has_them() {
     polling.poll(Weight::MAX, &mut batch);
     let counts = polling.counts();
     assert_eq!((counts.polls, counts.packets, counts.bytes), (1, 1, 60));
-    let (mut poller, _) = over(polling.end(false));
+    let (poller, _) = over(polling.end(false));
     let (asked, ended) = (interrupts.answers(), poller.answers());
     assert_eq!((asked.granted, asked.missed, asked.released), (1, 0, 0));
     assert_eq!((ended.granted, ended.released, ended.again), (0, 1, 0));
-    assert_eq!((input.shown().put, input.shown().places), (1, 4));
+    assert_eq!((input.shown().put, input.shown().capacity), (1, 4));
     let mut busy = poller.busy().unwrap();
     busy.poll(Weight::MAX, &mut batch);
     assert_eq!((busy.counts().polls, busy.look() & FQ_BIT_QUEUED), (2, 0));
@@ -819,7 +820,7 @@ fn a_ring_ends_with_its_totals() {
     let mut batch = Batch::new();
     assert_eq!(numbers(ring.poll(Weight::new(1).unwrap(), &mut batch)), [1]);
     assert_eq!(ring.counts().polls, 1);
-    assert_eq!((ring.shown().put, ring.shown().places), (2, 4));
+    assert_eq!((ring.shown().put, ring.shown().capacity), (2, 4));
     let totals = ring.finish();
     assert_eq!(
         (totals.put, totals.polled, totals.left, totals.bytes),
@@ -835,7 +836,6 @@ fn the_structs_have_the_sizes_that_the_library_tells() {
     let told = |which| unsafe { fq_struct_size(which) };
     assert_eq!(told(FQ_STRUCT_HANDLE), size_of::<fq_handle>());
     assert_eq!(told(FQ_STRUCT_DQL), size_of::<fq_dql>());
-    assert_eq!(told(FQ_STRUCT_DQL_MADE), size_of::<fq_dql_made>());
     assert_eq!(told(FQ_STRUCT_NAPI), size_of::<fq_napi>());
     assert_eq!(told(FQ_STRUCT_PACKET), size_of::<fq_packet>());
     assert_eq!(told(FQ_STRUCT_COUNTS), size_of::<fq_counts>());
@@ -886,12 +886,12 @@ fn a_driver_polls_what_came_before_it_was_opened() {
         waiting: 100,
         ..EdgeCard::default()
     };
-    assert_eq!(driver.act(&mut card), What::Sleep);
+    assert_eq!(driver.act(&mut card), Ok(What::Sleep));
     driver.open(1).unwrap();
     assert_eq!(driver.open(1), Err(Fault::NOT_DUE));
     let mut did = Vec::new();
     while did.last() != Some(&What::Sleep) {
-        did.push(driver.act(&mut card));
+        did.push(driver.act(&mut card).unwrap());
     }
     did.retain(|what| !matches!(what, What::Ended(_)));
     let fetch = What::Fetch {
@@ -920,7 +920,7 @@ fn a_driver_polls_what_came_before_it_was_opened() {
     driver.stop(1).unwrap();
     assert_eq!(driver.stop(1), Err(Fault::NOT_DUE));
     assert_eq!(driver.interrupt(1), Ok(Prep::Disabled));
-    while driver.act(&mut card) != What::Sleep {}
+    while driver.act(&mut card) != Ok(What::Sleep) {}
     assert_eq!(driver.shown(1).unwrap().state, DeviceState::Closed);
     assert!(!card.open);
 }
@@ -942,10 +942,9 @@ fn a_loop_needs_only_steps() {
             What::Unmask(device) => card.unmask(device),
             What::Look(device) => todo.set_packets(card.look(device).into()),
             What::Fetch { device, most } => {
-                let fetch = todo;
                 todo.set_packets(9);
                 assert_eq!(driver.step(&mut todo), Err(Fault::BAD_WORK));
-                assert_eq!(todo.what(), fetch.what());
+                assert_eq!(driver.step(&mut todo), Ok(What::Fetch { device, most }));
                 todo.set_packets(card.fetch(device, most));
             }
             What::Ended(_) => {}
@@ -992,20 +991,24 @@ fn a_driver_refuses_what_is_not_due() {
     assert_eq!(todo.what(), What::Fetch { device: 0, most: 8 });
     assert_eq!(driver.done(todo, 9), Err(Fault::BAD_WORK));
     let broken = catch_unwind(AssertUnwindSafe(|| {
-        struct Broken;
+        struct Broken(bool);
         impl Cards for Broken {
             fn mask(&mut self, _: u32) {}
             fn unmask(&mut self, _: u32) {}
             fn look(&mut self, _: u32) -> bool {
                 false
             }
-            fn fetch(&mut self, _: u32, _: u32) -> u32 {
-                panic!("a card")
+            fn fetch(&mut self, _: u32, most: u32) -> u32 {
+                assert!(!self.0, "a card");
+                most + 1
             }
         }
-        driver.act(&mut Broken)
+        assert_eq!(driver.act(&mut Broken(false)), Err(Fault::BAD_WORK));
+        driver.act(&mut Broken(true))
     }));
     assert!(broken.is_err());
+    let mut other = Driver::new(1, 300, Weight::MAX, 1024).unwrap();
+    assert_eq!(other.done(todo, 1), Err(Fault::NOT_DUE)); // another driver's action
     assert_eq!(driver.next().what(), What::Fetch { device: 0, most: 8 });
 }
 
@@ -1046,6 +1049,12 @@ fn the_machine_reports_what_its_program_does() {
         ..settings
     };
     assert_eq!(machine(arrivals, &late), Err(MachineFault::Setting(21)));
+    let both = MachineSettings {
+        rx_gap: 20_000,
+        rx_nsecs: 1,
+        ..settings
+    };
+    assert_eq!(machine(arrivals, &both), Err(MachineFault::Setting(23)));
     let many: String = (0..4000)
         .map(|i| format!("{i},{},60\n", i % 64 + 1))
         .collect();

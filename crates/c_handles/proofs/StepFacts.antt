@@ -1,14 +1,14 @@
 -- The status of a report, and what it means.
 use Rattle.std.specs.Prelude.{⊤, IsSome, if◌then◌else◌}
-use Rattle.std.proofs.Common.{◌≡◌, ◌≢◌, ◌⊎◌, ◌∙◌, ◌<◌, ◌≤◌, inl, inr, ℕ, Bool, true, false, is_some, Option, Result, Ok, Err, refl}
+use Rattle.std.proofs.Common.{◌≡◌, ◌≢◌, ◌∙◌, inl, inr, ℕ, Bool, true, false, is_some, Option, Result, Ok, Err, refl}
 use Rattle.std.proofs.Common.{sym, ap, subst, arith}
 use Rattle.std.proofs.lemmas.Bool.Decides.{eqb_tells}
 use Rattle.driver_core.specs.Driver.{AsksNext, AwaitsNothing, IsDone, IsReport, IsStep, Reports, polled_device, said_number_of}
 use Rattle.driver_core.specs.declared.{driver.Driver.Driver, todo.Todo.Todo}
 use Rattle.driver_core.specs.declared.todo.Refused.{Refused, TheVariants.{NotDue, TooMany}}
-use Rattle.c_handles.specs.Drivers.{IsDriverNext, IsDriverStep, IsTodoReport, MakesStep, Says, report_status, todo_in}
+use Rattle.c_handles.specs.Drivers.{IsDriverStep, IsTodoReport, Says, failed_in, report_status, settled, todo_in}
 use Rattle.c_handles.specs.declared.drive.FqTodo.{FqTodo}
-use Rattle.c_handles.specs.Status.{OK, NOT_DUE, BAD_SIZE, BAD_WORK}
+use Rattle.c_handles.specs.Status.{OK, NOT_DUE, BAD_WORK}
 
 -- no report is due under number 0
 not_zero : (number : ℕ) (d : Driver) → number ≡ 0 → number ≡ d.number → ⊥
@@ -102,7 +102,7 @@ not_many number bad = elim (eqb_tells number 0) [
   | inr is ↦ let no : NOT_DUE ≡ BAD_WORK = rw is.0 at bad in absurd (omega (arith, no))
 ]
 
-says : (size : ℕ) (after : FqTodo) (b e : Driver) (todo : Todo) → AsksNext b todo e → after ≡ todo_in size todo.number todo.what
+pub says : (size : ℕ) (after : FqTodo) (b e : Driver) (todo : Todo) → AsksNext b todo e → after ≡ todo_in size todo.number todo.what
     → Says size b after e
 says size after b e todo next is = rw is (record {
   what = todo.what;
@@ -114,91 +114,51 @@ says size after b e todo next is = rw is (record {
   counts = next.counts;
 })
 
-step_says : (number : ℕ) (before after : FqTodo) (d e : Driver) (reported : Result ⊤ Refused) (todo : Todo)
-    → IsStep number before.packets d reported todo e → report_status number reported ≢ BAD_WORK
+step_says : (before after : FqTodo) (d e : Driver) (reported : Result ⊤ Refused) (todo : Todo)
+    → IsStep before.number before.packets d reported todo e → report_status before.number reported ≢ BAD_WORK
     → after ≡ todo_in before.size todo.number todo.what
-    → MakesStep number before after d (report_status number reported) e
-step_says number before after d e reported todo h good is = record {
-  between = h.between;
-  reports = todo_report number before.packets d h.between reported h.reports;
-  says = λ _. says before.size after h.between e todo h.asks is;
-  kept = λ bad. absurd (good bad);
-}
+    → IsDriverStep before after d (report_status before.number reported) e
+step_says before after d e reported todo h good is =
+    let report = todo_report before.number before.packets d h.between reported h.reports in
+    record {
+      between = h.between;
+      reports = report;
+      status = report.status;
+      says = λ _. says before.size after h.between e todo h.asks is;
+      failed = λ bad. absurd (good bad);
+    }
 
-step_many : (number : ℕ) (before after : FqTodo) (d e : Driver) (todo : Todo) → IsStep number before.packets d (Err TooMany) todo e
-    → after ≡ before → MakesStep number before after d BAD_WORK e
-step_many number before after d e todo h same = record {
-  between = h.between;
-  reports = todo_report number before.packets d h.between (Err TooMany) h.reports;
-  says = λ bad. absurd (bad refl);
-  kept = λ _. (same, refused_keeps number before.packets d e todo h);
-}
+step_many : (before after : FqTodo) (d e : Driver) (todo : Todo) → IsStep before.number before.packets d (Err TooMany) todo e
+    → after ≡ failed_in before.size BAD_WORK → IsDriverStep before after d BAD_WORK e
+step_many before after d e todo h is =
+    let report = todo_report before.number before.packets d h.between (Err TooMany) h.reports in
+    record {
+      between = h.between;
+      reports = report;
+      status = report.status;
+      says = λ bad. absurd (bad refl);
+      failed = λ _. (is, refused_keeps before.number before.packets d e todo h);
+    }
 
 done_good : OK ≡ BAD_WORK → ⊥
 done_good bad = omega (arith, bad)
 
-pub makes_step : (number : ℕ) (before after : FqTodo) (d e : Driver) (reported : Result ⊤ Refused) (todo : Todo)
-    → IsStep number before.packets d reported todo e
-    → (reported ≢ Err TooMany → after ≡ todo_in before.size todo.number todo.what)
-    → (reported ≡ Err TooMany → after ≡ before)
-    → MakesStep number before after d (report_status number reported) e
-makes_step number before after d e (Ok done) todo h takes kept =
-    step_says number before after d e (Ok done) todo h done_good (takes (λ bad. cc bad))
-makes_step number before after d e (Err NotDue) todo h takes kept =
-    step_says number before after d e (Err NotDue) todo h (not_many number) (takes (λ bad. cc bad))
-makes_step number before after d e (Err TooMany) todo h takes kept = step_many number before after d e todo h (kept refl)
+settled_late : (number : ℕ) (todo : FqTodo) → settled (report_status number (Err NotDue)) todo ≡ todo
+settled_late number todo =
+    let P : Bool → Type 0 = λ b. settled (if b then OK else NOT_DUE) todo ≡ todo in
+    elim (eqb_tells number 0) [ inl is ↦ subst P (sym is.0) refl | inr is ↦ subst P (sym is.0) refl ]
 
--- under number 0 nothing is reported
-pub next_made : (before after : FqTodo) (d : Driver) (n : ℕ) (e : Driver) → 48 ≤ before.size → MakesStep 0 before after d n e
-    → IsDriverNext before after d n e
-next_made before after d n e large h =
-    let none = h.reports.none refl in
-    let ok : n ≡ OK = none.0 in
-    let same : h.between ≡ d = none.1 in
-    record {
-      size = (λ bad. absurd (omega (arith, bad, ok)), λ small. absurd (omega (arith, small, large)));
-      status = inl ok;
-      says = λ _. subst (λ (b : Driver). Says before.size b after e) same (h.says (λ bad. absurd (omega (arith, bad, ok))));
-      kept = λ bad. absurd (omega (arith, bad, ok));
-    }
-
-not_bad_size : (n : ℕ) → (n ≡ OK) ⊎ (n ≡ NOT_DUE) ⊎ (n ≡ BAD_WORK) → n ≡ BAD_SIZE → ⊥
-not_bad_size n (inl is) bad = absurd (omega (arith, is, bad))
-not_bad_size n (inr (inl is)) bad = absurd (omega (arith, is, bad))
-not_bad_size n (inr (inr is)) bad = absurd (omega (arith, is, bad))
-
-step_status : (n : ℕ) → (n ≡ OK) ⊎ (n ≡ NOT_DUE) ⊎ (n ≡ BAD_WORK) → (n ≡ OK) ⊎ (n ≡ NOT_DUE) ⊎ (n ≡ BAD_WORK) ⊎ (n ≡ BAD_SIZE)
-step_status n (inl is) = inl is
-step_status n (inr (inl is)) = inr (inl is)
-step_status n (inr (inr is)) = inr (inr (inl is))
-
-pub step_made : (before after : FqTodo) (d : Driver) (n : ℕ) (e : Driver) → 48 ≤ before.size → MakesStep before.number before after d n e
-    → IsDriverStep before after d n e
-step_made before after d n e large h =
-    let good = not_bad_size n h.reports.status in
-    record {
-      between = h.between;
-      reports = record {
-        size = (λ bad. absurd (good bad), λ small. absurd (omega (arith, small, large)));
-        reported = λ _. h.reports;
-        kept = λ bad. absurd (good bad);
-      };
-      asks = λ _ other. record {
-        size = (λ bad. absurd (omega (arith, bad)), λ small. absurd (omega (arith, small, large)));
-        status = inl refl;
-        says = λ _. h.says other;
-        kept = λ bad. absurd (omega (arith, bad));
-      };
-      status = step_status n h.reports.status;
-      kept = λ bad. elim bad [ inl small ↦ absurd (good small) | inr many ↦ h.kept many ];
-    }
-
--- the struct is too small
-pub step_short : (before : FqTodo) (d : Driver) → before.size < 48 → IsDriverStep before before d BAD_SIZE d
-step_short before d small = record {
-  between = d;
-  reports = record { size = (λ _. small, λ _. refl); reported = λ other. absurd (other refl); kept = λ _. refl };
-  asks = λ other. absurd (other refl);
-  status = inr (inr (inr refl));
-  kept = λ _. (refl, refl);
-}
+-- the next action was written, unless a fetch took too many packets
+pub step_made : (before placed after : FqTodo) (d e : Driver) (reported : Result ⊤ Refused) (todo : Todo)
+    → IsStep before.number before.packets d reported todo e
+    → (reported ≢ Err TooMany → placed ≡ todo_in before.size todo.number todo.what)
+    → (reported ≡ Err TooMany → placed ≡ before)
+    → after ≡ settled (report_status before.number reported) placed
+    → IsDriverStep before after d (report_status before.number reported) e
+step_made before placed after d e (Ok done) todo h takes kept is =
+    step_says before after d e (Ok done) todo h done_good (is ∙ takes (λ bad. cc bad))
+step_made before placed after d e (Err NotDue) todo h takes kept is =
+    step_says before after d e (Err NotDue) todo h (not_many before.number)
+    (is ∙ settled_late before.number placed ∙ takes (λ bad. cc bad))
+step_made before placed after d e (Err TooMany) todo h takes kept is =
+    step_many before after d e todo h (is ∙ ap (λ (t : FqTodo). failed_in t.size BAD_WORK) (kept refl))

@@ -1,5 +1,5 @@
 -- A driver for C: what it asks for, as numbers, and the status and the effect of each call.
-use Rattle.std.specs.Prelude.{◌≡◌, ◌≢◌, ◌⊎◌, ◌↔◌, ℕ, ◌<◌, ◌≤◌, ◌==◌, ◌||◌, false, nat_le, if◌then◌else◌}
+use Rattle.std.specs.Prelude.{◌≡◌, ◌≢◌, ◌⊎◌, ◌↔◌, ℕ, ◌+◌, ◌*◌, ◌≤◌, ◌==◌, ◌||◌, false, nat_le, if◌then◌else◌}
 use Rattle.std.specs.Prelude.{length, IsSome, ⊤, Result, Ok, Err}
 use Rattle.napi_model.specs.declared.event.Prep.{Prep, TheVariants.{Granted, Missed, Disabled}}
 use Rattle.napi_model.specs.Step.{schedule_reply}
@@ -9,7 +9,7 @@ use Rattle.driver_core.specs.Driver.{AreClosed, IsDue, AwaitsNothing, IsIdle, Is
 use Rattle.driver_core.specs.declared.{driver.Driver.Driver, device.Stage.{Stage, TheVariants.Closed}}
 use Rattle.driver_core.specs.declared.todo.Refused.{Refused, TheVariants.{NotDue, TooMany}}
 use Rattle.driver_core.specs.declared.todo.What.{What, TheVariants.{Mask, Unmask, Look, Fetch, Ended, Sleep}}
-use Rattle.c_handles.specs.Status.{OK, GRANTED, MISSED, DISABLED, NOT_DUE, BAD_DEVICE, BAD_SIZE, BAD_WORK, BAD_COUNT}
+use Rattle.c_handles.specs.Status.{OK, GRANTED, MISSED, DISABLED, NOT_DUE, BAD_DEVICE, BAD_WORK, BAD_COUNT}
 use Rattle.c_handles.specs.{Status.{BAD_BUDGET, BAD_WEIGHT}, declared.lister.FqRunReport.FqRunReport}
 use Rattle.c_handles.specs.declared.drive.{FqTodo.FqTodo, FqDeviceShown.FqDeviceShown}
 
@@ -21,11 +21,13 @@ new_status devices budget weight window =
     else (if weight == 0 || nat_le 65 weight then BAD_WEIGHT
     else (if (budget == 0 || nat_le 65536 budget) || (window == 0 || nat_le 65536 window) then BAD_BUDGET else OK))
 
-pub record IsNewDriver (devices budget weight window : ℕ) (d : Driver) : Type 0 where
+pub record IsNewDriver (devices budget weight window salt : ℕ) (d : Driver) : Type 0 where
   pub closed : AreClosed devices d
   pub idle : IsIdle d
   pub counts : IsUncounted d
   pub limits : ((driver_limits d).budget ≡ budget) × ((driver_limits d).weight ≡ weight) × ((driver_limits d).window ≡ window)
+  -- drivers with different salts number their actions differently
+  pub number : said_number_of d ≡ salt * 281474976710656 + 1
 
 -- ---- what the driver asks for (`struct fq_todo`, `enum fq_what`)
 
@@ -52,6 +54,11 @@ abbrev pub most_in : What → ℕ
 most_in (Fetch id most) = most
 most_in _ = 0
 
+-- the packets of an action whose caller doesn't set them: a look that was forgotten leads to a poll
+abbrev pub unset_packets : What → ℕ
+unset_packets (Look id) = 1
+unset_packets _ = 0
+
 abbrev pub todo_run_in : What → FqRunReport
 todo_run_in (Ended r) = record { polls = r.polls; work = r.work; squeezed = r.squeezed }
 todo_run_in _ = no_run
@@ -63,9 +70,27 @@ todo_in size number what = record {
   what = what_in what;
   device = device_in what;
   most = most_in what;
-  packets = 0;
+  packets = unset_packets what;
   run = todo_run_in what;
+  status = OK;
 }
+
+-- a call failed with this status, and there is nothing to do
+abbrev pub failed_in : ℕ → ℕ → FqTodo
+failed_in size status = record {
+  size = size;
+  number = 0;
+  what = 6;
+  device = 0;
+  most = 0;
+  packets = 0;
+  run = no_run;
+  status = status;
+}
+
+-- what a step leaves in the struct, which has the next action unless a fetch took too many packets
+abbrev pub settled : ℕ → FqTodo → FqTodo
+settled n todo = if n == BAD_WORK then failed_in todo.size BAD_WORK else todo
 
 -- The driver asks for this action, which is due. It asks for the same action again until the action is reported or isn't due
 -- any more, and for any other one under a new number.
@@ -79,11 +104,8 @@ pub record Says (size : ℕ) (d : Driver) (todo : FqTodo) (e : Driver) : Type 0 
   pub counts : e.counts ≡ d.counts
 
 -- of these structs, the first is the caller's variable before the call, and the second after it
-pub record IsDriverNext (before after : FqTodo) (d : Driver) (n : ℕ) (e : Driver) : Type 0 where
-  pub size : (n ≡ BAD_SIZE) ↔ (before.size < 48)
-  pub status : (n ≡ OK) ⊎ (n ≡ BAD_SIZE)
-  pub says : n ≡ OK → Says before.size d after e
-  pub kept : n ≡ BAD_SIZE → (after ≡ before) × (e ≡ d)
+abbrev pub IsDriverNext : FqTodo → FqTodo → Driver → ℕ → Driver → Type 0
+IsDriverNext before after d n e = (n ≡ OK) × Says before.size d after e
 
 -- a report, and the driver after the report
 pub record IsTodoReport (number packets : ℕ) (d : Driver) (n : ℕ) (e : Driver) : Type 0 where
@@ -100,28 +122,14 @@ report_status number (Ok done) = OK
 report_status number (Err TooMany) = BAD_WORK
 report_status number (Err NotDue) = if number == 0 then OK else NOT_DUE
 
--- the action in the struct is reported as done
-pub record IsDriverDone (todo : FqTodo) (d : Driver) (n : ℕ) (e : Driver) : Type 0 where
-  pub size : (n ≡ BAD_SIZE) ↔ (todo.size < 48)
-  pub reported : n ≢ BAD_SIZE → IsTodoReport todo.number todo.packets d n e
-  pub kept : n ≡ BAD_SIZE → e ≡ d
-
--- A report under this number, unless it is 0, and then the next action is asked for: the struct was `before`, and is `after`. After a
--- report of too many packets nothing is asked for.
-pub record MakesStep (number : ℕ) (before after : FqTodo) (d : Driver) (n : ℕ) (e : Driver) : Type 0 where
-  pub between : Driver
-  pub reports : IsTodoReport number before.packets d n between
-  pub says : n ≢ BAD_WORK → Says before.size between after e
-  pub kept : n ≡ BAD_WORK → (after ≡ before) × (e ≡ d)
-
 -- The action in the struct is reported as done, unless its number is 0, and then the next one is asked for; the driver in between
 -- is what the report leaves. After a report of too many packets nothing is asked for.
 pub record IsDriverStep (before after : FqTodo) (d : Driver) (n : ℕ) (e : Driver) : Type 0 where
   pub between : Driver
-  pub reports : IsDriverDone before d n between
-  pub asks : n ≢ BAD_SIZE → n ≢ BAD_WORK → IsDriverNext before after between OK e
-  pub status : (n ≡ OK) ⊎ (n ≡ NOT_DUE) ⊎ (n ≡ BAD_WORK) ⊎ (n ≡ BAD_SIZE)
-  pub kept : (n ≡ BAD_SIZE) ⊎ (n ≡ BAD_WORK) → (after ≡ before) × (e ≡ d)
+  pub reports : IsTodoReport before.number before.packets d n between
+  pub status : (n ≡ OK) ⊎ (n ≡ NOT_DUE) ⊎ (n ≡ BAD_WORK)
+  pub says : n ≢ BAD_WORK → Says before.size between after e
+  pub failed : n ≡ BAD_WORK → (after ≡ failed_in before.size BAD_WORK) × (e ≡ d)
 
 -- ---- what happened at a device
 
@@ -172,9 +180,8 @@ shown_of size d device = record {
 }
 
 pub record IsDriverShow (before after : FqDeviceShown) (device : ℕ) (d : Driver) (n : ℕ) (e : Driver) : Type 0 where
-  pub size : (n ≡ BAD_SIZE) ↔ (before.size < 32)
-  pub bad : n ≢ BAD_SIZE → (n ≡ BAD_DEVICE) ↔ (length (driver_devices d) ≤ device)
-  pub status : (n ≡ OK) ⊎ (n ≡ BAD_DEVICE) ⊎ (n ≡ BAD_SIZE)
+  pub bad : (n ≡ BAD_DEVICE) ↔ (length (driver_devices d) ≤ device)
+  pub status : (n ≡ OK) ⊎ (n ≡ BAD_DEVICE)
   pub shows : n ≡ OK → after ≡ shown_of before.size d device
   pub kept : n ≢ OK → after ≡ before
   pub driver : e ≡ d

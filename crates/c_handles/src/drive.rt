@@ -2,13 +2,12 @@
 
 ghost use Rattle.std.specs.Prelude.{◌≡◌, length, nat_lt};
 ghost use Rattle.driver_core.specs.Driver.{driver_devices};
-ghost use Rattle.c_handles.specs.Drivers.{device_in, most_in, reply_status, todo_run_in, shown_of, device_state_in, todo_in, what_in, IsDriverDone, IsDriverInterrupt, IsDriverNext, IsDriverOpen, IsDriverStep, IsTodoReport, IsDriverShow, IsDriverStop, MakesStep, report_status};
+ghost use Rattle.c_handles.specs.Drivers.{device_in, most_in, unset_packets, reply_status, todo_run_in, shown_of, device_state_in, todo_in, what_in, IsDriverInterrupt, IsDriverNext, IsDriverOpen, IsDriverStep, IsTodoReport, IsDriverShow, IsDriverStop, report_status};
 
 use crate::lister::FqRunReport;
 use crate::status;
 use driver_core::{Driver, DriverDevice, Refused, Stage, Todo, TodoPlace, What};
 use napi_model::Prep;
-use std::mem::size_of;
 
 /// What a driver has to do: `struct fq_todo`.
 #[repr(C)]
@@ -28,6 +27,8 @@ pub struct FqTodo {
     pub packets: u32,
     /// The report of a run that ended.
     pub run: FqRunReport,
+    /// Why the call failed, if there is nothing to do because of that.
+    pub status: u32,
 }
 
 /// The state of a device, for display: `struct fq_device_shown`.
@@ -54,6 +55,9 @@ const NO_RUN: FqRunReport = FqRunReport {
     squeezed: false,
 };
 
+// The number of no action, after a call that failed.
+const FAILED: u32 = 6;
+
 // Returns the number of an action (`enum fq_what`).
 #[inline(always)]
 fn what_in(what: What) -> u32
@@ -79,6 +83,17 @@ fn where_in(what: What) -> (u32, u32)
         What::Mask(device) | What::Unmask(device) | What::Look(device) => (device, 0),
         What::Fetch(device, most) => (device, most),
         What::Sleep | What::Ended(_) => (0, 0),
+    }
+}
+
+// Returns the packets of an action that the caller doesn't set: a look that was forgotten leads to a poll.
+#[inline(always)]
+fn unset_packets(what: What) -> u32
+    ensures { result ≡ unset_packets what }
+{
+    match what {
+        What::Look(_) => 1,
+        _ => 0,
     }
 }
 
@@ -111,10 +126,43 @@ impl TodoPlace for FqTodo {
         self.what = what_in(what);
         self.device = device;
         self.most = most;
-        self.packets = 0;
+        self.packets = unset_packets(what);
         self.run.polls = run.polls;
         self.run.work = run.work;
         self.run.squeezed = run.squeezed;
+        self.status = status::OK;
+    }
+}
+
+impl FqTodo {
+    ghost use Rattle.c_handles.specs.Drivers.{failed_in, settled};
+
+    /// Writes that a call failed with this status, which it returns: there is nothing to do.
+    pub fn fail(&mut self, status: u32) -> u32
+        ensures written { self.new ≡ failed_in self.old.size status }
+        ensures status { result ≡ status }
+    {
+        *self = FqTodo {
+            size: self.size,
+            number: 0,
+            what: FAILED,
+            device: 0,
+            most: 0,
+            packets: 0,
+            run: NO_RUN,
+            status,
+        };
+        status
+    }
+
+    // Ends a step whose report had this status: after a report of too many packets nothing was written, and the step failed.
+    #[inline(always)]
+    fn settle(&mut self, said: u32)
+        ensures { self.new ≡ settled said self.old }
+    {
+        if said == status::BAD_WORK {
+            self.fail(said);
+        }
     }
 }
 
@@ -136,34 +184,13 @@ fn report_status(number: u64, reported: Result<(), Refused>) -> u32
     }
 }
 
-// Reports that the action with this number was done; 0 reports nothing.
-#[inline(always)]
-fn report(driver: &mut Driver, number: u64, packets: u32) -> u32
-    ensures { IsTodoReport number packets driver.old result driver.new }
-{
-    let reported = driver.done(number, packets);
-    report_status(number, reported)
-}
-
-/// Reports that the action in `todo` was done (`Driver::done`).
+/// Reports that the action in `todo` was done (`Driver::done`); number 0 reports nothing.
 #[inline(always)]
 pub fn done(driver: &mut Driver, todo: &FqTodo) -> u32
-    ensures { IsDriverDone todo.now driver.old result driver.new }
+    ensures { IsTodoReport todo.now.number todo.now.packets driver.old result driver.new }
 {
-    if todo.size < size_of::<FqTodo>() {
-        return status::BAD_SIZE;
-    }
-    report(driver, todo.number, todo.packets)
-}
-
-// Reports the action with this number, unless it is 0, and sets `todo` to the next one.
-#[inline(always)]
-fn make_step(driver: &mut Driver, number: u64, todo: &mut FqTodo) -> u32
-    ensures { MakesStep number todo.old todo.new driver.old result driver.new }
-{
-    let packets = todo.packets;
-    let (reported, _) = driver.step_into(number, packets, todo);
-    report_status(number, reported)
+    let reported = driver.done(todo.number, todo.packets);
+    report_status(todo.number, reported)
 }
 
 /// Sets `todo` to the next action (`Driver::next`).
@@ -171,10 +198,8 @@ fn make_step(driver: &mut Driver, number: u64, todo: &mut FqTodo) -> u32
 pub fn next(driver: &mut Driver, todo: &mut FqTodo) -> u32
     ensures { IsDriverNext todo.old todo.new driver.old result driver.new }
 {
-    if todo.size < size_of::<FqTodo>() {
-        return status::BAD_SIZE;
-    }
-    make_step(driver, 0, todo)
+    driver.next_into(todo);
+    status::OK
 }
 
 /// Reports that the action in `todo` was done, unless its number is 0, and sets `todo` to the next one (`Driver::step`).
@@ -182,10 +207,12 @@ pub fn next(driver: &mut Driver, todo: &mut FqTodo) -> u32
 pub fn step(driver: &mut Driver, todo: &mut FqTodo) -> u32
     ensures { IsDriverStep todo.old todo.new driver.old result driver.new }
 {
-    if todo.size < size_of::<FqTodo>() {
-        return status::BAD_SIZE;
-    }
-    make_step(driver, todo.number, todo)
+    let number = todo.number;
+    let packets = todo.packets;
+    let (reported, _) = driver.step_into(number, packets, todo);
+    let said = report_status(number, reported);
+    todo.settle(said);
+    said
 }
 
 #[inline(always)]
@@ -252,9 +279,6 @@ fn state_of(device: DriverDevice) -> u32
 pub fn show(driver: &Driver, device: u32, shown: &mut FqDeviceShown) -> u32
     ensures { IsDriverShow shown.old shown.new device driver.now result driver.now }
 {
-    if shown.size < size_of::<FqDeviceShown>() {
-        return status::BAD_SIZE;
-    }
     if !has_device(driver, device) {
         return status::BAD_DEVICE;
     }

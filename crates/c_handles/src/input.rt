@@ -15,7 +15,7 @@ pub struct FqRingShown {
     /// The packets that were put so far; the count saturates.
     pub put: u64,
     /// How many packets the ring can hold.
-    pub places: usize,
+    pub capacity: usize,
 }
 
 /// The input end of a ring.
@@ -23,18 +23,18 @@ pub struct FqRingShown {
 pub struct RingInput {
     end: RxIn,
     shown: FqRingShown,
-    ghost places: { shown.places ≡ capacity_of end },
+    ghost capacity: { shown.capacity ≡ capacity_of end },
     ghost put: { shown.put ≡ capped (length (put_list end)) },
 }
 
 impl RingInput {
     /// Returns the input of a new ring of this capacity.
-    pub fn new(end: RxIn, places: usize) -> RingInput
-        requires places { capacity_of end ≡ places }
+    pub fn new(end: RxIn, capacity: usize) -> RingInput
+        requires capacity { capacity_of end ≡ capacity }
         requires empty { put_list end ≡ [] }
         ensures { result.end ≡ end }
     {
-        let shown = FqRingShown { put: 0, places };
+        let shown = FqRingShown { put: 0, capacity };
         RingInput { end, shown }
     }
 

@@ -21,26 +21,39 @@ use rx_ring::{Packet, RxCounts};
 use std::alloc::Global;
 use std::mem;
 use std::sync::Arc;
+use std::sync::atomic::{AtomicU64, Ordering};
 
 /// The instance, shared by the handles of its callers and its controller.
 pub struct Shared {
     /// The instance.
     pub napi: Napi,
+    // How often the controller was asked whether a caller belongs to it, to tell this instance from others.
+    asked: AtomicU64,
 }
 
 impl Drop for Shared {
     fn drop(self) {
-        let Shared { napi } = self;
+        let Shared { napi, asked: _ } = self;
         napi.abandon();
     }
 }
 
 impl Shared {
+    /// Returns an instance, to be shared.
+    pub fn new(napi: Napi) -> Shared
+        ensures { result.napi ≡ napi }
+    {
+        Shared {
+            napi,
+            asked: AtomicU64::new(0),
+        }
+    }
+
     /// Returns the instance, after the other handles were freed.
     pub fn into_napi(self) -> Napi
         ensures { result ≡ self.napi }
     {
-        let Shared { napi } = self;
+        let Shared { napi, asked: _ } = self;
         napi
     }
 }
@@ -326,6 +339,14 @@ impl Controller {
             },
             other => self.end(other, status::NOT_ALLOWED),
         }
+    }
+
+    /// Returns whether a caller belongs to the controller's instance. It may also return true for a caller of another instance
+    /// whose controller is asked at the same time.
+    pub fn has(&self, caller: &CallerObject) -> bool {
+        let before = caller.napi.asked.load(Ordering::SeqCst);
+        self.napi.asked.fetch_add(1, Ordering::SeqCst);
+        caller.napi.asked.load(Ordering::SeqCst) != before
     }
 
     /// The counts of the ring's polls, if the instance is disabled.

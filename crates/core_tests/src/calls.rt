@@ -13,7 +13,7 @@ const LIMITS: Limits = Limits {
 // work at cards comes before polls, and lower numbers come first
 #[test]
 fn cards_first(rt: HostRuntime) -> Result<(), Fail> {
-    let mut driver = Driver::new(rt.alloc(), 3, LIMITS)?;
+    let mut driver = Driver::new(rt.alloc(), 3, LIMITS, 0)?;
     assert_eq!(rt; driver.open(2), Ok(()));
     assert_eq!(rt; driver.open(1), Ok(()));
     let unmask = driver.next();

@@ -139,7 +139,7 @@ impl DriverBench {
         stops: u32,
     ) -> Result<DriverBench, AllocError> {
         Ok(DriverBench {
-            driver: Driver::new(alloc, 1, limits)?,
+            driver: Driver::new(alloc, 1, limits, 0)?,
             card: TestCard {
                 to_come,
                 packets: 0,

@@ -1,12 +1,11 @@
 -- The devices of a bench, and the effect of its calls and polls on them.
-use Rattle.std.specs.Prelude.{◌≡◌, ℕ, ◌+◌, ◌≤◌, List, [], Option, Some, None, is_some, filter, length, map}
+use Rattle.std.specs.Prelude.{◌≡◌, ℕ, List, [], Option, Some, None, is_some, filter, length, map}
 use Rattle.napi_model.specs.declared.state.Kind.{Kind}
-use Rattle.poll_runs.specs.{Polling.no_report, Thread.last_next, declared.bench.BusyReport.BusyReport}
+use Rattle.poll_runs.specs.{Polling.no_report, declared.bench.BusyReport.BusyReport}
 use Rattle.poll_runs.specs.{declared.bench.Next.TheVariants.Absent, declared.bench.Once.Once}
 use Rattle.device_bench.specs.{Counts.device_counts, Device.{device_after_packet, polled_busily, polled_by_thread, polled_once, settled}}
-use Rattle.device_bench.specs.{DeviceView.DeviceView, Waiting.{one_when, is_left_to_list, leaves}}
-use Rattle.device_bench.specs.{declared.counts.DeviceCounts.DeviceCounts, declared.transmit.TxCounts.TxCounts}
-use Rattle.{device_bench.specs.Transmits.{KeepsTransmits, Transmits}, device_places.specs.Places.{DeviceTable, at, changed}}
+use Rattle.device_bench.specs.{DeviceView.DeviceView, declared.counts.DeviceCounts.DeviceCounts, declared.transmit.TxCounts.TxCounts}
+use Rattle.{device_bench.specs.Transmits.Transmits, device_places.specs.Places.{DeviceTable, at, changed}}
 
 abbrev pub BenchDevices : Type 0
 BenchDevices = DeviceTable DeviceView
@@ -32,19 +31,6 @@ once_of weight (Some d) = (polled_once weight d).0
 abbrev pub polled_at : BenchDevices → ℕ → ℕ → Once × BenchDevices
 polled_at devices number weight = (once_of weight (at number devices), changed (λ d. (polled_once weight d).1) number devices)
 
--- a poll from the list, in terms of what a bench shows: its outcome and the devices afterwards are those of the function
-pub record IsListPoll {B : Type 0} (devices : B → BenchDevices) (shows : B → Transmits → Type 0) (waiting : B → ℕ)
-    (before : B) (number weight : ℕ) (once : Once) (after : B) : Type 0 where
-  pub exact : (once ≡ (polled_at (devices before) number weight).0) × (devices after ≡ (polled_at (devices before) number weight).1)
-  pub transmits : KeepsTransmits shows before after
-  pub waits : waiting before ≤ waiting after + leaves once.next
-
--- the bench's relation for polls from the list is this one
-abbrev pub ArePolls : {B : Type 0} → (B → BenchDevices) → (B → Transmits → Type 0) → (B → ℕ) → (B → ℕ → ℕ → Once → B → Type 0) → Type 0
-ArePolls {B} devices shows waiting polls =
-    (before after : B) (number weight : ℕ) (once : Once) → polls before number weight once after
-    → IsListPoll devices shows waiting before number weight once after
-
 abbrev pub thread_polls_of : ℕ → ℕ → Option DeviceView → List Once
 thread_polls_of weight most None = []
 thread_polls_of weight most (Some d) = (polled_by_thread most weight d).0
@@ -53,20 +39,6 @@ thread_polls_of weight most (Some d) = (polled_by_thread most weight d).0
 abbrev pub thread_polled_at : BenchDevices → ℕ → ℕ → ℕ → BenchDevices
 thread_polled_at devices number weight most = changed (λ d. (polled_by_thread most weight d).1) number devices
 
-pub record IsThreadPolls {B : Type 0} (devices : B → BenchDevices) (shows : B → Transmits → Type 0) (waiting : B → ℕ)
-    (before : B) (number weight most : ℕ) (polls : List Once) (after : B) : Type 0 where
-  pub exact : (polls ≡ thread_polls_of weight most (at number (devices before)))
-      × (devices after ≡ thread_polled_at (devices before) number weight most)
-  pub transmits : KeepsTransmits shows before after
-  pub waits : waiting before + one_when (is_left_to_list (last_next polls)) ≤ waiting after
-
-abbrev pub AreThreadPolls : {B : Type 0} → (B → BenchDevices) → (B → Transmits → Type 0) → (B → ℕ)
-    → (B → ℕ → ℕ → ℕ → List Once → B → Type 0)
-    → Type 0
-AreThreadPolls {B} devices shows waiting polls =
-    (before after : B) (number weight most : ℕ) (all : List Once) → polls before number weight most all after
-    → IsThreadPolls devices shows waiting before number weight most all after
-
 -- busy polling of a device, as a function of the devices: its report, and the devices afterwards
 abbrev pub busy_report_of : ℕ → ℕ → Option DeviceView → BusyReport
 busy_report_of weight rounds None = no_report
@@ -74,19 +46,6 @@ busy_report_of weight rounds (Some d) = (polled_busily rounds weight d).0
 
 abbrev pub busily_polled_at : BenchDevices → ℕ → ℕ → ℕ → BenchDevices
 busily_polled_at devices number weight rounds = changed (λ d. (polled_busily rounds weight d).1) number devices
-
-pub record IsBusyPoll {B : Type 0} (devices : B → BenchDevices) (shows : B → Transmits → Type 0) (waiting : B → ℕ)
-    (before : B) (number weight rounds : ℕ) (report : BusyReport) (after : B) : Type 0 where
-  pub exact : (report ≡ busy_report_of weight rounds (at number (devices before)))
-      × (devices after ≡ busily_polled_at (devices before) number weight rounds)
-  pub transmits : KeepsTransmits shows before after
-  pub waits : waiting before + one_when (is_left_to_list report.next) ≤ waiting after
-
-abbrev pub AreBusyPolls : {B : Type 0} → (B → BenchDevices) → (B → Transmits → Type 0) → (B → ℕ) → (B → ℕ → ℕ → ℕ → BusyReport → B → Type 0)
-    → Type 0
-AreBusyPolls {B} devices shows waiting polls =
-    (before after : B) (number weight rounds : ℕ) (report : BusyReport) → polls before number weight rounds report after
-    → IsBusyPoll devices shows waiting before number weight rounds report after
 
 -- ---- disabling
 

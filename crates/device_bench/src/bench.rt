@@ -1,15 +1,14 @@
 //! The devices of a replay, by their numbers.
 
-ghost use Rattle.std.specs.Prelude.{◌≡◌, None, Some, IfOk, false, is_some};
-ghost use Rattle.device_places.specs.Places.{empty};
+ghost use Rattle.std.specs.Prelude.{◌≡◌, None, Some, false, is_some};
 ghost use Rattle.device_bench.specs.Kept.{IsKept};
 
 use crate::counts::DeviceCounts;
 use crate::device::{BenchDevice, PolledBytes};
-use crate::receive_side::{Opener, ReceiveSide, SpentSide};
-use crate::replay_bench::ReplayBench;
-use crate::serial_receive::{SerialOpener, SerialReceive};
+use crate::receive_side::ReceiveSide;
+use crate::serial_receive::SerialReceive;
 use crate::sides::TransmitSides;
+use crate::table::{DeviceTable, empty_table};
 use crate::transmit::Transmit;
 use device_places::TABLE_LEN;
 use napi_model::Kind;
@@ -19,11 +18,15 @@ use poll_runs::{
 use std::alloc::{AllocError, Global};
 use std::mem;
 
-/// The devices of a replay, in a table by number. The opener creates their receive sides.
+/// At most sixteen devices, by number, on which the rows of a trace act. A call with a number that has no device changes
+/// nothing.
+///
+/// Each call has exactly the effect on the devices and their transmit sides that the rules define. At most 17 devices wait on
+/// the list, because each number waits at most once.
 #[derive(Drop)]
-pub struct DeviceBench<S: ReceiveSide, O> {
-    opener: O,
-    devices: Vec<Option<BenchDevice<S>>>,
+pub struct DeviceBench<S: ReceiveSide> {
+    kit: S::Kit,
+    devices: DeviceTable<BenchDevice<S>>,
     transmits: TransmitSides,
     // Whether a disable may be pending on some device.
     unsettled: bool,
@@ -31,7 +34,7 @@ pub struct DeviceBench<S: ReceiveSide, O> {
 }
 
 /// The devices of one thread.
-pub type SerialBench = DeviceBench<SerialReceive, SerialOpener>;
+pub type SerialBench = DeviceBench<SerialReceive>;
 
 // Puts a value into an empty entry.
 fn fill<T>(place: &mut Option<T>, value: T)
@@ -44,18 +47,7 @@ fn fill<T>(place: &mut Option<T>, value: T)
     }
 }
 
-// Returns an empty table.
-fn no_devices<T>(alloc: Global) -> Result<Vec<Option<T>>, AllocError>
-    ensures { IfOk result (λ places. places.items ≡ empty) }
-{
-    let mut places = Vec::with_capacity(alloc, TABLE_LEN as usize)?;
-    for _ in 0..TABLE_LEN {
-        places.push_reserved(None);
-    }
-    Ok(places)
-}
-
-impl DeviceBench<SerialReceive, SerialOpener> {
+impl DeviceBench<SerialReceive> {
     ghost use Rattle.std.specs.Prelude.{IfOk};
     ghost use Rattle.device_places.specs.Places.{empty};
     ghost use Rattle.device_bench.specs.DeviceBench.{ShowsTransmits, devices_of};
@@ -65,31 +57,33 @@ impl DeviceBench<SerialReceive, SerialOpener> {
         ensures devices { IfOk result (λ bench. devices_of bench ≡ empty) }
         ensures transmits { IfOk result (λ bench. ShowsTransmits bench empty) }
     {
-        DeviceBench::over(alloc, SerialOpener)
+        DeviceBench::over((), alloc)
     }
 }
 
-impl<S: ReceiveSide, O: Opener<S>> DeviceBench<S, O> {
-    ghost use Rattle.std.specs.Prelude.{◌≡◌, ℕ, IfOk, OnErr, OnOk};
-    ghost use Rattle.device_bench.specs.Bench.{attached};
-    ghost use Rattle.device_bench.specs.Device.{new_device, settled};
+impl<S: ReceiveSide> DeviceBench<S> {
+    ghost use Rattle.std.specs.Prelude.{◌≡◌, ◌≤◌, ◌+◌, ℕ, IfOk, OnErr, OnOk, Some, is_some, not, true};
+    ghost use Rattle.device_bench.specs.Bench.{all_settled, after_arrival, attached, counts_at, handed_by};
+    ghost use Rattle.device_bench.specs.Transmits.{Changes, KeepsTransmits, Transmits, is_used, tx_counts_of};
+    ghost use Rattle.device_bench.specs.Device.{after_disable, after_enable, after_threaded, new_device, settled};
+    ghost use Rattle.device_bench.specs.DeviceBench.{ShowsTransmits, devices_of, waiting_of};
+    ghost use Rattle.device_bench.specs.Ending.{AllEnded};
     ghost use Rattle.device_bench.specs.Kept.{is_pending_at};
     ghost use Rattle.device_places.specs.Places.{added, at, changed, empty};
     ghost use Rattle.device_places.specs.Range.{IsWithin};
-    ghost use Rattle.device_bench.specs.DeviceBench.{ShowsTransmits, devices_of, waiting_of};
+    ghost use Rattle.device_bench.specs.Transmit.{after_finish, after_tx, opened_transmit};
+    ghost use Rattle.device_bench.specs.Waiting.{one_when, is_listed};
 
-    /// Returns a bench without devices; this opener creates their receive sides. The table is allocated here, so only `attach`
-    /// allocates later.
-    pub fn over(alloc: Global, opener: O) -> Result<DeviceBench<S, O>, AllocError>
-    where
-        O: Drop,
+    /// Returns a bench without devices, whose receive sides are opened with this kit. The table is allocated here, so only
+    /// `attach` allocates later.
+    pub fn over(kit: S::Kit, alloc: Global) -> Result<DeviceBench<S>, AllocError>
         ensures devices { IfOk result (λ bench. devices_of bench ≡ empty) }
         ensures transmits { IfOk result (λ bench. ShowsTransmits bench empty) }
     {
         let transmits = TransmitSides::new(alloc)?;
         Ok(DeviceBench {
-            opener,
-            devices: no_devices(alloc)?,
+            kit,
+            devices: empty_table(alloc)?,
             transmits,
             unsettled: false,
         })
@@ -114,7 +108,7 @@ impl<S: ReceiveSide, O: Opener<S>> DeviceBench<S, O> {
         if self.devices[device as usize].is_some() {
             return Ok(());
         }
-        let opened = BenchDevice::new(self.opener.open(alloc, capacity)?);
+        let opened = BenchDevice::new(S::open(&self.kit, alloc, capacity)?);
         fill(&mut self.devices[device as usize], opened);
         Ok(())
     }
@@ -133,23 +127,173 @@ impl<S: ReceiveSide, O: Opener<S>> DeviceBench<S, O> {
         }
         false
     }
-}
 
-impl<S: SpentSide, O: Opener<S> + Drop> DeviceBench<S, O> {
-    ghost use Rattle.std.specs.Prelude.{IfOk};
-    ghost use Rattle.device_places.specs.Places.{empty};
-    ghost use Rattle.device_bench.specs.DeviceBench.{ShowsTransmits, devices_of};
-    ghost use Rattle.device_bench.specs.Ending.{AllEnded};
-
-    /// Returns a bench without devices, which has to be ended. The table is allocated here, so only `attach` allocates later.
-    /// `kit` is the value from which the opener is made.
-    pub fn new<K>(kit: K, alloc: Global) -> Result<DeviceBench<S, O>, AllocError>
-    where
-        O: From<K>,
-        ensures devices { IfOk result (λ bench. devices_of bench ≡ empty) }
-        ensures transmits { IfOk result (λ bench. ShowsTransmits bench empty) }
+    /// Handles the arrival of a packet of this size at a device (`napi_schedule`). Returns the queue in which that put the
+    /// instance, if any; if it is the list, the caller still has to push the number.
+    pub fn arrive(&mut self, device: u32, bytes: u32) -> Option<Kind>
+        ensures devices { devices_of self.new ≡ after_arrival device bytes (devices_of self.old) }
+        ensures transmits { KeepsTransmits ShowsTransmits self.old self.new }
+        ensures kind { result ≡ handed_by bytes (at device (devices_of self.old)) }
+        ensures waiting { waiting_of self.old + one_when (is_listed result) ≤ waiting_of self.new }
     {
-        DeviceBench::over(alloc, O::from(kit))
+        if device < TABLE_LEN {
+            if let Some(device) = &mut self.devices[device as usize] {
+                return device.arrive(bytes);
+            }
+        }
+        None
+    }
+
+    /// Creates a device with a receive and a transmit ring of this capacity, both empty, a queue limit that starts at this
+    /// time, and an instance that is enabled and not threaded. If the number has a device already, nothing changes. If an
+    /// allocation fails, nothing changes either.
+    pub fn attach(
+        &mut self,
+        alloc: Global,
+        device: u32,
+        capacity: u32,
+        moment: u64,
+    ) -> Result<(), AllocError>
+        requires device { IsWithin 1 16 device }
+        requires capacity { IsWithin 1 65536 capacity }
+        ensures devices { OnOk result
+            (devices_of self.new ≡ added device (new_device capacity) (devices_of self.old)) }
+        ensures transmits { OnOk result
+            (Changes ShowsTransmits (added device (opened_transmit capacity moment))
+            self.old self.new) }
+        ensures waiting { waiting_of self.old ≤ waiting_of self.new }
+        ensures refused { OnErr result (self.new ≡ self.old) }
+    {
+        let transmit = Transmit::open(alloc, capacity, moment)?;
+        self.keep(alloc, device, capacity)?;
+        self.transmits.attach(device, transmit);
+        Ok(())
+    }
+
+    /// Sends a packet of this size, or counts it as held if the ring rejects it (`netdev_tx_sent_queue`).
+    pub fn send(&mut self, device: u32, bytes: u32)
+        ensures devices { devices_of self.new ≡ devices_of self.old }
+        ensures transmits { Changes ShowsTransmits
+            (changed (after_tx bytes) device) self.old self.new }
+        ensures waiting { waiting_of self.new ≡ waiting_of self.old }
+    {
+        self.transmits.send(device, bytes);
+    }
+
+    /// Completes this many packets, or counts the completion as denied if the ring holds fewer (`netdev_tx_completed_queue`).
+    pub fn done(&mut self, device: u32, count: u32, moment: u64)
+        ensures devices { devices_of self.new ≡ devices_of self.old }
+        ensures transmits { Changes ShowsTransmits
+            (changed (after_finish count moment) device) self.old self.new }
+        ensures waiting { waiting_of self.new ≡ waiting_of self.old }
+    {
+        self.transmits.finish(device, count, moment);
+    }
+
+    /// Marks a disable on a device that is enabled (`napi_disable`). The disable takes effect later, in `settle`.
+    pub fn disable(&mut self, device: u32)
+        ensures devices { devices_of self.new
+            ≡ changed after_disable device (devices_of self.old) }
+        ensures transmits { KeepsTransmits ShowsTransmits self.old self.new }
+        ensures waiting { waiting_of self.new ≡ waiting_of self.old }
+    {
+        if device < TABLE_LEN {
+            if let Some(device) = &mut self.devices[device as usize] {
+                self.unsettled = true;
+                device.disable();
+            }
+        }
+    }
+
+    /// Enables a device that is disabled, with its threaded setting (`napi_enable`). Returns false if its disable is still
+    /// pending.
+    pub fn enable(&mut self, device: u32) -> bool
+        ensures devices { devices_of self.new
+            ≡ changed after_enable device (devices_of self.old) }
+        ensures transmits { KeepsTransmits ShowsTransmits self.old self.new }
+        ensures answer { result ≡ not (is_pending_at (at device (devices_of self.old))) }
+        ensures waiting { waiting_of self.new ≡ waiting_of self.old }
+    {
+        if device < TABLE_LEN {
+            if let Some(device) = &mut self.devices[device as usize] {
+                let pending = device.is_pending();
+                device.enable();
+                return !pending;
+            }
+        }
+        true
+    }
+
+    /// Sets the threaded setting of a device, and the flag THREADED (`dev_set_threaded`).
+    pub fn set_threaded(&mut self, device: u32, threaded: bool)
+        ensures devices { devices_of self.new
+            ≡ changed (after_threaded threaded) device (devices_of self.old) }
+        ensures transmits { KeepsTransmits ShowsTransmits self.old self.new }
+        ensures waiting { waiting_of self.new ≡ waiting_of self.old }
+    {
+        if device < TABLE_LEN {
+            if let Some(device) = &mut self.devices[device as usize] {
+                device.set_threaded(threaded);
+            }
+        }
+    }
+
+    /// Tries each pending disable once, in the order of device numbers (the loop of `napi_disable`).
+    pub fn settle(&mut self)
+        ensures devices { devices_of self.new ≡ all_settled (devices_of self.old) }
+        ensures transmits { KeepsTransmits ShowsTransmits self.old self.new }
+        ensures waiting { waiting_of self.new ≡ waiting_of self.old }
+    {
+        if !self.unsettled {
+            return;
+        }
+        let mut unsettled = false;
+        for device in 0..TABLE_LEN {
+            if self.settle_one(device) {
+                unsettled = true;
+            }
+        }
+        self.unsettled = unsettled;
+    }
+
+    /// The number of devices.
+    pub fn attached(&self) -> usize
+        ensures devices { result ≡ attached (devices_of self.now) }
+        ensures transmits { (all : Transmits) → ShowsTransmits self.now all
+            → result ≡ attached all }
+    {
+        self.taken_places()
+    }
+
+    /// Returns whether a device is attached.
+    pub fn is_attached(&self, device: u32) -> bool
+        ensures devices { result ≡ is_some (at device (devices_of self.now)) }
+        ensures transmits { (all : Transmits) → ShowsTransmits self.now all
+            → result ≡ is_some (at device all) }
+    {
+        matches!(self.devices.get(device as usize), Some(Some(_)))
+    }
+
+    /// Returns what the report shows of an attached device. A device has its transmit side since `attach`.
+    pub fn counts(&self, device: u32) -> DeviceCounts
+        requires attached { is_some (at device (devices_of self.now)) ≡ true }
+        ensures devices { (all : Transmits) → ShowsTransmits self.now all → Some result
+            ≡ counts_at (at device (devices_of self.now)) (tx_counts_of (at device all)) }
+        ensures transmits { (all : Transmits) → ShowsTransmits self.now all
+            → result.tx ≡ tx_counts_of (at device all) }
+    {
+        let Some(Some(opened)) = self.devices.get(device as usize) else {
+            unreachable!();
+        };
+        opened.counts(self.transmits.counts(device))
+    }
+
+    /// Returns whether an attached device had a tx or done row; otherwise the report omits its transmit side.
+    pub fn uses_transmit(&self, device: u32) -> bool
+        ensures { (all : Transmits) → ShowsTransmits self.now all
+            → result ≡ is_used (at device all) }
+    {
+        self.transmits.is_used(device)
     }
 
     /// Ends the receive side of each device, which may wait. It doesn't allocate. It may be called in any state, even after an
@@ -158,7 +302,7 @@ impl<S: SpentSide, O: Opener<S> + Drop> DeviceBench<S, O> {
         ensures { AllEnded S.ended (devices_of self) result }
     {
         let DeviceBench {
-            opener: _,
+            kit: _,
             mut devices,
             transmits: _,
             unsettled: _,
@@ -174,15 +318,14 @@ impl<S: SpentSide, O: Opener<S> + Drop> DeviceBench<S, O> {
     }
 }
 
-impl<S: ReceiveSide, O: Opener<S>> Bench for DeviceBench<S, O> {
-    ghost use Rattle.device_bench.specs.Bench.{IsBusyPoll, IsListPoll, IsThreadPolls};
-    ghost use Rattle.device_bench.specs.DeviceBench.{ShowsTransmits, devices_of, waiting_of};
+impl<S: ReceiveSide> Bench for DeviceBench<S> {
+    ghost use Rattle.device_bench.specs.DeviceBench.{IsBusyPoll, IsListPoll, IsThreadPolls};
 
-    ghost polls = { IsListPoll devices_of ShowsTransmits waiting_of };
+    ghost polls = { IsListPoll };
 
-    ghost thread_polls = { IsThreadPolls devices_of ShowsTransmits waiting_of };
+    ghost thread_polls = { IsThreadPolls };
 
-    ghost busy_polls = { IsBusyPoll devices_of ShowsTransmits waiting_of };
+    ghost busy_polls = { IsBusyPoll };
 
     fn poll_once(&mut self, id: u32, weight: u32) -> Once {
         if id < TABLE_LEN {
@@ -213,112 +356,4 @@ impl<S: ReceiveSide, O: Opener<S>> Bench for DeviceBench<S, O> {
         }
         BusyReport::NONE
     }
-}
-
-impl<S: ReceiveSide, O: Opener<S>> ReplayBench for DeviceBench<S, O> {
-    ghost use Rattle.device_bench.specs.DeviceBench.{ShowsTransmits, devices_of, waiting_of};
-
-    ghost devices = { devices_of };
-
-    ghost shows = { ShowsTransmits };
-
-    ghost waiting = { waiting_of };
-
-    fn arrive(&mut self, device: u32, bytes: u32) -> Option<Kind> {
-        if device < TABLE_LEN {
-            if let Some(device) = &mut self.devices[device as usize] {
-                return device.arrive(bytes);
-            }
-        }
-        None
-    }
-
-    fn attach(
-        &mut self,
-        alloc: Global,
-        device: u32,
-        capacity: u32,
-        moment: u64,
-    ) -> Result<(), AllocError> {
-        let transmit = Transmit::open(alloc, capacity, moment)?;
-        self.keep(alloc, device, capacity)?;
-        self.transmits.attach(device, transmit);
-        Ok(())
-    }
-
-    fn send(&mut self, device: u32, bytes: u32) {
-        self.transmits.send(device, bytes);
-    }
-
-    fn done(&mut self, device: u32, count: u32, moment: u64) {
-        self.transmits.finish(device, count, moment);
-    }
-
-    fn disable(&mut self, device: u32) {
-        if device < TABLE_LEN {
-            if let Some(device) = &mut self.devices[device as usize] {
-                self.unsettled = true;
-                device.disable();
-            }
-        }
-    }
-
-    fn enable(&mut self, device: u32) -> bool {
-        if device < TABLE_LEN {
-            if let Some(device) = &mut self.devices[device as usize] {
-                let pending = device.is_pending();
-                device.enable();
-                return !pending;
-            }
-        }
-        true
-    }
-
-    fn set_threaded(&mut self, device: u32, threaded: bool) {
-        if device < TABLE_LEN {
-            if let Some(device) = &mut self.devices[device as usize] {
-                device.set_threaded(threaded);
-            }
-        }
-    }
-
-    fn settle(&mut self) {
-        if !self.unsettled {
-            return;
-        }
-        let mut unsettled = false;
-        for device in 0..TABLE_LEN {
-            if self.settle_one(device) {
-                unsettled = true;
-            }
-        }
-        self.unsettled = unsettled;
-    }
-
-    fn attached(&self) -> usize {
-        self.taken_places()
-    }
-
-    fn is_attached(&self, device: u32) -> bool {
-        matches!(self.devices.get(device as usize), Some(Some(_)))
-    }
-
-    fn counts(&self, device: u32) -> DeviceCounts {
-        let Some(Some(opened)) = self.devices.get(device as usize) else {
-            unreachable!();
-        };
-        opened.counts(self.transmits.counts(device))
-    }
-
-    fn uses_transmit(&self, device: u32) -> bool {
-        self.transmits.is_used(device)
-    }
-
-    ghost polled = { λ before after number weight once is. is };
-
-    ghost thread_polled = { λ before after number weight most polls are. are };
-
-    ghost busily_polled = { λ before after number weight rounds report is. is };
-
-    ghost few = { λ bench. bench.kept.few };
 }

@@ -8,7 +8,7 @@ ghost use Rattle.device_bench.specs.Counts.{device_counts};
 ghost use Rattle.device_bench.specs.Receive.{opened_side};
 
 use crate::counts::{DeviceCounts, DeviceState};
-use crate::receive_side::{ReceiveSide, SpentSide};
+use crate::receive_side::ReceiveSide;
 use crate::transmit::TxCounts;
 use napi_model::{Kind, Prep, encode};
 use poll_runs::{BusyInstance, Instance};
@@ -160,9 +160,7 @@ impl<S: ReceiveSide> BenchDevice<S> {
         self.threaded = threaded;
         self.side.set_threaded(threaded);
     }
-}
 
-impl<S: SpentSide> BenchDevice<S> {
     /// Ends the device's receive side.
     pub(crate) fn end(self) -> S::End
         ensures { S.ended self.side result }

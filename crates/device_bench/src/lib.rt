@@ -8,14 +8,14 @@ mod bench;
 mod counts;
 mod device;
 mod receive_side;
-mod replay_bench;
 mod serial_receive;
 mod sides;
+mod table;
 mod transmit;
 
 pub use bench::{DeviceBench, SerialBench};
 pub use counts::{DeviceCounts, DeviceState};
-pub use receive_side::{Opener, ReceiveSide, SpentSide};
-pub use replay_bench::ReplayBench;
-pub use serial_receive::{SerialOpener, SerialReceive};
+pub use receive_side::ReceiveSide;
+pub use serial_receive::SerialReceive;
+pub use table::DeviceTable;
 pub use transmit::{Transmit, TxCounts};

@@ -18,8 +18,22 @@ use std::alloc::{AllocError, Global};
 /// exactly the effect on ring and instance that the rules for one thread define, whether or not other threads could share the
 /// instance. What a call requires of its caller is its precondition.
 pub trait ReceiveSide {
+    /// What opening a receive side needs besides memory.
+    type Kit: Drop;
+
+    /// What it leaves at its end.
+    type End: Drop;
+
     /// The state of the instance, and the content of the ring.
     ghost side: { Self → ReceiveView };
+
+    /// `ended side end`: a receive side in the state `side` was ended, and left `end`.
+    ghost ended: { ReceiveView → Self.End → Type 0 };
+
+    /// Opens a receive side with an empty ring of this capacity, and an instance that is enabled, not threaded.
+    fn open(kit: &Self::Kit, alloc: Global, capacity: u32) -> Result<Self, AllocError>
+        requires { IsWithin 1 65536 capacity }
+        ensures { IfOk result (λ opened. side opened ≡ opened_side capacity) };
 
     /// Puts a packet of this size into the ring. Returns false, and changes nothing, if the ring is full.
     fn put(&mut self, bytes: u32) -> bool
@@ -136,25 +150,9 @@ pub trait ReceiveSide {
           napi = after (side self.old).napi
               (event CONTROLLER (operation.SetThreaded threaded));
         } };
-}
 
-/// A linear receive side: it can't be dropped, and only [`end`](SpentSide::end) consumes it.
-pub trait SpentSide: ReceiveSide {
-    /// What it leaves at its end.
-    type End: Drop;
-
-    /// `ended side end`: a receive side in the state `side` was ended, and left `end`.
-    ghost ended: { ReceiveView → Self.End → Type 0 };
-
-    /// Waits until no caller owns the instance, disables it, and polls all packets in the ring.
+    /// Ends a receive side: if other callers can own the instance, waits until none does, disables it, and polls all packets in
+    /// the ring.
     fn end(self) -> Self::End
-        ensures { ended (Self.side self) result };
-}
-
-/// Opens the receive sides of a bench's devices.
-pub trait Opener<S: ReceiveSide> {
-    /// Opens a receive side with an empty ring of this capacity, and an instance that is enabled, not threaded.
-    fn open(&self, alloc: Global, capacity: u32) -> Result<S, AllocError>
-        requires { IsWithin 1 65536 capacity }
-        ensures { IfOk result (λ side. S.side side ≡ opened_side capacity) };
+        ensures { ended (side self) result };
 }

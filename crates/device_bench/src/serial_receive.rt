@@ -5,7 +5,7 @@ ghost use Rattle.device_bench.specs.Receive.{after_hand, is_polling_place, state
 ghost use Rattle.napi_model.specs.declared.state.Place.TheVariants.{Granted, Polling};
 
 use crate::device::{CONTROLLER, INTERRUPT, POLLER, THREAD};
-use crate::receive_side::{Opener, ReceiveSide};
+use crate::receive_side::ReceiveSide;
 use circular_buffer::HeapCircularBuffer;
 use napi_model::{Done, Kind, Place, Prep, Seen, SerialNapi};
 use std::alloc::{AllocError, Global};
@@ -67,21 +67,21 @@ impl SerialReceive {
     }
 }
 
-/// Opens receive sides whose instances aren't shared.
-#[derive(Drop)]
-pub struct SerialOpener;
+impl ReceiveSide for SerialReceive {
+    type Kit = ();
 
-impl Opener<SerialReceive> for SerialOpener {
-    fn open(&self, alloc: Global, capacity: u32) -> Result<SerialReceive, AllocError> {
+    type End = ();
+
+    ghost side = { λ s. s };
+
+    ghost ended = { λ side end. Unit };
+
+    fn open(_kit: &(), alloc: Global, capacity: u32) -> Result<SerialReceive, AllocError> {
         let ring = HeapCircularBuffer::with_capacity(alloc, capacity as usize)?;
         let mut napi = SerialNapi::new(CONTROLLER);
         napi.enable(CONTROLLER, false);
         Ok(SerialReceive { napi, ring })
     }
-}
-
-impl ReceiveSide for SerialReceive {
-    ghost side = { λ s. s };
 
     fn put(&mut self, bytes: u32) -> bool {
         self.ring.try_push_back(bytes).is_ok()
@@ -165,6 +165,8 @@ impl ReceiveSide for SerialReceive {
     fn set_threaded(&mut self, threaded: bool) {
         self.napi.set_threaded(threaded);
     }
+
+    fn end(self) {}
 }
 
 // Returns the sum of the bytes of a batch of packets.

@@ -2,6 +2,7 @@
 
 ghost use Rattle.std.specs.Prelude.{◌≡◌, length};
 
+use crate::table::{DeviceTable, empty_table};
 use crate::transmit::{Transmit, TxCounts};
 use device_places::TABLE_LEN;
 use std::alloc::{AllocError, Global};
@@ -9,7 +10,7 @@ use std::alloc::{AllocError, Global};
 /// At most sixteen transmit sides, by device number. A call with a number that has none changes nothing.
 #[derive(Drop)]
 pub struct TransmitSides {
-    of: Vec<Option<Transmit>>,
+    of: DeviceTable<Transmit>,
     ghost places: { length of.items ≡ 17 },
 }
 
@@ -25,11 +26,9 @@ impl TransmitSides {
     pub fn new(alloc: Global) -> Result<TransmitSides, AllocError>
         ensures { IfOk result (λ sides. ShowsSides sides empty) }
     {
-        let mut of = Vec::with_capacity(alloc, TABLE_LEN as usize)?;
-        for _ in 0..TABLE_LEN {
-            of.push_reserved(None);
-        }
-        Ok(TransmitSides { of })
+        Ok(TransmitSides {
+            of: empty_table(alloc)?,
+        })
     }
 
     /// Adds the transmit side of a device, unless it has one.

@@ -7,7 +7,9 @@
 //! run with threads. `specs/Lib.antt` re-exports what contracts cite.
 #![tactic(auto)]
 
-pub use device_bench::{DeviceCounts, DeviceState, ReplayBench, SerialBench, TxCounts};
+pub use device_bench::{
+    DeviceBench, DeviceCounts, DeviceState, ReceiveSide, SerialBench, TxCounts,
+};
 pub use device_rows::{
     Row, RowEvent as Event, Trace, TraceFault, first_fault_stands, first_records_decide, read_trace,
 };

@@ -4,9 +4,6 @@ use Rattle.rx_ring.specs.declared.ends.RxCtx.{RxCtx}
 use Rattle.rx_ring.specs.{declared.{ends.RxIn.RxIn, packet.Packet.Packet}, Ends.{GivesNext, Meets, SameIn}}
 use Rattle.{napi_calls.specs.Seats.PutsIntoRingOf, napi_word.specs.declared.table.Pass.Pass, device_shared.specs.Receiving.ReceivesNext}
 
-pub same_more : (a b c : RxIn) → SameIn a b → SameIn b c → SameIn a c
-same_more a b c s t = ((t.0.0 ∙ s.0.0, t.0.1 ∙ s.0.1, t.0.2 ∙ s.0.2, t.0.3 ∙ s.0.3), t.1 ∙ s.1)
-
 pub input_still : (before after : RxIn) (p q : Pass) → SameIn before after → q ≡ p → PutsIntoRingOf before p → PutsIntoRingOf after q
 input_still before after p q same pass fed =
     subst (PutsIntoRingOf after) (sym pass)

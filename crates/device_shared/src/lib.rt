@@ -20,5 +20,4 @@ mod shared_receive;
 
 pub use bench::SharedBench;
 pub use closed_side::ClosedSide;
-pub use opening::SharedOpener;
 pub use shared_receive::SharedReceive;

@@ -7,12 +7,14 @@ ghost use Rattle.device_shared.specs.declared.seats.Seats.{Seats};
 
 use crate::closed_side::ClosedSide;
 use crate::ending::{close, disable, empty};
+use crate::opening::new_seats;
 use crate::places::{put_back, take_out};
 use crate::seats::Seats;
-use device_bench::{ReceiveSide, SpentSide};
-use napi_calls::{Caller, Napi};
+use device_bench::ReceiveSide;
+use napi_calls::{Caller, Napi, NewBack};
 use napi_model::{Kind, Prep, Seen};
-use rx_ring::{Batch, Packet, RxIn, batch_bytes, finish};
+use rx_ring::{Batch, Packet, RingFault, RxIn, batch_bytes, finish, ring};
+use std::alloc::{AllocError, Global};
 use std::marker::Model;
 use std::snapshot::Snapshot;
 use std::sync::Wait;
@@ -20,7 +22,7 @@ use std::sync::Wait;
 /// A receive ring and a NAPI instance that threads could share, with all its callers, owned by one thread. The callers meet
 /// after each call, so each call knows the complete history of the instance.
 ///
-/// It is linear: [`end`](SpentSide::end) waits until no caller owns the instance, disables and closes it, and polls all packets
+/// It is linear: [`end`](ReceiveSide::end) waits until no caller owns the instance, disables and closes it, and polls all packets
 /// in the ring.
 pub struct SharedReceive<R: Wait + Drop> {
     pub(crate) rt: R,
@@ -70,8 +72,44 @@ fn keep(napi: &Napi, place: &mut Option<Seats>, seen: &mut Seen, seats: Seats)
     *seen = state;
 }
 
-impl<R: Wait + Drop> ReceiveSide for SharedReceive<R> {
+impl<R: Wait + Copy + Drop> ReceiveSide for SharedReceive<R> {
+    ghost use Rattle.device_shared.specs.Ending.{IsSideClosed};
+
+    type Kit = R;
+
+    type End = ClosedSide;
+
     ghost side = { λ s. s };
+
+    ghost ended = { IsSideClosed };
+
+    fn open(rt: &R, alloc: Global, capacity: u32) -> Result<SharedReceive<R>, AllocError> {
+        let (mut input, ctx) = match ring(alloc, capacity as usize) {
+            Ok(ends) => ends,
+            Err(RingFault::OutOfMemory) => return Err(AllocError),
+            Err(RingFault::BadCapacity) => unreachable!(),
+        };
+        let (napi, mut callers, mut control) = match Napi::new(alloc, ctx, 3) {
+            Ok(made) => made,
+            Err(NewBack { fault: _, ctx: _ }) => return Err(AllocError),
+        };
+        // So the input end knows every free slot.
+        control.beside(&mut input);
+        let (seats, _) = new_seats(&napi, &mut callers, control).meet(&napi);
+        let (seats, seen) = seats.enable(rt, &napi, false).meet(&napi);
+        Ok(SharedReceive {
+            rt: *rt,
+            napi,
+            seats: Some(seats),
+            callers,
+            input,
+            batch: Batch::new(),
+            held: 0,
+            capacity: capacity as usize,
+            seen,
+            arrived: 0,
+        })
+    }
 
     fn put(&mut self, bytes: u32) -> bool {
         self.arrived = self.arrived.saturating_add(1);
@@ -183,14 +221,6 @@ impl<R: Wait + Drop> ReceiveSide for SharedReceive<R> {
         let seats = seats.set_threaded(&self.napi, threaded);
         keep(&self.napi, &mut self.seats, &mut self.seen, seats);
     }
-}
-
-impl<R: Wait + Drop> SpentSide for SharedReceive<R> {
-    ghost use Rattle.device_shared.specs.Ending.{IsSideClosed};
-
-    type End = ClosedSide;
-
-    ghost ended = { IsSideClosed };
 
     fn end(self) -> ClosedSide {
         let SharedReceive {

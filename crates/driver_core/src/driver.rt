@@ -1,6 +1,6 @@
 //! The driver of up to 64 devices.
 
-ghost use Rattle.std.specs.Prelude.{◌≡◌, ◌≤◌, ◌<◌, false, true, length, IfOk, replicate};
+ghost use Rattle.std.specs.Prelude.{◌≡◌, ◌≤◌, ◌<◌, ◌+◌, ◌*◌, false, true, length, IfOk, replicate};
 ghost use Rattle.poll_runs.specs.Steps.{HoldsNothing};
 ghost use Rattle.driver_core.specs.Counts.{no_counts};
 ghost use Rattle.driver_core.specs.Queue.{HasLimits, IsStillDue, IsQueue};
@@ -40,6 +40,9 @@ pub struct Driver {
     ghost numbers: { 1 ≤ number },
 }
 
+// The first numbers of two drivers' actions are at least this far apart.
+const APART: u64 = 281474976710656;
+
 // Returns zero counts for this many devices.
 fn new_counts(alloc: Global, devices: usize) -> Result<Vec<PollCounts>, AllocError>
     ensures { IfOk result (λ counts. counts.items ≡ replicate devices no_counts) }
@@ -58,13 +61,16 @@ impl Driver {
     ghost use Rattle.driver_core.specs.Steps.{napi_of};
     ghost use Rattle.driver_core.specs.Driver.{poll_counts_of, device_of, driver_devices, said_number_of, polled_device, poll_of, said_of, stage_of, is_running, driver_limits, list_of, AreClosed, AsksNext, Ends, DoesChore, IsDue, IsDriverReport, AwaitsNothing, IsIdle, IsNumberedTodo, IsReport, IsRunning, IsStep, IsUncounted, PutsDevice, Reports};
 
-    /// Creates a driver of this many devices, at most 64, all closed.
-    pub fn new(alloc: Global, devices: u32, limits: Limits) -> Result<Driver, AllocError>
+    /// Creates a driver of this many devices, at most 64, all closed. Drivers with different salts number their actions
+    /// differently, for 2^48 actions, so that none takes another one's report.
+    pub fn new(alloc: Global, devices: u32, limits: Limits, salt: u16) -> Result<Driver, AllocError>
         requires { devices ≤ 64 }
         ensures devices { IfOk result (AreClosed devices) }
         ensures idle { IfOk result (λ driver. IsIdle driver) }
         ensures limits { IfOk result (λ driver. driver_limits driver ≡ limits) }
         ensures counts { IfOk result (λ driver. IsUncounted driver) }
+        ensures number { IfOk result (λ driver. said_number_of driver
+            ≡ salt * 281474976710656 + 1) }
     {
         let closed = Devices::new(alloc, devices)?;
         let counts = new_counts(alloc, devices as usize)?;
@@ -76,7 +82,7 @@ impl Driver {
             runs: false,
             limits,
             said: None,
-            number: 1,
+            number: u64::from(salt) * APART + 1,
         })
     }
 

@@ -11,6 +11,10 @@ use Rattle.files_c.specs.ReplayFaults.{fault_status, fault_row}
 use Rattle.files_c.specs.declared.replay_calls.FqReplayed.{FqReplayed}
 use Rattle.files_c.specs.declared.replay_calls.FqSettings.{FqSettings}
 
+-- the caller set the sizes of both structs
+abbrev pub HasReplaySizes : FqSettings → FqReplayed → Type 0
+HasReplaySizes asked replayed = (asked.size ≡ 24) × (replayed.size ≡ 24)
+
 -- these settings are asked for; a replay on one thread doesn't use the number of pollers
 pub record AreSettingsOf (asked : FqSettings) (s : ReplaySettings) : Type 0 where
   pub budget : s.budget ≡ asked.budget

@@ -1,6 +1,6 @@
 -- The settings of the machine for C.
 use Rattle.std.specs.Prelude.{◌≡◌, ℕ}
-use Rattle.machine_model.specs.Options.{IsFirstOut, values_of}
+use Rattle.machine_model.specs.Options.{IsRejected, values_of}
 use Rattle.machine_model.specs.declared.settings.MachineSettings.{MachineSettings}
 use Rattle.files_c.specs.declared.settings.FqMachineSettings.{FqMachineSettings}
 
@@ -8,6 +8,6 @@ use Rattle.files_c.specs.declared.settings.FqMachineSettings.{FqMachineSettings}
 abbrev pub AsksMachine : FqMachineSettings → MachineSettings → Type 0
 AsksMachine asked s = values_of s ≡ asked.values
 
--- the setting with this number is the first that is out of its range; the first setting of the struct has number 1
+-- the settings are rejected for the one with this number; the first setting of the struct has number 1
 abbrev pub IsSettingOut : FqMachineSettings → ℕ → Type 0
-IsSettingOut asked number = IsFirstOut asked.values number
+IsSettingOut asked number = IsRejected asked.values number

@@ -1,24 +1,27 @@
 //! A whole replay on one thread, from a trace in the caller's memory to a report in the caller's memory; and a trace with the runs
 //! that the kernel adds.
 
-ghost use Rattle.std.specs.Prelude.{◌≡◌, ◌≢◌, ◌<◌, ◌⊎◌, Ok, Err, IfOk, IfErr, Some, length, take, drop};
+ghost use Rattle.std.specs.Prelude.{◌≡◌, ◌≢◌, ◌<◌, ◌⊎◌, ◌↔◌, Ok, Err, IfOk, IfErr, IsTrue, Some, length, take, drop};
 ghost use Rattle.text_io.specs.Outside.{IsOutside};
 ghost use Rattle.replay_rows.specs.Answer.{replay_of};
 ghost use Rattle.replay_rows.specs.RaisedTrace.{raised_trace};
-ghost use Rattle.files_c.specs.Status.{FILES_OK, FILES_NO_ROOM, FILES_BAD_TRACE};
+ghost use Rattle.files_c.specs.Status.{FILES_OK, FILES_NO_ROOM, FILES_BAD_SIZE, FILES_BAD_TRACE};
 ghost use Rattle.files_c.specs.ReplayFaults.{fault_status};
-ghost use Rattle.files_c.specs.Replay.{IsCallResult, AreSettingsOf, HasWeight, HasBudget, Lacks, ReportsFault, computed_by};
+ghost use Rattle.files_c.specs.Replay.{IsCallResult, AreSettingsOf, HasReplaySizes, HasWeight, HasBudget, Lacks, ReportsFault, computed_by};
 
 use crate::replay_fault::{fault_status, row_of};
 use crate::status;
 use replay_rows::{raise_trace, replay_serial};
 use std::alloc::Global;
+use std::mem::size_of;
 use text_io::{ReplayFault, ReplaySettings};
 
 /// The settings of a replay: `struct fq_settings`.
 #[repr(C)]
 #[derive(Clone, Copy)]
 pub struct FqSettings {
+    /// The size of this struct in bytes, which the caller sets.
+    pub size: usize,
     /// Packets that a run polls before it is squeezed, 1 to 65535 (`netdev_budget`).
     pub budget: u32,
     /// Packets that one poll may process, 1 to 64 (`NAPI_POLL_WEIGHT`).
@@ -31,12 +34,25 @@ pub struct FqSettings {
 #[repr(C)]
 #[derive(Clone, Copy)]
 pub struct FqReplayed {
+    /// The size of this struct in bytes, which the caller sets.
+    pub size: usize,
     /// The length of the report in bytes, even if there is no room for it; 0 if there is none.
     pub length: usize,
     /// The number of the trace's error, 1 to 12; 0 if it has none.
     pub fault: u32,
     /// The row that the error names; 0 if it names none.
     pub row: u32,
+}
+
+impl FqReplayed {
+    const SIZE: usize = size_of::<FqReplayed>();
+}
+
+// Returns whether the caller set the sizes of both structs.
+fn has_sizes(settings: &FqSettings, replayed: &FqReplayed) -> bool
+    ensures { IsTrue result ↔ HasReplaySizes settings.now replayed.now }
+{
+    settings.size == size_of::<FqSettings>() && replayed.size == FqReplayed::SIZE
 }
 
 // Returns the settings with these numbers, or the status of the first that is out of its range.
@@ -132,6 +148,7 @@ fn report_fault(fault: &ReplayFault, replayed: &mut FqReplayed) -> u32
     let status = fault_status(fault);
     if status == status::BAD_TRACE {
         *replayed = FqReplayed {
+            size: FqReplayed::SIZE,
             length: 0,
             fault: u32::from(fault.number()),
             row: row_of(fault),
@@ -153,6 +170,7 @@ fn answer(
         result }
 {
     *replayed = FqReplayed {
+        size: FqReplayed::SIZE,
         length: 0,
         fault: 0,
         row: 0,
@@ -167,7 +185,7 @@ fn answer(
 }
 
 /// Like `replay_serial`, from the bytes of a trace to an array: the report is the first `length` bytes of the array. Returns
-/// OK; NO_ROOM, and writes nothing; BAD_WEIGHT or BAD_BUDGET (also for the window); BAD_TRACE, with the numbers of its error;
+/// OK; BAD_SIZE for one of the structs; NO_ROOM, and writes nothing; BAD_WEIGHT or BAD_BUDGET (also for the window); BAD_TRACE, with the numbers of its error;
 /// or OUT_OF_MEMORY.
 #[unsafe(no_mangle)]
 pub extern "C" fn fq_replay(
@@ -177,9 +195,14 @@ pub extern "C" fn fq_replay(
     report: &mut [u8],
     replayed: &mut FqReplayed,
 ) -> u32
-    ensures { IsCallResult replay_of settings.now trace.now report.old report.new replayed.new
-        result }
+    ensures called { HasReplaySizes settings.now replayed.old → IsCallResult replay_of settings.now
+        trace.now report.old report.new replayed.new result }
+    ensures size { ¬ HasReplaySizes settings.now replayed.old → (result ≡ FILES_BAD_SIZE)
+        × (report.new ≡ report.old) × (replayed.new ≡ replayed.old) }
 {
+    if !has_sizes(settings, replayed) {
+        return status::BAD_SIZE;
+    }
     answer(alloc, settings, None, trace, report, replayed)
 }
 
@@ -194,8 +217,14 @@ pub extern "C" fn fq_raise(
     raised: &mut [u8],
     replayed: &mut FqReplayed,
 ) -> u32
-    ensures { IsCallResult (λ s bytes. raised_trace s (Some restarts) bytes) settings.now trace.now
+    ensures called { HasReplaySizes settings.now replayed.old
+        → IsCallResult (λ s bytes. raised_trace s (Some restarts) bytes) settings.now trace.now
         raised.old raised.new replayed.new result }
+    ensures size { ¬ HasReplaySizes settings.now replayed.old → (result ≡ FILES_BAD_SIZE)
+        × (raised.new ≡ raised.old) × (replayed.new ≡ replayed.old) }
 {
+    if !has_sizes(settings, replayed) {
+        return status::BAD_SIZE;
+    }
     answer(alloc, settings, Some(restarts), trace, raised, replayed)
 }

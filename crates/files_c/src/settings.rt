@@ -23,22 +23,18 @@ impl FqMachineSettings {
     pub(crate) const SIZE: usize = size_of::<FqMachineSettings>();
 }
 
-/// Sets all settings to their defaults, like `MachineSettings::default`, in a struct of `size` bytes, and sets its `size`.
-/// Returns OK, or BAD_SIZE and writes nothing.
+/// Sets all settings to their defaults, like `MachineSettings::default`. Returns OK, or BAD_SIZE and writes nothing.
 #[unsafe(no_mangle)]
-pub extern "C" fn fq_machine_default(settings: &mut FqMachineSettings, size: usize) -> u32
+pub extern "C" fn fq_machine_default(settings: &mut FqMachineSettings) -> u32
     ensures default { result ≡ FILES_OK → settings.new.values ≡ option_defaults }
-    ensures size { result ≡ FILES_OK → settings.new.size ≡ 96 }
+    ensures size { result ≡ FILES_OK → settings.new.size ≡ 104 }
     ensures status { result ≢ FILES_OK → result ≡ FILES_BAD_SIZE }
-    ensures when { (result ≡ FILES_OK) ↔ (size ≡ 96) }
+    ensures when { (result ≡ FILES_OK) ↔ (settings.old.size ≡ 104) }
     ensures kept { result ≢ FILES_OK → settings.new ≡ settings.old }
 {
-    if size != FqMachineSettings::SIZE {
+    if settings.size != FqMachineSettings::SIZE {
         return status::BAD_SIZE;
     }
-    *settings = FqMachineSettings {
-        size: FqMachineSettings::SIZE,
-        values: MachineSettings::default().values(),
-    };
+    settings.values = MachineSettings::default().values();
     status::OK
 }

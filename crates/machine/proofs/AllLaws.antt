@@ -1,4 +1,4 @@
--- The laws that `laws.rt` names for its proofs; the last one has answers of its own.
+-- The laws that `laws.rt` names for its proofs; the last two have answers of their own.
 use Rattle.machine.proofs.BoundFacts.{deferral-is-bounded}
 use Rattle.machine.proofs.FateFacts.{delivers-in-order}
 use Rattle.machine.proofs.TimeFacts.{no-wait-is-less}

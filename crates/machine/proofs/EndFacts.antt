@@ -102,7 +102,7 @@ ends Q p e = ends-work Q p.work p (spent p.work (p.ends - p.clock) p.counts) ref
 
 -- a property of one queue that each change of a queue keeps when work ends
 pub record Keeps (K : Option QueueView → Type 0) (p : ProcessorView) : Type 0 where
-  pub raised : (o : Option QueueView) → K o → K (map_at raised_again o)
+  pub raised : is_polling p.settings ≡ false → (o : Option QueueView) → K o → K (map_at raised_again o)
   pub next : (backlog : Bool) (o : Option QueueView) → (backlog ≡ false → (p.settings.backlog && is_polling p.settings) ≡ false)
       → (backlog ≡ true → (m : ℕ) × (polled_by p.work ≡ Some m) × (p.settings.backlog ≡ true)) → K o → K (map_at (without_next backlog) o)
   pub delivered : (came : ℕ) (o : Option QueueView) → K o → K (map_at (queue_delivered p.ends came) o)
@@ -111,10 +111,10 @@ pub record Keeps (K : Option QueueView → Type 0) (p : ProcessorView) : Type 0 
 ends-kept : (K : Option QueueView → Type 0) (n : ℕ) (p : ProcessorView) → Keeps K p → K (at n p.devices) → Ends (λ o ds w. K (at n ds)) p
 ends-kept K n p k held = record {
   rest = λ none polls. held;
-  silent = λ m is lone none. raise m p.devices held;
+  silent = λ m is lone none. raise lone m p.devices held;
   lone = λ m came is lone next.
       let one = changed (without_next false) m p.devices in
-      raise m (changed (queue_delivered p.ends came) m one)
+      raise lone m (changed (queue_delivered p.ends came) m one)
       (deliver came m one (at-keeps K (without_next false) m n p.devices
       (λ here. k.next false (at n p.devices) (λ no. and_right p.settings.backlog (is_polling p.settings) lone) (λ no. cc no)) held));
   poll = λ m is. looks m 0 p.devices (ap polled_by is) held;
@@ -123,8 +123,8 @@ ends-kept K n p k held = record {
       (deliver hand.came hand.device p.devices held);
 }
   where
-    raise : (m : ℕ) (ds : QueueViews) → K (at n ds) → K (at n (changed raised_again m ds))
-    raise m ds held = at-keeps K raised_again m n ds (λ here. k.raised (at n ds)) held
+    raise : is_polling p.settings ≡ false → (m : ℕ) (ds : QueueViews) → K (at n ds) → K (at n (changed raised_again m ds))
+    raise lone m ds held = at-keeps K raised_again m n ds (λ here. k.raised lone (at n ds)) held
 
     deliver : (came m : ℕ) (ds : QueueViews) → K (at n ds) → K (at n (changed (queue_delivered p.ends came) m ds))
     deliver came m ds held = at-keeps K (queue_delivered p.ends came) m n ds (λ here. k.delivered came (at n ds)) held

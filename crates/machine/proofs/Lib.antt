@@ -10,6 +10,7 @@ pub mod StandFacts
 pub mod TendFacts
 pub mod LeftFacts
 pub mod BoundFacts
+pub mod GapFacts
 pub mod LifeFacts
 pub mod AllLaws
 pub mod FaultFacts

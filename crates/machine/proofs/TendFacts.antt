@@ -9,8 +9,8 @@ use Rattle.machine.specs.{Lives.{MachineEvent, behind, next, packet}, Fates.{tak
 use Rattle.machine_model.specs.declared.device.{Phase.Phase, Line.{Line, TheVariants.{Quiet, Raised}}}
 use Rattle.machine_model.specs.declared.device.Expiry.{Expiry, TheVariants.Expired}
 use Rattle.machine_model.specs.declared.processor.{Work.{Work, TheVariants.{Interrupt, Packet}}, InHand.InHand}
-use Rattle.machine_model.specs.Device.{QueueView, after_packet, coalesced, completed_state, expired, expired_phase, handled, has_room}
-use Rattle.machine_model.specs.Device.{interrupted, is_fired, is_napi_idle, is_masked, is_missed, notified, queue_completed}
+use Rattle.machine_model.specs.Device.{QueueView, after_packet, asks_later, coalesced, completed_state, expired, expired_phase, handled, has_room}
+use Rattle.machine_model.specs.Device.{interrupted, is_at_once, is_fired, is_napi_idle, is_masked, is_missed, notified, queue_completed}
 use Rattle.machine_model.specs.Device.{queue_polled, raised_again, unmasked_line, without_next}
 use Rattle.machine_model.specs.{Devices.{QueueViews, next_packet_at}, Waits.saturated}
 use Rattle.machine_model.specs.Kept.{is_scheduled, polled_by, scheduled_at}
@@ -206,8 +206,7 @@ ends-tend s n p goes stands plain h = record {
 notified-busy : (moment : ℕ) (s : MachineSettings) (d : QueueView) → is_quiet (notified moment s d).phase ≡ true → ⊥
 unfolding notified
 notified-busy moment s d quiet =
-    by d.phase (s.rx_nsecs == 0 || not (s.rx_frames == 0) && nat_le s.rx_frames (saturated (d.frames + 1)))
-    (saturated (moment + s.rx_nsecs)) quiet
+    by d.phase (is_at_once moment s d) (asks_later moment s d) quiet
   where
     by : (phase : Phase) (at_once : Bool) (until : ℕ)
         → is_quiet (record phase { line = if at_once then Raised else coalesced until phase.line }) ≡ true → ⊥
@@ -329,7 +328,7 @@ unstuck-raised phase false free = refl
 
 unstuck-ends : (p : ProcessorView) → Keeps Unstuck p
 unfolding map_at
-unstuck-ends p = record { raised = first; next = λ backlog o plain polls t. second backlog o t; delivered = third; polled = fourth }
+unstuck-ends p = record { raised = λ lone o t. first o t; next = λ backlog o plain polls t. second backlog o t; delivered = third; polled = fourth }
   where
     first : (o : Option QueueView) → Unstuck o → Unstuck (map_at raised_again o)
     first None t = tt
@@ -367,9 +366,7 @@ unstuck-packet moment s d free = by (has_room d) (is_masked d.phase) refl
         else (if masked then f else notified moment s f)).phase ≡ false
     by false masked is = free
     by true true is = free
-    by true false is =
-        notified-unstuck d.phase (s.rx_nsecs == 0 || not (s.rx_frames == 0) && nat_le s.rx_frames (saturated (d.frames + 1)))
-        (saturated (moment + s.rx_nsecs)) is
+    by true false is = notified-unstuck d.phase (is_at_once moment s d) (asks_later moment s d) is
 
 pub unstuck-on : (s : MachineSettings) (n : ℕ) (events : List MachineEvent) → Unstuck (at n (behind s events).devices)
 unfolding behind step made_at

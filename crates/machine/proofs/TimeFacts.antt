@@ -233,9 +233,9 @@ cells-end : (s : MachineSettings) (p : ProcessorView) → Goes s p → p.ends < 
     → ((n : ℕ) → IsPlain s n p.devices) → (n : ℕ) → Cell s p.ends (at n (ends_current p).devices)
 cells-end s p goes fits cells plain n =
     (ends-at (λ o. Cell s t o × ((s.backlog && is_polling s) ≡ false → taken_in o ≡ [])) n p (record {
-      raised = λ o c. (
+      raised = λ lone o c. (
         cell-map s t raised_again o (λ d. set-raised t s.gro_flush_timeout d) queued-raised c.0,
-        λ is. (k is).raised o (c.1 is),
+        λ is. (k is).raised lone o (c.1 is),
       );
       next = λ backlog o lone polls c. (
         record {

@@ -10,6 +10,7 @@ use Rattle.machine_model.specs.declared.device.{Phase.Phase, Line.{Line, TheVari
 use Rattle.machine_model.specs.declared.processor.Upcoming.{Upcoming, TheVariants.{Never, Ends, Expires}}
 use Rattle.machine_model.specs.Device.{QueueView, after_napi_timer, after_packet, card_timer, coalesced, expired, expired_phase, handled}
 use Rattle.machine_model.specs.Device.{has_room, interrupted, is_card_first, is_fired, is_masked, is_missed, notified, queue_completed}
+use Rattle.machine_model.specs.Device.{asks_later, gap_end, is_at_once}
 use Rattle.machine_model.specs.{Device.{queue_polled, raised_again, unmasked_line}, Waits.saturated}
 use Rattle.machine_model.specs.{Device.{timer_of, without_next}, Devices.{QueueViews, soonest_from, sooner, timer_at}}
 use Rattle.machine_model.specs.Processor.{ProcessorView, is_busy, is_by, is_due, upcoming}
@@ -187,13 +188,17 @@ expired-set t gro phase set = by (is_card_first (card_timer phase.line) phase.ti
 pub set-expired : (t gro : ℕ) (d : QueueView) → Set t gro d.phase → Set t gro (expired d).phase
 set-expired t gro d set = expired-set t gro d.phase set
 
-set-coalesced : (t until : ℕ) (at_once : Bool) (line : Line) → t ≤ until → until < 2 ^ 64 → SetLine t line
+set-coalesced : (t until : ℕ) (at_once : Bool) (line : Line) → (at_once ≡ false → t ≤ until) → until < 2 ^ 64 → SetLine t line
     → SetLine t (if at_once then Raised else coalesced until line)
 set-coalesced t until true line later fits set = tt
-set-coalesced t until false Quiet later fits set = (later, fits)
+set-coalesced t until false Quiet later fits set = (later refl, fits)
 set-coalesced t until false (Coalescing other) later fits set = set
 set-coalesced t until false Raised later fits set = tt
 set-coalesced t until false Masked later fits set = tt
+
+gap-fits : (gap : ℕ) (asserted : Option ℕ) → gap_end gap asserted < 2 ^ 64
+gap-fits gap None = omega arith
+gap-fits gap (Some last) = omega arith
 
 pub set-packet : (t gro : ℕ) (s : MachineSettings) (d : QueueView) → t < 2 ^ 64 → Set t gro d.phase → Set t gro (after_packet t s d).phase
 unfolding after_packet notified
@@ -205,15 +210,22 @@ set-packet t gro s d fits set = by (has_room d) (is_masked d.phase)
     f : QueueView
     f = record e { ring = d.ring ++ t ∷ [] }
 
+    later : (none now : Bool) → (if none then now else nat_le (gap_end s.rx_gap d.asserted) t) ≡ false
+        → t ≤ (if none then saturated (t + s.rx_nsecs) else gap_end s.rx_gap d.asserted)
+    later true now waits = omega (arith, fits)
+    later false now waits = let after = leb-false (gap_end s.rx_gap d.asserted) t waits in omega (arith, after)
+
+    in-word : (none : Bool) → (if none then saturated (t + s.rx_nsecs) else gap_end s.rx_gap d.asserted) < 2 ^ 64
+    in-word true = omega arith
+    in-word false = gap-fits s.rx_gap d.asserted
+
     by : (room masked : Bool)
         → Set t gro (if not room then record e { counts = record e.counts { dropped = saturated (d.counts.dropped + 1) } }
         else (if masked then f else notified t s f)).phase
     by false masked = set
     by true true = set
     by true false = (
-      set-coalesced t (saturated (t + s.rx_nsecs))
-          (s.rx_nsecs == 0 || not (s.rx_frames == 0) && nat_le s.rx_frames (saturated (d.frames + 1))) d.phase.line
-          (omega (arith, fits)) (omega arith) set.0,
+      set-coalesced t (asks_later t s d) (is_at_once t s d) d.phase.line (later (s.rx_gap == 0) _) (in-word (s.rx_gap == 0)) set.0,
       set.1,
     )
 

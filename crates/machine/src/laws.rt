@@ -3,6 +3,7 @@
 
 ghost use Rattle.machine.specs.Deferrals.{DeferralIsBounded, EveryRunEnds, TimersAreNear};
 ghost use Rattle.machine.specs.Fates.{DeliversInOrder, NothingIsLeft, TellsOfUse, UsesInOrder};
+ghost use Rattle.machine.specs.Gaps.{InterruptsAreApart};
 ghost use Rattle.machine.specs.Lives.{ArrivesAsOne, EachLives, RunsAsOne};
 ghost use Rattle.machine.specs.Reports.{ReportsLives};
 ghost use Rattle.machine.specs.Times.{ClocksNeverFall, NoWaitIsLess, WorksWithin};
@@ -71,6 +72,11 @@ pub fn timers_are_near()
 /// `packet` later.
 pub fn deferral_is_bounded()
     ensures { DeferralIsBounded }
+{}
+
+/// With polling, the interrupts of a queue are at most one more than `rx-gap` fits into the time until its card last asked for one.
+pub fn interrupts_are_apart()
+    ensures { InterruptsAreApart }
 {}
 
 /// Each processor of a report lived as the laws say, with the packets of the bytes read, until nothing was left.

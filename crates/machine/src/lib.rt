@@ -24,8 +24,8 @@ pub use arrivals::Arrivals;
 pub use fault::{MachineFault, fault_line, status};
 pub use laws::{
     arrives_as_one, clocks_never_fall, deferral_is_bounded, delivers_in_order, each_lives,
-    every_run_ends, no_wait_is_less, nothing_is_left, reports_live, runs_as_one, tells_of_use,
-    timers_are_near, uses_in_order, works_within,
+    every_run_ends, interrupts_are_apart, no_wait_is_less, nothing_is_left, reports_live,
+    runs_as_one, tells_of_use, timers_are_near, uses_in_order, works_within,
 };
 pub use machine_model::{
     ApplicationReport, Machine, MachineOption, MachineSettings, OPTION_COUNT, OPTIONS,

@@ -1,7 +1,7 @@
 -- The values of options: in their ranges, and as arguments give them.
 use Rattle.std.proofs.Common.{◌≡◌, ◌≤◌, ◌<◌, ◌+◌, ◌-◌, ℕ, zero, suc, List, [], ◌∷◌, length, map, set, slice_index_or, nat_eq}
 use Rattle.std.proofs.Common.{inl, inr, Option, Some, None, Result, Ok, Err, IfOk, IfErr, option_map}
-use Rattle.std.specs.Result.{result_ok}
+use Rattle.std.specs.{Prelude.{Bool, true, false, if◌then◌else◌}, Result.{result_ok}}
 use Rattle.std.proofs.lemmas.Bool.{cases_eq}
 use Rattle.std.proofs.lemmas.List.{get_or-map, get_or-set_same, get_or-set_other, get_or_default}
 use Rattle.std.proofs.Common.{◌∙◌, ap, refl, subst, sym, arith, rules}
@@ -12,7 +12,7 @@ use Rattle.text_io.specs.Given.{Text, number_within, or_usual}
 use Rattle.machine_model.specs.declared.settings.{MachineOption.MachineOption, MachineSettings.MachineSettings}
 use Rattle.machine_model.specs.declared.settings.TheConstants.{OPTION_COUNT}
 use Rattle.machine_model.specs.Options.{OptionRule, machine_options, option_defaults, flag_number, rule}
-use Rattle.machine_model.specs.Options.{AreInRange, IsFirstOut, IsOption, IsOptionInRange, number_with, values_of, values_with}
+use Rattle.machine_model.specs.Options.{AreInRange, IsOption, IsOptionInRange, IsRejected, excludes, number_with, values_of, values_with}
 
 -- ---- lists
 
@@ -139,11 +139,21 @@ one_more P values i v l before here k o d m = elim (cases_eq k i) [
 
 -- ---- arguments
 
+fit_is : (values : List ℕ) (b : Bool) (o : Option (List ℕ)) → b ≡ false → o ≡ Some values → o ≡ (if b then None else Some values)
+fit_is values true o fit is = cc fit
+fit_is values false o fit is = is
+
+none_is : (values : List ℕ) (b : Bool) → b ≡ true → None ≡ (if b then None else Some values)
+none_is values true out = refl
+none_is values false out = cc out
+
 pub asked_is : (r : Result MachineSettings ℕ) (values : List ℕ) → IfOk r (λ s. values_of s ≡ values)
-    → IfErr r (λ number. IsFirstOut values number) → AreInRange values → option_map values_of (result_ok r) ≡ Some values
-asked_is (Ok s) values ok err h = ap Some ok
-asked_is (Err n) values ok err h =
-    absurd (err.out no_option 0 (in_range_at values (n - 1) no_option 0 h (omega (arith, err.numbered.0, err.numbered.1, length_options))))
+    → IfOk r (λ s. excludes values ≡ false) → IfErr r (λ number. IsRejected values number) → AreInRange values
+    → option_map values_of (result_ok r) ≡ (if excludes values then None else Some values)
+asked_is (Ok s) values ok fit err h = fit_is values (excludes values) (Some (values_of s)) fit (ap Some ok)
+asked_is (Err n) values ok fit (inl out) h =
+    absurd (out.out no_option 0 (in_range_at values (n - 1) no_option 0 h (omega (arith, out.numbered.0, out.numbered.1, length_options))))
+asked_is (Err n) values ok fit (inr both) h = none_is values (excludes values) both.1
 
 abbrev nothing : Option (List ℕ)
 nothing = None

@@ -1,6 +1,7 @@
 -- A receive queue of a card, with its NAPI instance (`struct napi_struct`).
 use Rattle.std.specs.Prelude.{ℕ, ◌+◌, ◌-◌, ◌==◌, ◌||◌, ◌&&◌, not, nat_le, nat_lt, Bool, true, false, List, [], ◌∷◌, ◌++◌, length, drop}
 use Rattle.std.specs.Prelude.{slice_get, Option, Some, None, is_some, if◌then◌else◌}
+use Rattle.std.specs.Option.{option_map_or}
 use Rattle.{machine_model.specs.declared.settings.MachineSettings.MachineSettings}
 use Rattle.{machine_model.specs.Waits.{WaitsView, counted, saturated, no_waits}}
 use Rattle.machine_model.specs.declared.device.{QueueCounts.QueueCounts, Phase.Phase, TheConstants.{Phase.QUIET, QueueCounts.NONE}}
@@ -15,6 +16,8 @@ pub record QueueView : Type 0 where
   -- with a backlog: the packets that `process_backlog` moved out of the ring
   pub taken : List ℕ
   pub phase : Phase
+  -- when a packet, or the end of a gap, last made the card ask for an interrupt
+  pub asserted : Option ℕ
   -- the frames since the last interrupt; the next field is how often its interrupt may still be deferred
   pub frames : ℕ
   pub deferrals : ℕ
@@ -22,8 +25,17 @@ pub record QueueView : Type 0 where
   pub waits : WaitsView
 
 abbrev pub new_queue : ℕ → QueueView
-new_queue capacity =
-    record { ring = []; capacity = capacity; taken = []; phase = QUIET; frames = 0; deferrals = 0; counts = NONE; waits = no_waits }
+new_queue capacity = record {
+  ring = [];
+  capacity = capacity;
+  taken = [];
+  phase = QUIET;
+  asserted = None;
+  frames = 0;
+  deferrals = 0;
+  counts = NONE;
+  waits = no_waits;
+}
 
 -- ---- its phase
 
@@ -88,7 +100,9 @@ expired_phase phase =
     else (if is_some phase.timer then after_napi_timer phase else phase)
 
 abbrev pub expired : QueueView → QueueView
-expired d = record d { phase = expired_phase d.phase }
+expired d =
+    let card = card_timer d.phase.line in
+    record d { phase = expired_phase d.phase; asserted = if is_card_first card d.phase.timer then card else d.asserted }
 
 -- ---- a packet arrives
 
@@ -97,13 +111,28 @@ abbrev pub coalesced : ℕ → Line → Line
 coalesced until Quiet = Coalescing until
 coalesced until line = line
 
+-- With `rx-gap`, the card may ask for an interrupt again from this time on: so long after it last did. This is how EITR works in igb
+-- and ixgbe, and ITR in e1000 and e1000e (`igb_write_itr`, `ixgbe_write_eitr`, `e1000_set_itr`, `e1000e_write_itr`).
+abbrev pub gap_end : ℕ → Option ℕ → ℕ
+gap_end gap asserted = option_map_or (λ last. saturated (last + gap)) asserted 0
+
+-- one more frame makes the card ask for an interrupt at once
+abbrev pub is_at_once : ℕ → MachineSettings → QueueView → Bool
+is_at_once moment s d =
+    if s.rx_gap == 0 then s.rx_nsecs == 0 || not (s.rx_frames == 0) && nat_le s.rx_frames (saturated (d.frames + 1))
+    else nat_le (gap_end s.rx_gap d.asserted) moment
+
+-- otherwise it asks for one at this time, unless it is to ask earlier
+abbrev pub asks_later : ℕ → MachineSettings → QueueView → ℕ
+asks_later moment s d = if s.rx_gap == 0 then saturated (moment + s.rx_nsecs) else gap_end s.rx_gap d.asserted
+
 -- the card has one more frame, and asks for an interrupt now or later
 unfoldable pub notified : ℕ → MachineSettings → QueueView → QueueView
 notified moment s d =
-    let frames = saturated (d.frames + 1) in
-    let at_once = s.rx_nsecs == 0 || not (s.rx_frames == 0) && nat_le s.rx_frames frames in
-    let line = if at_once then Raised else coalesced (saturated (moment + s.rx_nsecs)) d.phase.line in
-    record d { frames = frames; phase = record d.phase { line = line } }
+    let at_once = is_at_once moment s d in
+    let line = if at_once then Raised else coalesced (asks_later moment s d) d.phase.line in
+    let asserted = if at_once && not (is_raised d.phase.line) then Some moment else d.asserted in
+    record d { frames = saturated (d.frames + 1); phase = record d.phase { line = line }; asserted = asserted }
 
 abbrev pub has_room : QueueView → Bool
 has_room d = nat_lt (length d.ring) d.capacity

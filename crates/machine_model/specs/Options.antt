@@ -1,5 +1,6 @@
 -- The machine's options: the settings that arguments, or values for C, ask for.
-use Rattle.std.specs.Prelude.{◌≡◌, ◌≤◌, ◌<◌, ◌+◌, ◌-◌, ℕ, [], ◌∷◌, Bool, List, Option, Some, codes, if◌then◌else◌}
+use Rattle.std.specs.Prelude.{◌≡◌, ◌≤◌, ◌<◌, ◌+◌, ◌-◌, ◌⊎◌, ◌==◌, ◌&&◌, ◌||◌, not, ℕ, [], ◌∷◌, Bool, true, List, Option, Some, None}
+use Rattle.std.specs.Prelude.{codes, if◌then◌else◌}
 use Rattle.std.specs.Prelude.{length, map, slice_index_or}
 use Rattle.std.specs.List.{AllZip}
 use Rattle.text_io.specs.Given.{◌>>=◌, Text, given_by, number_within, or_usual, value_of}
@@ -45,6 +46,7 @@ machine_options =
     ∷ rule (codes "use") (λ s. s.use_time) 0 1000000000 2000
     ∷ rule (codes "wake") (λ s. s.wake) 0 1000000000 0
     ∷ rule (codes "heedless") (λ s. flag_number s.heedless) 0 1 0
+    ∷ rule (codes "rx-gap") (λ s. s.rx_gap) 0 1000000000 0
     ∷ []
 
 -- this is that option; its unit and its description are for readers only
@@ -91,6 +93,15 @@ pub record IsFirstOut (values : List ℕ) (number : ℕ) : Type 0 where
   pub out : IsOutAt values (number - 1)
   pub first : (k : ℕ) → k + 1 < number → IsInRangeAt values k
 
+-- `rx-gap` excludes `rx-nsecs` and `rx-frames`: a card has a least time between interrupts, or it waits for more frames
+abbrev pub excludes : List ℕ → Bool
+excludes values =
+    not (slice_index_or values 22 0 == 0) && (not (slice_index_or values 9 0 == 0) || not (slice_index_or values 10 0 == 0))
+
+-- the values are rejected for the one with this number: the first that is out of its range, or, if none is, that of `rx-gap`
+abbrev pub IsRejected : List ℕ → ℕ → Type 0
+IsRejected values number = IsFirstOut values number ⊎ (AreInRange values × (excludes values ≡ true) × (number ≡ 23))
+
 -- ---- arguments
 
 -- the value of an option: the number in its range that one to ten digits denote, or its default; None if it isn't such a number
@@ -105,6 +116,10 @@ values_with (o ∷ more) value = do
   rest ← values_with more value
   Some (first ∷ rest)
 
+-- the values of all options; None if one has none, or if they exclude each other
+abbrev pub machine_with : (Text → Option Text) → Option (List ℕ)
+machine_with value = values_with machine_options value >>= (λ values. if excludes values then None else Some values)
+
 -- the values that the arguments ask for, or None if they are an error
 abbrev pub machine_asked_for : List Text → Option (List ℕ)
-machine_asked_for words = given_by option_names words >>= (λ given. values_with machine_options (λ name. value_of name given))
+machine_asked_for words = given_by option_names words >>= (λ given. machine_with (λ name. value_of name given))

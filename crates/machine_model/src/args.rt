@@ -1,7 +1,7 @@
 //! The program's arguments.
 
 ghost use Rattle.std.specs.Prelude.{◌≡◌, Some, None, Err, IfOk, IfSome, map, option_map, string_bytes};
-ghost use Rattle.machine_model.specs.Options.{AreInRange, machine_asked_for, machine_options, option_names, values_of, values_with};
+ghost use Rattle.machine_model.specs.Options.{AreInRange, machine_asked_for, machine_options, machine_with, option_names, values_of, values_with};
 ghost use Rattle.text_io.specs.Options.{value_in};
 ghost use Rattle.text_io.specs.Refusals.{IsArgsOutOfMemory};
 ghost use Rattle.text_io.specs.declared.args.WordFault.TheVariants.{OutOfMemory, Usage};
@@ -39,7 +39,7 @@ fn values_in(matches: &ArgMatches<'_>) -> Option<[u32; OPTION_COUNT]>
 
 // Returns the machine that the values of the options ask for.
 fn asked_by(matches: &ArgMatches<'_>) -> Option<MachineSettings>
-    ensures { option_map values_of result ≡ values_with machine_options (value_in matches.now) }
+    ensures { option_map values_of result ≡ machine_with (value_in matches.now) }
 {
     MachineSettings::from_values(&values_in(matches)?).ok()
 }
@@ -47,7 +47,8 @@ fn asked_by(matches: &ArgMatches<'_>) -> Option<MachineSettings>
 /// Returns the machine that the program's arguments ask for, with the defaults of [`OPTIONS`] for the rest.
 ///
 /// The arguments are options of [`OPTIONS`], each at most once, as `--ring`. Its value follows `=` in the same argument, or is the
-/// next argument. A value is one to ten ASCII digits, in the range of the option; for a flag it is 0 or 1.
+/// next argument. A value is one to ten ASCII digits, in the range of the option; for a flag it is 0 or 1. `--rx-gap` above 0 excludes
+/// `--rx-nsecs` and `--rx-frames` above 0.
 ///
 /// # Errors
 ///

@@ -2,7 +2,7 @@
 
 ghost use Rattle.std.specs.Prelude.{◌≡◌, ◌≤◌, Some, IfOk, OnErr, OnOk};
 ghost use Rattle.machine_model.specs.Machine.{queue_report};
-ghost use Rattle.machine_model.specs.Device.{after_packet, asks, completed_state, queue_completed, queue_delivered, expired, has_room, interrupted, is_fired, is_masked, is_missed, next_packet, notified, new_queue, queue_polled, raised_again, schedules, timer_of, unmasked_line, without_next};
+ghost use Rattle.machine_model.specs.Device.{after_packet, asks, asks_later, completed_state, gap_end, queue_completed, queue_delivered, expired, has_room, interrupted, is_at_once, is_fired, is_masked, is_missed, next_packet, notified, new_queue, queue_polled, raised_again, schedules, timer_of, unmasked_line, without_next};
 
 use crate::settings::MachineSettings;
 use crate::waits::{WaitCounts, Waits};
@@ -51,7 +51,7 @@ pub struct QueueReport {
 pub enum Line {
     /// The card doesn't ask for an interrupt.
     Quiet,
-    /// The card delays its interrupt until this time, for more frames (`rx-usecs`).
+    /// The card delays its interrupt until this time, for more frames or because of its last interrupt (`rx-usecs`).
     Coalescing(u64),
     /// The card asks for an interrupt.
     Raised,
@@ -96,7 +96,7 @@ pub struct Phase {
 
 impl Phase {
     ghost use Rattle.std.specs.Prelude.{◌≡◌};
-    ghost use Rattle.machine_model.specs.Device.{after_napi_timer, asks, card_handled, expired_phase, handled, is_fired, is_masked, is_missed, schedules, timer_handled, timer_of};
+    ghost use Rattle.machine_model.specs.Device.{after_napi_timer, asks, card_handled, card_timer, expired_phase, handled, is_card_first, is_fired, is_masked, is_missed, schedules, timer_handled, timer_of};
 
     /// The phase of a new queue: nothing is asked for, scheduled or set.
     pub const QUIET: Phase = Phase {
@@ -152,18 +152,30 @@ impl Phase {
         }
     }
 
+    // Returns whether that timer is the card's, which is first if both expire at the same time.
+    fn is_card_first(&self) -> bool
+        ensures { result ≡ is_card_first (card_timer self.now.line) self.now.timer }
+    {
+        match (self.line, self.timer) {
+            (Line::Coalescing(card), Some(napi)) => card <= napi,
+            (Line::Coalescing(_), None) => true,
+            _ => false,
+        }
+    }
+
     // Returns the phase after that timer expired.
     fn expired(&self) -> Phase
         ensures { result ≡ expired_phase self.now }
     {
-        match (self.line, self.timer) {
-            (Line::Coalescing(card), Some(napi)) if napi < card => self.after_napi_timer(),
-            (Line::Coalescing(_), _) => Phase {
+        if self.is_card_first() {
+            return Phase {
                 line: Line::Raised,
                 ..*self
-            },
-            (_, Some(_)) => self.after_napi_timer(),
-            (_, None) => *self,
+            };
+        }
+        match self.timer {
+            Some(_) => self.after_napi_timer(),
+            None => *self,
         }
     }
 
@@ -259,6 +271,7 @@ pub(crate) struct ReceiveQueue {
     ring: HeapCircularBuffer<u64>,
     taken: HeapCircularBuffer<u64>,
     phase: Phase,
+    asserted: Option<u64>,
     frames: u64,
     deferrals: u32,
     counts: QueueCounts,
@@ -276,6 +289,7 @@ impl Model for ReceiveQueue {
       capacity = d.ring.capacity;
       taken = d.taken.items;
       phase = d.phase;
+      asserted = d.asserted;
       frames = d.frames;
       deferrals = d.deferrals;
       counts = d.counts;
@@ -296,6 +310,7 @@ impl ReceiveQueue {
             ring,
             taken,
             phase: Phase::QUIET,
+            asserted: None,
             frames: 0,
             deferrals: 0,
             counts: QueueCounts::NONE,
@@ -349,7 +364,41 @@ impl ReceiveQueue {
     pub(crate) fn expire(&mut self)
         ensures { self.new ≡ expired self.old }
     {
+        if self.phase.is_card_first() {
+            self.asserted = self.phase.timer();
+        }
         self.phase = self.phase.expired();
+    }
+
+    // Returns when the card may ask for an interrupt again, if this is the least time between two.
+    fn gap_end(&self, gap: u32) -> u64
+        ensures { result ≡ gap_end gap self.now.asserted }
+    {
+        match self.asserted {
+            Some(last) => last.saturating_add(u64::from(gap)),
+            None => 0,
+        }
+    }
+
+    // Returns whether one more frame makes the card ask for an interrupt at once.
+    fn is_at_once(&self, moment: u64, settings: &MachineSettings) -> bool
+        ensures { result ≡ is_at_once moment settings.now self.now }
+    {
+        if settings.rx_gap != 0 {
+            return self.gap_end(settings.rx_gap) <= moment;
+        }
+        let wanted = u64::from(settings.rx_frames);
+        settings.rx_nsecs == 0 || wanted != 0 && wanted <= self.frames.saturating_add(1)
+    }
+
+    // Returns when the card asks for an interrupt that it doesn't ask for at once.
+    fn asks_later(&self, moment: u64, settings: &MachineSettings) -> u64
+        ensures { result ≡ asks_later moment settings.now self.now }
+    {
+        if settings.rx_gap != 0 {
+            return self.gap_end(settings.rx_gap);
+        }
+        moment.saturating_add(u64::from(settings.rx_nsecs))
     }
 
     // Counts one more frame for the card, which asks for an interrupt now or later.
@@ -357,14 +406,15 @@ impl ReceiveQueue {
     fn notify(&mut self, moment: u64, settings: &MachineSettings)
         ensures { self.new ≡ notified moment settings.now self.old }
     {
-        self.frames = self.frames.saturating_add(1);
-        let wanted = u64::from(settings.rx_frames);
-        if settings.rx_nsecs == 0 || wanted != 0 && wanted <= self.frames {
+        if self.is_at_once(moment, settings) {
+            if self.phase.line != Line::Raised {
+                self.asserted = Some(moment);
+            }
             self.phase.line = Line::Raised;
         } else if self.phase.line == Line::Quiet {
-            let until = moment.saturating_add(u64::from(settings.rx_nsecs));
-            self.phase.line = Line::Coalescing(until);
+            self.phase.line = Line::Coalescing(self.asks_later(moment, settings));
         }
+        self.frames = self.frames.saturating_add(1);
     }
 
     /// Handles the arrival of a packet: a full ring drops it. Otherwise the card reports it, unless its interrupt is masked.

@@ -36,7 +36,7 @@ macro_rules! options {
 }
 
 /// The number of options.
-pub const OPTION_COUNT: usize = 22;
+pub const OPTION_COUNT: usize = 23;
 
 /// The options, in the order of the settings: name, least and greatest value, default, unit, and what it is. `scripts/options.py`
 /// reads this table, and writes what other languages, tools and pages have of it.
@@ -63,6 +63,7 @@ pub const OPTIONS: [MachineOption; OPTION_COUNT] = options! {
     ("use", 0, 1000000000, 2000, "ns", "time that the application takes for a packet"),
     ("wake", 0, 1000000000, 0, "ns", "time to wake an idle processor, which counts as interrupt time"),
     ("heedless", 0, 1, 0, "", "1: the driver unmasks the queue whatever napi_complete_done returns (vmxnet3, tg3, be2net, mana)"),
+    ("rx-gap", 0, 1000000000, 0, "ns", "least time between two interrupts of a card (ethtool -C rx-usecs of igb, ixgbe, e1000, e1000e, in us there); not with rx-nsecs or rx-frames"),
 };
 
 /// The settings of a receiving machine. Times are in nanoseconds.
@@ -118,6 +119,9 @@ pub struct MachineSettings {
     pub wake: u32,
     /// Whether the driver unmasks the queue whatever `napi_complete_done` returns, so that a deferred interrupt isn't masked.
     pub heedless: bool,
+    /// The least time between two interrupts of a card, 0 to 1000000000 (`ethtool -C rx-usecs` of igb, ixgbe, e1000 and e1000e). Above
+    /// 0 it takes the place of `rx_nsecs` and `rx_frames`.
+    pub rx_gap: u32,
     ghost processors_in: { (1 ≤ processors) × (processors ≤ 64) },
     ghost queues_in: { (1 ≤ queues) × (queues ≤ 64) },
     ghost ring_in: { (1 ≤ ring) × (ring ≤ 65536) },
@@ -136,6 +140,7 @@ pub struct MachineSettings {
     ghost packet_in: { packet ≤ 1000000000 },
     ghost use_in: { use_time ≤ 1000000000 },
     ghost wake_in: { wake ≤ 1000000000 },
+    ghost rx_gap_in: { rx_gap ≤ 1000000000 },
 }
 
 impl MachineOption {
@@ -159,8 +164,8 @@ impl MachineOption {
 }
 
 impl MachineSettings {
-    ghost use Rattle.std.specs.Prelude.{◌≡◌, IfErr, IfNone, IfOk, IfSome};
-    ghost use Rattle.machine_model.specs.Options.{AreInRange, IsFirstOut, option_defaults, values_of};
+    ghost use Rattle.std.specs.Prelude.{◌≡◌, IfErr, IfNone, IfOk, IfSome, false};
+    ghost use Rattle.machine_model.specs.Options.{AreInRange, IsFirstOut, IsRejected, excludes, option_defaults, values_of};
 
     // Returns the number of the first value that is out of its range, counted from 1.
     fn first_out(values: &[u32; OPTION_COUNT]) -> Option<u32>
@@ -173,6 +178,13 @@ impl MachineSettings {
             }
         }
         None
+    }
+
+    // Returns whether the card has both a least time between interrupts and a time or a number of frames to wait for.
+    fn excludes(values: &[u32; OPTION_COUNT]) -> bool
+        ensures { result ≡ excludes values.now }
+    {
+        values[22] != 0 && (values[9] != 0 || values[10] != 0)
     }
 
     // Returns the settings with these values.
@@ -203,6 +215,7 @@ impl MachineSettings {
             use_time: values[19],
             wake: values[20],
             heedless: values[21] == 1,
+            rx_gap: values[22],
         }
     }
 
@@ -221,13 +234,16 @@ impl MachineSettings {
     ///
     /// # Errors
     ///
-    /// The number of the first value that is out of its range, counted from 1.
+    /// The number of the first value that is out of its range, counted from 1; if there is none, the number of `rx-gap`, which isn't
+    /// 0, and nor is `rx-nsecs` or `rx-frames`.
     pub fn from_values(values: &[u32; OPTION_COUNT]) -> Result<MachineSettings, u32>
         ensures settings { IfOk result (λ settings. values_of settings ≡ values.now) }
-        ensures out { IfErr result (λ number. IsFirstOut values.now number) }
+        ensures fit { IfOk result (λ settings. excludes values.now ≡ false) }
+        ensures out { IfErr result (λ number. IsRejected values.now number) }
     {
         match MachineSettings::first_out(values) {
             Some(number) => Err(number),
+            None if MachineSettings::excludes(values) => Err(OPTION_COUNT as u32),
             None => Ok(MachineSettings::of_values(values)),
         }
     }
@@ -259,6 +275,7 @@ impl MachineSettings {
             self.use_time,
             self.wake,
             u32::from(self.heedless),
+            self.rx_gap,
         ]
     }
 }

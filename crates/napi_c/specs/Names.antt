@@ -44,7 +44,7 @@ refusals =
     ∷ (120, (codes "FQ_BAD_TRACE", codes "the bytes are not a trace, or a row of it can't be processed"))
     ∷ (121, (codes "FQ_BAD_DEVICE", codes "the driver has no device with this number"))
     ∷ (122, (codes "FQ_BAD_SIZE", codes "a struct's size is not one that the library knows"))
-    ∷ (123, (codes "FQ_BAD_SETTING", codes "a setting of the machine is out of its range"))
+    ∷ (123, (codes "FQ_BAD_SETTING", codes "a setting of the machine is out of its range, or excludes another"))
     ∷ (124, (codes "FQ_BAD_ARRIVALS", codes "the bytes are not arrivals"))
     ∷ []
 

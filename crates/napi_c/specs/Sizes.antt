@@ -5,16 +5,15 @@ abbrev pub size_in : ℕ → ℕ
 size_in which =
     if which == 0 then 16
     else (if which == 1 then 56
-    else (if which == 2 then 64
+    else (if which == 2 then 16
     else (if which == 3 then 16
-    else (if which == 4 then 16
-    else (if which == 5 then 24
-    else (if which == 6 then 32
-    else (if which == 7 then 16
-    else (if which == 8 then 32
-    else (if which == 9 then 56
-    else (if which == 10 then 12
-    else (if which == 11 then 48
-    else (if which == 12 then 32
-    else (if which == 13 then 16
-    else 0)))))))))))))
+    else (if which == 4 then 24
+    else (if which == 5 then 32
+    else (if which == 6 then 16
+    else (if which == 7 then 32
+    else (if which == 8 then 56
+    else (if which == 9 then 12
+    else (if which == 10 then 48
+    else (if which == 11 then 32
+    else (if which == 12 then 16
+    else 0))))))))))))

@@ -1,9 +1,9 @@
 //! The calls of the controller of a shared instance.
-ghost use Rattle.std.specs.Prelude.{◌≡◌, true, false};
+ghost use Rattle.std.specs.Prelude.{◌≡◌, ◌≢◌, true, false};
 ghost use Rattle.c_handles.specs.Freeing.{is_control_off};
 ghost use Rattle.c_handles.specs.Handles.{ControlDoes, ControlDoesIn, ControlMakes, IsControllerWith, LeadsToController};
 ghost use Rattle.c_handles.specs.SeatCalls.{ControlEnables, ControlMarks, ControlTakes};
-ghost use Rattle.c_handles.specs.Status.{OK};
+ghost use Rattle.c_handles.specs.Status.{OK, BAD_HANDLE};
 ghost use Rattle.napi_c.specs.Rules.{ControlSteps, IsSwitched, ControlStops};
 
 use crate::attempts::{EnableAttempt, TakeAttempt, repeat};
@@ -111,4 +111,24 @@ pub extern "C" fn fq_control_step(handle: &mut FqHandle, on: bool, threaded: boo
         return status::BAD_HANDLE;
     }
     switch_in(handle.held.as_mut(), on, threaded)
+}
+
+fn has_seat(control: &Object, seat: &Object) -> u32
+    ensures { result ≢ OK → result ≡ BAD_HANDLE }
+{
+    match (control, seat) {
+        (Object::Controller(control), Object::Seat(seat)) if control.has(seat) => status::OK,
+        _ => status::BAD_HANDLE,
+    }
+}
+
+/// Returns OK if the seat belongs to the controller's instance, otherwise BAD_HANDLE.
+#[unsafe(no_mangle)]
+pub extern "C" fn fq_control_has(handle: &mut FqHandle, seat: &mut FqHandle) -> u32
+    ensures { result ≢ OK → result ≡ BAD_HANDLE }
+{
+    if !handle.is_set() || !seat.is_set() {
+        return status::BAD_HANDLE;
+    }
+    has_seat(handle.held.as_mut(), seat.held.as_mut())
 }

@@ -1,36 +1,43 @@
 //! Drivers for C.
-ghost use Rattle.std.specs.Prelude.{◌≡◌, ◌≢◌, ◌≤◌, ◌↔◌, IsSome, IfOk};
-ghost use Rattle.c_handles.specs.Drivers.{IsDriverDone, IsDriverInterrupt, IsNewDriver, IsDriverNext, IsDriverOpen, IsDriverShow, IsDriverStep, IsDriverStop, new_status};
+ghost use Rattle.std.specs.Prelude.{◌≡◌, ◌≢◌, ◌≤◌, ◌<◌, ◌↔◌, IsSome, IfOk};
+ghost use Rattle.c_handles.specs.Drivers.{failed_in, IsDriverInterrupt, IsNewDriver, IsDriverNext, IsDriverOpen, IsDriverShow, IsDriverStep, IsDriverStop, IsTodoReport, new_status};
 ghost use Rattle.c_handles.specs.Handles.{DriverMakes, DriverMakesIn, IsDriverWith, LeadsToDriver};
-ghost use Rattle.c_handles.specs.Status.{OK, IN_USE, OUT_OF_MEMORY, BAD_HANDLE};
+ghost use Rattle.c_handles.specs.Status.{OK, IN_USE, OUT_OF_MEMORY, BAD_HANDLE, BAD_SIZE};
 
 use c_handles::{FqDeviceShown, FqHandle, FqTodo, Object, drive, status};
 use driver_core::{Driver, Limits};
 use std::alloc::{AllocError, Global};
+use std::mem::size_of;
 
 // Returns a new driver, boxed as the object of a handle.
-fn boxed(alloc: Global, devices: u32, limits: Limits) -> Result<Box<Object, Global>, AllocError>
+fn boxed(
+    alloc: Global,
+    devices: u32,
+    limits: Limits,
+    salt: u16,
+) -> Result<Box<Object, Global>, AllocError>
     requires { devices ≤ 64 }
     ensures { IfOk result (λ b. IsDriverWith
-        (IsNewDriver devices limits.budget limits.weight limits.window) b.value) }
+        (IsNewDriver devices limits.budget limits.weight limits.window salt) b.value) }
 {
-    let driver = Driver::new(alloc, devices, limits)?;
+    let driver = Driver::new(alloc, devices, limits, salt)?;
     let driver = Box::new(alloc, driver)?;
     let body = Box::new(alloc, Object::Driver(driver))?;
     Ok(body)
 }
 
-/// Makes a driver of this many devices, all closed.
+/// Makes a driver of this many devices, all closed. Drivers with different salts number their actions differently.
 #[unsafe(no_mangle)]
-pub extern "C" fn fq_driver_new(
+pub extern "C" fn fq_driver_new_salted(
     alloc: Global,
     handle: &mut FqHandle,
     devices: u32,
     budget: u32,
     weight: u32,
     window: u32,
+    salt: u16,
 ) -> u32
-    ensures made { result ≡ OK → LeadsToDriver (IsNewDriver devices budget weight window)
+    ensures made { result ≡ OK → LeadsToDriver (IsNewDriver devices budget weight window salt)
         handle.new.held.body }
     ensures kept { result ≢ OK → handle.new ≡ handle.old }
     ensures in_use { (result ≡ IN_USE) ↔ IsSome handle.old.held.body }
@@ -54,7 +61,7 @@ pub extern "C" fn fq_driver_new(
         weight,
         window,
     };
-    match boxed(alloc, devices, limits) {
+    match boxed(alloc, devices, limits, salt) {
         Ok(body) => {
             handle.put(body);
             status::OK
@@ -123,40 +130,36 @@ pub extern "C" fn fq_driver_interrupt(handle: &mut FqHandle, device: u32) -> u32
     interrupt_in(handle.held.as_mut(), device)
 }
 
-// Sets `todo` to sleep, for a handle without a driver: there is nothing to do.
-fn sleeps(todo: &mut FqTodo) -> u32
-    ensures status { result ≡ BAD_HANDLE }
-    ensures sleeps { todo.new ≡ record todo.old { number = 0; what = 0 } }
-{
-    todo.number = 0;
-    todo.what = 0;
-    status::BAD_HANDLE
-}
-
 fn next_in(at: &mut Object, todo: &mut FqTodo) -> u32
     ensures makes { DriverMakesIn (IsDriverNext todo.old todo.new) at.old result at.new }
-    ensures none { result ≡ BAD_HANDLE → todo.new ≡ record todo.old { number = 0; what = 0 } }
+    ensures none { result ≡ BAD_HANDLE → todo.new ≡ failed_in todo.old.size BAD_HANDLE }
 {
     match at {
         Object::Driver(driver) => drive::next(driver, todo),
-        _ => sleeps(todo),
+        _ => todo.fail(status::BAD_HANDLE),
     }
 }
 
 /// Sets `todo` to the next action, like `Driver::next`.
 #[unsafe(no_mangle)]
-pub extern "C" fn fq_driver_next(handle: &mut FqHandle, todo: &mut FqTodo) -> u32
-    ensures makes { DriverMakes (IsDriverNext todo.old todo.new) handle.old result handle.new }
-    ensures none { result ≡ BAD_HANDLE → todo.new ≡ record todo.old { number = 0; what = 0 } }
+pub extern "C" fn fq_driver_next_sized(handle: &mut FqHandle, todo: &mut FqTodo) -> u32
+    ensures small { todo.old.size < 48 → (result ≡ BAD_SIZE) × (todo.new ≡ todo.old)
+        × (handle.new ≡ handle.old) }
+    ensures makes { 48 ≤ todo.old.size
+        → DriverMakes (IsDriverNext todo.old todo.new) handle.old result handle.new }
+    ensures none { result ≡ BAD_HANDLE → todo.new ≡ failed_in todo.old.size BAD_HANDLE }
 {
+    if todo.size < size_of::<FqTodo>() {
+        return status::BAD_SIZE;
+    }
     if !handle.is_set() {
-        return sleeps(todo);
+        return todo.fail(status::BAD_HANDLE);
     }
     next_in(handle.held.as_mut(), todo)
 }
 
 fn done_in(at: &mut Object, todo: &FqTodo) -> u32
-    ensures { DriverMakesIn (IsDriverDone todo.now) at.old result at.new }
+    ensures { DriverMakesIn (IsTodoReport todo.now.number todo.now.packets) at.old result at.new }
 {
     match at {
         Object::Driver(driver) => drive::done(driver, todo),
@@ -167,7 +170,8 @@ fn done_in(at: &mut Object, todo: &FqTodo) -> u32
 /// Reports that an action was done, like `Driver::done`.
 #[unsafe(no_mangle)]
 pub extern "C" fn fq_driver_done(handle: &mut FqHandle, todo: &FqTodo) -> u32
-    ensures { DriverMakes (IsDriverDone todo.now) handle.old result handle.new }
+    ensures { DriverMakes (IsTodoReport todo.now.number todo.now.packets) handle.old result
+        handle.new }
 {
     if !handle.is_set() {
         return status::BAD_HANDLE;
@@ -177,22 +181,28 @@ pub extern "C" fn fq_driver_done(handle: &mut FqHandle, todo: &FqTodo) -> u32
 
 fn step_in(at: &mut Object, todo: &mut FqTodo) -> u32
     ensures makes { DriverMakesIn (IsDriverStep todo.old todo.new) at.old result at.new }
-    ensures none { result ≡ BAD_HANDLE → todo.new ≡ record todo.old { number = 0; what = 0 } }
+    ensures none { result ≡ BAD_HANDLE → todo.new ≡ failed_in todo.old.size BAD_HANDLE }
 {
     match at {
         Object::Driver(driver) => drive::step(driver, todo),
-        _ => sleeps(todo),
+        _ => todo.fail(status::BAD_HANDLE),
     }
 }
 
 /// Reports that an action was done, unless its number is 0, and sets `todo` to the next action, like `Driver::step`.
 #[unsafe(no_mangle)]
-pub extern "C" fn fq_driver_step(handle: &mut FqHandle, todo: &mut FqTodo) -> u32
-    ensures makes { DriverMakes (IsDriverStep todo.old todo.new) handle.old result handle.new }
-    ensures none { result ≡ BAD_HANDLE → todo.new ≡ record todo.old { number = 0; what = 0 } }
+pub extern "C" fn fq_driver_step_sized(handle: &mut FqHandle, todo: &mut FqTodo) -> u32
+    ensures small { todo.old.size < 48 → (result ≡ BAD_SIZE) × (todo.new ≡ todo.old)
+        × (handle.new ≡ handle.old) }
+    ensures makes { 48 ≤ todo.old.size
+        → DriverMakes (IsDriverStep todo.old todo.new) handle.old result handle.new }
+    ensures none { result ≡ BAD_HANDLE → todo.new ≡ failed_in todo.old.size BAD_HANDLE }
 {
+    if todo.size < size_of::<FqTodo>() {
+        return status::BAD_SIZE;
+    }
     if !handle.is_set() {
-        return sleeps(todo);
+        return todo.fail(status::BAD_HANDLE);
     }
     step_in(handle.held.as_mut(), todo)
 }
@@ -214,10 +224,14 @@ pub extern "C" fn fq_driver_show(
     device: u32,
     shown: &mut FqDeviceShown,
 ) -> u32
-    ensures makes { DriverMakes (IsDriverShow shown.old shown.new device) handle.old result
-        handle.new }
+    ensures small { shown.old.size < 32 → (result ≡ BAD_SIZE) × (handle.new ≡ handle.old) }
+    ensures makes { 32 ≤ shown.old.size
+        → DriverMakes (IsDriverShow shown.old shown.new device) handle.old result handle.new }
     ensures none { result ≢ OK → shown.new ≡ shown.old }
 {
+    if shown.size < size_of::<FqDeviceShown>() {
+        return status::BAD_SIZE;
+    }
     if !handle.is_set() {
         return status::BAD_HANDLE;
     }

@@ -19,44 +19,9 @@ pub struct FqDql {
     pub dql: Dql,
 }
 
-/// The result of [`fq_dql_new`]: `struct fq_dql_new`.
-#[repr(C)]
-#[derive(Drop)]
-pub struct FqDqlNew {
-    /// The limit; all zero if the call failed.
-    pub dql: FqDql,
-    /// OK, or BAD_BOUNDS.
-    pub status: u32,
-}
-
-/// Returns a new limit, like `Dql::new`.
+/// Makes a new limit, like `Dql::new`, in place of `dql`, which is unchanged if the call fails.
 #[unsafe(no_mangle)]
-pub extern "C" fn fq_dql_new(min: u32, max: u32, hold: u64, now: u64) -> FqDqlNew
-    ensures ok { result.status ≡ OK → Shows result.dql.dql (new_limit min max hold now) }
-    ensures refused { (result.status ≢ OK) ↔ ((max < min) ⊎ (DQL_MAX_LIMIT < max)) }
-    ensures status { result.status ≢ OK → result.status ≡ dql_status (Some BadBounds) }
-    ensures none { result.status ≢ OK → Shows result.dql.dql (new_limit 0 0 0 0) }
-{
-    match Dql::new(min, max, hold, now) {
-        Ok(dql) => FqDqlNew {
-            dql: FqDql { dql },
-            status: status::OK,
-        },
-        Err(fault) => {
-            let Ok(dql) = Dql::new(0, 0, 0, 0) else {
-                unreachable!()
-            };
-            FqDqlNew {
-                dql: FqDql { dql },
-                status: u32::from(fault.number()),
-            }
-        }
-    }
-}
-
-/// Like [`fq_dql_new`], in place of an existing limit, which is unchanged if the call fails.
-#[unsafe(no_mangle)]
-pub extern "C" fn fq_dql_renew(dql: &mut FqDql, min: u32, max: u32, hold: u64, now: u64) -> u32
+pub extern "C" fn fq_dql_init(dql: &mut FqDql, min: u32, max: u32, hold: u64, now: u64) -> u32
     ensures ok { result ≡ OK → Shows dql.new.dql (new_limit min max hold now) }
     ensures refused { (result ≢ OK) ↔ ((max < min) ⊎ (DQL_MAX_LIMIT < max)) }
     ensures status { result ≢ OK → result ≡ dql_status (Some BadBounds) }

@@ -27,6 +27,14 @@ pub extern "C" fn fq_version(to: &mut [u8]) -> usize
     write(b"1.1.0", to)
 }
 
+/// Returns the library's version as a number, as FQ_VERSION_NUMBER of the header.
+#[unsafe(no_mangle)]
+pub extern "C" fn fq_version_number() -> u32
+    ensures { result ≡ 10100 }
+{
+    10100
+}
+
 /// Writes the name of a status in the same way; "?" for an unknown number.
 #[unsafe(no_mangle)]
 pub extern "C" fn fq_status_text(status: u32, to: &mut [u8]) -> usize
@@ -161,7 +169,7 @@ fn refusal_message(status: u32) -> &'static [u8]
         120 => b"the bytes are not a trace, or a row of it can't be processed",
         121 => b"the driver has no device with this number",
         122 => b"a struct's size is not one that the library knows",
-        123 => b"a setting of the machine is out of its range",
+        123 => b"a setting of the machine is out of its range, or excludes another",
         124 => b"the bytes are not arrivals",
         _ => b"?",
     }

@@ -51,7 +51,7 @@ fn open(alloc: Global, ring: Ring, callers: u32) -> Result<(RingInput, Opened), 
         Ok(made) => made,
         Err(NewBack { fault: _, ctx }) => return Err(Ring { input, ctx }),
     };
-    match Arc::new(alloc, Shared { napi }) {
+    match Arc::new(alloc, Shared::new(napi)) {
         Ok(napi) => Ok((input, Opened { napi, callers, off })),
         Err(refused) => {
             // this proves that the context belongs to the ring

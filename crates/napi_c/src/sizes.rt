@@ -3,7 +3,7 @@ ghost use Rattle.std.specs.Prelude.{◌≡◌};
 ghost use Rattle.napi_c.specs.Sizes.{size_in};
 
 use crate::counts::{FqCounts, FqTotals};
-use crate::limit::{FqDql, FqDqlNew};
+use crate::limit::FqDql;
 use crate::serial::FqNapi;
 use crate::watch::FqTxWatchdog;
 use c_handles::{FqAnswers, FqDeviceShown, FqHandle, FqRingShown, FqRunReport, FqTodo};
@@ -19,18 +19,17 @@ pub extern "C" fn fq_struct_size(which: u32) -> usize
     match which {
         0 => size_of::<FqHandle>(),
         1 => size_of::<FqDql>(),
-        2 => size_of::<FqDqlNew>(),
-        3 => size_of::<FqNapi>(),
-        4 => size_of::<Packet>(),
-        5 => size_of::<FqCounts>(),
-        6 => size_of::<FqTotals>(),
-        7 => size_of::<FqRingShown>(),
-        8 => size_of::<TxState>(),
-        9 => size_of::<FqAnswers>(),
-        10 => size_of::<FqRunReport>(),
-        11 => size_of::<FqTodo>(),
-        12 => size_of::<FqDeviceShown>(),
-        13 => size_of::<FqTxWatchdog>(),
+        2 => size_of::<FqNapi>(),
+        3 => size_of::<Packet>(),
+        4 => size_of::<FqCounts>(),
+        5 => size_of::<FqTotals>(),
+        6 => size_of::<FqRingShown>(),
+        7 => size_of::<TxState>(),
+        8 => size_of::<FqAnswers>(),
+        9 => size_of::<FqRunReport>(),
+        10 => size_of::<FqTodo>(),
+        11 => size_of::<FqDeviceShown>(),
+        12 => size_of::<FqTxWatchdog>(),
         _ => 0,
     }
 }

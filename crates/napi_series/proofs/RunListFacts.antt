@@ -1,34 +1,10 @@
--- One more poll of a run, in the list and in the lines.
-use Rattle.std.proofs.Common.{◌≡◌, ◌∙◌, ◌+◌, ◌++◌, ◌∷◌, ◌<◌, cond, ℕ, suc, Bool, List, [], Some, ap, append_assoc, arith, get_or, length}
-use Rattle.std.proofs.{Common.{subst, sym, take}, lemmas.{List.map-append, Option.slice_get-get_or}}
+-- The lines of one more poll of a run.
+use Rattle.std.proofs.Common.{◌≡◌, ◌+◌, ◌++◌, ◌<◌, ℕ, suc, Bool, List, Some, ap, append_assoc, arith, get_or, length}
+use Rattle.std.proofs.{Common.{subst, sym, take}, lemmas.Option.slice_get-get_or}
 use Rattle.std.specs.{Prelude.Option, List.slice_get}
 use Rattle.device_rows.specs.declared.row.Row.{Row}
 use Rattle.napi_series.specs.Series.{list_left, once_fields, run_poll_line, poll_line_at, poll_lines}
-use Rattle.poll_runs.specs.Polls.{Poll, is_arrival, is_repoll, queued_by, repolled}
-use Rattle.poll_runs.proofs.PollFacts.{arrivals-append, arrivals-one, repolled-append, repolled-one}
-use Rattle.replay_rows.specs.{RunLog.polls_in, declared.run_log.RunPoll.RunPoll}
-
-pub polls-push : (polls : List RunPoll) (entry : RunPoll)
-    → polls_in (polls ++ entry ∷ []) ≡ polls_in polls ++ record { id = entry.device; once = entry.once } ∷ []
-polls-push polls entry = map-append (λ (e : RunPoll). record { id = e.device; once = e.once }) polls (entry ∷ [])
-
-pub queued-push : (polls : List RunPoll) (entry : RunPoll)
-    → queued_by (polls_in (polls ++ entry ∷ []))
-    ≡ queued_by (polls_in polls) ++ cond (is_arrival entry.once.next) (entry.device ∷ []) []
-queued-push polls entry =
-    let poll : Poll = record { id = entry.device; once = entry.once } in
-    ap queued_by (polls-push polls entry)
-    ∙ (arrivals-append (polls_in polls) (poll ∷ []) ∙ ap (λ (l : List ℕ). queued_by (polls_in polls) ++ l) (arrivals-one poll))
-
-pub repolled-push : (polls : List RunPoll) (entry : RunPoll)
-    → repolled (polls_in (polls ++ entry ∷ []))
-    ≡ repolled (polls_in polls) ++ cond (is_repoll entry.once.next) (entry.device ∷ []) []
-repolled-push polls entry =
-    let poll : Poll = record { id = entry.device; once = entry.once } in
-    ap repolled (polls-push polls entry)
-    ∙ (repolled-append (polls_in polls) (poll ∷ []) ∙ ap (λ (l : List ℕ). repolled (polls_in polls) ++ l) (repolled-one poll))
-
--- ---- the lines of one more poll
+use Rattle.replay_rows.specs.declared.run_log.RunPoll.{RunPoll}
 
 pub line-next : (n : ℕ) (row : Row) (used : ℕ → Bool) (list : List ℕ) (polls : List RunPoll) (k : ℕ) (d : RunPoll) → k < length polls
     → poll_lines n row used list polls (k + 1)

@@ -8,19 +8,51 @@
 mod args;
 mod line;
 mod polls;
-mod program;
 mod series;
 mod settings;
 
-use crate::program::run_program;
-use std::io;
+use crate::args::parse_series_words;
+use crate::series::write_series;
+use crate::settings::SeriesSettings;
+use std::alloc::Global;
+use std::io::{self, Read, Write};
 use std::process::ExitCode;
-use text_io::given_args;
+use text_io::{Program, ReplayFault, WordFault, given_args, run_asked};
+
+// A replay that writes its series: that of the bytes read, as the arguments ask for it.
+struct SeriesProgram;
+
+impl Program for SeriesProgram {
+    ghost use Rattle.napi_series.specs.Program.{AnswersSeries, AskForSeries};
+
+    type Settings = SeriesSettings;
+
+    type Fault = ReplayFault;
+
+    ghost asks = { AskForSeries };
+
+    ghost answers = { AnswersSeries };
+
+    fn parse(&self, alloc: Global, words: &[String]) -> Result<SeriesSettings, WordFault> {
+        parse_series_words(alloc, words)
+    }
+
+    fn run<R: Read + Drop, W: Write>(
+        &self,
+        alloc: Global,
+        settings: &SeriesSettings,
+        input: R,
+        output: &mut W,
+    ) -> Result<(), ReplayFault> {
+        write_series(alloc, input, output, settings)
+    }
+}
 
 // Runs the program with the real standard input and outputs.
 fn main(rt: HostRuntime) -> ExitCode {
     match given_args(&rt) {
-        Ok(words) => run_program(
+        Ok(words) => run_asked(
+            &SeriesProgram,
             rt.alloc(),
             words.as_slice(),
             rt.reader(),

@@ -1,5 +1,5 @@
 -- What the parts of a run imply for its stations.
-use Rattle.std.proofs.{lemmas.Bool.ne_eqb, lemmas.Grind.common_steps, lemmas.List.{get_or_default, nil_from_length}}
+use Rattle.std.proofs.{lemmas.Grind.common_steps, lemmas.List.get_or_default}
 use Rattle.std.proofs.{lemmas.List.Elements.recursion_from_All, lemmas.Option.same_Some}
 use Rattle.std.proofs.Common.{◌≡◌, ◌≢◌, ℕ, zero, suc, ◌≤◌, ◌<◌, Bool, true, false, None, is_some, List, [], ◌∷◌, ◌++◌, sym, ap, ◌∙◌}
 use Rattle.std.proofs.Common.{refl, subst, Some, All, arith, rules, get_or, length}
@@ -14,16 +14,16 @@ use Rattle.poll_engine.specs.{declared.acts.Act.Act, Works.{IsDoneBy, IsWorked, 
 use Rattle.poll_engine.specs.{Opens.{IsHome, IsInputOf, IsKeptLoose, IsKeptPartOf, IsKeptSideOf, IsLoose}, declared.list_in.ListIn.ListIn}
 use Rattle.poll_engine.specs.{declared.shared.SharedList.SharedList, Tasks.{EachAt, IsAt}, declared.setup.signals.Waker.Waker}
 use Rattle.poll_engine.specs.{declared.setup.context.RunContext.RunContext, declared.setup.context.PollLimits.PollLimits}
-use Rattle.poll_engine.specs.{SeatKeeping.{AreSameSeats, IsSameSeat}, Turns.{TurnsAlone, TurnsByRun, has_no_seat, has_no_thread}}
+use Rattle.poll_engine.specs.{SeatKeeping.{AreSameSeats, IsSameSeat}, Turns.{TurnsAlone, TurnsByRun, has_no_thread}}
 use Rattle.poll_engine.specs.{declared.handle.PollHandle.PollHandle, declared.poller.Poller.Poller}
 use Rattle.poll_engine.specs.{declared.list_poller.ListPoller.ListPoller, declared.thread_poller.ThreadPoller.ThreadPoller}
 use Rattle.poll_engine.specs.Gives.{IsPolled}
-use Rattle.poll_engine.specs.Courses.{ArePolled, Course, HasPolled, HasTurned, HaveRun, IsCourse, IsCrew, IsFreshSeat, Pushes}
+use Rattle.poll_engine.specs.Courses.{ArePolled, Course, HasPolled, HasTurned, HaveRun, IsCourse, IsFreshSeat, Pushes}
 use Rattle.poll_engine.specs.{Courses.{TakesTurns, TurnsIfThread}, Finishes.{IsFinished, IsWorkedOf}}
 use Rattle.poll_engine.specs.Spreads.{AreEndsOf, ArePollers, IsEndOf, IsJobAt, IsKeptJobOf, IsKeptSeatFor, IsKeptThreadFor, IsNewEnd}
 use Rattle.poll_engine.specs.Spreads.{IsPoller, IsSeatAt, IsThreadAt, IsWiredJob, IsWiredSide, own_seats}
 use Rattle.poll_engine.specs.Outcomes.{AreLeftBy, AreSeatsAt, IsLeftBy, IsSeatWith, IsThreadWith, Outcome}
-use Rattle.poll_engine.proofs.ListFacts.{at_mapped, at_place, each_zip, zip_and, zip_both, zip_empty, zip_filtered, zip_flip, zip_right}
+use Rattle.poll_engine.proofs.ListFacts.{at_mapped, at_place, each_zip, zip_and, zip_both, zip_filtered, zip_flip, zip_right}
 use Rattle.poll_engine.proofs.{ListFacts.zip_same, SeatFacts.{served_alone, served_keeps}}
 use Rattle.rx_ring.specs.{Ends.{SameIn, capacity_of, put_list}, ReceiveRing.{bytes_of, capped}, declared.ends.RxIn.RxIn}
 use Rattle.rx_ring.specs.declared.packet.Packet.{Packet}
@@ -240,13 +240,6 @@ fresh_of station seat (loose, opened, for) =
       unused = opened.poller;
     }
 
--- the pollers of a run are exactly those that have a station
-crew_is : {D : Type 0} (R : Type 0) (asked : ℕ → Type 0) (limits : PollLimits) (lists : List (SharedList R)) (pollers : ℕ) (number : ℕ)
-    (courses : List (Course D))
-    → (courses ≢ [] → TakesTurns R asked limits lists pollers number courses) → IsCrew R asked limits lists pollers number courses
-crew_is R asked limits lists pollers number [] turns = tt
-crew_is R asked limits lists pollers number (c ∷ cs) turns = turns (λ e. absurd (let n = ap (λ l. length l) e in omega (arith, n)))
-
 -- what the threads of a run returned, if none failed
 module _ {R D G : Type 0} (acts : D → ℕ) (answer : D → ℕ → Act) (after : D → ℕ → D) (answers : G → ℕ → ℕ → Bool → Type 0)
     (context : RunContext R G) (pollers : ℕ) (stations : List (Station D)) (loose left : List (DropBomb R (Loose D)))
@@ -276,8 +269,8 @@ module _ {R D G : Type 0} (acts : D → ℕ) (answer : D → ℕ → Act) (after
   crew_of : (number : ℕ) (p : OwnPoller R G) → HasPolled asked context.limits ran.lists pollers loose number p
       → map (λ o. o.poller) (filter (λ o. is_own number pollers o.worker.handler.number) ran.left_by.all)
       ≡ vec_items p.served.bench.seats → p.stop ≡ None
-      → IsCrew R asked context.limits ran.lists pollers number (filter (λ c. is_dealt number pollers c.station) run_courses.all)
-  crew_of number p has back did = crew_is R asked context.limits ran.lists pollers number own (λ some. record {
+      → TakesTurns R asked context.limits ran.lists pollers number (filter (λ c. is_dealt number pollers c.station) run_courses.all)
+  crew_of number p has back did = record {
     list = has.list;
     there = has.there;
     ends = has.ends;
@@ -285,11 +278,11 @@ module _ {R D G : Type 0} (acts : D → ℕ) (answer : D → ℕ → Act) (after
     before = has.before;
     after = vec_items p.served.bench.seats;
     from = fresh;
-    turns = has.turns did (λ none. some (zip_empty _ _ _ (zip_flip _ _ _ fresh) none));
+    turns = has.turns did;
     to = subst (λ l. AllZip (λ (c : Course D) (seat : DropBomb R PollHandle). seat.value.caller ≡ Some c.end.closed.poller.value) own l)
         back
         (zip_to_mapped (λ o. o.poller) _ own _ (zip_same _ _ _ _ (λ c o h. h.0) beside));
-  })
+  }
     where
       all : List (Course D)
       all = run_courses.all
@@ -316,7 +309,7 @@ module _ {R D G : Type 0} (acts : D → ℕ) (answer : D → ℕ → Act) (after
     stations_are = run_courses.stations_are;
     ends_are = run_courses.ends_are;
     each = run_courses.each;
-    crews = λ number below.
+    crews = λ some number below.
         let by = ran.left_by in
         let polled = ran.polled in
         let Polled : ℕ → OwnPoller R G → Type 0 = λ k p. IsAt polled k p × HasPolled asked context.limits ran.lists pollers loose k p
@@ -334,12 +327,12 @@ module _ {R D G : Type 0} (acts : D → ℕ) (answer : D → ℕ → Act) (after
         ran.same (by_poller ∙ ap (λ (p : OwnPoller R G). vec_items p.served.bench.seats) t.1.0.1)) t.1.2;
   }
 
--- each station has a poller
+-- without stations nothing is polled
 pub none_polled : {D : Type 0} (R : Type 0) (asked : ℕ → Type 0) (limits : PollLimits) (acts : D → ℕ) (answer : D → ℕ → Act)
     (after : D → ℕ → D)
     (pollers : ℕ) → ArePolled R asked limits acts answer after pollers [] []
 none_polled R asked limits acts answer after pollers =
-    record { lists = []; courses = []; stations_are = refl; ends_are = refl; each = tt; crews = λ number below. tt }
+    record { lists = []; courses = []; stations_are = refl; ends_are = refl; each = tt; crews = λ some number below. absurd (some refl) }
 
 -- the ends that were made together with the pollers' lists are ends of these lists
 pub ends_of_lists : {R G : Type 0} (pollers : List (OwnPoller R G)) (ends : List (Vec (ListIn R)))
@@ -350,12 +343,6 @@ ends_of_lists (p ∷ ps) (e ∷ es) own (suc k) d low = λ n x within.
     let h = ends_of_lists ps es own.1 k d (omega (arith, low)) n x within in
     (h.0, (let m = h.1.0 in omega (arith, m), h.1.1), h.2)
 ends_of_lists ps es own k d low = absurd own
-
--- a poller with a handle isn't idle
-some_seat : {R : Type 0} (served : ListPoller R) → vec_items served.bench.seats ≢ [] → has_no_seat served ≡ false
-some_seat served some =
-    let seats = served.bench.seats in
-    ne_eqb (vec_len seats) 0 (λ e. some (nil_from_length (vec_items seats) (grind (arith, common_steps, e))))
 
 -- ---- what the threads returned of the parts that they got
 
@@ -474,7 +461,7 @@ module _ {R D G : Type 0} (may_shut : Type 0) (answers : G → ℕ → ℕ → B
     (workers : List (InterruptWorker R D G)) (sat : List (DropBomb R PollHandle)) (pollers polled : List (OwnPoller R G))
     (back : AllZip IsBackAt placed workers) (at : AllZip IsSeatAt placed sat) (for : AllZip IsKeptSeatFor loose sat)
     (have : ArePollers context wakers count sat pollers)
-    (did : AllZip (IsPolled has_no_seat TurnsByRun may_shut answers) pollers polled)
+    (did : AllZip (IsPolled (λ _. false) TurnsByRun may_shut answers) pollers polled)
     (are : map (λ p. p.served.list) pollers ≡ lists) where
   record CameBack (k : ℕ) (poller : OwnPoller R G) : Type 0 where
     pub seats : AreSeatsAt (length wakers) workers k poller
@@ -482,7 +469,7 @@ module _ {R D G : Type 0} (may_shut : Type 0) (answers : G → ℕ → ℕ → B
 
   came_back : (k : ℕ) (after before : OwnPoller R G) → IsAt pollers k before
       → IsPoller context wakers count (own_seats (length wakers) k sat) k before
-      → IsPolled has_no_seat TurnsByRun may_shut answers before after → CameBack k after
+      → IsPolled (λ _. false) TurnsByRun may_shut answers before after → CameBack k after
   came_back k after before at_k p did =
       let by : ℕ → Bool = λ m. is_own k (length wakers) m in
       let own : List (DropBomb R PollHandle) = own_seats (length wakers) k sat in
@@ -502,18 +489,17 @@ module _ {R D G : Type 0} (may_shut : Type 0) (answers : G → ℕ → ℕ → B
           ends = p.new.0;
           new = p.new.1;
           from = zip_filtered IsKeptSeatFor _ _ loose sat (λ l s h. ap by (sym h.number)) for;
-          turns = λ whole some.
-              let busy = some_seat before.served (λ none. some (sym p.seats_are ∙ none)) in record {
-                first = before.served;
-                last = after.served;
-                started = subst (λ m. IsAsked answers context.gate m) p.named
-                    (subst (λ (s : RunContext R G). IsAsked answers s.gate before.name) p.has (did.started whole busy));
-                paced = p.paced;
-                over = refl;
-                from = p.seats_are;
-                turns = did.turned whole busy;
-                to = refl;
-              };
+          turns = λ whole. record {
+            first = before.served;
+            last = after.served;
+            started = subst (λ m. IsAsked answers context.gate m) p.named
+                (subst (λ (s : RunContext R G). IsAsked answers s.gate before.name) p.has (did.started whole refl));
+            paced = p.paced;
+            over = refl;
+            from = p.seats_are;
+            turns = did.turned whole refl;
+            to = refl;
+          };
         };
       }
 
@@ -521,7 +507,7 @@ module _ {R D G : Type 0} (may_shut : Type 0) (answers : G → ℕ → ℕ → B
   all_came k d low =
       let Mine : ℕ → OwnPoller R G → Type 0 =
       λ k p. IsAt pollers k p × IsPoller context wakers count (own_seats (length wakers) k sat) k p in
-      let h = each_zip Mine (IsPolled has_no_seat TurnsByRun may_shut answers) pollers polled did
+      let h = each_zip Mine (IsPolled (λ _. false) TurnsByRun may_shut answers) pollers polled did
       (λ k d low. ((low, sym (get_or_default pollers k d (get_or pollers k d) low)), have.each k d low)) k d low in
       came_back k (get_or polled k d) h.0 h.1.0 h.1.1 h.2
 

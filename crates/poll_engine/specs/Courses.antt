@@ -67,11 +67,6 @@ module _ (R : Type 0) (asked : ℕ → Type 0) (limits : PollLimits) (lists : Li
     pub turns : IsPolledBy asked limits number list before after
     pub to : AllZip (λ course seat. IsSpentSeat course.end.closed.poller.value seat) courses after
 
-  -- a poller exists exactly if it has a station
-  abbrev pub IsCrew : {D : Type 0} → ℕ → List (Course D) → Type 0
-  IsCrew number [] = Unit
-  IsCrew number (course ∷ courses) = TakesTurns number (course ∷ courses)
-
   -- The station's acts were a run on its instance, whose history contains everything that its worker, its poller and its thread
   -- did.
   pub record IsCourse {D : Type 0} (acts : D → ℕ) (answer : D → ℕ → Act) (after : D → ℕ → D) (course : Course D) : Type 0 where
@@ -84,21 +79,21 @@ module _ (R : Type 0) (asked : ℕ → Type 0) (limits : PollLimits) (lists : Li
 
 module _ (R : Type 0) (asked : ℕ → Type 0) (limits : PollLimits) {D : Type 0} (acts : D → ℕ) (answer : D → ℕ → Act) (after : D → ℕ
     → D) where
-  -- Each station has its course. Poller k polled its own stations: those whose number minus 1, modulo the count of pollers, is
-  -- k.
+  -- Each station has its course. If there is a station, each poller took its turns, which its gate allowed: poller k over its own
+  -- stations, whose number minus 1, modulo the count of pollers, is k; if it has none, over an empty list.
   pub record ArePolled (pollers : ℕ) (stations : List (Station D)) (ends : List (Finished D)) : Type 0 where
     pub lists : List (SharedList R)
     pub courses : List (Course D)
     pub stations_are : map (λ course. course.station) courses ≡ stations
     pub ends_are : map (λ course. course.end) courses ≡ ends
     pub each : AllByRecursion (IsCourse R asked limits lists pollers acts answer after) courses
-    pub crews : (number : ℕ) → number < pollers
-        → IsCrew R asked limits lists pollers number (filter (λ course. is_dealt number pollers course.station) courses)
+    pub crews : stations ≢ [] → (number : ℕ) → number < pollers
+        → TakesTurns R asked limits lists pollers number (filter (λ course. is_dealt number pollers course.station) courses)
 
 -- ---- what the threads of a run returned
 
 module _ {R D G : Type 0} (asked : ℕ → Type 0) (limits : PollLimits) (lists : List (SharedList R)) (pollers : ℕ) where
-  -- the poller took its turns, if it has handles: from the handles on its own instances to those that it returned
+  -- the poller took its turns: from the handles on its own instances to those that it returned
   pub record HasPolled (loose : List (DropBomb R (Loose D))) (number : ℕ) (poller : Poller R G (ListPoller R)) : Type 0 where
     pub before : List (DropBomb R PollHandle)
     pub list : SharedList R
@@ -106,7 +101,7 @@ module _ {R D G : Type 0} (asked : ℕ → Type 0) (limits : PollLimits) (lists 
     pub ends : ℕ
     pub new : IsNewList ends list
     pub from : AllZip IsKeptSeatFor (filter (λ l. is_own number pollers l.value.number) loose) before
-    pub turns : poller.stop ≡ None → before ≢ [] → IsPolledBy asked limits number list before (vec_items poller.served.bench.seats)
+    pub turns : poller.stop ≡ None → IsPolledBy asked limits number list before (vec_items poller.served.bench.seats)
 
   -- the thread of an instance took its turns, unless the run ended early
   abbrev pub HasTurned : DropBomb R (Loose D) → Poller R G (ThreadPoller R) → Type 0

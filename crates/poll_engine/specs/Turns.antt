@@ -1,5 +1,5 @@
 -- A turn of a poller with a list, and of the thread of an instance.
-use Rattle.std.specs.Prelude.{◌≡◌, ◌++◌, ◌==◌, not, is_some, Bool, List, nat_lt, vec_len}
+use Rattle.std.specs.Prelude.{◌≡◌, ◌++◌, not, is_some, Bool, List, nat_lt}
 use Rattle.poll_engine.specs.{SharedLists.{IsAllPopped, PopsCame, in_hand, pushed_by}, declared.list_poller.ListPoller.ListPoller}
 use Rattle.poll_engine.specs.{declared.thread_poller.ThreadPoller.ThreadPoller, Trails.{signals_with, wakes_after}}
 use Rattle.poll_engine.specs.{HandleBenches.PollsSeat, Polled.{PollsByThread, handed_on}, SeatKeeping.IsSameSeat}
@@ -7,10 +7,7 @@ use Rattle.poll_runs.specs.{Polls.{At, Chain, Poll}, Run.IsRun, declared.bench.T
 use Rattle.poll_runs.specs.declared.run.RunReport.{RunReport}
 
 module _ {R : Type 0} where
-  -- the poller has nothing to poll: it has no handle, or it is the thread of an instance that has no thread
-  abbrev pub has_no_seat : ListPoller R → Bool
-  has_no_seat served = vec_len served.bench.seats == 0
-
+  -- the poller has nothing to poll: it is the thread of an instance that has no thread
   abbrev pub has_no_thread : ThreadPoller R → Bool
   has_no_thread served = not (is_some served.seat.value.thread)
 

@@ -136,14 +136,15 @@ impl<'t, 'p, 'n, R: Wait + Drop, G: Gate> Poller<'t, 'p, R, G, ListPoller<'n, R>
 }
 
 impl<'n, R: Wait + Drop> Serves for ListPoller<'n, R> {
-    ghost use Rattle.poll_engine.specs.Turns.{TurnsByRun, has_no_seat};
+    ghost use Rattle.std.specs.Prelude.{false};
+    ghost use Rattle.poll_engine.specs.Turns.{TurnsByRun};
 
-    ghost idle = { has_no_seat };
+    ghost idle = { λ _. false };
 
     ghost turns = { TurnsByRun };
 
     fn is_idle(&self) -> bool {
-        self.bench.seats.is_empty()
+        false
     }
 
     fn turn(&mut self) -> bool {

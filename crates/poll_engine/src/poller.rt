@@ -46,7 +46,7 @@ fn serve<R: Wait, S: Serves>(rt: &R, waker: &Waker, wait: &IdleWait, served: &mu
     unreachable!()
 }
 
-/// A poller, which runs in its own thread. A poller that never has anything to poll needs no thread, and takes no turns.
+/// A poller, which runs in its own thread. What polls for an instance that has no thread needs none, and takes no turns.
 #[derive(Drop)]
 pub struct Poller<'t, 'p, R: Wait + Drop, G: Gate, S: Drop> {
     /// What all threads of the run share.

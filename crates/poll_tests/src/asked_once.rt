@@ -11,8 +11,8 @@ use std::test::Fail;
 struct CountsEach {
     first: [AtomicU32; 6],
     second: [AtomicU32; 6],
-    // Pollers 100 and 101, and the threads of devices 1 and 2.
-    starts: [AtomicU32; 4],
+    // Pollers 100 to 102, and the threads of devices 1 and 2.
+    starts: [AtomicU32; 5],
     others: AtomicU32,
 }
 
@@ -25,7 +25,7 @@ impl CountsEach {
         CountsEach {
             first: [zero(), zero(), zero(), zero(), zero(), zero()],
             second: [zero(), zero(), zero(), zero(), zero(), zero()],
-            starts: [zero(), zero(), zero(), zero()],
+            starts: [zero(), zero(), zero(), zero(), zero()],
             others: zero(),
         }
     }
@@ -36,8 +36,9 @@ impl CountsEach {
             (2, act) => self.second.get(act as usize),
             (100, 0) => self.starts.get(0),
             (101, 0) => self.starts.get(1),
-            (201, 0) => self.starts.get(2),
-            (202, 0) => self.starts.get(3),
+            (102, 0) => self.starts.get(2),
+            (201, 0) => self.starts.get(3),
+            (202, 0) => self.starts.get(4),
             _ => None,
         }
     }
@@ -59,7 +60,7 @@ fn asked<const N: usize>(counts: &[AtomicU32; N]) -> [u32; N] {
     asked
 }
 
-// Each row but an open row is an act. Only device 2 gets a thread.
+// Each row but an open row is an act. Only device 2 gets a thread. A third poller has no device, and asks too.
 #[test]
 fn each_act_and_each_start_is_asked_once(rt: HostRuntime) -> Result<(), Fail> {
     let rows = [
@@ -69,7 +70,7 @@ fn each_act_and_each_start_is_asked_once(rt: HostRuntime) -> Result<(), Fail> {
         (1, "3,2,disable,0\n4,2,enable,0\n"),
     ];
     let text = text_of(rt.alloc(), &rows)?;
-    for pollers in [1, 2] {
+    for pollers in 1..=3 {
         let settings = settings_of(pollers, 300, 64, 1024)?;
         let gate = CountsEach::new();
         let mut report = Vec::new(rt.alloc());
@@ -77,7 +78,8 @@ fn each_act_and_each_start_is_asked_once(rt: HostRuntime) -> Result<(), Fail> {
         replay_threads(&rt, rt.alloc(), text, &mut report, &settings, &gate)?;
         assert_eq!(rt; asked(&gate.first), [1; 6]);
         assert_eq!(rt; asked(&gate.second), [1; 6]);
-        assert_eq!(rt; asked(&gate.starts), [1, u32::from(pollers == 2), 0, 1]);
+        let starts = [1, u32::from(pollers > 1), u32::from(pollers > 2), 0, 1];
+        assert_eq!(rt; asked(&gate.starts), starts);
         assert_eq!(rt; gate.others.load(Ordering::SeqCst), 0);
     }
     Ok(())
@@ -97,7 +99,7 @@ fn a_ring_is_too_small_before_any_gate(rt: HostRuntime) -> Result<(), Fail> {
         needs: 2,
     };
     assert_eq!(rt; done.err(), Some(small));
-    assert_eq!(rt; (asked(&gate.first), asked(&gate.starts)), ([0; 6], [0; 4]));
+    assert_eq!(rt; (asked(&gate.first), asked(&gate.starts)), ([0; 6], [0; 5]));
     Ok(())
 }
 

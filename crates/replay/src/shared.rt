@@ -7,7 +7,7 @@ ghost use Rattle.replay_rows.specs.Answer.{replay_of};
 ghost use Rattle.replay.specs.SharedRun.{RanShared};
 
 use device_shared::SharedBench;
-use replay_rows::replay_on;
+use replay_rows::Replay;
 use std::alloc::Global;
 use std::io::{Read, Write};
 use std::sync::Wait;
@@ -38,8 +38,9 @@ pub fn replay_shared<H: Wait + Copy + Drop, R: Read + Drop, W: Write>(
     // The rows were processed on shared instances, each of which was closed at the end.
     ensures run { OnOk result (RanShared settings.now (R.remaining reader)) }
 {
-    let bench = SharedBench::new(rt, alloc)?;
-    let (bench, replayed) = replay_on(alloc, bench, reader, writer, settings);
-    let _ends = bench.end();
+    let bench = SharedBench::over(rt, alloc)?;
+    let mut replay = Replay::new(bench, Vec::new(alloc));
+    let replayed = replay.write_report(alloc, reader, writer, settings);
+    let _ends = replay.into_bench().end();
     replayed
 }

@@ -1,28 +1,28 @@
 -- A run over the poll list is the one that the definition computes, and the list never has more entries than there are devices
 -- that wait on it.
 use Rattle.std.proofs.Common.{◌≡◌, ℕ, ◌+◌, ◌≤◌, cond, List, [], ◌∷◌, ◌++◌, length, length-append, take, drop, ap, refl, arith}
-use Rattle.{std.{proofs.lemmas.List.{length-drop, length-take, Sums.sum_by-cons}, specs.Prelude.sum_by}, device_bench.specs.Bench.ArePolls}
-use Rattle.{device_bench.specs.{Bench.{BenchDevices, polled_at}, Waiting.leaves}}
-use Rattle.device_bench.specs.Transmits.{KeepsTransmits, Transmits}
+use Rattle.{std.{proofs.lemmas.List.{length-drop, length-take, Sums.sum_by-cons}, specs.Prelude.sum_by}}
+use Rattle.device_bench.specs.{Bench.{BenchDevices, polled_at}, DeviceBench.{IsListPoll, ShowsTransmits, devices_of, waiting_of}}
+use Rattle.device_bench.specs.{Transmits.KeepsTransmits, Waiting.leaves, declared.bench.DeviceBench.DeviceBench}
+use Rattle.device_bench.specs.declared.receive_side.ReceiveSide.{Ghosts}
 use Rattle.poll_runs.specs.{Function.run_report, Laws.IsPlainRun, Polls.{At, Chain, Poll, queued_by, ids, is_arrival, is_repoll, repolled}}
-use Rattle.poll_runs.specs.declared.{bench.{Next.{Next, TheVariants.{Absent, Gone, Again, Repoll}}, Once.Once}, run.RunReport.RunReport}
+use Rattle.poll_runs.specs.declared.{bench.{Next.{Next, TheVariants.{Absent, Gone, Again, Repoll}}}, run.RunReport.RunReport}
 use Rattle.poll_runs.proofs.{FunctionFacts.run-is-shown, PlainFacts.list-afterwards, PollFacts.{arrivals-append, arrivals-one, length-ids}}
 use Rattle.{poll_runs.proofs.PollFacts.{repolled-append, repolled-one}, replay_rows.specs.Run.replay_run}
 use Rattle.text_io.specs.declared.settings.ReplaySettings.{ReplaySettings}
 use Rattle.napi_model.specs.declared.state.Kind.TheVariants as kind
 
-abbrev pub Leads : {B : Type 0} → (B → ℕ → ℕ → Once → B → Type 0) → ReplaySettings → B → List Poll → B → Type 0
-Leads relation s before polls after = Chain (At relation s.weight) before polls after
+abbrev pub Leads : {S Kit End : Type 0} {g : Ghosts S Kit End} → ReplaySettings → DeviceBench S Kit End g → List Poll
+    → DeviceBench S Kit End g
+    → Type 0
+Leads s before polls after = Chain (At IsListPoll s.weight) before polls after
 
-pub transmits-stay : {B : Type 0} (devices : B → BenchDevices) (shows : B → Transmits → Type 0) (waiting : B → ℕ)
-    (relation : B → ℕ → ℕ → Once → B → Type 0)
-    → ArePolls devices shows waiting relation → (s : ReplaySettings) (before after : B) (polls : List Poll)
-    → Leads relation s before polls after
-    → KeepsTransmits shows before after
-transmits-stay devices shows waiting relation are s before after [] leads all shown = rw leads shown
-transmits-stay devices shows waiting relation are s before after (poll ∷ polls) leads all shown =
-    let is = are before leads.0 poll.id s.weight poll.once leads.1 in
-    transmits-stay devices shows waiting relation are s leads.0 after polls leads.2 all (is.transmits all shown)
+pub transmits-stay : {S Kit End : Type 0} {g : Ghosts S Kit End} (s : ReplaySettings) (before after : DeviceBench S Kit End g)
+    (polls : List Poll)
+    → Leads s before polls after → KeepsTransmits ShowsTransmits before after
+transmits-stay s before after [] leads all shown = rw leads shown
+transmits-stay s before after (poll ∷ polls) leads all shown =
+    transmits-stay s leads.0 after polls leads.2 all (leads.1.transmits all shown)
 
 -- a run over the devices and a list of one thread
 pub record IsRunOf (s : ReplaySettings) (devices : BenchDevices) (list : List ℕ) (polls : List Poll) (after : BenchDevices)
@@ -33,15 +33,13 @@ pub record IsRunOf (s : ReplaySettings) (devices : BenchDevices) (list : List �
   pub reported : report ≡ run_report s.budget s.window (replay_run s devices list).0.polls
 
 -- the law of runs on a view of the bench, for the view that shows its devices
-pub only-run : {B : Type 0} (devices : B → BenchDevices) (shows : B → Transmits → Type 0) (waiting : B → ℕ)
-    (relation : B → ℕ → ℕ → Once → B → Type 0)
-    → ArePolls devices shows waiting relation
-    → (s : ReplaySettings) (before after : B) (list left : List ℕ) (polls : List Poll) (report : RunReport)
-    → Leads relation s before polls after → IsPlainRun s.budget s.window list polls left report
-    → IsRunOf s (devices before) list polls (devices after) left report
-only-run devices shows waiting relation are s before after list left polls report leads run =
+pub only-run : {S Kit End : Type 0} {g : Ghosts S Kit End} (s : ReplaySettings) (before after : DeviceBench S Kit End g)
+    (list left : List ℕ) (polls : List Poll) (report : RunReport)
+    → Leads s before polls after → IsPlainRun s.budget s.window list polls left report
+    → IsRunOf s (devices_of before) list polls (devices_of after) left report
+only-run s before after list left polls report leads run =
     let is =
-    run-is-shown relation devices polled_at (λ b a id weight once h. (are b a id weight once h).exact) s.budget s.weight s.window
+    run-is-shown IsListPoll devices_of polled_at (λ b a id weight once h. h.exact) s.budget s.weight s.window
     s.budget_in.0 s.window_in.0 before after list left polls report leads run in
     record { polls_are = is.0; devices_after = is.1; list_after = is.2; reported = is.3 }
 
@@ -50,19 +48,16 @@ only-run devices shows waiting relation are s before after list left polls repor
 leavers : List Poll → ℕ
 leavers polls = sum_by (λ poll. leaves poll.once.next) polls
 
-waits-less : {B : Type 0} (devices : B → BenchDevices) (shows : B → Transmits → Type 0) (waiting : B → ℕ)
-    (relation : B → ℕ → ℕ → Once → B → Type 0)
-    → ArePolls devices shows waiting relation → (s : ReplaySettings) (before after : B) (polls : List Poll)
-    → Leads relation s before polls after
-    → waiting before ≤ waiting after + leavers polls
+waits-less : {S Kit End : Type 0} {g : Ghosts S Kit End} (s : ReplaySettings) (before after : DeviceBench S Kit End g)
+    (polls : List Poll)
+    → Leads s before polls after → waiting_of before ≤ waiting_of after + leavers polls
 unfolding leavers
-waits-less devices shows waiting relation are s before after [] leads = rw leads (omega arith)
-waits-less devices shows waiting relation are s before after (poll ∷ polls) leads =
-    let is = are before leads.0 poll.id s.weight poll.once leads.1 in
+waits-less s before after [] leads = rw leads (omega arith)
+waits-less s before after (poll ∷ polls) leads =
     omega (
       arith,
-      is.waits,
-      waits-less devices shows waiting relation are s leads.0 after polls leads.2,
+      leads.1.waits,
+      waits-less s leads.0 after polls leads.2,
       sum_by-cons
           (λ (p : Poll). leaves p.once.next) poll polls,
     )
@@ -92,13 +87,11 @@ each-goes (poll ∷ polls) =
       each-goes polls,
     ))
 
-pub run-room : {B : Type 0} (devices : B → BenchDevices) (shows : B → Transmits → Type 0) (waiting : B → ℕ)
-    (relation : B → ℕ → ℕ → Once → B → Type 0)
-    → ArePolls devices shows waiting relation
-    → (s : ReplaySettings) (before after : B) (list left : List ℕ) (polls : List Poll) (report : RunReport)
-    → Leads relation s before polls after → IsPlainRun s.budget s.window list polls left report → length list ≤ waiting before
-    → length left ≤ waiting after
-run-room devices shows waiting relation are s before after list left polls report leads run room =
+pub run-room : {S Kit End : Type 0} {g : Ghosts S Kit End} (s : ReplaySettings) (before after : DeviceBench S Kit End g)
+    (list left : List ℕ) (polls : List Poll) (report : RunReport)
+    → Leads s before polls after → IsPlainRun s.budget s.window list polls left report → length list ≤ waiting_of before
+    → length left ≤ waiting_of after
+run-room s before after list left polls report leads run room =
     let afterwards = list-afterwards s.budget s.window list left polls report run in
     let all : List ℕ = list ++ queued_by polls in
     let polled : length (ids polls) ≡ length (take (length polls) all) = ap length afterwards.0 in
@@ -114,5 +107,5 @@ run-room devices shows waiting relation are s before after list left polls repor
       length-append list (queued_by polls),
       length-append (drop (length polls) all) (repolled polls),
       each-goes polls,
-      waits-less devices shows waiting relation are s before after polls leads,
+      waits-less s before after polls leads,
     )

@@ -1,6 +1,6 @@
 -- The state of a replay after its first n rows, none of which had an error, and what it shows.
 use Rattle.std.specs.Prelude.{◌≡◌, ℕ, Bool, List, [], Option, None, Result, Ok, Err, take}
-use Rattle.device_bench.specs.{Transmits.{Transmits, is_used}, DeviceBench.{ShowsTransmits, devices_of}}
+use Rattle.device_bench.specs.{Transmits.{Transmits, is_used}, DeviceBench.ShowsTransmits}
 use Rattle.{device_bench.specs.declared.counts.DeviceCounts.DeviceCounts, device_places.specs.Places.at}
 use Rattle.device_rows.specs.declared.row.Row.{Row}
 use Rattle.replay_rows.specs.{Played.replay_state, Replay.after_all_rows, Report.{reported_counts, last_poll_by}, Transmits.transmits_of}
@@ -9,7 +9,7 @@ use Rattle.replay_rows.specs.declared.serial_replay.SerialReplay.{SerialReplay}
 use Rattle.text_io.specs.{declared.fault.ReplayFault.ReplayFault, declared.settings.ReplaySettings.ReplaySettings}
 
 pub record IsAfter (s : ReplaySettings) (rows : List Row) (n : ℕ) (r : SerialReplay) : Type 0 where
-  pub state : after_all_rows s (take n rows) ≡ Ok (replay_state devices_of r.replay)
+  pub state : after_all_rows s (take n rows) ≡ Ok (replay_state r.replay)
   pub transmits : ShowsTransmits r.replay.bench (transmits_of (take n rows))
   pub list : r.log.list.items ≡ list_before s rows n
   pub polls : r.log.polls.items ≡ polls_of_row s rows n

@@ -1,7 +1,7 @@
 //! Internal crate of the facade `replay`: a whole replay of a trace of network events through the packet polling core, from the
 //! bytes of the trace to the bytes of the report, or the message and the exit status of an error.
 //!
-//! [`replay_serial`] replays on one thread, and [`replay_on`] on any bench. [`SerialReplay`] processes the rows one by one, for
+//! [`replay_serial`] replays on one thread, and a [`Replay`] on any bench. [`SerialReplay`] processes the rows one by one, for
 //! programs that read the state after each, and the polls of each run. [`raise_trace`] adds the runs that the kernel would make.
 #![tactic(auto)]
 
@@ -21,9 +21,9 @@ mod whole;
 pub use line::PollRecord;
 pub use raise::raise_trace;
 pub use raised::{raise_rows, raised_is_trace};
+pub use replay::Replay;
 pub use report::{add_numbers, state_word};
 pub use run_log::RunPoll;
 pub use serial::replay_serial;
 pub use serial_replay::SerialReplay;
 pub use transmit_line::add_transmit;
-pub use whole::replay_on;

@@ -8,7 +8,7 @@ ghost use Rattle.text_io.specs.Outside.{IsReplayOutOfMemory};
 
 use crate::replay::{Replay, room_for_lines};
 use crate::softirq::is_softirq;
-use device_bench::{ReplayBench, SerialBench};
+use device_bench::{SerialBench, SerialReceive};
 use device_rows::{MOST_ROWS, Row, TraceFault};
 use std::alloc::{AllocError, Global};
 use text_io::{ReplayFault, ReplaySettings};
@@ -16,7 +16,7 @@ use text_io::{ReplayFault, ReplaySettings};
 /// The rows so far, with those that were added, and a replay of them.
 #[derive(Drop)]
 pub(crate) struct Raising {
-    replay: Replay<SerialBench>,
+    replay: Replay<SerialReceive>,
     rows: Vec<Row>,
     // No row is moved, and the last row has room.
     ghost room: { 100000 ≤ vec_capacity rows },

@@ -1,15 +1,16 @@
 //! Processing the rows of a trace on any bench, for all modes that process rows.
 
 ghost use Rattle.std.specs.Prelude.{◌≡◌, ◌≤◌, [], IfOk, length};
+ghost use Rattle.device_bench.specs.DeviceBench.{waiting_of};
 ghost use Rattle.poll_runs.specs.Ranges.{IsRounds};
 
 use crate::line::PollRecord;
 use crate::run_log::{RunLog, run_logged};
 use crate::softirq::is_softirq;
-use device_bench::ReplayBench;
+use device_bench::{DeviceBench, ReceiveSide};
 use device_rows::{Row, RowEvent};
 use napi_model::Kind;
-use poll_runs::{Next, PlainList, PollList, run_softirq};
+use poll_runs::{Bench, Next, PlainList, PollList, run_softirq};
 use std::alloc::{AllocError, Global};
 use text_io::{ReplayFault, ReplaySettings};
 
@@ -18,12 +19,12 @@ pub(crate) const MOST_THREAD_POLLS: u32 = 131072;
 
 /// The state after the rows so far, on any bench.
 #[derive(Drop)]
-pub(crate) struct Replay<B: ReplayBench> {
-    pub(crate) bench: B,
+pub struct Replay<S: ReceiveSide> {
+    pub(crate) bench: DeviceBench<S>,
     pub(crate) list: PlainList,
     pub(crate) lines: Vec<PollRecord>,
     // Each entry of the list is a device that waits on it, so the list has room for all of them.
-    ghost room: { length list ≤ B.waiting bench },
+    ghost room: { length list ≤ waiting_of bench },
 }
 
 /// Returns an empty list of lines, with room for the line of each row that polls.
@@ -40,8 +41,9 @@ pub(crate) fn room_for_lines(alloc: Global, rows: &[Row]) -> Result<Vec<PollReco
     Vec::with_capacity(alloc, polling)
 }
 
-impl<B: ReplayBench> Replay<B> {
+impl<S: ReceiveSide> Replay<S> {
     ghost use Rattle.std.specs.Prelude.{◌≡◌, ℕ, ◌+◌, ◌++◌, [], ◌∷◌, true, false, Ok, OnOk, IfErr};
+    ghost use Rattle.device_bench.specs.DeviceBench.{ShowsTransmits, devices_of, waiting_of};
     ghost use Rattle.device_bench.specs.Transmits.{Changes, KeepsTransmits, Transmits};
     ghost use Rattle.device_places.specs.Places.{empty};
     ghost use Rattle.device_rows.specs.Row.{device_fits, value_fits};
@@ -55,11 +57,11 @@ impl<B: ReplayBench> Replay<B> {
     ghost use Rattle.replay_rows.specs.Transmits.{after_transmit, after_transmits};
 
     /// Returns a replay on a bench without devices, which collects its lines in `lines`.
-    pub(crate) fn new(bench: B, lines: Vec<PollRecord>) -> Replay<B>
+    pub fn new(bench: DeviceBench<S>, lines: Vec<PollRecord>) -> Replay<S>
         requires { lines.items ≡ [] }
         ensures bench { result.bench ≡ bench }
         ensures lines { result.lines.items ≡ [] }
-        ensures state { B.devices bench ≡ empty → replay_state B.devices result ≡ start }
+        ensures state { devices_of bench ≡ empty → replay_state result ≡ start }
     {
         Replay {
             bench,
@@ -70,9 +72,9 @@ impl<B: ReplayBench> Replay<B> {
 
     // Handles the arrival of a packet. If that queues the device on the list, it pushes the number.
     fn rx(&mut self, device: u32, bytes: u32)
-        ensures state { replay_state B.devices self.new
-            ≡ with_packet device bytes (replay_state B.devices self.old) }
-        ensures transmits { KeepsTransmits B.shows self.old.bench self.new.bench }
+        ensures state { replay_state self.new
+            ≡ with_packet device bytes (replay_state self.old) }
+        ensures transmits { KeepsTransmits ShowsTransmits self.old.bench self.new.bench }
         ensures lines { self.new.lines ≡ self.old.lines }
     {
         if matches!(self.bench.arrive(device, bytes), Some(Kind::List)) {
@@ -83,7 +85,7 @@ impl<B: ReplayBench> Replay<B> {
     // Pushes the device's number if a poll that ended like this queued the device on the list.
     fn list_left(&mut self, device: u32, next: Next)
         requires { length self.old.list + one_when (is_left_to_list next)
-            ≤ B.waiting self.old.bench }
+            ≤ waiting_of self.old.bench }
         ensures list { self.new.list ≡ self.old.list ++ entry (is_left_to_list next) device }
         ensures bench { self.new.bench ≡ self.old.bench }
         ensures lines { self.new.lines ≡ self.old.lines }
@@ -95,11 +97,11 @@ impl<B: ReplayBench> Replay<B> {
 
     // Makes one run over the poll list, and adds its line.
     fn run(&mut self, settings: &ReplaySettings, row: u32) -> Result<(), AllocError>
-        ensures state { OnOk result (replay_state B.devices self.new
-            ≡ with_run settings.now row (replay_state B.devices self.old)) }
+        ensures state { OnOk result (replay_state self.new
+            ≡ with_run settings.now row (replay_state self.old)) }
         ensures lines { OnOk result
             (length self.new.lines.items ≡ length self.old.lines.items + 1) }
-        ensures transmits { KeepsTransmits B.shows self.old.bench self.new.bench }
+        ensures transmits { KeepsTransmits ShowsTransmits self.old.bench self.new.bench }
     {
         let run = run_softirq(
             &mut self.list,
@@ -121,15 +123,15 @@ impl<B: ReplayBench> Replay<B> {
     ) -> Result<(), AllocError>
         requires list { log.old.list.items ≡ [] }
         requires polls { log.old.polls.items ≡ [] }
-        ensures state { OnOk result (replay_state B.devices self.new
-            ≡ with_run settings.now row (replay_state B.devices self.old)) }
+        ensures state { OnOk result (replay_state self.new
+            ≡ with_run settings.now row (replay_state self.old)) }
         ensures lines { OnOk result
             (length self.new.lines.items ≡ length self.old.lines.items + 1) }
-        ensures transmits { KeepsTransmits B.shows self.old.bench self.new.bench }
+        ensures transmits { KeepsTransmits ShowsTransmits self.old.bench self.new.bench }
         ensures list { OnOk result (log.new.list.items ≡ self.old.list) }
-        ensures polls { OnOk result ((all : Transmits) → B.shows self.old.bench all
-            → log.new.polls.items ≡ logged settings.now all (B.devices self.old.bench)
-            (replay_run settings.now (B.devices self.old.bench) self.old.list).0.polls) }
+        ensures polls { OnOk result ((all : Transmits) → ShowsTransmits self.old.bench all
+            → log.new.polls.items ≡ logged settings.now all (devices_of self.old.bench)
+            (replay_run settings.now (devices_of self.old.bench) self.old.list).0.polls) }
     {
         log.begin(self.list.ids(), settings.window)?;
         let run = run_logged(&mut self.list, &mut self.bench, settings, &mut log.polls);
@@ -144,11 +146,11 @@ impl<B: ReplayBench> Replay<B> {
         row: u32,
         device: u32,
     ) -> Result<(), AllocError>
-        ensures state { OnOk result (replay_state B.devices self.new
-            ≡ with_thread settings.now row device (replay_state B.devices self.old)) }
+        ensures state { OnOk result (replay_state self.new
+            ≡ with_thread settings.now row device (replay_state self.old)) }
         ensures lines { OnOk result
             (length self.new.lines.items ≡ length self.old.lines.items + 1) }
-        ensures transmits { KeepsTransmits B.shows self.old.bench self.new.bench }
+        ensures transmits { KeepsTransmits ShowsTransmits self.old.bench self.new.bench }
     {
         let report = self
             .bench
@@ -171,11 +173,11 @@ impl<B: ReplayBench> Replay<B> {
         rounds: u32,
     ) -> Result<(), AllocError>
         requires { IsRounds rounds }
-        ensures state { OnOk result (replay_state B.devices self.new
-            ≡ with_busy settings.now row device rounds (replay_state B.devices self.old)) }
+        ensures state { OnOk result (replay_state self.new
+            ≡ with_busy settings.now row device rounds (replay_state self.old)) }
         ensures lines { OnOk result
             (length self.new.lines.items ≡ length self.old.lines.items + 1) }
-        ensures transmits { KeepsTransmits B.shows self.old.bench self.new.bench }
+        ensures transmits { KeepsTransmits ShowsTransmits self.old.bench self.new.bench }
     {
         let report = self.bench.busy_poll(device, settings.weight, rounds);
         self.list_left(device, report.next);
@@ -198,14 +200,14 @@ impl<B: ReplayBench> Replay<B> {
         requires device { device_fits row.now.event row.now.device ≡ true }
         requires value { value_fits row.now.event row.now.value ≡ true }
         ensures on_time { OnOk result
-            (is_early row.now.event row.now.device (replay_state B.devices self.old) ≡ false) }
-        ensures state { OnOk result (replay_state B.devices self.new
+            (is_early row.now.event row.now.device (replay_state self.old) ≡ false) }
+        ensures state { OnOk result (replay_state self.new
             ≡ after_event settings.now number row.now.event row.now
-            (replay_state B.devices self.old)) }
+            (replay_state self.old)) }
         ensures fault { IfErr result
-            (IsRefusedAt number row.now (replay_state B.devices self.old)) }
+            (IsRefusedAt number row.now (replay_state self.old)) }
         ensures transmits { OnOk result
-            (Changes B.shows (after_transmit row.now) self.old.bench self.new.bench) }
+            (Changes ShowsTransmits (after_transmit row.now) self.old.bench self.new.bench) }
         ensures lines { OnOk result
             (length self.new.lines.items ≤ length self.old.lines.items + 1) }
     {
@@ -240,18 +242,18 @@ impl<B: ReplayBench> Replay<B> {
         requires device { device_fits row.now.event row.now.device ≡ true }
         requires value { value_fits row.now.event row.now.value ≡ true }
         ensures on_time { OnOk result
-            (is_early row.now.event row.now.device (replay_state B.devices self.old) ≡ false) }
-        ensures state { OnOk result (replay_state B.devices self.new
-            ≡ after_row settings.now number row.now (replay_state B.devices self.old)) }
+            (is_early row.now.event row.now.device (replay_state self.old) ≡ false) }
+        ensures state { OnOk result (replay_state self.new
+            ≡ after_row settings.now number row.now (replay_state self.old)) }
         ensures fault { IfErr result
-            (IsRefusedAt number row.now (replay_state B.devices self.old)) }
+            (IsRefusedAt number row.now (replay_state self.old)) }
         ensures transmits { OnOk result
-            (Changes B.shows (after_transmit row.now) self.old.bench self.new.bench) }
+            (Changes ShowsTransmits (after_transmit row.now) self.old.bench self.new.bench) }
         ensures list { OnOk result
-            (log.new.list.items ≡ row_list row.now (replay_state B.devices self.old)) }
-        ensures polls { OnOk result ((all : Transmits) → B.shows self.old.bench all
+            (log.new.list.items ≡ row_list row.now (replay_state self.old)) }
+        ensures polls { OnOk result ((all : Transmits) → ShowsTransmits self.old.bench all
             → log.new.polls.items
-            ≡ row_polls settings.now all row.now (replay_state B.devices self.old)) }
+            ≡ row_polls settings.now all row.now (replay_state self.old)) }
     {
         log.clear();
         if !is_softirq(row.event) {
@@ -274,12 +276,12 @@ impl<B: ReplayBench> Replay<B> {
     ) -> Result<(), ReplayFault>
         requires accepted { AcceptedAfter [] rows.now }
         requires count { length rows.now ≤ 100000 }
-        requires start { replay_state B.devices self.old ≡ start }
+        requires start { replay_state self.old ≡ start }
         requires lines { self.old.lines.items ≡ [] }
         ensures state { OnOk result
-            (after_all_rows settings.now rows.now ≡ Ok (replay_state B.devices self.new)) }
+            (after_all_rows settings.now rows.now ≡ Ok (replay_state self.new)) }
         ensures transmits { OnOk result
-            (Changes B.shows (after_transmits rows.now) self.old.bench self.new.bench) }
+            (Changes ShowsTransmits (after_transmits rows.now) self.old.bench self.new.bench) }
         ensures lines { OnOk result (length self.new.lines.items ≤ 100000) }
         ensures fault { IfErr result (IsSerialFault settings.now rows.now) }
     {

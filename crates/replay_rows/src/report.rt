@@ -7,7 +7,7 @@ ghost use Rattle.text_io.specs.Lines.{with_newline, flag};
 use crate::line::PollRecord;
 use crate::replay::Replay;
 use crate::transmit_line::add_transmit;
-use device_bench::{DeviceCounts, DeviceState, ReplayBench};
+use device_bench::{DeviceCounts, DeviceState, ReceiveSide};
 use device_places::TABLE_LEN;
 use poll_runs::PollList;
 use std::alloc::{AllocError, Global};
@@ -250,17 +250,17 @@ fn add_totals(text: &mut String, totals: &RunTotals) -> Result<(), AllocError>
     Ok(())
 }
 
-impl<B: ReplayBench> Replay<B> {
+impl<S: ReceiveSide> Replay<S> {
     ghost use Rattle.std.specs.Prelude.{◌≡◌, ◌++◌, IfOk, OnOk, string_bytes};
-    ghost use Rattle.device_bench.specs.Transmits.{Transmits};
+    ghost use Rattle.device_bench.specs.{DeviceBench.ShowsTransmits, Transmits.Transmits};
     ghost use Rattle.replay_rows.specs.Played.{replay_state};
     ghost use Rattle.replay_rows.specs.Report.{lines_below, lines_of, serial_text};
 
     // Appends the lines of each device, by increasing number.
     fn add_devices(&self, version: u32, text: &mut String) -> Result<(), AllocError>
-        ensures { (all : Transmits) → B.shows self.now.bench all
+        ensures { (all : Transmits) → ShowsTransmits self.now.bench all
             → OnOk result (string_bytes text.new ≡ string_bytes text.old
-            ++ lines_below (lines_of version (replay_state B.devices self.now) all) 17) }
+            ++ lines_below (lines_of version (replay_state self.now) all) 17) }
     {
         for number in 0..TABLE_LEN {
             if self.bench.is_attached(number) {
@@ -275,8 +275,8 @@ impl<B: ReplayBench> Replay<B> {
     #[tactic(auto, unfolding(crate::specs::Report::text_by))]
     pub(crate) fn report(&self, alloc: Global, version: u32) -> Result<String, AllocError>
         requires { length self.now.lines.items ≤ 100000 }
-        ensures { (all : Transmits) → B.shows self.now.bench all → IfOk result
-            (λ text. string_bytes text ≡ serial_text version (replay_state B.devices self.now)
+        ensures { (all : Transmits) → ShowsTransmits self.now.bench all → IfOk result
+            (λ text. string_bytes text ≡ serial_text version (replay_state self.now)
             all) }
     {
         let mut text = String::new(alloc);

@@ -2,14 +2,15 @@
 
 ghost use Rattle.std.specs.Prelude.{◌≡◌, ◌≤◌, ◌+◌, [], IfOk, OnOk, length, vec_capacity, vec_len};
 ghost use Rattle.device_bench.specs.Bench.{counts_at};
+ghost use Rattle.device_bench.specs.DeviceBench.{IsListPoll, ShowsTransmits, devices_of};
 ghost use Rattle.device_places.specs.Places.{at};
 ghost use Rattle.device_bench.specs.Transmits.{Transmits, tx_counts_of};
 ghost use Rattle.poll_runs.specs.Laws.{IsPlainRun};
 ghost use Rattle.poll_runs.specs.Polls.{At, Chain};
 ghost use Rattle.replay_rows.specs.RunLog.{logged, polls_in};
 
-use device_bench::{DeviceCounts, ReplayBench};
-use poll_runs::{Once, PlainList, PollingRun, RunReport};
+use device_bench::{DeviceBench, DeviceCounts, ReceiveSide};
+use poll_runs::{Bench, Once, PlainList, PollingRun, RunReport};
 use std::alloc::{AllocError, Global};
 use text_io::ReplaySettings;
 
@@ -68,9 +69,9 @@ impl RunLog {
 }
 
 /// Returns what a report would show of a device, or `None` if there is no such device.
-pub(crate) fn counts_of<B: ReplayBench>(bench: &B, device: u32) -> Option<DeviceCounts>
-    ensures { (all : Transmits) → B.shows bench.now all
-        → result ≡ counts_at (at device (B.devices bench.now)) (tx_counts_of (at device all)) }
+pub(crate) fn counts_of<S: ReceiveSide>(bench: &DeviceBench<S>, device: u32) -> Option<DeviceCounts>
+    ensures { (all : Transmits) → ShowsTransmits bench.now all
+        → result ≡ counts_at (at device (devices_of bench.now)) (tx_counts_of (at device all)) }
 {
     if !bench.is_attached(device) {
         return None;
@@ -79,21 +80,21 @@ pub(crate) fn counts_of<B: ReplayBench>(bench: &B, device: u32) -> Option<Device
 }
 
 /// Makes one run over the poll list like `run_softirq`, and appends its polls.
-pub(crate) fn run_logged<B: ReplayBench>(
+pub(crate) fn run_logged<S: ReceiveSide>(
     list: &mut PlainList,
-    bench: &mut B,
+    bench: &mut DeviceBench<S>,
     settings: &ReplaySettings,
     polls: &mut Vec<RunPoll>,
 ) -> RunReport
     requires none { polls.old.items ≡ [] }
     requires room { settings.now.window ≤ vec_capacity polls.old }
     ensures few { length polls.new.items ≤ settings.now.window }
-    ensures polls { Chain (At B.polls settings.now.weight) bench.old (polls_in polls.new.items)
+    ensures polls { Chain (At IsListPoll settings.now.weight) bench.old (polls_in polls.new.items)
         bench.new }
     ensures run { IsPlainRun settings.now.budget settings.now.window list.old
         (polls_in polls.new.items) list.new result }
-    ensures logged { (all : Transmits) → B.shows bench.old all → polls.new.items
-        ≡ logged settings.now all (B.devices bench.old) (polls_in polls.new.items) }
+    ensures logged { (all : Transmits) → ShowsTransmits bench.old all → polls.new.items
+        ≡ logged settings.now all (devices_of bench.old) (polls_in polls.new.items) }
 {
     let mut run = PollingRun::begin(list, settings.budget, settings.weight, settings.window);
     while let Some(device) = run.next(list) {

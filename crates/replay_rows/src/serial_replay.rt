@@ -3,7 +3,7 @@
 use crate::line::PollRecord;
 use crate::replay::{Replay, room_for_lines};
 use crate::run_log::{RunLog, RunPoll, counts_of};
-use device_bench::{DeviceCounts, ReplayBench, SerialBench};
+use device_bench::{DeviceCounts, SerialBench, SerialReceive};
 use device_rows::Row;
 use std::alloc::{AllocError, Global};
 use text_io::{ReplayFault, ReplaySettings};
@@ -11,7 +11,7 @@ use text_io::{ReplayFault, ReplaySettings};
 /// A replay on one thread that processes the rows one by one, and shows the state after each row.
 #[derive(Drop)]
 pub struct SerialReplay {
-    replay: Replay<SerialBench>,
+    replay: Replay<SerialReceive>,
     log: RunLog,
 }
 

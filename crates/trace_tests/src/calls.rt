@@ -45,6 +45,11 @@ fn values_are_settings(rt: HostRuntime) -> Result<(), Fail> {
     values[6] = 65;
     assert_eq!(rt; MachineSettings::from_values(&values), Err(7));
     assert_eq!(rt; OPTIONS[6].name, "weight");
+    values[6] = 64;
+    values[10] = 1;
+    values[22] = 1;
+    assert_eq!(rt; MachineSettings::from_values(&values), Err(23));
+    assert_eq!(rt; OPTIONS[22].name, "rx-gap");
     Ok(())
 }
 

@@ -18,6 +18,9 @@ const COALESCED: &str = "moment,device,bytes\n0,1,100\n3000,1,100\n4000,1,100\n9
 // A packet that arrives while the NAPI timer of its queue is set.
 const UNMASKED: &str = "moment,device,bytes\n0,1,60\n9500,1,60\n";
 
+// Packets that arrive during the gap after an interrupt, and after the next gap.
+const GAP: &str = "moment,device,bytes\n0,1,60\n8000,1,60\n9000,1,60\n50000,1,60\n";
+
 const APART: [&str; 2] = ["--apart=1", "--app-wake=3000"];
 
 const REPORT: &str =
@@ -59,7 +62,14 @@ time 0 end 39500 interrupt 20000 poll 6000 use 4000 idle 9500
 total devices 1 arrived 2 dropped 0 polled 2 refused 0 used 2
 ";
 
-// The report as tests/machine_model.py computes it.
+const GAP_REPORT: &str =
+    "device 1 arrived 4 dropped 0 polled 4 interrupts 3 polls 3 mean 12000 wait50 6000 wait90 17984 wait99 17984 wait999 17984 most 18000
+processor 0 interrupts 3 timers 0 runs 3 polls 3 work 4 squeezed 0 late 0 refused 0 used 4 mean 14750 wait50 8000 wait90 21984 wait99 21984 wait999 21984 most 22000
+time 0 end 58000 interrupt 12000 poll 7000 use 8000 idle 31000
+total devices 1 arrived 4 dropped 0 polled 4 refused 0 used 4
+";
+
+// The report as bench/machine.cc computes it.
 const SMALL_SOCKET: &str =
     "device 1 arrived 3 dropped 0 polled 3 interrupts 1 polls 1 mean 8000 wait50 10000 wait90 10992 wait99 10992 wait999 10992 most 11000
 device 2 arrived 1 dropped 0 polled 1 interrupts 1 polls 1 mean 13500 wait50 13488 wait90 13488 wait99 13488 wait999 13488 most 13500
@@ -69,7 +79,7 @@ application 0 end 73000 wakes 1 use 60000 idle 10000
 total devices 2 arrived 4 dropped 0 polled 4 refused 2 used 2
 ";
 
-// The report as tests/machine_model.py computes it.
+// The report as bench/machine.cc computes it.
 const FLOWS_REPORT: &str =
     "device 1 arrived 1 dropped 0 polled 1 interrupts 1 polls 1 mean 6000 wait50 6000 wait90 6000 wait99 6000 wait999 6000 most 6000
 device 2 arrived 2 dropped 0 polled 2 interrupts 1 polls 1 mean 6000 wait50 2000 wait90 10000 wait99 10000 wait999 10000 most 10000
@@ -92,7 +102,7 @@ fn machine_of(alloc: Global, words: &[&str]) -> Result<MachineSettings, Fail> {
 
 #[test]
 fn worked_runs_are_reported(rt: HostRuntime) -> Result<(), Fail> {
-    let cases: [(&[&str], &str, &str); 7] = [
+    let cases: [(&[&str], &str, &str); 8] = [
         (&APART, ARRIVALS, REPORT),
         (
             &["--defer-hard-irqs=2", "--gro-flush-timeout=20000"],
@@ -120,6 +130,7 @@ fn worked_runs_are_reported(rt: HostRuntime) -> Result<(), Fail> {
             UNMASKED,
             HEEDLESS,
         ),
+        (&["--rx-gap=20000"], GAP, GAP_REPORT),
     ];
     for (words, arrivals, expected) in cases {
         let settings = machine_of(rt.alloc(), words)?;

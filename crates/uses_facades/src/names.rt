@@ -17,8 +17,8 @@ ghost use Rattle.poll_engine.specs.Opens.{IsStation};
 ghost use Rattle.device_model.specs.Script.{opening_of};
 
 use device_model::{
-    DeviceCounts, DeviceState, Event, ReplayBench, Row, ScriptDevice, SerialBench, Trace,
-    TraceFault, TxCounts, read_trace,
+    DeviceCounts, DeviceState, Event, Row, ScriptDevice, SerialBench, Trace, TraceFault, TxCounts,
+    read_trace,
 };
 use dql_core::{Dql, DqlFault};
 use napi_calls::{

@@ -26,7 +26,7 @@ setting() {
     /rig/onto 1 /rig/receiver 9000 "$name.read" "$name.stamps" &
     receiver=$!
     sleep 1
-    python3 -BES /fq/scripts/start.py fintaqush record "$SECONDS" --device $card --program receiver --buffer 20 --out "$name.rec" 2> "$name.said" &
+    python3 -BES /fq/scripts/start.py fintaqush record "$SECONDS" --device $card --program receiver --buffer 100 --out "$name.rec" 2> "$name.said" &
     recorder=$!
     until grep -q 'recording for' "$name.said"; do
         sleep 0.1

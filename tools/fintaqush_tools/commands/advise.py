@@ -4,12 +4,13 @@
     fintaqush advise mine.rec --goal p99
     sudo fintaqush advise mine.rec --goal p99 --verify
 
-It estimates the costs from the recording (fintaqush costs), replays the recorded settings in napi_machine and compares the result with what
-was recorded, for each processor that polled. The fit is good, fair or poor; it is unknown if the goal is a wait and no wait could be measured.
-If it is poor or unknown, there is no advice. Otherwise it tries other settings: threaded NAPI, napi_defer_hard_irqs with gro_flush_timeout,
-interrupt coalescing, sizes of rings and backlogs, and the program on an idle processor. Of settings that are equally good it advises the one
-with the fewest changes. It prints the best settings for the goal, their results if all costs were 20 % lower or higher, the commands that set
-them, and what isn't modelled.
+It estimates the costs from the recording (fintaqush costs), replays the recorded settings in napi_machine and compares
+the result with what was recorded, for each processor that polled. The fit is good, fair or poor; it is unknown if the
+goal is a wait and no wait could be measured. If it is poor or unknown, there is no advice. Otherwise it tries other
+settings: threaded NAPI, napi_defer_hard_irqs with gro_flush_timeout, interrupt coalescing, sizes of rings and backlogs,
+and the program on an idle processor. Of settings that are equally good it advises the one with the fewest changes. It
+prints the best settings for the goal, the band in which a recording with the first one is nine times of ten, the
+commands that set it, and what isn't modelled.
 
 Goals: the 99th or 50th percentile of the wait, the kernel's processor time, or drops. A wait lasts from a packet's arrival until the program
 has used it, or until its delivery if the program isn't recorded. Only settings with at most --max-drops drops (as many as now) and with a
@@ -18,51 +19,66 @@ has used it, or until its delivery if the program isn't recorded. Only settings 
 At a network card arrivals are inferred from polls. --capture names a capture that was made meanwhile (tcpdump -j adapter), of which the packets
 to the device that came during the recording are the arrivals.
 
---verify needs root. It applies the advised settings on this machine, records again during traffic, prints predicted and measured values and
-a verdict, and restores the old settings. The exit status is 1 if the goal's value should have become lower and didn't.
+--verify needs root. It records today's settings and the advised ones on this machine, three times each in turn, during
+traffic, and restores the old settings. It prints predicted and measured values, and by how much the goal's value became
+lower. The exit status is 1 if it should have become lower and not all three recordings are below those of today's
+settings.
 """
 
 from __future__ import annotations
 
-import json
-import os
-import tempfile
+from collections import Counter
 from collections.abc import Iterator, Mapping, Sequence
-from dataclasses import asdict, dataclass
 from pathlib import Path
 from typing import Any, Optional
 
-from fintaqush_tools import blame, predicting
-from fintaqush_tools.advice import NOT_MODELLED, Change, Machine, candidates, options_of, unmodelled_in
-from fintaqush_tools.choosing import GOALS, Choice, Options, Predictions, Values, settings_of
-from fintaqush_tools.commands import costs, record
-from fintaqush_tools.errors import Refusal, unfinished, unlink, why
+from fintaqush_tools import blame, card_costs, drivers, predicting, verifying
+from fintaqush_tools.advice import (
+    COALESCING,
+    MOVED,
+    NOT_MODELLED,
+    SPREAD,
+    Change,
+    Machine,
+    candidates,
+    has_deferral,
+    interrupts_of,
+    options_of,
+    unmodelled_in,
+    usecs_of,
+)
+from fintaqush_tools.bands import DOUBT, TIMERS, Doubt, with_costs
+from fintaqush_tools.choosing import GOALS, Choice, Options, Predictions, Values, settings_of, timeout_of
+from fintaqush_tools.commands import costs
+from fintaqush_tools.errors import Refusal
 from fintaqush_tools.files import WholeFile, check_regular, check_target
+from fintaqush_tools.fits import Cost
 from fintaqush_tools.machine import COSTS, identifier, option_words
-from fintaqush_tools.options import Parser, Words, add_program, number, parser_of, require_end
+from fintaqush_tools.options import Parser, Words, add_binary, number, parser_of, require_end
 from fintaqush_tools.pictures import ENDS, Curve, Picture, check_library, picture_bytes
-from fintaqush_tools.predicting import Compared
+from fintaqush_tools.predicting import TOLD, Compared, check_lines, objects_in, told_value, us
 from fintaqush_tools.processes import program
-from fintaqush_tools.progress import say
 from fintaqush_tools.recorded import Recording, arrivals_in
 from fintaqush_tools.recording import BACKLOG
+from fintaqush_tools.results import add_json, is_printed, write_json
 from fintaqush_tools.texts import aligned, as_rows, shown
+from fintaqush_tools.thresholds import add_fail_if, status_of
+from fintaqush_tools.verifying import Verdict
 
 FEWEST = 1000  # packets
 SHOWN = 8  # settings in the table
-FORMAT = 1  # version of the object that --json prints
-NAMES = {"defer-hard-irqs": "napi_defer_hard_irqs", "gro-flush-timeout": "gro_flush_timeout", "rx-nsecs": "rx-usecs"}
-TOLD = {
-    "dropped": "dropped",
-    "polls": "polls",
-    "runs": "runs",
-    "squeezed": "squeezed runs",
-    "delivered_p50": "wait to delivery, p50, us",
-    "delivered_p99": "wait to delivery, p99, us",
-    "used_p50": "wait to the end of use, p50, us",
-    "used_p99": "wait to the end of use, p99, us",
-    "poll_percent": "polls, % of the time",
+RARE = 10  # a device with fewer packets than one in so many of the largest one doesn't count
+VAGUE = 4  # ratio of a band's ends above which a value counts as unknown
+LAYOUTS = {0: "queues as they are", MOVED: "interrupts moved", SPREAD: "hashes spread equally"}
+NAMES = {
+    "defer-hard-irqs": "napi_defer_hard_irqs",
+    "gro-flush-timeout": "gro_flush_timeout",
+    **dict.fromkeys(COALESCING, "rx-usecs"),
 }
+NO_TIMER = (
+    "deferral isn't compared with none, because the recording has too few of NAPI's timers to know their cost: record "
+    "again with napi_defer_hard_irqs 2 and a gro_flush_timeout of 100000"
+)
 UNKNOWN = "no wait was measured, because which packet was in which poll isn't known"
 
 
@@ -81,10 +97,12 @@ def named(options: Options, varied: Sequence[str]) -> str:
         value = options.get(name, 0)
         if name == "ring" and options.get("backlog"):
             parts.append(f"netdev_max_backlog {value - 1}")
+        elif name == "layout":
+            parts.append(LAYOUTS[value])
         elif name == "apart":
             parts.append(f"the program {'apart' if value else 'with the polls'}")
         else:
-            parts.append(f"{NAMES.get(name, name)} {value // 1000 if name == 'rx-nsecs' else value}")
+            parts.append(f"{NAMES.get(name, name)} {usecs_of(value) if name in COALESCING else value}")
     return ", ".join(parts)
 
 
@@ -97,19 +115,9 @@ def varied_in(tried: Sequence[Options]) -> list[str]:
     """Returns the options that have several values, except for a timer without deferral."""
     return [
         name
-        for name in ("threaded", "defer-hard-irqs", "gro-flush-timeout", "rx-nsecs", "ring", "apart")
+        for name in ("threaded", "defer-hard-irqs", "gro-flush-timeout", *COALESCING, "ring", "layout", "apart")
         if len({options.get(name, 0) for options in tried}) > 1
     ]
-
-
-def us(value: float) -> str:
-    return f"{value / 1000:.1f}"
-
-
-def told_value(name: str, value: float) -> str:
-    """Returns a measured or predicted value in its unit."""
-    unit, _ = predicting.MEASURED[name]
-    return us(value) if unit == "us" else f"{value:.1f}" if unit == "%" else str(value)
 
 
 def columns_of(values: Values, end: str) -> list[str]:
@@ -132,33 +140,6 @@ def table(rows: Sequence[list[str]], first: str) -> list[str]:
     return [f"  {line}" for line in aligned([[first, *HEADINGS], *rows], 1)]
 
 
-def check_lines(rows: Sequence[Compared], packets: float) -> Iterator[str]:
-    """Yields the lines that compare the recorded settings with their prediction. A difference of few is a number, with what it was divided by."""
-    for name, measured, value, error in rows:
-        told = [told_value(name, each) for each in (measured, value)]
-        base = predicting.base_of(name, measured, packets)
-        difference = (
-            f"{error:+8.1f} %"
-            if base == max(1, measured) or value == measured
-            else f"{value - measured:+8d}   judged as {error:+.1f} % of {base:.0f}, because a ratio of few says nothing"
-        )
-        yield f"  {TOLD[name]:34} {told[0]:>12} {told[1]:>12} {difference}"
-
-
-def objects_in(rows: Sequence[Compared], packets: float) -> list[dict[str, Any]]:
-    """Returns the same for a program: `of` is the number by which the difference was divided."""
-    return [
-        {
-            "name": name,
-            "measured": measured,
-            "predicted": value,
-            "error": error,
-            "of": predicting.base_of(name, measured, packets),
-        }
-        for name, measured, value, error in rows
-    ]
-
-
 class Advice:
     """The advice that follows from a recording."""
 
@@ -178,19 +159,36 @@ class Advice:
         times = costs.timeline_for(head, [] if has_one else [recording.device])
         recording.read(times)
         self.told = costs.object_after(times, head)
+        if words.capture:
+            self.take_interrupt()
         self.costs = self.settled({name.replace("_", "-"): cost["value"] for name, cost in self.told["costs"].items()})
         self.processors = recording.layout.processors
         self.options = options_of(head, recording.device, self.told["apart"], len(self.processors))
         self.end = self.chosen_end()
         whole, first = arrivals_in(recording, words)
-        made, majors = program("napi_machine", words.program), recording.layout.major()
-        self.compare(Predictions(made, self.costs, whole, majors))
+        made, majors = program("napi_machine", words.binary), recording.layout.major()
+        predictions = Predictions(made, self.costs, whole, majors)
+        self.compare(predictions)
+        self.doubt = self.doubt_by(predictions)
         self.machine = Machine(head, recording.device, recording.seen.processor, recording.seen.tasks.idle())
         self.note_tasks()
         self.note_recording()
         self.predictions, self.choice = Predictions(made, self.costs, first, majors), None
+        self.predictions.doubt = self.doubt
         if self.grade in ("good", "fair"):
             self.choose(len(first.splitlines()) - 1)
+
+    def take_interrupt(self) -> None:
+        """Takes the cost of an interrupt from a capture's arrivals, if softirqs poll: it begins before its handler."""
+        seen = self.recording.seen
+        cost = card_costs.arrival_interrupt_cost(seen.sent, seen.entries[seen.processor])
+        if cost and not seen.is_by_thread:
+            self.told["costs"]["interrupt"] = cost.as_object()
+            self.told["costs"]["wake"] = Cost(0, 0, 0, cost.count, "a part of the interrupt").as_object()
+            line = (
+                f"interrupt {cost.interval()}: {cost.count} {cost.source}, from the arrival to the softirq, with waking"
+            )
+            self.told["text"] = [line, *(each for each in self.told["text"] if not each.startswith("interrupt"))]
 
     def chosen_end(self) -> str:
         """Returns where waits end, used or delivered. With several processors they end with the delivery, because the machine has a program on
@@ -217,7 +215,21 @@ class Advice:
         )
 
     def compare(self, predictions: Predictions) -> None:
-        """Compares the recorded setting with its prediction, also for each processor, and grades the fit by the worst one."""
+        """Compares the recorded setting with its prediction. If only the wait to the end of use is predicted badly,
+        waits end with the delivery."""
+        self.judge(predictions)
+        if self.grade != "poor" or self.end != "used":
+            return
+        worst, self.end = self.worst(), "delivered"
+        self.judge(predictions)
+        if self.grade in ("good", "fair"):
+            self.notes.append(f"the end of use isn't predicted ({worst}), so waits are those to delivery")
+        else:
+            self.end = "used"
+            self.judge(predictions)
+
+    def judge(self, predictions: Predictions) -> None:
+        """Compares each processor too, and grades the fit by the worst one."""
         recording, words = self.recording, self.words
         self.check = self.compared(self.measured, predictions.of(self.options))
         self.check_on: dict[int, list[Compared]] = {}
@@ -236,12 +248,27 @@ class Advice:
         ]
         self.grade = max(grades, key=("good", "fair", "poor").index) if self.is_measured() else "unknown"
 
+    def doubt_by(self, predictions: Predictions) -> Doubt:
+        """Returns how far the costs are in doubt, and what else the recording leaves open."""
+        known = (
+            self.told["costs"]
+            if self.told["is_separated"]
+            else {name: cost for name, cost in self.told["costs"].items() if name not in ("poll", "packet")}
+        )
+        ends = {name.replace("_", "-"): (cost["low"], cost["high"]) for name, cost in known.items()}
+        if self.told["apart"] and "app-wake" in ends:
+            ends["app-wake-apart"] = ends.pop("app-wake")
+        higher = predictions.of(self.options, with_costs(self.costs, 100 + DOUBT))
+        return Doubt(self.costs, self.check, higher, {name: end for name, end in ends.items() if self.costs.get(name)})
+
     def note_tasks(self) -> None:
         """Finds the tasks that disturbed the processors that poll, and that on which the program reads."""
         recording = self.recording
         self.others = {processor: recording.disturbing(processor) for processor in recording.layout.processors}
         self.others_apart = {}
-        self.blame = list(blame.lines_of(recording.seen, recording.layout, recording.program_pids()))
+        self.blame = []
+        if not timeout_of(self.options):  # with deferral packets wait for the timer, whatever runs meanwhile
+            self.blame += blame.lines_of(recording.seen, recording.layout, recording.program_pids())
         if self.told["apart"]:
             self.reads_on = max(self.told["reads_on"], key=lambda each: int(each["reads"]))["processor"]
             self.others_apart = recording.disturbing(self.reads_on) if self.reads_on not in self.others else {}
@@ -255,6 +282,7 @@ class Advice:
         """Notes what the recording lacks."""
         recording, words = self.recording, self.words
         self.notes += [f"{each}, which isn't modelled" for each in unmodelled_in(recording.head, recording.device)]
+        self.notes += drivers.notes_on(recording.head, recording.device)
         if recording.by and not words.capture:
             self.notes.append(
                 f"arrivals are when polls took the packets ({recording.by}), so waits in the card's ring before the interrupt aren't in these values; "
@@ -278,30 +306,93 @@ class Advice:
     def settled(self, costs: Mapping[str, int]) -> dict[str, int]:
         """Returns all costs; an unknown cost counts as 0, with a note."""
         for name, what in (("interrupt", "an interrupt"), ("wake", "a wake-up"), ("use", "a packet's use")):
-            if name not in costs:
+            if name not in costs and not (name == "wake" and self.recording.layout.is_sent_here()):
                 needs = (
                     ": record with --program, so that waits are those to the end of use"
                     if name == "use" and not self.told["reads"]
                     else ""
                 )
                 self.notes.append(f"the cost of {what} is unknown and counts as 0{needs}")
-        known = {name: costs.get(name, costs.get("wake", 0) if name == "app-wake" else 0) for name in COSTS}
-        return {**known, "timer": costs.get("timer", known["interrupt"])}
+        known = {name: costs.get(name, 0) for name in COSTS}
+        woken = costs.get("app-wake", known["wake"]) if self.told["apart"] else known["wake"]
+        own = 0 if self.told["apart"] else known["app-wake"]  # on the processor that polls
+        if self.recording.layout.is_sent_here():
+            known["wake"] = 0  # these packets arrive when the softirq begins
+        known = {name: cost for name, cost in known.items() if name not in TIMERS}
+        timers = {name: costs[name] for name in TIMERS if name in costs}
+        return {**known, **timers, "app-wake": own, "app-wake-apart": woken}
 
     def choose(self, packets: int) -> None:
         """Tries all settings."""
         has_program = self.end == "used" and self.machine.other_processor() is not None
-        tried = candidates(self.recording.head, self.recording.device, self.options, has_program)
+        recording, has_timer = self.recording, "timer" in self.costs
+        head, device, is_sent_here = recording.head, recording.device, recording.layout.is_sent_here()
+        tried = candidates(head, device, self.options, has_program, has_timer, is_sent_here)
+        tried += self.layouts(packets)
+        if not has_timer and has_deferral(head, device, self.options):
+            self.notes.append(NO_TIMER)
         self.varied, self.packets = varied_in(tried), packets
         self.choice = Choice(self.words, self.end, self.predictions, tried)
         if self.choice.best:
             self.best, self.values = self.choice.best
-            self.band, self.today = self.predictions.band_of(self.best), self.predictions.band_of(self.options)
-            self.notes += self.choice.warnings(self.best, self.band, self.today)
+            self.sides = self.predictions.sides_of(self.best)
+            self.notes += self.choice.warnings(self.best, self.sides, self.predictions.sides_of(self.options))
+            self.notes += self.unknown()
             self.changes = self.machine.changes(self.best, self.options)
             self.notes += self.machine.notes_on(self.changes)
         else:
             self.changes = []
+
+    def ends(self) -> tuple[Values, Values]:
+        """Returns the lower and the upper ends of the bands of the advised setting."""
+        bands = {name: self.predictions.band(name, self.best, self.values, self.sides) for name in self.values}
+        places = {name: None if isinstance(value, int) else 2 for name, value in self.values.items()}
+        lower, upper = ({name: round(band[end], places[name]) for name, band in bands.items()} for end in (0, 1))
+        return lower, upper
+
+    def layouts(self, packets: int) -> Iterator[Options]:
+        """Yields settings that change which processor polls which packets, if shares are uneven, and prepares their
+        predictions."""
+        recording, layout = self.recording, self.recording.layout
+        queues = {each.place: each.queue for each in recording.own_instances()}
+        interrupts = interrupts_of(recording.head, recording.device)
+        if self.end != "delivered" or not all(place in queues for place in layout.on):
+            return
+        chosen = layout.moved(self.machine.idle_processors())
+        if chosen and all(queues[place] in interrupts for place in chosen):
+            numbers = layout.numbers_on(chosen)
+            self.add_layout(MOVED, [numbers[device] for device in layout.devices], packets)
+            moved = {place: cpu for place, cpu in chosen.items() if set(layout.on[place]) != {cpu}}
+            self.machine.interrupts = {interrupts[queues[place] or 0]: cpu for place, cpu in moved.items()}
+            yield {**self.options, "layout": MOVED, "processors": len(set(chosen.values()))}
+        known = sorted((queue, place) for place, queue in queues.items() if queue is not None)
+        if [queue for queue, _ in known] == list(range(len(queues))) and (
+            devices := layout.spread([each for _, each in known])
+        ):
+            self.add_layout(SPREAD, devices, packets)
+            self.machine.queues = len(known)
+            yield {**self.options, "layout": SPREAD}
+
+    def add_layout(self, number: int, devices: Sequence[int], packets: int) -> None:
+        """Adds the arrivals of a layout, in which each packet has one of these devices. All waits count in it but those
+        of rare devices."""
+        lines = predicting.arrivals_of(self.recording.seen.sent, devices).splitlines(True)
+        counts = Counter(devices)
+        rare = max(counts.values()) / RARE
+        majors = {device for device, count in counts.items() if count >= rare}
+        self.predictions.layouts[number] = "".join(lines[: packets + 1]).encode(), majors
+
+    def unknown(self) -> Iterator[str]:
+        """Yields what the band of the goal's value leaves open."""
+        name = predicting.name_of(self.words.goal, self.end)
+        if name not in self.values or name not in self.measured:
+            return
+        low, high = self.predictions.band(name, self.best, self.values, self.sides)
+        before, *ends = (told_value(name, each) for each in (self.measured[name], low, high))
+        if high > VAGUE * low:
+            yield f"{TOLD[name]} isn't known within a factor of {VAGUE}: from {' to '.join(ends)}"
+        if self.best != self.options and low <= self.measured[name] <= high:
+            yield f"today's {TOLD[name]}, {before}, is in the band of the advised setting: only --verify shows whether that is better"
 
     # ---- text for people
 
@@ -371,6 +462,8 @@ class Advice:
                 f"processor {most} limits: it has {100 * shares[most]:.0f} % of the packets and a 99th percentile of {us(waits[most])} us; "
                 f"the others have up to {us(rest)} us"
             )
+            if self.recording.layout.is_uneven(len(shares)):
+                yield "more queues (ethtool -L) and RPS (rps_cpus) may make shares even too; what they change isn't predicted"
 
     @staticmethod
     def disturbed(others: Mapping[str, float], where: str) -> str:
@@ -379,6 +472,7 @@ class Advice:
         return f"other tasks used {where} too ({tasks}): the prediction assumes a processor without other tasks, because packets may wait for these"
 
     def advice_lines(self, choice: Choice) -> Iterator[str]:
+        yield f"costs may be {self.doubt.percent} % lower or higher (--band {self.doubt.percent} of what-if)"
         yield f"{len(choice.tried)} settings on {self.packets} packets, the best for {GOALS[choice.goal]} first:"
         alike: dict[tuple[str, ...], list[Options]] = {}
         for options, values in choice.order:
@@ -392,13 +486,11 @@ class Advice:
             yield f"advice: change nothing, since no setting is notably better for {GOALS[choice.goal]}"
         else:
             yield f"advice: {named(self.best, self.varied)}"
+        ends = zip(*(columns_of(values, self.end) for values in self.ends()))
         rows = [
             ["now", *columns_of(choice.tried[0][1], self.end)],
             ["advised", *columns_of(self.values, self.end)],
-            *(
-                [f"advised, costs 20 % {side}", *columns_of(values, self.end)]
-                for side, values in zip(("lower", "higher"), self.band)
-            ),
+            ["nine times of ten", *(low if low == high else f"{low} to {high}" for low, high in ends)],
         ]
         yield from table(rows, "")
         if self.changes:
@@ -411,7 +503,6 @@ class Advice:
         seen = self.recording.seen
         options = settings_of(self.costs, self.options)
         told = {
-            "version": FORMAT,
             "recording": str(self.recording.path),
             "device": self.recording.device,
             "polled": self.recording.polled,
@@ -433,6 +524,7 @@ class Advice:
             "goal": self.words.goal,
             "check": objects_in(self.check, self.measured["sent"]),
             "fit": self.grade,
+            "costs_doubt_percent": self.doubt.percent,
             "other_tasks": as_rows("task", "share", self.others[seen.processor]),
             "blame": self.blame,
             "other_tasks_of_program": as_rows("task", "share", self.others_apart),
@@ -450,12 +542,8 @@ class Advice:
         tried = [{"options": as_keys(options), "values": values} for options, values in choice.order]
         told: dict[str, Any] = {"now": choice.tried[0][1], "tried": tried}
         if choice.best:
-            told["advised"] = {
-                "options": as_keys(self.best),
-                "values": self.values,
-                "costs_80": self.band[0],
-                "costs_120": self.band[1],
-            }
+            low, high = self.ends()
+            told["advised"] = {"options": as_keys(self.best), "values": self.values, "low": low, "high": high}
             told["set"] = [self.machine.line_of(change) for change in self.changes]
         return told
 
@@ -499,46 +587,46 @@ def draw(advice: Advice, choice: Choice, path: str) -> None:
 # ---- verify
 
 
-def record_again(advice: Advice) -> Recording:
-    """Makes a recording with the present settings, in the same way as the first one."""
-    head = advice.recording.head
-    handle, path = tempfile.mkstemp(suffix=".rec")
-    os.close(handle)
-    unfinished.add(path)
-    given = [str(max(1, round(float(head.get("seconds", "1"))))), "--out", path]
-    for name, key in (("--netns", "netns"), ("--program", "program"), ("--buffer", "buffer")):
-        given += [name, head[key]] if head.get(key) else []
-    for device, sender in zip(
-        head["device"].split(), head.get("sender", "").split() or [""] * len(head["device"].split())
-    ):
-        given += ["--device", device, *(["--sender", sender] if sender else [])]
-    try:
-        words = record.parser().parse_args(given)
-        record.recorded_by(words, lambda _: None)
-        record.check_whole(words)
-        return Recording(path, advice.words).read()
-    except (Refusal, OSError) as error:
-        raise Refusal(f"recording again failed: {why(error)}") from None
-    finally:
-        unlink(path)
-        unfinished.discard(path)
-
-
-def verified(advice: Advice) -> tuple[list[Compared], float]:
-    """Returns, for the advised setting, the values predicted for the new recording's arrivals and the measured ones, and its number of packets."""
-    if os.geteuid() != 0:
-        raise Refusal("--verify needs root")
-    say("applying the settings, and recording again during traffic")
-    with advice.machine.with_changes(advice.changes):
-        again = record_again(advice)
-    arrivals, _ = arrivals_in(again, advice.words)
-    measured = advice.measured_in(again)
-    values = Predictions(advice.predictions.made, advice.costs, arrivals, again.layout.major()).of(
-        {**advice.best, "processors": len(again.layout.processors)}
+def verified(advice: Advice) -> tuple[list[Compared], float, Verdict]:
+    """Records today's settings and the advised ones. Returns what one recording of the latter measured, with what is
+    predicted for its packets, its number of packets, and the verdict."""
+    head, words = advice.recording.head, advice.words
+    today, changed = verifying.record_in_turn(head, words, advice.machine, advice.changes)
+    name = predicting.name_of(words.goal, advice.end)
+    before, after = (
+        [(measured, each) for each in some if name in (measured := advice.measured_in(each))]
+        for some in (today, changed)
     )
-    return [
-        row for row in predicting.compared(measured, values) if advice.end == "used" or not row[0].startswith("used")
-    ], measured["sent"]
+    after.sort(key=lambda pair: pair[0][name])
+    measured, middle = after[len(after) // 2] if after else (advice.measured_in(changed[0]), changed[0])
+    predictions = advice.predictions.on_others(arrivals_in(middle, words)[0], middle.layout.major())
+    options = {**advice.best, "processors": len(middle.layout.processors), "layout": 0}
+    values = predictions.of(options)
+    band = predictions.band(name, options, values, predictions.sides_of(options))
+    of_goal = [[each[name] for each, _ in some] for some in (before, after)]
+    return (
+        advice.compared(measured, values),
+        measured["sent"],
+        Verdict(name, of_goal[0], of_goal[1], values[name], band),
+    )
+
+
+def print_verified(advice: Advice) -> bool:
+    """Verifies the advice, if that is asked for, and prints the result; as JSON with the advice. Returns false if it
+    should have made the goal's value lower, and didn't. Within limits that the recorded setting exceeds, the value may
+    have to rise."""
+    choice, told = advice.choice, dict[str, Any](verified=None, verdict=None)
+    if not (advice.words.verify and choice and choice.best and advice.changes):
+        write_json(advice.words.json, "advise", [{**advice.object(), **told}])
+        return True
+    rows, packets, verdict = verified(advice)
+    told = {"verified": objects_in(rows, packets), "verdict": verdict.object()}
+    write_json(advice.words.json, "advise", [{**advice.object(), **told}])
+    if not is_printed(advice.words.json):
+        heading = f"{'the advised setting':36} {'measured':>12} {'predicted':>12}"
+        print(heading, *check_lines(rows, packets), *verdict.lines(), sep="\n")
+    is_promised = choice.value(choice.best[1]) < choice.value(choice.tried[0][1])
+    return not is_promised or verdict.judgement() == "better"
 
 
 # ---- words
@@ -573,55 +661,12 @@ def parser() -> Parser:
     parser.add_argument(
         "--verify", action="store_true", help="set the advised setting, record again, compare and restore"
     )
-    parser.add_argument("--json", action="store_true", help="print the results as a JSON object")
+    add_json(parser)
+    times = [name for name, (unit, _) in predicting.MEASURED.items() if unit == "us"]
+    add_fail_if(parser, ["p99", "p50", *predicting.MEASURED], ["p99", "p50", *times])
     parser.add_argument("--plot", metavar="FILE", help="a picture of all settings, .png, .svg or .html")
-    add_program(parser, "napi_machine")
+    add_binary(parser, "napi_machine")
     return parser
-
-
-@dataclass
-class Verdict:
-    """The value that the goal is about: before, with the advised settings, and as predicted for them; None if it wasn't measured."""
-
-    name: str
-    before: Optional[float]
-    measured: Optional[float]
-    predicted: Optional[float]
-
-    def is_better(self) -> bool:
-        return self.before is not None and self.measured is not None and self.measured < self.before
-
-    def text(self) -> str:
-        if self.before is None or self.measured is None or self.predicted is None:
-            return f"the advice isn't verified: {TOLD[self.name]} wasn't measured"
-        before, measured, expected = (
-            told_value(self.name, each) for each in (self.before, self.measured, self.predicted)
-        )
-        change = 100 * (self.measured - self.before) / max(1, self.before)
-        return f"{TOLD[self.name]}: {before} before, {measured} with the advised settings ({change:+.0f} %), {expected} predicted"
-
-
-def verdict_of(advice: Advice, rows: Sequence[Compared]) -> Verdict:
-    name = predicting.name_of(advice.words.goal, advice.end)
-    _, measured, expected, _ = next((row for row in rows if row[0] == name), (name, None, None, None))
-    return Verdict(name, advice.measured.get(name), measured, expected)
-
-
-def print_verified(advice: Advice) -> bool:
-    """Verifies the advice, if that is asked for, and prints the result; as JSON with the advice. Returns false if it should have made the goal's
-    value lower, and didn't. Within limits that the recorded setting exceeds, the value may have to rise."""
-    is_verified = advice.words.verify and advice.choice and advice.choice.best and advice.changes
-    rows, packets = verified(advice) if is_verified else (None, 0)
-    verdict = None if rows is None else verdict_of(advice, rows)
-    if advice.words.json:
-        told = {"verified": rows and objects_in(rows, packets), "verdict": verdict and asdict(verdict)}
-        print(json.dumps({**advice.object(), **told}))
-    elif rows and verdict:
-        heading = f"{'the advised setting':36} {'measured':>12} {'predicted':>12}"
-        print(heading, *check_lines(rows, packets), verdict.text(), sep="\n")
-    choice = advice.choice
-    is_promised = choice and choice.best and choice.value(choice.best[1]) < choice.value(choice.tried[0][1])
-    return not verdict or not is_promised or verdict.is_better()
 
 
 def main(given: Sequence[str]) -> int:
@@ -638,7 +683,7 @@ def main(given: Sequence[str]) -> int:
         advice = Advice(words)
     except Refusal as error:
         raise Refusal(f"{shown(words.recording)}: {error}") from None
-    if not words.json:
+    if not is_printed(words.json):
         print("\n".join(advice.lines()), flush=True)
     holds = print_verified(advice)
     if words.plot and advice.choice:
@@ -646,11 +691,15 @@ def main(given: Sequence[str]) -> int:
     if advice.grade == "poor":
         raise Refusal(
             f"{shown(words.recording)}: the prediction of the recorded setting is poor ({advice.worst()}), so there is no advice for this goal"
+            + "".join(f"; {line}" for line in advice.blame)
         )
     if not holds:
-        raise Refusal("the advised settings weren't better than those of before, which are set again")
+        raise Refusal("the advised settings weren't better than today's, which are set again")
     if advice.grade == "unknown":
         raise Refusal(
             f"{shown(words.recording)}: {UNKNOWN}, so there is no advice for this goal; --goal cpu and --goal drops need no wait"
         )
-    return 0 if advice.choice and advice.choice.best else 1
+    if not (advice.choice and advice.choice.best):
+        return 1
+    waits = {each: advice.measured.get(f"{advice.end}_{each}", 0) for each in ("p50", "p99")}
+    return status_of(words.fail_if, [("", {**advice.measured, **waits})])

@@ -18,9 +18,10 @@ from typing import Any
 
 from fintaqush_tools.errors import Refusal
 from fintaqush_tools.files import read_bytes
-from fintaqush_tools.options import Parser, add_program, add_settings, number, parser_of, settings_of
+from fintaqush_tools.options import Parser, add_binary, add_settings, number, parser_of, settings_of
 from fintaqush_tools.processes import program, run_program
 from fintaqush_tools.reports import ROWS, objects_of
+from fintaqush_tools.results import add_json, is_printed, write_json
 from fintaqush_tools.texts import shown
 
 
@@ -38,9 +39,7 @@ def work_of(text: str) -> list[int]:
 # What notes say of a row's packets: the replay may poll so many more than the kernel, or fewer.
 MORE = re.compile(r"packets that arrived while it was under way and stand before it: (\d{1,9});")
 OTHERS = re.compile(r"polls in it of devices that are in no pair: (\d{1,9})(?:, of (\d{1,9}) packets)?")
-FEWER = re.compile(
-    r"packets that it polled and that were sent after it or before the recording, by their events: (\d{1,9})"
-)
+FEWER = re.compile(r"packets that it polled and that were sent after it .*, by their events: (\d{1,9})")
 WEIGHT = 64  # packets that a poll takes at most
 
 
@@ -81,9 +80,9 @@ def differences(
             explained.append(f"row {row}: work {work}, the kernel {theirs}: {why}")
         carried += change
     if carried > last:
-        unexplained.append(
-            f"after row {source}: {carried} packets that the kernel never polled: OTHER THAN THE KERNEL, and the notes explain at most {last}"
-        )
+        at_most = f"and the notes explain at most {last}"
+        never = f"{carried} packets that the kernel never polled"
+        unexplained.append(f"after row {source}: {never}: OTHER THAN THE KERNEL, {at_most}")
     return explained, unexplained
 
 
@@ -96,23 +95,18 @@ def first_of(lines: list[str], most: int, what: str) -> list[str]:
 def check_arrivals(name: str, report: Sequence[Mapping[str, Any]]) -> None:
     """Fails if a trace has no arrival."""
     if not any(line.get("arrived") for line in report):
-        raise Refusal(
-            f"{shown(name)}.csv: it has no arrivals, so there is nothing to compare: see fintaqush from-ftrace for the events to record"
-        )
+        see = "see fintaqush from-ftrace for the events to record"
+        raise Refusal(f"{shown(name)}.csv: it has no arrivals, so there is nothing to compare: {see}")
 
 
 def parser() -> Parser:
     parser = parser_of(__doc__)
     parser.add_argument("name", help="the name of the files, without the extension")
-    parser.add_argument(
-        "--lines",
-        type=number(0, 10**6),
-        default=10,
-        metavar="N",
-        help="print at most N differing rows of each kind (10)",
-    )
+    what = "print at most N differing rows of each kind (10)"
+    parser.add_argument("--lines", type=number(0, 10**6), default=10, metavar="N", help=what)
+    add_json(parser)
     add_settings(parser)
-    add_program(parser)
+    add_binary(parser)
     return parser
 
 
@@ -121,22 +115,26 @@ def main(given: Sequence[str]) -> int:
     name = words.name.removesuffix(".csv")
     trace, kernel = read_bytes(f"{name}.csv"), work_of(read_bytes(f"{name}.work").decode())
     notes = noted_in(read_bytes(f"{name}.notes").decode("utf-8", "replace")) if os.path.exists(f"{name}.notes") else {}
-    report = objects_of(run_program(program("napi_serial", words.program), settings_of(words), trace))
+    report = objects_of(run_program(program("napi_serial", words.binary), settings_of(words), trace))
     rows = [(line["row"], line["work"]) for line in report if line["line"] in ROWS]
     check_arrivals(name, report)
     explained, unexplained = differences(rows, kernel, notes)
-    for line in [
+    is_other = bool(unexplained) or len(rows) != len(kernel)
+    differ = sum(line.startswith("row ") for line in unexplained)
+    packets, agreed = sum(work for _, work in rows), min(len(rows), len(kernel)) - len(explained) - differ
+    lines = [
         *first_of(unexplained, words.lines, "without a reason"),
         *first_of(explained, words.lines, "accounted for by notes"),
-    ]:
-        print(line)
-    is_other = bool(unexplained) or len(rows) != len(kernel)
+    ]
     if len(rows) != len(kernel):
-        print(f"{len(rows)} rows poll, and the kernel recorded {len(kernel)}: OTHER THAN THE KERNEL")
-    differ = sum(line.startswith("row ") for line in unexplained)
-    agreed = min(len(rows), len(kernel)) - len(explained) - differ
-    print(
-        f"{len(rows)} rows, {sum(work for _, work in rows)} packets; the kernel {sum(kernel)}; {agreed} rows agree, {differ} differ, {len(explained)} "
+        lines.append(f"{len(rows)} rows poll, and the kernel recorded {len(kernel)}: OTHER THAN THE KERNEL")
+    lines.append(
+        f"{len(rows)} rows, {packets} packets; the kernel {sum(kernel)}; {agreed} rows agree, {differ} differ, {len(explained)} "
         f"others are accounted for by notes: " + ("other than the kernel" if is_other else "as the kernel")
     )
+    if not is_printed(words.json):
+        print(*lines, sep="\n")
+    told = {"rows": len(rows), "kernel_rows": len(kernel), "packets": packets, "kernel_packets": sum(kernel)}
+    counts = {"agreed": agreed, "differ": differ, "noted": len(explained), "is_as_kernel": not is_other}
+    write_json(words.json, "compare-recording", [{**told, **counts, "unexplained": unexplained}])
     return int(is_other)

@@ -40,42 +40,66 @@ def quoted(text: str) -> str:
     return "'" + text.replace("\\", "").replace("'", "’") + "'"
 
 
-def for_bash(options: dict[str, list[Option]]) -> list[str]:
+BASH = """\
+# Completion of fintaqush for bash, by `fintaqush completion bash`.
+_fintaqush() {
+    local current=${COMP_WORDS[COMP_CWORD]} before=${COMP_WORDS[COMP_CWORD-1]} options='' values=''
+    COMPREPLY=()
+    case ${COMP_WORDS[1]} in
+@WORDS@
+    esac
+    case ${COMP_WORDS[1]}$before in
+@VALUES@
+    esac
+    if [ "$COMP_CWORD" = 1 ]; then
+        values='@NAMES@ --help --version'
+    elif [ -z "$values" ]; then
+        case $current in -*) values=$options ;; esac
+    fi
+    # shellcheck disable=SC2207 # words without spaces
+    [ -z "$values" ] || COMPREPLY=($(compgen -W "$values" -- "$current"))
+}
+complete -o default -F _fintaqush fintaqush ./fintaqush"""
+ZSH = """\
+#compdef fintaqush
+# Completion of fintaqush for zsh, by `fintaqush completion zsh`.
+_fintaqush() {
+    local -a subcommands
+    subcommands=(
+@NAMES@
+    )
+    if (( CURRENT == 2 )); then
+        _describe -t subcommands subcommand subcommands
+        return
+    fi
+    shift words
+    (( CURRENT-- ))
+    case $words[1] in
+@WORDS@
+    esac
+}
+if [ "$funcstack[1]" = _fintaqush ]; then
+    _fintaqush "$@"
+else
+    compdef _fintaqush fintaqush
+fi"""
+
+
+def for_bash(options: dict[str, list[Option]]) -> str:
     """Returns the function that bash calls with the arguments typed so far."""
-    lines = [
-        "# Completion of fintaqush for bash, by `fintaqush completion bash`.",
-        "_fintaqush() {",
-        "    local current=${COMP_WORDS[COMP_CWORD]} before=${COMP_WORDS[COMP_CWORD-1]} options='' values=''",
-        "    COMPREPLY=()",
-        "    case ${COMP_WORDS[1]} in",
-    ]
-    lines += [
-        f"        {name}) options='{' '.join(word for each in told for word in each.names)}' ;;"
-        for name, told in options.items()
-    ]
-    lines += ["    esac", "    case ${COMP_WORDS[1]}$before in"]
-    lines += [
-        f"        {name}{each.names[-1]}) values='{' '.join(each.choices)}' ;;"
-        for name, told in options.items()
-        for each in told
-        if each.choices
-    ]
-    lines += [
-        "    esac",
-        '    if [ "$COMP_CWORD" = 1 ]; then',
-        f"        values='{' '.join(options)} --help --version'",
-        '    elif [ -z "$values" ]; then',
-        "        case $current in -*) values=$options ;; esac",
-        "    fi",
-        "    # shellcheck disable=SC2207 # words without spaces",
-        '    [ -z "$values" ] || COMPREPLY=($(compgen -W "$values" -- "$current"))',
-        "}",
-        "complete -o default -F _fintaqush fintaqush ./fintaqush",
-    ]
-    return lines
+    words, values = [], []
+    for name, told in options.items():
+        words.append(f"        {name}) options='{' '.join(word for each in told for word in each.names)}' ;;")
+        for each in told:
+            values += [f"        {name}{each.names[-1]}) values='{' '.join(each.choices)}' ;;"] * bool(each.choices)
+    return (
+        BASH.replace("@WORDS@", "\n".join(words))
+        .replace("@VALUES@", "\n".join(values))
+        .replace("@NAMES@", " ".join(options))
+    )
 
 
-def for_zsh(options: dict[str, list[Option]]) -> list[str]:
+def for_zsh(options: dict[str, list[Option]]) -> str:
     """Returns a function for _arguments. If it is sourced instead of autoloaded, it registers itself."""
 
     def spec(name: str, each: Option) -> str:
@@ -83,62 +107,28 @@ def for_zsh(options: dict[str, list[Option]]) -> list[str]:
         value = f":{each.value}:" + (f"({' '.join(each.choices)})" if each.choices else "_files") if each.value else ""
         return quoted(f"*{name}[{text}]{value}")
 
-    lines = [
-        "#compdef fintaqush",
-        "# Completion of fintaqush for zsh, by `fintaqush completion zsh`.",
-        "_fintaqush() {",
-        "    local -a subcommands",
-        "    subcommands=(",
-    ]
-    lines += [
-        f"        {quoted(name + ':' + what.replace(':', ','))}" for _, group in GROUPS for name, _, what in group
-    ]
-    lines += [
-        "    )",
-        "    if (( CURRENT == 2 )); then",
-        "        _describe -t subcommands subcommand subcommands",
-        "        return",
-        "    fi",
-        "    shift words",
-        "    (( CURRENT-- ))",
-        "    case $words[1] in",
-    ]
+    names = [f"        {quoted(name + ':' + what.replace(':', ','))}" for _, group in GROUPS for name, what in group]
+    lines = []
     for name, told in options.items():
-        lines += [
-            f"        {name})",
-            "            _arguments \\",
-            *(f"                {spec(word, each)} \\" for each in told for word in each.names),
-            "                '*:file:_files' ;;",
-        ]
-    return [
-        *lines,
-        "    esac",
-        "}",
-        'if [ "$funcstack[1]" = _fintaqush ]; then',
-        '    _fintaqush "$@"',
-        "else",
-        "    compdef _fintaqush fintaqush",
-        "fi",
-    ]
+        specs = [f"                {spec(word, each)} \\" for each in told for word in each.names]
+        lines += [f"        {name})", "            _arguments \\", *specs, "                '*:file:_files' ;;"]
+    return ZSH.replace("@NAMES@", "\n".join(names)).replace("@WORDS@", "\n".join(lines))
 
 
-def for_fish(options: dict[str, list[Option]]) -> list[str]:
+def for_fish(options: dict[str, list[Option]]) -> str:
     """Returns a line for each subcommand and each option."""
-    lines = ["# Completion of fintaqush for fish, by `fintaqush completion fish`."]
-    lines += [
-        f"complete -c fintaqush -f -n __fish_use_subcommand -a {name} -d {quoted(what)}"
-        for _, group in GROUPS
-        for name, _, what in group
-    ]
-    lines += [f"complete -c fintaqush -f -n __fish_use_subcommand -l {name}" for name in ("help", "version")]
+    lines, first = [
+        "# Completion of fintaqush for fish, by `fintaqush completion fish`."
+    ], "complete -c fintaqush -f -n __fish_use_subcommand"
+    lines += [f"{first} -a {name} -d {quoted(what)}" for _, group in GROUPS for name, what in group]
+    lines += [f"{first} -l {name}" for name in ("help", "version")]
     for name, told in options.items():
         for each in told:
             words = " ".join(f"-l {word[2:]}" if word.startswith("--") else f"-s {word[1:]}" for word in each.names)
             value = f" -x -a {quoted(' '.join(each.choices))}" if each.choices else " -r" if each.value else ""
-            lines.append(
-                f"complete -c fintaqush -n '__fish_seen_subcommand_from {name}' {words}{value} -d {quoted(each.what)}"
-            )
-    return lines
+            seen = f"complete -c fintaqush -n '__fish_seen_subcommand_from {name}'"
+            lines.append(f"{seen} {words}{value} -d {quoted(each.what)}")
+    return "\n".join(lines)
 
 
 SHELLS = {"bash": for_bash, "zsh": for_zsh, "fish": for_fish}
@@ -152,4 +142,4 @@ def parser() -> Parser:
 
 def main(given: Sequence[str]) -> None:
     words = parser().parse_args(given)
-    print(*SHELLS[words.shell]({name: options_of(name) for name in MODULES}), sep="\n")
+    print(SHELLS[words.shell]({name: options_of(name) for name in MODULES}))

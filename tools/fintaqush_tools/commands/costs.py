@@ -17,19 +17,29 @@ variation, the tool fails and prints what to record. Instances that took no pack
 only if no device polls. Interrupts of other cards, as a disk's, don't count if fintaqush record knows the device's own interrupts.
 
 The other costs are medians. interrupt: of the handlers that polls follow, including interrupts between processors, or of --irq. timer: of
-those of NAPI's timer, which take longer; napi_machine has one cost for both. wake: on an idle processor, from a packet or an expired timer
-to the first poll, without the handler. use: from one read of the program to the next, if the second packet was there at the first read.
-app-wake: from the end of a poll that delivered one packet to its read by a program that slept on another processor, without the read
-itself.
+those of NAPI's timer, which take longer. wake, timer-wake: on an idle processor, from a packet or from an expired timer to the first poll,
+without the handler. use: from one read of the program to the next, if the second packet was there at the first read. app-wake: from the end
+of a poll that delivered one packet to its read by a program that slept on another processor, without the read itself; on the same processor
+to its next read, without the use. take, of a card: from one packet that a poll passes to GRO to the next. The costs of NAPI's timer grow with
+the time that the processor slept, so the recorded gro_flush_timeout is printed with them.
 """
 
 from __future__ import annotations
 
-import json
-from collections.abc import Iterator, Mapping, Sequence
+from collections.abc import Callable, Iterator, Mapping, Sequence
+from functools import partial
 from statistics import median
-from typing import Any
+from typing import Any, Optional
 
+from fintaqush_tools.card_costs import (
+    CardTimes,
+    is_by_scheduler,
+    known_costs,
+    timeouts_of,
+    timer_costs,
+    told_half,
+    wakes_by,
+)
 from fintaqush_tools.errors import Refusal
 from fintaqush_tools.files import check_input
 from fintaqush_tools.fits import FEWEST, Cost, Line, cost_line, cost_of, halves_of, shift_of
@@ -37,9 +47,11 @@ from fintaqush_tools.machine import COSTS
 from fintaqush_tools.options import Parser, Words, parser_of
 from fintaqush_tools.progress import say
 from fintaqush_tools.instances import Routes
-from fintaqush_tools.recording import BACKLOG, Head, check_lost, events_in
+from fintaqush_tools.recording import BACKLOG, Event, Head, check_lost, events_in
+from fintaqush_tools.results import add_json, is_printed, write_json
 from fintaqush_tools.texts import as_rows, shown
-from fintaqush_tools.timeline import TIMER, Timeline
+from fintaqush_tools.thresholds import add_fail_if, status_of
+from fintaqush_tools.timeline import TIMER, Processor, Timeline
 
 Told = tuple[dict[str, Cost], list[str]]  # costs by their names, and lines about them
 
@@ -49,13 +61,30 @@ MATCHED = 0.95  # least share of the packets that must be found at both ends
 WEAK = (
     "the packet's cost can't be distinguished from 0: record more varied traffic, on a processor that does nothing else"
 )
-FORMAT = 1  # version of the object that --json prints
-ORDER = ("interrupt", "timer", "poll", "packet", "wake", "use", "app-wake")
-SLOW = 100_000  # ns: a wake-up that takes longer waits for the scheduler, if another task had the processor
+ORDER = ("interrupt", "timer", "poll", "packet", "take", "wake", "timer-wake", "use", "app-wake")
 
 
-def told_half(cost: Cost) -> str:
-    return f"half of them from {cost.middle[0]:.0f} to {cost.middle[1]:.0f}"
+Look = Optional[Callable[[Processor, Event], None]]
+
+
+def in_both(own: Look, of_card: Callable[[Event], None], processor: Processor, event: Event) -> None:
+    """Handles an event in a Timeline and in CardTimes."""
+    if own:
+        own(processor, event)
+    of_card(event)
+
+
+class Times(Timeline):
+    """The times of a recording, with those of cards and of NAPI's timer."""
+
+    def __init__(self, routes: Routes, polled: Sequence[str], irq: Optional[str], interrupts: Sequence[str]) -> None:
+        super().__init__(routes, polled, irq, interrupts)
+        self.card = CardTimes(polled)
+
+    def look_at(self, name: str) -> Look:
+        """Returns what handles the events of this name."""
+        own, of_card = super().look_at(name), self.card.look_at(name)
+        return partial(in_both, own, of_card) if of_card else own
 
 
 def polls_of(times: Timeline, head: Head) -> Told:
@@ -106,7 +135,7 @@ def alike(times: Timeline) -> Told:
 
 
 def interrupts_of(times: Timeline) -> Told:
-    """Returns the costs of an interrupt and of an expired NAPI timer, which takes longer."""
+    """Returns the cost of an interrupt, without those of NAPI's timer."""
     count = sum(map(len, times.handlers.values()))
     if times.has_handlers and not times.irq and times.without > count:
         cost = cost_of([0] * times.without, "no handler")
@@ -114,54 +143,51 @@ def interrupts_of(times: Timeline) -> Told:
             f"interrupt 0 ns: {times.without} runs follow no handler, and {count} one"
         ]
     # The others came by chance.
-    kinds = {name: took for name, took in times.handlers.items() if len(took) > RARE * count}
-    timers = {name: took for name, took in kinds.items() if name == TIMER}
-    costs, told = {}, []
-    for name, some in (("interrupt", {name: took for name, took in kinds.items() if name != TIMER}), ("timer", timers)):
-        names = ", ".join(
-            f"{shown(each)} ({len(took)})" for each, took in sorted(some.items(), key=lambda pair: -len(pair[1]))
-        )
-        cost = cost_of([each for took in some.values() for each in took], f"handlers of {names}")
-        if cost:
-            costs[name] = cost
-            told.append(f"{name} {cost.interval()}: {cost.count} handlers of {names}, {told_half(cost)}")
-    if "interrupt" not in costs and "timer" in costs:
-        costs["interrupt"] = costs["timer"]
-        told.append("interrupt: not known, so that of a timer counts: nearly all polls are by NAPI's timer")
-    elif not costs:
-        told = [
-            f"interrupt: not known, of {count} handlers: record irq/irq_handler_entry and irq/irq_handler_exit, and irq_vectors"
+    kinds = {name: took for name, took in times.handlers.items() if name != TIMER and len(took) > RARE * count}
+    names = ", ".join(
+        f"{shown(each)} ({len(kinds[each])})" for each in sorted(kinds, key=lambda name: -len(kinds[name]))
+    )
+    cost = cost_of([each for took in kinds.values() for each in took], f"handlers of {names}")
+    if cost:
+        return {"interrupt": cost}, [
+            f"interrupt {cost.interval()}: {cost.count} handlers of {names}, {told_half(cost)}"
         ]
-    return costs, told
+    cost = timer_costs(times).get("timer")
+    if cost:
+        return {"interrupt": cost}, [
+            "interrupt: not known, so that of a timer counts: nearly all polls are by NAPI's timer"
+        ]
+    return {}, [
+        f"interrupt: not known, of {count} handlers: record irq/irq_handler_entry and irq/irq_handler_exit, and irq_vectors"
+    ]
 
 
 def wakes_of(times: Timeline) -> Told:
-    """Returns the time until an idle processor polls."""
+    """Returns the time from a packet until an idle processor polls."""
     if not times.came:
         return {}, [
             "wake: not known: record net/net_dev_xmit of the other end of a veth pair, and name the pair by --pair"
         ]
     if times.unmatched > (1 - MATCHED) * times.came:
         return {}, [f"wake: not known: of {times.came} packets {times.unmatched} don't match those that polls took"]
-    kinds, more = {name: list(took) for name, took in times.wakes.items()}, []
-    idle, busy = (sum(map(len, each.values())) for each in (times.wakes, times.busy_wakes))
-    if busy and (times.reads.tasks or idle < FEWEST):
-        more = [f"{busy} of them while another task had the processor"]
-        kinds = {name: times.wakes[name] + times.busy_wakes[name] for name in (*times.wakes, *times.busy_wakes)}
-    cost = cost_of([each for took in kinds.values() for each in took], "idle processor")
+    took, busy = wakes_by(times, "packets")
+    cost = cost_of(took, "idle processor")
+    if not cost and (timer := timer_costs(times).get("timer-wake")):
+        return {"wake": timer}, ["wake: not known, so that by a timer counts: nearly all wake-ups are by NAPI's timer"]
     if not cost:
-        return {}, [f"wake: not known: {idle} times the processor slept when a packet came or a timer expired"]
-    if 2 * busy > idle + busy and cost.value > SLOW:
+        return {}, [f"wake: not known: {len(took)} times the processor slept when a packet came"]
+    if is_by_scheduler(cost, busy):
         return {}, [
-            f"wake: not known: of {idle + busy} wake-ups {busy} waited for another task that had the processor, half of them for {cost.value / 1000:.0f} us "
+            f"wake: not known: of {cost.count} wake-ups {busy} waited for another task that had the processor, half of them for {cost.value / 1000:.0f} us "
             "or more, which the scheduler decides: record on a processor that does nothing else"
         ]
-    known = [(name, len(took), cost_of(took, name)) for name, took in kinds.items()]
-    parts = [f"{count} by {name}, " + told_half(part) for name, count, part in known if part]
+    more = [f"{busy} of them while another task had the processor"] if busy else []
     processor = times.processor()
     if processor is not None and 2 * times.sent_on[processor] > times.came:
         more.append("the packets are sent on this processor, which doesn't sleep then")
-    return {"wake": cost}, [f"wake {cost.interval()}: " + "; ".join([*parts, *more])]
+    return {"wake": cost}, [
+        f"wake {cost.interval()}: " + "; ".join([f"{cost.count} by packets, {told_half(cost)}", *more])
+    ]
 
 
 def reads_of(times: Timeline) -> Told:
@@ -206,18 +232,21 @@ def is_apart(times: Timeline) -> bool:
     return bool(times.reads.on) and times.reads.on.most_common(1)[0][0] != times.processor()
 
 
-def estimated(times: Timeline, head: Head) -> Told:
+def estimated(times: Times, head: Head) -> Told:
     """Returns all costs by their names, and a line about each."""
     costs: dict[str, Cost] = {}
     told: list[str] = []
     for part in (interrupts_of(times), polls_of(times, head), wakes_of(times), reads_of(times)):
         costs |= part[0]
         told += part[1]
-    return {name: costs[name] for name in ORDER if name in costs}, told
+    use = None if is_apart(times) else costs.get("use")
+    more, lines = known_costs(times.card, times, use, timeouts_of(head, times.devices))
+    costs |= more
+    return {name: costs[name] for name in ORDER if name in costs}, told + lines
 
 
 def options_of(costs: Mapping[str, Cost]) -> str:
-    """Returns the options of napi_machine, which has one cost for interrupts and timers."""
+    """Returns the options of napi_machine for those costs that it has."""
     return " ".join(f"--{name} {cost.value:.0f}" for name, cost in costs.items() if name in COSTS)
 
 
@@ -241,7 +270,6 @@ def object_of(times: Timeline, costs: Mapping[str, Cost], told: list[str]) -> di
     """Returns all results as an object, for other tools."""
     processor = times.processor()
     return {
-        "version": FORMAT,
         "costs": {name.replace("-", "_"): cost.as_object() for name, cost in costs.items()},
         "options": options_of(costs),
         "text": told,
@@ -284,13 +312,13 @@ def pairs_of(words: Words, head: Head) -> list[list[str]]:
     return [pair for pair in pairs if words.pair or not own or pair[1] in own]
 
 
-def timeline_of(words: Words, head: Head) -> Timeline:
+def timeline_of(words: Words, head: Head) -> Times:
     polled = words.device or head.get("polled", "").split()
     routes = Routes(head, dict(pairs_of(words, head)))
-    return Timeline(routes, polled, words.irq, interrupts_in(head, polled))
+    return Times(routes, polled, words.irq, interrupts_in(head, polled))
 
 
-def times_in(words: Words) -> tuple[Timeline, Head]:
+def times_in(words: Words) -> tuple[Times, Head]:
     """Returns the times of a recording, and its head."""
     lost: list[str] = []
     head: Head = {}
@@ -299,17 +327,20 @@ def times_in(words: Words) -> tuple[Timeline, Head]:
         times = times or timeline_of(words, head)
         times.add(event)
     check_lost(lost)
-    return (times or Timeline()).settle(), head
+    times = times or timeline_of(words, head)
+    times.settle()
+    return times, head
 
 
-def timeline_for(head: Head, devices: Sequence[str]) -> Timeline:
+def timeline_for(head: Head, devices: Sequence[str]) -> Times:
     """Returns a timeline to which the events of a recording can be added, for the polls of these devices, or of all."""
     return timeline_of(Words(device=list(devices), pair=None, irq=None), head)
 
 
-def object_after(times: Timeline, head: Head) -> dict[str, Any]:
+def object_after(times: Times, head: Head) -> dict[str, Any]:
     """Returns the costs of a timeline that has all events, and what is known about them."""
-    return object_of(times, *estimated(times.settle(), head))
+    times.settle()
+    return object_of(times, *estimated(times, head))
 
 
 def object_in(recording: str, devices: Sequence[str]) -> dict[str, Any]:
@@ -334,25 +365,29 @@ def parser() -> Parser:
         metavar="A:B",
         help="the two ends of a veth pair: A's packets arrive at B (the pair that fintaqush record found)",
     )
-    form = parser.add_mutually_exclusive_group()
-    form.add_argument("--words", action="store_true", help="print only the options for what-if and napi_machine")
-    form.add_argument("--json", action="store_true", help="print the results as a JSON object")
+    parser.add_argument("--words", action="store_true", help="print only the options for what-if and napi_machine")
+    add_json(parser)
+    names = [name.replace("-", "_") for name in ORDER]
+    add_fail_if(parser, names, names)
     return parser
 
 
-def main(given: Sequence[str]) -> None:
-    words = parser().parse_args(given)
+def main(given: Sequence[str]) -> int:
+    options = parser()
+    words = options.parse_args(given)
+    if words.words and is_printed(words.json):
+        options.error("--words and --json without a file each print something else")
     check_input(words.recording)
     try:
         times, head = times_in(words)
         costs, told = estimated(times, head)
     except Refusal as error:
         raise Refusal(f"{shown(words.recording)}: {error}") from None
-    if WEAK in told and (words.words or words.json):
+    if WEAK in told and (words.words or is_printed(words.json)):
         say(WEAK)
+    write_json(words.json, "costs", [object_of(times, costs, told)])
     if words.words:
         print(options_of(costs))
-    elif words.json:
-        print(json.dumps(object_of(times, costs, told)))
-    else:
+    elif not is_printed(words.json):
         print(*told, *notes_on(times), options_of(costs), sep="\n")
+    return status_of(words.fail_if, [("", {name.replace("-", "_"): cost.value for name, cost in costs.items()})])

@@ -13,7 +13,7 @@ Three files are written:
     NAME.work   for a trace: for each row that polls, in order, what the kernel did there: `polls P work W`
     NAME.notes  what the recording lacks or the trace can't represent
 
-None of them may exist already. If nothing polls, no trace is written, and the tool prints why. docs/TOOLS.md explains how to
+Existing ones are replaced only with --force. If nothing polls, no trace is written, and the tool prints why. docs/TOOLS.md explains how to
 record on one's own machine, and fintaqush compare-recording compares the trace's replay with NAME.work.
 """
 
@@ -45,7 +45,7 @@ from fintaqush_tools.arriving import (
 )
 from fintaqush_tools.errors import Refusal
 from fintaqush_tools.files import check_input, check_target, told_notes, write_all
-from fintaqush_tools.options import Parser, Words, number, pair, parser_of
+from fintaqush_tools.options import Parser, Words, add_force, number, pair, parser_of
 from fintaqush_tools.recording import NET_RX, POLLED, SENT, SOFTIRQ, Event, Head, check_lost, events_in, is_by_thread
 from fintaqush_tools.texts import shown
 from fintaqush_tools.trace import MOST_DEVICES, MOST_ROWS, TICKS
@@ -217,7 +217,7 @@ class Trace:
         self.unpolled, self.by_backlog = (self.ends_without_polls(), Counter())
         # For each device: packets that wait; packets that were polled before their event.
         self.known, self.owed = (Counter(), Counter())
-        self.open_devices(words.places, look_at_threads(self.pollings, self.devices))
+        self.open_devices(words.capacity, look_at_threads(self.pollings, self.devices))
         if self.kind == BY_PAIR:
             self.count_within(events)
         else:
@@ -274,9 +274,9 @@ class Trace:
             "ends (or an XDP program at the one that receives), and the event napi/napi_poll has to be recorded"
         )
 
-    def open_devices(self, places: int, by_thread: set[str]) -> None:
+    def open_devices(self, capacity: int, by_thread: set[str]) -> None:
         for device, name in enumerate(self.devices, 1):
-            self.add(self.start, device, "open", places)
+            self.add(self.start, device, "open", capacity)
             if name in by_thread:
                 self.add(self.start, device, "threaded", 1)
             self.notes.append(f"device {device} is {name}" + (", polled by a thread" if name in by_thread else ""))
@@ -539,7 +539,7 @@ class Arriving:
 def convert(words: Words) -> None:
     """Reads the recording and writes the files."""
     for end in ("work", "notes", "csv"):
-        check_target(f"{words.name}.{end}", replaces=False)
+        check_target(f"{words.name}.{end}", words.force)
     lost: list[str] = []
     head: Head = {}
     found = events_in(words.recording, lost, head)
@@ -548,7 +548,9 @@ def convert(words: Words) -> None:
         words.pairs = head.get("pair", "va*:vb*").split()
         rows, notes, told = Arriving([] if first is None else chain([first], found), words).text(head)
         check_lost(lost)
-        write_all({f"{words.name}.notes": "".join(f"{line}\n" for line in notes), f"{words.name}.csv": rows})
+        write_all(
+            {f"{words.name}.notes": "".join(f"{line}\n" for line in notes), f"{words.name}.csv": rows}, words.force
+        )
         print(f"{shown(words.name)}.csv: {told}; {told_notes(f'{words.name}.notes', notes)}")
         return
     events = list(found)
@@ -557,7 +559,9 @@ def convert(words: Words) -> None:
         raise Refusal("there is no event in it")
     trace = Trace(events, words, head)
     texts = {"work": trace.work, "notes": lost + trace.notes, "csv": ["moment,device,event,value", *trace.rows]}
-    write_all({f"{words.name}.{end}": "".join(f"{line}\n" for line in lines) for end, lines in texts.items()})
+    write_all(
+        {f"{words.name}.{end}": "".join(f"{line}\n" for line in lines) for end, lines in texts.items()}, words.force
+    )
     print(
         f"{shown(words.name)}.csv: {len(trace.devices)} devices, {len(trace.rows)} rows, of which {len(trace.work)} poll; "
         f"{told_notes(f'{words.name}.notes', lost + trace.notes)}"
@@ -583,7 +587,7 @@ def parser() -> Parser:
         help="a device that receives and isn't in a pair; may be given many times (those of fintaqush record, or all)",
     )
     parser.add_argument(
-        "--places",
+        "--capacity",
         type=number(1, 65536),
         default=256,
         metavar="N",
@@ -602,6 +606,7 @@ def parser() -> Parser:
         action="store_true",
         help="with --arrivals: add a column with the hash of each packet's flow, for several queues",
     )
+    add_force(parser, "NAME.csv, NAME.work and NAME.notes")
     return parser
 
 

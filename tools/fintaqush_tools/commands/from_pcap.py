@@ -5,18 +5,21 @@ arrivals for napi_machine, with times in ns, any number of packets and no runs.
     fintaqush from-pcap capture.pcap mine --arrivals --one-device
     tcpdump -r capture.pcap -tt -n -e | fintaqush from-pcap - mine --unit us --delay 50
 
-The capture is pcap of Ethernet, which is read here, any other format that tcpdump reads, or the text of `tcpdump -tt -n -e`. A device is an
-interface; outgoing packets have no row. A capture of one interface may lack the direction. Then packets from the interface's own address are
-outgoing, if exactly one address takes part in all unicast packets, as sender and as receiver; otherwise all packets count as arrivals. --to names
-devices, in order: interfaces of the capture, or the link addresses that receive, each with the broadcasts that others send. NAME.notes lists
-them, and the packets without a row. A capture doesn't record when the softirq ran: --delay is the time from the first waiting packet to it.
-fintaqush raise adds the runs that a small budget or weight would cause. Arrivals have no multicasts, because a card accepts only those that it
-was configured for. With --flows they have a column for the queues of napi_machine: a CRC of the packet's addresses and ports, in place of a
-card's hash; 0 for packets without addresses.
+The capture is pcap or pcapng of Ethernet, of raw IP or of `tcpdump -i any`, which is read here, any other format that tcpdump reads, or the text
+of `tcpdump -tt -n -e`, also as .gz. A device is an interface, by its number if the capture has no name; outgoing packets have no row, except with
+-Q inout. A capture of one interface lacks the direction. Then packets from the interface's own address are outgoing, if exactly one address
+takes part in all unicast packets, as sender and as receiver; if two do, the tool fails, and --to has to name one; otherwise all packets count as
+arrivals. --to names devices, in order: interfaces of the capture, or the link addresses that receive, each with the broadcasts that others
+send. NAME.notes lists them, and the packets without a row. A capture doesn't record when the softirq ran: --delay is the time from the first
+waiting packet to it. fintaqush raise adds the runs that a small budget or weight would cause. Arrivals have no multicasts, because a card accepts
+only those that it was configured for. With --flows they have a column for the queues of napi_machine: a CRC of the packet's addresses and ports,
+in place of a card's hash, and of the addresses alone for fragments; 0 for packets without addresses.
 """
 
 from __future__ import annotations
 
+import contextlib
+import gzip
 import os
 import re
 import tempfile
@@ -24,13 +27,14 @@ import zlib
 from collections import Counter
 from collections.abc import Callable, Iterable, Iterator, Mapping, Sequence
 from itertools import chain
-from typing import IO, NamedTuple
+from typing import IO, Any, NamedTuple, Optional
 
 from fintaqush_tools import capture
 from fintaqush_tools.arrivals import SECOND, Packets, arrivals_text, check_devices, number_of, seconds
+from fintaqush_tools.capture import Link, is_group
 from fintaqush_tools.errors import Refusal
 from fintaqush_tools.files import check_input, check_target, lines_in, opened, told_notes, write_all
-from fintaqush_tools.options import Parser, Words, number, pair, parser_of
+from fintaqush_tools.options import Parser, Words, add_force, number, pair, parser_of
 from fintaqush_tools.processes import lines_by
 from fintaqush_tools.texts import shown
 from fintaqush_tools.trace import MOST_DEVICES, TICKS, Row, trace_text, with_runs
@@ -47,6 +51,8 @@ OTHERS = "packets that don't come in"
 LENGTHLESS = "packets without a length of 1 to 65535 bytes"
 
 MANY = "multicasts"
+GZIP = b"\x1f\x8b"
+IN, BOTH = "in", "inout"  # the ways of -Q
 MOST_LINE = 65536  # characters in a line of tcpdump
 
 
@@ -68,27 +74,36 @@ class Kind(NamedTuple):
         return [name for name in names if self.to == name or self.is_for_many() and self.sender != name]
 
 
-def lines_of(capture: str, count: int | None, cut: list[str]) -> Iterator[str]:
-    """Yields tcpdump's lines for a capture, which may be such text itself. tcpdump's message on a cut capture goes to a list."""
-    with opened(capture) as file:
+def whole(file: IO[bytes], head: bytes = b"") -> IO[bytes]:
+    """Returns a temporary file with `head` and all that another file still has."""
+    copy = tempfile.TemporaryFile()
+    copy.writelines(chain([head], iter(lambda: file.read(1 << 20), b"")))
+    copy.seek(0)
+    return copy
+
+
+@contextlib.contextmanager
+def unpacked(path: str) -> Iterator[tuple[IO[bytes], bytes]]:
+    """Opens a capture or tcpdump's text, also one that gzip packed. Yields the file and its first bytes; a capture's can be read from its beginning
+    again."""
+    with contextlib.ExitStack() as stack:
+        file: Any = stack.enter_context(opened(path))
         head = file.read(4)
-        if head not in MAGIC:
-            for line in chain(
-                (head + file.readline(MOST_LINE)).splitlines(True), lines_in(file, MOST_LINE, "tcpdump's")
-            ):
-                yield line.decode("utf-8", "replace")
-        elif file.seekable():
-            os.lseek(file.fileno(), 0, os.SEEK_SET)  # after what was read
-            yield from by_tcpdump(count, file, cut)  # as standard input, so that tcpdump never gets a file name
-        else:
-            with tempfile.TemporaryFile() as whole:
-                whole.writelines(chain([head], iter(lambda: file.read(1 << 20), b"")))
-                whole.seek(0)
-                yield from by_tcpdump(count, whole, cut)
+        if head[:2] == GZIP:
+            packed = stack.enter_context(whole(file, head))
+            try:
+                text: Any = stack.enter_context(gzip.GzipFile(fileobj=packed))
+                file = stack.enter_context(whole(text))
+            except (EOFError, zlib.error, gzip.BadGzipFile) as error:
+                raise Refusal(f"it isn't whole: {error}") from None
+            head = file.read(4)
+        elif head in MAGIC and not file.seekable():
+            file = stack.enter_context(whole(file, head))
+        yield file, head
 
 
-def by_tcpdump(count: int | None, file: IO[bytes], cut: list[str]) -> Iterator[str]:
-    """Yields the lines that tcpdump prints for a capture."""
+def by_tcpdump(count: int | None, file: IO[bytes], cut: list[str], links: list[str]) -> Iterator[str]:
+    """Yields the lines that tcpdump prints for a capture. A link type other than Ethernet goes to `links`, a message on a cut capture to `cut`."""
     command = ["tcpdump", "-r", "-", "-tt", "--nano", "-n", "-e", *(["-c", str(count)] if count else [])]
     with tempfile.TemporaryFile() as said:
         try:
@@ -100,6 +115,9 @@ def by_tcpdump(count: int | None, file: IO[bytes], cut: list[str]) -> Iterator[s
             shown(line.removeprefix("tcpdump: "))
             for line in said.read().decode("utf-8", "replace").strip().splitlines()
         ]
+    link = re.search(r"link-type (\S+)", " ".join(told))
+    if link and link[1] not in ("EN10MB", "LINUX_SLL", "LINUX_SLL2"):
+        links.append(link[1])
     if status != 0 and not (told and "truncated" in told[-1] and "file header" not in told[-1]):
         raise Refusal(f"tcpdump: {told[-1] if told else status}")
     if status != 0:
@@ -112,43 +130,55 @@ def flow_of(said: str) -> int:
     return zlib.crc32(found[1].encode()) if found else 0
 
 
-def is_group(to: str) -> bool:
-    """Returns whether a link address is a multicast address, other than broadcast."""
-    return int(to[:2] or "0", 16) & 1 == 1 and to != "ff:ff:ff:ff:ff:ff"
-
-
 class Records:
     """The packets of a capture by its records, and the number without a row."""
 
     packets: Packets
     without: Counter[str]
-    kinds: dict[tuple[bytes, int], Kind]
+    kinds: dict[tuple[Link, bytes, int], Optional[Kind]]
 
-    def __init__(self) -> None:
-        self.packets, self.without, self.kinds = Packets(), Counter(), {}
+    def __init__(self, is_both_ways: bool) -> None:
+        self.packets, self.without, self.kinds, self.is_both_ways = Packets(), Counter(), {}, is_both_ways
 
-    def add(self, time: int, ends: bytes, flow: int, length: int) -> None:
+    def add(self, time: int, link: Link, ends: bytes, flow: int, length: int) -> None:
+        key = link, ends, flow
+        if key not in self.kinds:
+            interface, sender, to, is_multicast, comes_in = capture.ends_of(link, ends)
+            is_wanted = comes_in or self.is_both_ways
+            self.kinds[key] = Kind(interface, sender, to, is_multicast, flow) if is_wanted else None
+        kind = self.kinds[key]
         if length > 65535:
             self.without[LENGTHLESS] += 1
-            return
-        key = ends, flow
-        if key not in self.kinds:
-            sender, to = ends[6:].hex(":"), ends[:6].hex(":")
-            self.kinds[key] = Kind("", sender, to, is_group(to), flow)
-        self.packets.add(time, self.kinds[key], length)
+        elif kind is None:
+            self.without[OTHERS] += 1
+        else:
+            self.packets.add(time, kind, length)
 
 
 def packets_in(words: Words, cut: list[str]) -> tuple[Packets, Counter[str]]:
-    """Returns the packets of a capture, read by its records if it is plain pcap, else from tcpdump's text."""
-    if os.path.isfile(words.capture):  # a pipe can be read only once
-        records = Records()
-        with open(words.capture, "rb") as file:
-            if capture.read(file, words.count, words.flows, records.add, [0]):
-                return records.packets, records.without
-    return packets_of(lines_of(words.capture, words.count, cut), words.count, words.flows)
+    """Returns the packets of a capture, read by its records, else from tcpdump's text."""
+    is_both_ways = words.way == BOTH
+    with unpacked(words.capture) as (file, head):
+        if head not in MAGIC:
+            begin = (head + file.readline(MOST_LINE)).splitlines(True)
+            text = (line.decode("utf-8", "replace") for line in chain(begin, lines_in(file, MOST_LINE, "tcpdump's")))
+            return packets_of(text, words.count, words.flows, is_both_ways)
+        records = Records(is_both_ways)
+        if capture.read(file, words.count, words.flows, records.add, [0]):
+            return records.packets, records.without
+        os.lseek(file.fileno(), 0, os.SEEK_SET)  # as standard input, so that tcpdump never gets a file name
+        links: list[str] = []
+        found = packets_of(by_tcpdump(words.count, file, cut, links), words.count, words.flows, is_both_ways)
+        if links and not found[0].times:
+            raise Refusal(
+                f"its link type is {links[0]}; captures of Ethernet, of raw IP and of `tcpdump -i any` are read"
+            )
+        return found
 
 
-def packets_of(lines: Iterable[str], count: int | None, with_flows: bool = False) -> tuple[Packets, Counter[str]]:
+def packets_of(
+    lines: Iterable[str], count: int | None, with_flows: bool = False, is_both_ways: bool = False
+) -> tuple[Packets, Counter[str]]:
     """Returns the packets, at most `count`, and the number of lines without a row, by kind."""
     packets, seen = Packets(), 0
     without: Counter[str] = Counter()
@@ -162,7 +192,7 @@ def packets_of(lines: Iterable[str], count: int | None, with_flows: bool = False
         if count and seen > count:
             break
         between, length = BETWEEN.match(found["said"]), LENGTH.search(found["said"])
-        if found["way"] in ("Out", "P"):
+        if found["way"] in ("Out", "P") and not is_both_ways:
             without[OTHERS] += 1
         elif not length or not 1 <= int(length[1]) <= 65535:
             without[LENGTHLESS] += 1
@@ -182,8 +212,13 @@ def own_address(kinds: Iterable[Kind]) -> str:
     """Returns the one address that takes part in all unicast packets, both as sender and as receiver, if there is one."""
     ends = [(kind.sender, kind.to) for kind in kinds if kind.to and not kind.is_for_many()]
     senders, receivers = {sender for sender, _ in ends}, {to for _, to in ends}
-    common = [name for name in senders & receivers if all(name in both for both in ends)]
-    return common[0] if len(common) == 1 else ""
+    common = sorted(name for name in senders & receivers if all(name in both for both in ends))
+    if len(common) > 1:
+        raise Refusal(
+            f"packets go both ways between {common[0]} and {common[1]}, and the capture doesn't say which of them this machine is: name it by --to, or "
+            f"count both ways by -Q {BOTH}; tcpdump -Q in captures only what arrives"
+        )
+    return common[0] if common else ""
 
 
 def by_packets(counted: Mapping[Kind, int]) -> list[str]:
@@ -195,7 +230,7 @@ def by_packets(counted: Mapping[Kind, int]) -> list[str]:
 
 
 def devices_of(
-    counted: Mapping[Kind, int], wanted: list[str]
+    counted: Mapping[Kind, int], wanted: list[str], way: str
 ) -> tuple[list[str], list[str], Callable[[Kind], list[str]]]:
     """Returns the devices' names in order, notes on them, and a function that returns the names at which packets of a kind arrive."""
     has_interfaces = any(kind.interface for kind in counted)
@@ -205,7 +240,7 @@ def devices_of(
         return wanted, [], lambda kind: kind.receivers(wanted)
     if has_interfaces:
         return by_packets(counted), [], lambda kind: [kind.interface]
-    own = own_address(counted)
+    own = own_address(counted) if way == IN else ""
     name = own or "the interface of the capture"
     note = (
         f"each packet with one receiver comes from {own} or goes to it, so what it sends goes out"
@@ -219,7 +254,8 @@ def places_of(
     words: Words, counted: Mapping[Kind, int], without: Counter[str]
 ) -> tuple[list[str], list[str], dict[Kind, list[int]]]:
     """Returns the devices' names, the notes on them, and for each kind the numbers of the devices at which its packets arrive."""
-    names, notes, arrives = devices_of(counted, [name.lower() if ":" in name else name for name in words.to])
+    wanted = [name.lower() if ":" in name else name for name in words.to]
+    names, notes, arrives = devices_of(counted, wanted, words.way)
     of: Counter[str] = Counter()
     places = {}
     for kind, count in counted.items():
@@ -267,7 +303,7 @@ def rows_of(words: Words, packets: Packets, names: Sequence[str], places: Mappin
         for place in places[kind]
     )
     rows = chain(
-        ((0, place, "open", words.places) for place in range(1, len(names) + 1)), with_runs(arrivals, words.delay)
+        ((0, place, "open", words.capacity) for place in range(1, len(names) + 1)), with_runs(arrivals, words.delay)
     )
     return some_rows(rows, words.rows) if words.rows else rows
 
@@ -309,7 +345,7 @@ def text_of(
 
 def convert(words: Words) -> None:
     for end in ("notes", "csv"):
-        check_target(f"{words.name}.{end}", replaces=False)
+        check_target(f"{words.name}.{end}", words.force)
     check_input(words.capture)
     cut: list[str] = []
     try:
@@ -321,7 +357,8 @@ def convert(words: Words) -> None:
     except Refusal as error:
         raise Refusal(f"{shown(words.capture)}: {error}") from None
     notes += [*(f"no row: {what}, {count}" for what, count in sorted(without.items()) if count), *told, *cut]
-    write_all({f"{words.name}.notes": "".join(f"{line}\n" for line in notes), f"{words.name}.csv": text})
+    texts = {f"{words.name}.notes": "".join(f"{line}\n" for line in notes), f"{words.name}.csv": text}
+    write_all(texts, words.force)
     print(f"{shown(words.name)}.csv: {len(names)} devices, {rows} rows; {told_notes(f'{words.name}.notes', notes)}")
 
 
@@ -335,6 +372,13 @@ def parser() -> Parser:
         default=[],
         metavar="WHO",
         help="a device: an interface, or a link address; may be given many times",
+    )
+    parser.add_argument(
+        "-Q",
+        dest="way",
+        choices=(IN, BOTH),
+        default=IN,
+        help=f"count what arrives ({IN}), or also what goes out, as an arrival ({BOTH})",
     )
     parser.add_argument("--one-device", action="store_true", help="one device for all arriving packets")
     parser.add_argument("--arrivals", action="store_true", help="write arrivals for napi_machine instead of a trace")
@@ -352,6 +396,13 @@ def parser() -> Parser:
     parser.add_argument(
         "-c", dest="count", type=number(1, 10**9), metavar="N", help="the first N packets of the capture"
     )
+    add_times(parser)
+    add_force(parser, "NAME.csv and NAME.notes")
+    return parser
+
+
+def add_times(parser: Parser) -> None:
+    """Adds the options of a trace."""
     parser.add_argument(
         "--delay",
         type=number(0, 10**9),
@@ -361,9 +412,8 @@ def parser() -> Parser:
     )
     parser.add_argument("--unit", choices=TICKS, default="ms", help="the unit of times (ms)")
     parser.add_argument(
-        "--places", type=number(1, 65536), default=256, metavar="N", help="packets that each ring holds (256)"
+        "--capacity", type=number(1, 65536), default=256, metavar="N", help="packets that each ring holds (256)"
     )
-    return parser
 
 
 def main(given: Sequence[str]) -> None:

@@ -11,9 +11,13 @@ from __future__ import annotations
 
 from collections.abc import Sequence
 
-from fintaqush_tools.machine import OPTIONS, help_of
+from fintaqush_tools.errors import Refusal
+from fintaqush_tools.files import check_input, opened
+from fintaqush_tools.machine import OPTIONS, help_of, identifier, values_of
 from fintaqush_tools.options import Parser, as_options, number, parser_of
-from fintaqush_tools.processes import become, program
+from fintaqush_tools.processes import become, program, ran
+from fintaqush_tools.results import add_json, is_printed, value_of, write_json
+from fintaqush_tools.texts import last_line, shown
 
 
 def parser() -> Parser:
@@ -22,6 +26,7 @@ def parser() -> Parser:
     parser.add_argument("file", nargs="?", metavar="ARRIVALS", help=text)
     for name, (low, high, _) in OPTIONS.items():
         parser.add_argument(f"--{name}", type=number(low, high), metavar="N", help=help_of(name))
+    add_json(parser, "the options and results, as what-if does,")
     return parser
 
 
@@ -29,4 +34,18 @@ def main(given: Sequence[str]) -> None:
     words = parser().parse_args(given)
     named = {name: getattr(words, name.replace("-", "_")) for name in OPTIONS}
     options = as_options({name: value for name, value in named.items() if value is not None})
-    become([program("napi_machine"), *options], words.file)
+    made = program("napi_machine")
+    if not words.json:
+        become([made, *options], words.file)
+    path = words.file or "-"
+    check_input(path)
+    with opened(path) as file:
+        status, out, said = ran([made, *options], stdin=file)
+    if status != 0:
+        raise Refusal(last_line(said, f"{shown(made)} ended with status {status}"))
+    report = out.decode("ascii", "replace")
+    if not is_printed(words.json):
+        print(report, end="")
+    told = {identifier(name): own if (own := named[name]) is not None else OPTIONS[name][2] for name in OPTIONS}
+    values = {name: value_of(str(value)) for name, value in values_of(report).items()}
+    write_json(words.json, "machine", [{"arrivals": path, **told, **values}])

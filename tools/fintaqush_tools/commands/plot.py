@@ -12,10 +12,8 @@ reader's dark mode; --dark makes a dark .png. The title says how many runs were 
 
 from __future__ import annotations
 
-import json
 import math
 import operator
-import os
 import re
 import shlex
 from collections import Counter
@@ -25,9 +23,10 @@ from typing import Any, Optional
 
 from fintaqush_tools.errors import Refusal
 from fintaqush_tools.files import WholeFile, check_target, read_bytes
-from fintaqush_tools.options import Parser, Words, add_raise, number, pair, parser_of, require_end, wrong
+from fintaqush_tools.options import Parser, Words, add_force, add_raise, number, pair, parser_of, require_end, wrong
 from fintaqush_tools.pictures import ENDS, Curve, check_library, picture_bytes
 from fintaqush_tools.processes import program, run_program
+from fintaqush_tools.results import add_json, is_printed, write_json
 from fintaqush_tools.series import Line, add_waits, keys_of, read_series
 from fintaqush_tools.texts import shown
 from fintaqush_tools.trace import MOST_DEVICES, records_of
@@ -35,8 +34,8 @@ from fintaqush_tools.trace import MOST_DEVICES, records_of
 Point = tuple[float, ...]
 Panel = tuple[str, list[Curve], Optional[list[list[float]]]]
 
+PICTURE = "plot.png"  # the name without --out
 MARGINS = 110  # pixels of a panel to the left and right of its curves
-FORMAT = 1  # version of the object that --json prints
 
 
 def renumber(rows: Sequence[Line], keys: Sequence[tuple[int, int]]) -> None:
@@ -52,9 +51,9 @@ class Series:
     def __init__(self, rows: Sequence[Line], words: Words) -> None:
         if not rows:
             raise Refusal("the series has no rows")
-        if words.device is not None:
-            check_device(rows, words.device)
-        self.device = words.device or busiest(rows)
+        if words.limit_of is not None:
+            check_device(rows, words.limit_of)
+        self.device = words.limit_of or busiest(rows)
         first, last = words.rows or (-math.inf, math.inf)
         inside = [row for row in rows if first <= row["row"] < last + 1]
         if not inside:
@@ -144,9 +143,8 @@ class Picture:
         """Reduces levels to what is visible: for each pixel the lowest and the highest value, including the value before it."""
         found, seen = dict(self.bins(points)), []
         levels: list[Point] = []
-        for place, _ in self.bins(
-            [(self.span[0] + (self.span[1] - self.span[0]) * pixel / self.width,) for pixel in range(self.width)]
-        ):
+        step = (self.span[1] - self.span[0]) / self.width
+        for place, _ in self.bins([(self.span[0] + step * pixel,) for pixel in range(self.width)]):
             here = levels[-1:] + [point[1:] for point in found.get(place, [])]
             levels = here or levels
             seen.append([of(values) for values in zip(*here) for of in (min, max)])
@@ -157,28 +155,27 @@ class Picture:
         points = [(point[0], point[column]) for point in points]
         if self.has_room(points):
             return [curve(kind, color, name, points)]
-        between = [
-            (place, min(value for _, value in found), max(value for _, value in found))
-            for place, found in self.bins(points)
-        ]
+        between = self.ends(points)
         if kind == "area":
-            return [
-                curve("area", "pale", "", [(place, high) for place, _, high in between]),
-                curve("area", color, name, [(place, low) for place, low, _ in between]),
-            ]
+            highs, lows = ([(point[0], point[column]) for point in between] for column in (2, 1))
+            return [curve("area", "pale", "", highs), curve("area", color, name, lows)]
         return [curve("between", color, name, between)]
+
+    def ends(self, points: Sequence[Point]) -> list[Point]:
+        """Combines points per pixel: the lowest of their first values, and the highest of their last ones."""
+        return [
+            (at, min(each[1] for each in found), max(each[-1] for each in found)) for at, found in self.bins(points)
+        ]
 
     def sums(self, points: Sequence[Point]) -> tuple[str, list[Curve]]:
         """Returns the work of the runs, and of the squeezed ones, summed per pixel if there isn't a pixel per run."""
         label = "packets"
         if not self.has_room(points):
             points = [
-                (place, sum(run[1] for run in found), sum(run[2] for run in found))
-                for place, found in self.bins(points)
+                (at, sum(run[1] for run in found), sum(run[2] for run in found)) for at, found in self.bins(points)
             ]
-            label = (
-                f"packets in {(self.span[1] - self.span[0]) / self.width:.3g} {'ms' if self.axis == 'ms' else 'rows'}"
-            )
+            step, unit = (self.span[1] - self.span[0]) / self.width, "ms" if self.axis == "ms" else "rows"
+            label = f"packets in {step:.3g} {unit}"
         squeezed = [(point[0], point[2]) for point in points if point[2]]
         curves = [curve("bars", "blue", "work of a run", [point[:2] for point in points])]
         if squeezed:
@@ -187,11 +184,7 @@ class Picture:
 
     def waits(self, points: Sequence[Point]) -> list[Curve]:
         """Returns how long the packets of each run had waited, combined per pixel if there isn't a pixel per run."""
-        if not self.has_room(points):
-            points = [
-                (place, min(run[1] for run in found), max(run[2] for run in found))
-                for place, found in self.bins(points)
-            ]
+        points = points if self.has_room(points) else self.ends(points)
         return [
             curve("bars", "pale", "longest wait of a run", [(place, longest) for place, _, longest in points]),
             curve("bars", "black", "shortest", [(place, shortest) for place, shortest, _ in points]),
@@ -201,16 +194,12 @@ class Picture:
         """Returns the panels of a series by kind: y label, curves, and their visible values."""
         panels: dict[str, Panel] = {}
         if series.limits:
-            curves = self.level(series.limits, 2, "grey", "bytes in flight", "area") + self.level(
-                series.limits, 1, "blue", "limit", "step"
-            )
+            curves = self.level(series.limits, 2, "grey", "bytes in flight", "area")
+            curves += self.level(series.limits, 1, "blue", "limit", "step")
             panels["limits"] = (f"bytes, device {series.device}", curves, self.seen(series.limits))
         if series.work:
-            panels["waiting"] = (
-                "packets",
-                self.level(series.waiting, 1, "grey", "packets that wait", "area"),
-                self.seen(series.waiting),
-            )
+            waiting = self.level(series.waiting, 1, "grey", "packets that wait", "area")
+            panels["waiting"] = ("packets", waiting, self.seen(series.waiting))
             panels["work"] = (*self.sums(series.work), None)
         if series.waits:
             panels["waits"] = ("rows", self.waits(series.waits), None)
@@ -244,9 +233,8 @@ def together(row: Sequence[tuple[Panel, float]]) -> list[tuple[Panel, float, str
     if len(row) == 1 or first[1:] == last[1:]:
         return [(first, top, "the same with both settings" if len(row) > 1 else "")]
     if first[2] and last[2] and [len(each) for each in first[2]] == [len(each) for each in last[2]]:
-        apart = max(
-            (abs(one - other) for mine, theirs in zip(first[2], last[2]) for one, other in zip(mine, theirs)), default=0
-        )
+        pairs = [pair for mine, theirs in zip(first[2], last[2]) for pair in zip(mine, theirs)]
+        apart = max((abs(one - other) for one, other in pairs), default=0)
         if apart * 10 <= top:
             return [(first, top, f"alike with both settings, at most {apart} apart")]
     return [(panel, top, "") for panel, top in row]
@@ -254,11 +242,8 @@ def together(row: Sequence[tuple[Panel, float]]) -> list[tuple[Panel, float, str
 
 def title_of(name: str, all_series: Sequence[Series], headings: Sequence[str]) -> str:
     """Returns the title: for each replay the number of squeezed runs, and the range of the limit."""
-    told = [
-        " with ".join(filter(None, (series.squeezes, heading)))
-        for heading, series in zip(headings, all_series)
-        if series.squeezes
-    ]
+    both = [(series.squeezes, heading) for heading, series in zip(headings, all_series) if series.squeezes]
+    told = [" with ".join(filter(None, each)) for each in both]
     limits = [point[1] for series in all_series for point in series.limits]
     if limits:
         told.append(f"the limit of device {all_series[0].device} is {min(limits):,} to {max(limits):,} bytes")
@@ -275,18 +260,15 @@ def described(words: Words, all_rows: Sequence[Sequence[Line]], name: str, headi
             heading = headings[place] if len(row) == len(headings) > 1 else told
             panels.append({"label": label, "heading": heading, "top": top * 1.08 + 1, "curves": curves})
     low, high = picture.span
-    return {
-        "title": title_of(name, all_series, headings),
-        "axis": {"label": picture.axis, "low": low, "high": high, "whole": True},
-        "panels": panels,
-    }
+    axis = {"label": picture.axis, "low": low, "high": high, "whole": True}
+    return {"title": title_of(name, all_series, headings), "axis": axis, "panels": panels}
 
 
 def draw(words: Words, all_rows: Sequence[Sequence[Line]], name: str, headings: Sequence[str]) -> None:
     """Draws these series, or prints what would be drawn."""
     picture = described(words, all_rows, name, headings)
-    if words.json:
-        print(json.dumps({"version": FORMAT, **picture}))
+    write_json(words.json, "plot", [picture])
+    if is_printed(words.json):
         return
     with WholeFile(words.out) as new:
         Path(new).write_bytes(picture_bytes(picture, words.out, words.size, words.dark))
@@ -310,11 +292,9 @@ def replays(words: Words, replay_args: list[str]) -> Iterator[tuple[list[Line], 
 
 
 def check_picture(words: Words) -> None:
-    """Fails, before any work, if the picture can't be drawn or would replace another one."""
+    """Fails, before any work, if the picture can't be drawn, or would replace another one that wasn't named."""
     check_library(words.out)
-    if os.path.isfile(words.out) and not words.force:
-        raise Refusal(f"{shown(words.out)} exists: --force replaces it, --out names another file")
-    check_target(words.out)
+    check_target(words.out, words.is_named or words.force)
 
 
 def size_of(text: str) -> tuple[int, int]:
@@ -329,42 +309,34 @@ def parser() -> Parser:
     parser = parser_of(__doc__)
     parser.add_argument("trace", nargs="?", help="the trace")
     parser.add_argument("--series", metavar="FILE", help="draw this series instead of a trace")
-    parser.add_argument("--out", default="plot.png", help="the picture, .png, .svg or .html (plot.png)")
-    parser.add_argument("--force", action="store_true", help="replace an existing picture")
+    parser.add_argument("--out", metavar="FILE", help=f"the picture, .png, .svg or .html ({PICTURE})")
+    add_force(parser, PICTURE)
     parser.add_argument("--beside", metavar="OPTIONS", help="a second replay with these options, below the first")
     add_raise(parser)
-    parser.add_argument(
-        "--device",
-        type=number(1, MOST_DEVICES),
-        metavar="N",
-        help="the device whose limit is drawn (the one with the most such rows)",
-    )
+    what = "the device whose limit is drawn (the one with the most such rows)"
+    parser.add_argument("--limit-of", type=number(1, MOST_DEVICES), metavar="N", help=what)
     parser.add_argument("--rows", type=pair(":", "100:200", low=0), metavar="A:B", help="only these rows")
     parser.add_argument("--time", action="store_true", help="times on the axis instead of rows")
     parser.add_argument("--size", type=size_of, default=(720, 220), help="the size of a panel in pixels (720x220)")
     parser.add_argument("--waits", action="store_true", help="draw how many rows the packets of each run had waited")
-    parser.add_argument(
-        "--dark", action="store_true", help="a dark .png (an .svg and an .html follow the reader's mode)"
-    )
-    parser.add_argument(
-        "--json", action="store_true", help="print what would be drawn as a JSON object, and draw nothing"
-    )
+    what = "a dark .png (an .svg and an .html follow the reader's mode)"
+    parser.add_argument("--dark", action="store_true", help=what)
+    add_json(parser, "what is drawn")
     return parser
 
 
 def main(given: Sequence[str]) -> None:
     options = parser()
     words, replay_args = options.parse_known_args(given)
+    words.is_named, words.out = bool(words.out), words.out or PICTURE
     require_end(options, "--out", words.out, ENDS)
     if bool(words.trace) == bool(words.series):
         options.error("a trace or --series, one of them")
-    if not words.json:
+    if not is_printed(words.json):
         check_picture(words)
     if words.series:
         if replay_args or words.beside is not None or words.raised or words.waits:
             options.error("--series is drawn as it is: it takes no words of a replay")
         return draw(words, [read_series(read_bytes(words.series).decode())], shown(Path(words.series).name), [""])
-    drawn = list(replays(words, replay_args))
-    return draw(
-        words, [rows for rows, _ in drawn], shown(Path(words.trace).name), [shown(heading) for _, heading in drawn]
-    )
+    all_rows, headings = zip(*replays(words, replay_args))
+    return draw(words, all_rows, shown(Path(words.trace).name), list(map(shown, headings)))

@@ -13,7 +13,7 @@ from __future__ import annotations
 from collections.abc import Sequence
 
 from fintaqush_tools.files import check_target, read_bytes, write_out
-from fintaqush_tools.options import Parser, add_out, add_program, add_settings, number, parser_of, settings_of
+from fintaqush_tools.options import Parser, add_out, add_binary, add_settings, number, parser_of, settings_of
 from fintaqush_tools.progress import say
 from fintaqush_tools.trace import raised, records_of
 
@@ -22,14 +22,10 @@ def parser() -> Parser:
     parser = parser_of(__doc__)
     parser.add_argument("trace", help="the trace; - for standard input")
     add_settings(parser)
-    parser.add_argument(
-        "--restarts",
-        type=number(0, 99999),
-        metavar="N",
-        help="add at most N runs after a row (until the list is empty)",
-    )
+    what = "add at most N runs after a row (until the list is empty)"
+    parser.add_argument("--restarts", type=number(0, 99999), metavar="N", help=what)
     add_out(parser, "trace")
-    add_program(parser, "napi_series")
+    add_binary(parser, "napi_series")
     return parser
 
 
@@ -38,7 +34,7 @@ def main(given: Sequence[str]) -> None:
     if words.out:
         check_target(words.out)
     text = read_bytes(words.trace)
-    whole = raised(text, settings_of(words), words.restarts, words.program)
+    whole = raised(text, settings_of(words), words.restarts, words.binary)
     write_out(words.out, whole.decode())
     rows = len(records_of(whole))
     say(f"{rows - len(records_of(text))} runs added, {rows} rows")

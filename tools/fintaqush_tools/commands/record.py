@@ -11,9 +11,10 @@ automatically or named by --sender. For any other device it records the packets 
 kernel has no event for their arrival at the card, so waits before the interrupt are unknown; a capture with the card's timestamps has them.
 
 The head of FILE has a `key value` line for each setting, counter and NAPI instance; after a line `trace` follows the text of the trace
-(docs/FORMATS.md). The buffers are emptied while it records, so a recording may have any length; the last line says how much processor time
-that took. If a buffer is nearly full nevertheless, recording stops early: the file has what was recorded, the last line says which --buffer
-holds the whole time, and the exit status is 1. If the kernel loses events, no file is written. All changes in the kernel are undone, also
+(docs/FORMATS.md). A buffer that is half full is emptied while it records, so a recording may have any length; the last line says how much
+processor time that took. Buffers that hold the whole recording (--buffer) are emptied after it, so that nothing disturbs what is recorded. If
+a buffer is nearly full nevertheless, recording stops early: the file has what was recorded, the last line says which --buffer holds the whole
+time, and the exit status is 1. If the kernel loses events, no file is written. All changes in the kernel are undone, also
 after Ctrl-C, which leaves no file.
 """
 
@@ -37,8 +38,9 @@ from fintaqush_tools.recording import BACKLOG
 from fintaqush_tools.texts import shown
 from fintaqush_tools.tracing import MEGABYTE, Instance, Sources, Stamps, mount_tracefs
 
-FULL = 0.8  # share of a buffer at which a recording ends
-LOOKS, PAUSE = 0.25, 0.02  # seconds between checks of the buffers, and until empty ones are read again
+HALF, FULL = 0.5, 0.8  # shares of a buffer above which it is emptied, and above which a recording ends
+FASTEST = 100 * MEGABYTE  # bytes of events that a processor records in a second, at most
+SOON = 0.02  # seconds at least between checks of buffers that aren't being emptied
 PIECE = 1 << 16  # bytes that are read at once
 LATE = 20_000  # lines after which no earlier event follows: the buffers of several processors are read in turn
 LINE = re.compile(rb".{16}-\d+\s+\[(\d+)\] \S+ +[\d.]+: (\w+): (.*)", re.S)
@@ -122,16 +124,20 @@ def is_drained(pipe: int, file: IO[bytes]) -> bool:
 
 
 def wait(instance: Instance, words: Words, drain: Callable[[], bool]) -> bool:
-    """Empties the buffers during the recording. Returns whether it ended early because one was nearly full nevertheless."""
-    until, next_look = time.monotonic() + words.seconds, time.monotonic() + LOOKS
+    """Waits for the end of the recording. It sleeps as long as no buffer can become half full, because its work would delay what
+    is recorded; then it empties them. Returns whether it ended early because one was nearly full nevertheless."""
+    until, size = time.monotonic() + words.seconds, words.buffer * MEGABYTE
     with Progress("recording", lambda: float(min(1, 1 - (until - time.monotonic()) / words.seconds))):
         while (now := time.monotonic()) < until:
-            if now >= next_look:
-                next_look = now + LOOKS
-                if max(size for size, _ in instance.statistics()) > FULL * words.buffer * MEGABYTE:
-                    return True
-            if drain():
-                time.sleep(min(PAUSE, until - now))
+            fullest = max(each for each, _ in instance.statistics())
+            if fullest > FULL * size:
+                return True
+            if fullest > HALF * size:
+                look_again = min(until, now + (size - fullest) / FASTEST)
+                while time.monotonic() < look_again and not drain():
+                    pass
+            else:
+                time.sleep(min(until - now, max(SOON, (HALF * size - fullest) / FASTEST)))
     return False
 
 

@@ -26,17 +26,8 @@ from typing import Any, Optional
 from fintaqush_tools import pages
 from fintaqush_tools.errors import Refusal
 from fintaqush_tools.files import check_target, read_bytes, write_whole
-from fintaqush_tools.options import (
-    Parser,
-    Words,
-    add_program,
-    add_raise,
-    add_settings,
-    as_options,
-    given_settings,
-    pair,
-    parser_of,
-)
+from fintaqush_tools.options import Parser, Words, add_binary, add_raise, add_settings, as_options
+from fintaqush_tools.options import given_settings, pair, parser_of
 from fintaqush_tools.places import TOP
 from fintaqush_tools.processes import program, run_program
 from fintaqush_tools.reports import names_of
@@ -64,13 +55,8 @@ MEANINGS = {
     "QUEUED": "it is on the poll list (a mark of this project)",
     "TO_THREAD": "its thread has to take it (a mark of this project)",
 }
-# How a poll ended, and the kernel's function for it.
-ENDINGS = {
-    "complete": ("complete", "napi_complete_done"),
-    "again": ("a request was missed: poll again", "napi_complete_done"),
-    "repoll": ("its whole weight: repoll", "napi_poll"),
-    "absent": ("not taken", "napi_poll"),
-}
+# How a poll ended, where its name doesn't say it.
+ENDINGS = {"again": "a request was missed: poll again", "repoll": "its whole weight: repoll", "absent": "not taken"}
 
 
 class Side:
@@ -80,7 +66,7 @@ class Side:
         self.settings, self.is_raised = {**USUAL, **settings}, is_raised
         self.lines = read_series(run_program(made, ["--polls", *["--raise"] * is_raised, *as_options(settings)], text))
         self.rows = records_of(text)
-        self.places = {device: value for _, device, event, value in self.rows if event == "open"}
+        self.capacities = {device: value for _, device, event, value in self.rows if event == "open"}
         self.keys = keys_of(self.lines, self.rows)
 
     def squeezed(self) -> int | None:
@@ -93,20 +79,11 @@ class Side:
         state, flags = line["state"], names_of(line["word"])
         if state == "pending" and "SCHED" not in flags:
             state, flags = "off", ["SCHED", "NPSVC"]
-        entry = {
-            "device": line["device"],
-            "state": state,
-            "places": self.places[line["device"]],
-            "left": line["waiting"],
-            **{name: line[name] for name in ("arrived", "dropped", "polled")},
-            "flags": flags,
-        }
+        entry = {"device": line["device"], "state": state, "capacity": self.capacities[line["device"]]}
+        entry["left"] = line["waiting"]
+        entry.update({name: line[name] for name in ("arrived", "dropped", "polled")}, flags=flags)
         queue = {name: line[name] for name in ("limit", "in_flight", "avail")}
         return {**entry, "tx": {**queue, "stopped": bool(line["stopped"])}} if line["limit"] is not None else entry
-
-    def devices_in(self, line: Line) -> dict[int, dict[str, Any]]:
-        """Returns the devices that the line of a row and those of its polls have, by number, after the row."""
-        return {each["device"]: self.device_of(each) for each in (*line["lines"], line) if each["device"]}
 
     def steps(self, asked: set[Key]) -> dict[Key | None, dict[str, Any]]:
         """Returns the page's entries: the state before the first of these rows, then one for each of them that this replay has, by row."""
@@ -116,7 +93,9 @@ class Side:
         told: Devices = {}
         steps: dict[Optional[Key], dict[str, Any]] = {}
         for key, line in zip(self.keys, self.lines):
-            after = {**devices, **self.devices_in(line)}
+            # after the row, with the devices of its own line and of its polls' lines
+            own = {each["device"]: self.device_of(each) for each in (*line["lines"], line) if each["device"]}
+            after = {**devices, **own}
             if key == first:
                 start = "There is no device yet." if key == (1, 0) else f"The state before row {key[0]}."
                 steps[None] = {"said": [[start, ""]], **changed(listed, devices, told)}
@@ -128,11 +107,8 @@ class Side:
     def shown(self, key: Key, line: Line, devices: tuple[Devices, Devices], told: Devices) -> dict[str, Any]:
         """Returns the page's entry for a row with these devices before and after it; `told` are those that the page has before it."""
         step = Step(self.rows[key[0] - 1], line, *devices)
-        entry: dict[str, Any] = {"said": step.said}
-        if line["squeezed"]:
-            entry["squeezed"] = 1
-        if step.is_dropped:
-            entry["dropped"] = 1
+        marks = {"squeezed": line["squeezed"], "dropped": step.is_dropped}
+        entry: dict[str, Any] = {"said": step.said, **{name: 1 for name, is_so in marks.items() if is_so}}
         if line["lines"]:
             entry["polls"] = self.polls(line["lines"], dict(told))
         return {**entry, **changed(line["list"], devices[1], told)}
@@ -143,27 +119,18 @@ class Side:
         work, polls = 0, []
         for number, line in enumerate(lines, 1):
             work += line["work"]
-            ending, rule = ENDINGS[line["ended"]]
-            polls.append(
-                {
-                    "device": line["device"],
-                    "packets": line["work"],
-                    "ending": ending,
-                    "rule": rule,
-                    "budget": max(0, self.settings["budget"] - work),
-                    "window": self.settings["window"] - number,
-                    **changed(line["list"], {line["device"]: self.device_of(line)}, told),
-                }
-            )
+            rule = "napi_complete_done" if line["ended"] in ("complete", "again") else "napi_poll"
+            ending = ENDINGS.get(line["ended"], line["ended"])
+            poll = {"device": line["device"], "packets": line["work"], "ending": ending, "rule": rule}
+            left = {"budget": max(0, self.settings["budget"] - work), "window": self.settings["window"] - number}
+            polls.append({**poll, **left, **changed(line["list"], {line["device"]: self.device_of(line)}, told)})
         return polls
 
     def told(self) -> str:
         """Returns the settings, with their units."""
-        parts = [
-            f"{name} {value} {UNITS[name]}" + (" (default)" if value == USUAL[name] else "")
-            for name, value in self.settings.items()
-        ]
-        return ", ".join(parts) + (", with added runs (--raise)" if self.is_raised else "")
+        usual = {name: " (default)" * (value == USUAL[name]) for name, value in self.settings.items()}
+        parts = [f"{name} {value} {UNITS[name]}{usual[name]}" for name, value in self.settings.items()]
+        return ", ".join(parts) + ", with added runs (--raise)" * self.is_raised
 
 
 def changed(listed: list[int], devices: Devices, told: Devices) -> dict[str, Any]:
@@ -186,16 +153,11 @@ def page_data(sides: Sequence[Side], keys: Sequence[Key]) -> dict[str, Any]:
     labels = [{"at": str(keys[0][0] - 1), "text": "before the first row" if keys[0][0] == 1 else "before these rows"}]
     labels += [label_of(rows[key[0] - 1], key) for key in keys]
     nothing = {"said": [["With these settings no run is added here.", ""]], "devices": []}
-    told = [(side.told(), side.steps(set(keys))) for side in sides]
-    return {
-        "rows": len(rows),
-        "flags": MEANINGS,
-        "steps": labels,
-        "sides": [
-            {"settings": settings, "steps": [steps.get(key, nothing) for key in (None, *keys)]}
-            for settings, steps in told
-        ],
-    }
+    told = []
+    for side in sides:
+        steps = side.steps(set(keys))
+        told.append({"settings": side.told(), "steps": [steps.get(key, nothing) for key in (None, *keys)]})
+    return {"rows": len(rows), "flags": MEANINGS, "steps": labels, "sides": told}
 
 
 def links_of(out: str) -> str:
@@ -208,21 +170,15 @@ def links_of(out: str) -> str:
     return ", ".join(f'<a href="{html.escape(to)}">{name}</a>' for name, to in links)
 
 
-def page_of(title: str, data: object, out: str) -> str:
-    """Returns the page: steps.html with the data inserted."""
-    return pages.filled("steps.html", data, TITLE=html.escape(title), LINKS=links_of(out))
-
-
 def check_length(words: Words, sides: Sequence[Side], keys: Sequence[Key], count: int) -> None:
     """Fails if there are more rows than a page may have, and says how to select some of them."""
     if len(keys) <= MOST_STEPS:
         return
     first = next(filter(None, (side.squeezed() for side in sides)), None)
     begin = max(1, first - 20) if first else 1
-    advice = f"--rows {begin}:{min(count, begin + 199)}" + (
-        f" has the first squeezed run, row {first}" if first else " has the first of them"
-    )
-    raise Refusal(f"{shown(words.trace)}: {len(keys)} rows, and a page has at most {MOST_STEPS}: {advice}")
+    what = f"the first squeezed run, row {first}" if first else "the first of them"
+    many = f"{len(keys)} rows, and a page has at most {MOST_STEPS}"
+    raise Refusal(f"{shown(words.trace)}: {many}: --rows {begin}:{min(count, begin + 199)} has {what}")
 
 
 def check_polls(sides: Sequence[Side], keys: Sequence[Key]) -> None:
@@ -249,22 +205,18 @@ def parser() -> Parser:
     parser.add_argument("trace", help="the trace; - for standard input")
     parser.add_argument("--out", required=True, metavar="FILE.html", help="the page")
     parser.add_argument("--rows", type=pair(":", "100:200"), metavar="A:B", help="only these rows")
-    parser.add_argument(
-        "--beside",
-        type=beside,
-        metavar="OPTIONS",
-        help="a second replay with these options, in one argument, next to the first",
-    )
+    what = "a second replay with these options, in one argument, next to the first"
+    parser.add_argument("--beside", type=beside, metavar="OPTIONS", help=what)
     add_raise(parser)
     add_settings(parser)
-    add_program(parser, "napi_series")
+    add_binary(parser, "napi_series")
     return parser
 
 
 def main(given: Sequence[str]) -> None:
     words = parser().parse_args(given)
     check_target(words.out)
-    text, made = read_bytes(words.trace), program("napi_series", words.program)
+    text, made = read_bytes(words.trace), program("napi_series", words.binary)
     all_settings = [given_settings(words)] + ([words.beside] if words.beside is not None else [])
     sides = [Side(text, made, settings, words.raised) for settings in all_settings]
     rows = sides[0].rows
@@ -276,4 +228,6 @@ def main(given: Sequence[str]) -> None:
         raise Refusal(f"{shown(words.trace)} has no rows")
     check_length(words, sides, keys, len(rows))
     check_polls(sides, keys)
-    write_whole(words.out, page_of(shown(os.path.basename(words.trace)), page_data(sides, keys), words.out))
+    title = html.escape(shown(os.path.basename(words.trace)))
+    page = pages.filled("steps.html", page_data(sides, keys), TITLE=title, LINKS=links_of(words.out))
+    write_whole(words.out, page)

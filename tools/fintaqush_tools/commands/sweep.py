@@ -25,13 +25,15 @@ from collections.abc import Iterable, Sequence
 from pathlib import Path
 from typing import Any
 
-from fintaqush_tools.combinations import Combinations, Key, Row, add_words, check_words, choices, fault_of, sum_of
+from fintaqush_tools.combinations import Combinations, Key, Row
+from fintaqush_tools.combinations import add_words, check_words, choices, fault_of, sum_of, told_in
 from fintaqush_tools.errors import Refusal
 from fintaqush_tools.files import read_bytes
 from fintaqush_tools.options import Parser, Words, add_raise, number, parser_of
 from fintaqush_tools.processes import program, ran
 from fintaqush_tools.progress import say
 from fintaqush_tools.reports import objects_of
+from fintaqush_tools.results import add_json, value_of, write_json
 from fintaqush_tools.settings import MOST, USUAL
 from fintaqush_tools.texts import shown
 from fintaqush_tools.thresholds import add_fail_if, status_of
@@ -39,6 +41,7 @@ from fintaqush_tools.trace import raise_option, records_of
 
 KEY = ["trace", "sum", "budget", "weight", "window", "raise"]
 TOLD = ["polls", "work", "squeezed", "dropped", "left", "greatest_limit"]
+SUMS = {"softirq": TOLD[:3], "kthread": TOLD[:2], "busy": TOLD[:2], "device": TOLD[3:5]}  # by lines of the report
 # Faults of a trace; a failed read or allocation isn't one.
 FAULT = re.compile(r"trace fault (?!10 )\d+ \w+ row \d+$")
 
@@ -76,13 +79,7 @@ def told_of(report: str) -> dict[str, Any]:
     told = dict.fromkeys(TOLD, 0)
     limits = []
     for line in objects_of(report):
-        sums = {
-            "softirq": ["polls", "work", "squeezed"],
-            "kthread": ["polls", "work"],
-            "busy": ["polls", "work"],
-            "device": ["dropped", "left"],
-        }
-        for name in sums.get(line["line"], []):
+        for name in SUMS.get(line["line"], []):
             told[name] += int(line[name])
         if line["line"] == "tx":
             limits.append(line["limit"])
@@ -110,9 +107,8 @@ def row_of(made: str, key: Key) -> Row:
     if sum_of(io.BytesIO(text)) != held:
         raise Refusal("the trace has changed since the sweep began")
     if restarts != "no":
-        ended, whole = outcome(
-            series(), [raise_option(None if restarts == "all" else restarts), "--rows", *settings], text
-        )
+        option = raise_option(None if restarts == "all" else restarts)
+        ended, whole = outcome(series(), [option, "--rows", *settings], text)
         if ended["status"] != 0:
             return {**row, **ended}
         row["raised"], text = len(records_of(whole)) - len(records_of(text)), whole
@@ -127,28 +123,21 @@ def keys_of(words: Words) -> list[Key]:
     """Returns the keys of the requested rows, in order."""
     restarts = "no" if not words.raised else "all" if words.restarts is None else str(words.restarts)
     traces = [(trace, sum_of(io.BytesIO(read_bytes(trace)))) for trace in traces_of(words.traces)]
-    return [
-        (*each[0], *each[1:])
-        for each in itertools.product(traces, words.budget, words.weight, words.window, [restarts])
-    ]
+    every = itertools.product(traces, words.budget, words.weight, words.window, [restarts])
+    return [(*trace, *settings) for trace, *settings in every]
 
 
 def parser() -> Parser:
     parser = parser_of(__doc__)
     parser.add_argument("traces", nargs="*", metavar="FOLDER|TRACE", help="traces, and folders of them")
     for name, example in (("budget", "64,300,1000"), ("weight", "16,64"), ("window", "128,1024")):
-        usual = str(USUAL[name])
-        parser.add_argument(
-            f"--{name}", type=choices(number(1, MOST[name])), default=[usual], help=f"as {example} ({usual})"
-        )
+        usual, values = str(USUAL[name]), choices(number(1, MOST[name]))
+        parser.add_argument(f"--{name}", type=values, default=[usual], help=f"as {example} ({usual})")
     add_raise(parser)
-    parser.add_argument(
-        "--restarts",
-        type=number(1, 99999),
-        metavar="N",
-        help="with --raise: add at most N runs after a row (until the list is empty)",
-    )
+    what = "with --raise: add at most N runs after a row (until the list is empty)"
+    parser.add_argument("--restarts", type=number(1, 99999), metavar="N", help=what)
     add_fail_if(parser, TOLD[:-1])
+    add_json(parser, "the rows")
     add_words(parser, "napi_serial or napi_replay", {"default": "sweep.csv", "help": "the file of rows (sweep.csv)"})
     return parser
 
@@ -162,13 +151,13 @@ def main(given: Sequence[str]) -> int:
     if words.restarts and not words.raised:
         options.error("--restarts goes with --raise")
     if words.play:
-        return SWEEP.play(words.program, words.play)
+        return SWEEP.play(words.binary, words.play)
     check_words("sweep", words)
     traces_of(words.traces)
-    rows = SWEEP.make(program("napi_serial", words.program), words, keys_of(words))
-    results = [
-        (", ".join(f"{name} {row[name]}" for name in ("trace", "budget", "weight", "window")), row)
-        for row in rows
-        if str(row["status"]) == "0"
-    ]
+    rows = SWEEP.make(program("napi_serial", words.binary), words, keys_of(words))
+    texts = ("trace", "sum")  # which are no numbers
+    objects = ({name: row[name] if name in texts else value_of(str(row[name])) for name in row} for row in rows)
+    write_json(words.json, "sweep", objects)
+    names = ("trace", "budget", "weight", "window")
+    results = [(", ".join(f"{name} {row[name]}" for name in names), row) for row in told_in(rows)]
     return status_of(words.fail_if, results)

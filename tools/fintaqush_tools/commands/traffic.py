@@ -17,6 +17,7 @@ import heapq
 import random
 import re
 from collections.abc import Callable, Iterator, Sequence
+from typing import Any
 
 from fintaqush_tools import arrivals
 from fintaqush_tools.errors import Refusal
@@ -26,6 +27,7 @@ from fintaqush_tools.places import version
 from fintaqush_tools.progress import Progress
 from fintaqush_tools.trace import MOST_DEVICES, MOST_ROWS, TICKS, Row, trace_text, with_runs
 
+FLOWS = 16  # per device, if their number isn't given
 ACTIONS = ("tx", "done", "kthread", "disable", "threaded", "busy")
 
 
@@ -47,11 +49,9 @@ def arrivals_of(words: Words, chance: random.Random, device: int) -> Iterator[tu
 class Mix:
     """The other actions, chosen so that the trace stays valid: enable follows disable, after the runs that end the instance's polling."""
 
-    off: dict[int, int]
-
     def __init__(self, words: Words, chance: random.Random) -> None:
         self.words, self.chance = words, chance
-        self.off = {}  # for each device that was disabled: packets until it is enabled
+        self.off: dict[int, int] = {}  # for each device that was disabled: packets until it is enabled
 
     def rows(self, moment: int, device: int) -> Iterator[Row]:
         """Yields the rows after a packet of this device."""
@@ -106,7 +106,7 @@ def rows_of(words: Words) -> list[Row]:
         moment = int(time * ticks)
         rows.append((moment, device, "rx", mix.size()))
         rows += mix.rows(moment, device)
-    opened = [(0, device, "open", words.places) for device in range(1, words.devices + 1)]
+    opened = [(0, device, "open", words.capacity) for device in range(1, words.devices + 1)]
     return [*opened, *with_runs(rows, words.delay)]
 
 
@@ -142,52 +142,38 @@ def mix_of(text: str) -> dict[str, int]:
 
 def parser() -> Parser:
     parser = parser_of(__doc__, conflict_handler="resolve")
-    parser.add_argument(
-        "--kind", choices=("constant", "poisson", "bursts"), default="constant", help="kind of traffic (constant)"
-    )
-    parser.add_argument(
-        "--rate",
-        type=amount(0, 10_000_000),
-        default=1000.0,
-        help="packets per second and device, in bursts during a burst (1000)",
-    )
-    parser.add_argument("--on", type=amount(0, 1e6), default=5.0, help="length of a burst, in ms (5)")
-    parser.add_argument("--off", type=amount(0, 1e6), default=45.0, help="time between bursts, in ms (45)")
-    parser.add_argument(
-        "--devices",
-        type=number(1, arrivals.MOST_DEVICES),
-        default=1,
-        help=f"number of devices, 1 to {MOST_DEVICES}, with --arrivals to {arrivals.MOST_DEVICES} (1)",
-    )
-    parser.add_argument("--seconds", type=amount(0, 1e6), default=1.0, help="length of the traffic, in seconds (1)")
-    parser.add_argument(
-        "--bytes", type=sizes, default=(60, 1500), metavar="A:B", help="smallest and largest packet, in bytes (60:1500)"
-    )
-    parser.add_argument("--places", type=number(1, 65536), default=256, help="packets that each ring holds (256)")
-    parser.add_argument(
-        "--delay",
-        type=number(0, 10**9),
-        default=1,
-        help="time from the first waiting packet to the softirq row, in --unit (1)",
-    )
+    kinds = ("constant", "poisson", "bursts")
+    parser.add_argument("--kind", choices=kinds, default="constant", help="kind of traffic (constant)")
+    most = arrivals.MOST_DEVICES
+    for name, kind, usual, what in (
+        ("--rate", amount(0, 10_000_000), 1000.0, "packets per second and device, in bursts during a burst (1000)"),
+        ("--on", amount(0, 1e6), 5.0, "length of a burst, in ms (5)"),
+        ("--off", amount(0, 1e6), 45.0, "time between bursts, in ms (45)"),
+        ("--devices", number(1, most), 1, f"number of devices, 1 to {MOST_DEVICES}, with --arrivals to {most} (1)"),
+        ("--seconds", amount(0, 1e6), 1.0, "length of the traffic, in seconds (1)"),
+    ):
+        parser.add_argument(name, type=kind, default=usual, help=what)
+    what = "smallest and largest packet, in bytes (60:1500)"
+    parser.add_argument("--bytes", type=sizes, default=(60, 1500), metavar="A:B", help=what)
+    add_output(parser)
+    return parser
+
+
+def add_output(parser: Parser) -> None:
+    """Adds the options of what is written."""
+    parser.add_argument("--capacity", type=number(1, 65536), default=256, help="packets that each ring holds (256)")
+    what = "time from the first waiting packet to the softirq row, in --unit (1)"
+    parser.add_argument("--delay", type=number(0, 10**9), default=1, help=what)
     parser.add_argument("--unit", choices=TICKS, default="ms", help="the unit of times (ms)")
     parser.add_argument("--mix", type=mix_of, default={}, metavar="ACTION=N,..", help="other actions per 100 packets")
-    parser.add_argument(
-        "--version",
-        nargs="?",
-        type=number(1, 2),
-        default=1,
-        const=0,
-        metavar="N",
-        help="version of the trace (1); without N: print the tool's own",
-    )
+    what = "version of the trace (1); without N: print the tool's own"
+    parser.add_argument("--version", nargs="?", type=number(1, 2), default=1, const=0, metavar="N", help=what)
     parser.add_argument("--seed", type=number(0, 10**9), default=0, help="seed of the random numbers (0)")
     parser.add_argument("--arrivals", action="store_true", help="write arrivals for napi_machine instead of a trace")
-    parser.add_argument(
-        "--flows", type=number(1, 10**9), metavar="N", help="with --arrivals: N flows per device, for several queues"
-    )
+    what = f"with --arrivals: add a column with each packet's flow, of N per device, for several queues ({FLOWS})"
+    how: dict[str, Any] = {"nargs": "?", "type": number(1, 10**9), "const": FLOWS, "metavar": "N"}
+    parser.add_argument("--flows", help=what, **how)
     add_out(parser, "trace")
-    return parser
 
 
 def check_words(options: Parser, words: Words) -> None:

@@ -18,9 +18,9 @@ import tempfile
 from collections.abc import Sequence
 
 from fintaqush_tools.cli import module_of
-from fintaqush_tools.errors import Refusal, unfinished
+from fintaqush_tools.errors import Refusal
 from fintaqush_tools.files import check_target
-from fintaqush_tools.options import Parser, parser_of
+from fintaqush_tools.options import Parser, add_force, parser_of
 from fintaqush_tools.places import IS_CHECKOUT, TOP
 from fintaqush_tools.progress import Program
 from fintaqush_tools.texts import aligned, shown
@@ -59,8 +59,8 @@ def show_command(*words: str) -> None:
     print(f"    $ {command()} {shlex.join(words)}", flush=True)
 
 
-def show(text: str) -> None:
-    print("".join(f"    {line}\n" for line in text.splitlines()), flush=True)
+def show(lines: Sequence[str]) -> None:
+    print("".join(f"    {line}\n" for line in lines), flush=True)
 
 
 def squeeze() -> None:
@@ -72,11 +72,11 @@ def squeeze() -> None:
     words = ["compare", example("linux-veth-bursts.csv"), "--raise", "--budget", "16", "--", "--budget", "300"]
     show_command(*words)
     table = ask(*words).splitlines()
-    show("\n".join(line for place, line in enumerate(table) if place == 0 or line.startswith("total")))
+    show([line for place, line in enumerate(table) if place == 0 or line.startswith("total")])
     values = {line.split()[1]: line.split()[2:4] for line in table if line.startswith("total")}
+    (runs, others), (squeezed, fewer) = values["runs"], values["squeezed"]
     print(
-        f"   With 16 there are {values['runs'][0]} runs, of which {values['squeezed'][0]} are squeezed; with 300 there are {values['runs'][1]}, and "
-        f"{values['squeezed'][1]} are squeezed.\n"
+        f"   With 16 there are {runs} runs, of which {squeezed} are squeezed; with 300 there are {others}, and {fewer} are squeezed.\n"
         f"   Next, with your own traffic: {command()} from-pcap CAPTURE NAME, then {command()} plot NAME.csv --raise\n"
     )
 
@@ -93,34 +93,20 @@ def what_if(folder: str) -> None:
     )
     show_command("from-ftrace", recording, "mine", "--arrivals")
     costs = ask("costs", recording, "--words").split()
-    print(
-        f"    $ {command()} what-if mine.csv --backlog 1 --ring 7,13,49 --apart 0,1 $({command()} costs {shlex.quote(recording)} --words)"
-    )
-    rows = map(
-        json.loads,
-        ask(
-            "what-if",
-            f"{arrivals}.csv",
-            "--backlog",
-            "1",
-            "--ring",
-            "7,13,49",
-            "--apart",
-            "0,1",
-            *costs,
-            "--json",
-            "--band",
-            "0",
-        ).splitlines(),
-    )
+    words = ["--backlog", "1", "--ring", "7,13,49", "--apart", "0,1"]
+    told = f"what-if mine.csv {shlex.join(words)} $({command()} costs {shlex.quote(recording)} --words)"
+    print(f"    $ {command()} {told}")
+    told = ask("what-if", f"{arrivals}.csv", *words, *costs, "--band", "0", "--json")
+    rows = list(map(json.loads, told.splitlines()))
     lines = [["netdev_max_backlog", "program apart", "dropped", "median wait us", "99th percentile us"]]
     for row in rows:
         waits = [f"{row[name] / 1000:.1f}" for name in ("used_p50", "used_p99")]
         lines.append([str(row["ring"] - 1), "yes" if row["apart"] else "no", str(row["dropped"]), *waits])
-    show("\n".join(aligned(lines)))
+    show(aligned(lines))
     print(
-        "   (The table has some of its columns; waits are from a packet's arrival to the end of its use by the program,\n"
-        "   and waking a program that is apart is taken as free, because this recording doesn't have it.)\n"
+        f"   (With 6 it predicts {rows[0]['dropped']} dropped, and {dropped} were: so few depend on single packets. The table has\n"
+        "   some of its columns; waits are from a packet's arrival to the end of its use by the program, and waking a program\n"
+        "   that is apart is taken as free, because this recording doesn't have it.)\n"
         f"   Next, as root on the machine that receives: {command()} record 5 --device eth0 --program server --out mine.rec,\n"
         f"   then {command()} advise mine.rec, which says what to set.\n"
     )
@@ -128,37 +114,26 @@ def what_if(folder: str) -> None:
 
 def steps(page: str) -> None:
     """Makes a page of a short trace."""
-    print(
-        "3. Step by step. A page that shows rings, flags and the poll list after each row, with the kernel's functions:\n"
-    )
+    what = "A page that shows rings, flags and the poll list after each row, with the kernel's functions"
+    print(f"3. Step by step. {what}:\n")
     words = ["steps", example("busy-poll.csv"), "--out", page]
     show_command(*words)
     ask(*words)
-    print(
-        f"\n   Open {shown(page)} in a browser; the arrow keys step.\n   Next: {command()} --help lists all subcommands."
-    )
+    print(f"\n   Open {shown(page)} in a browser; the arrow keys step.")
+    print(f"   Next: {command()} --help lists all subcommands.")
 
 
 def parser() -> Parser:
     parser = parser_of(__doc__)
-    parser.add_argument(
-        "--out", metavar="FILE.html", help=f"another name for the page ({PAGE}; an existing one is replaced)"
-    )
+    parser.add_argument("--out", metavar="FILE.html", help=f"the page ({PAGE})")
+    add_force(parser, PAGE)
     return parser
 
 
 def main(given: Sequence[str]) -> None:
     words = parser().parse_args(given)
-    check_target(words.out or PAGE, replaces=not words.out)
-    folder = tempfile.mkdtemp()
-    unfinished.update(os.path.join(folder, f"mine.{end}") for end in ("csv", "notes"))
-    try:
+    check_target(words.out or PAGE, replaces=bool(words.out) or words.force)
+    with tempfile.TemporaryDirectory() as folder:
         squeeze()
         what_if(folder)
-    finally:
-        for end in ("csv", "notes"):
-            path = os.path.join(folder, f"mine.{end}")
-            if os.path.exists(path):
-                os.unlink(path)
-        os.rmdir(folder)
     steps(words.out or PAGE)

@@ -6,17 +6,18 @@
     fintaqush what-if --traffic '--kind poisson --rate 100000' --seeds 5 --threaded 0,1
 
 On a terminal it prints a table with units, which has only the columns that differ, and conclusions. Elsewhere, or with --csv, it prints a CSV row
-for each combination, with the options that have several values and the results. --json prints an object per line with all options, the version
-of the format, and keys that are identifiers. --out writes a CSV file with all options, or with --json these objects. At a load of 2 all arrival
-times are halved. An option takes numbers separated by commas. Times and costs are in ns, except in the table. Results are only as good as the given costs: fintaqush costs
+for each combination, with the options that have several values and the results. --json FILE also writes an object per line with all options,
+whose keys are identifiers; without FILE these are printed in place of the table. --out writes a CSV file with all options. At a load of 2 all
+arrival times are halved. An option takes numbers separated by commas. Times and costs are in ns, except in the table. Results are only as good as the given costs: fintaqush costs
 estimates them from a recording. Options are named after Linux's settings; --help says where each is set.
 
 Packets are dropped if the ring is full, and refused if the socket is. Waits last from a packet's arrival to the end of its delivery by a poll,
 and to the end of its use: the 50th, 99th and 99.9th percentile, of the device or processor where it is the greatest. Shares are of all
 processors' time, in %; with --apart 1 the application's share is that of its own processor.
 
-Each combination is also run with all costs 20 % lower and 20 % higher (--band). A line on standard error warns if the order of two combinations
-changes within this band, because the better one then depends on the costs. --queues above 1 needs arrivals with a column `flow`.
+Each combination is also run with all costs 20 % lower and 20 % higher (--band); fintaqush advise prints a percentage for those of a
+recording. A line on standard error warns if the order of two combinations changes within this band, because the better one then depends on
+the costs. --queues above 1 needs arrivals with a column `flow`.
 
 --until searches the load at which a combination breaks, to 1 %: with drops, a packet is dropped; with p99=US, the 99th percentile of waits to
 the end of use exceeds that many us. The search assumes that a setting which holds a load also holds any lower one.
@@ -33,7 +34,6 @@ from __future__ import annotations
 import csv
 import functools
 import itertools
-import json
 import math
 import os
 import re
@@ -43,36 +43,28 @@ import threading
 from collections.abc import Callable, Iterable, Iterator, Mapping, Sequence
 from fractions import Fraction
 from pathlib import Path
+from typing import Any
 
 from fintaqush_tools import breaking, repeats, tables
-from fintaqush_tools.combinations import Combinations, Key, Row, add_words, check_words, choices, fault_of, sum_of
+from fintaqush_tools.bands import DOUBT, with_costs
+from fintaqush_tools.combinations import Combinations, Key, Row
+from fintaqush_tools.combinations import add_words, check_words, choices, fault_of, sum_of, told_in
 from fintaqush_tools.errors import Refusal, unfinished, unlink
-from fintaqush_tools.files import WholeFile, check_regular, check_target, write_out, write_whole
-from fintaqush_tools.machine import (
-    ARE,
-    COSTS,
-    OPTIONS,
-    VALUES,
-    WAITS,
-    help_of,
-    identifier,
-    option_words,
-    values_of,
-    with_costs,
-)
+from fintaqush_tools.files import WholeFile, check_regular, check_target
+from fintaqush_tools.machine import ARE, COSTS, OPTIONS, VALUES, WAITS, help_of, identifier, option_words, values_of
 from fintaqush_tools.options import Parser, Words, number, parser_of, require_end, wrong
 from fintaqush_tools.pictures import COLORS, ENDS, Curve, Picture, check_library, picture_bytes
 from fintaqush_tools.processes import program, ran
 from fintaqush_tools.progress import Progress, say
-from fintaqush_tools.texts import shown
+from fintaqush_tools.results import add_json, is_printed, value_of, write_json
+from fintaqush_tools.texts import last_line, shown
 from fintaqush_tools.thresholds import Condition, add_fail_if, status_of
 
 VARIED = ["load", *OPTIONS]
 KEY = ["arrivals", "sum", *VARIED]
 # Faults of arrivals; a failed read or a failed allocation isn't one.
 FAULT = re.compile(r"arrivals fault (?!10 )\d+ \w+ row \d+$")
-HEADER = b"moment,device,bytes"
-FORMAT = 1  # version of the objects that --json prints
+HEADER, TRACE = b"moment,device,bytes", b"moment,device,event"
 MOST_CURVES = len(COLORS)
 SHORT = {"p50": "used_p50", "p99": "used_p99", "p999": "used_p999"}  # names for --fail-if
 making = threading.Lock()
@@ -80,12 +72,12 @@ making = threading.Lock()
 
 @functools.lru_cache
 def sum_at(path: str, _size: int, _changed: int) -> str:
-    """Returns the checksum that identifies the arrivals in a file."""
     with open(path, "rb") as file:
         return sum_of(file)
 
 
 def sum_in(path: str) -> str:
+    """Returns the checksum that identifies the arrivals in a file."""
     state = os.stat(path)
     return sum_at(path, state.st_size, state.st_mtime_ns)
 
@@ -94,11 +86,6 @@ def has_flows(path: str) -> bool:
     """Returns whether arrivals have the column `flow`."""
     with open(path, "rb") as file:
         return file.readline(1000).strip().endswith(b",flow")
-
-
-@functools.lru_cache
-def rewritten(path: str, load: str, with_flows: bool) -> str:
-    return rewrite(path, load, with_flows)
 
 
 def rewrite(path: str, load: str, with_flows: bool) -> str:
@@ -112,13 +99,22 @@ def rewrite(path: str, load: str, with_flows: bool) -> str:
         for place, line in enumerate(old, 1):
             moment, comma, others = line.partition(b",")
             if not (comma and moment.isdigit() and len(moment) <= 20):
-                raise Refusal(
-                    f"row {place}: only times that are plain numbers can be scaled, not {shown(line[:40].decode('latin-1').strip())!r}"
-                )
+                told = shown(line[:40].decode("latin-1").strip())
+                raise Refusal(f"row {place}: only times that are plain numbers can be scaled, not {told!r}")
             if drops_flow and others.count(b",") == 2:
                 others = others[: others.rindex(b",")] + b"\n"
             new.write(b"%d,%s" % (int(moment) * ratio.denominator // ratio.numerator, others))
     return name
+
+
+rewritten = functools.lru_cache(rewrite)
+
+
+def outcome(made: str, name: str, settings: Mapping[str, str]) -> tuple[int, str, bytes]:
+    """Runs the machine on a file of arrivals; returns its status, its report and its messages."""
+    with open(name, "rb") as file:
+        status, out, said = ran([made, *option_words(settings)], stdin=file)
+    return status, out.decode("ascii", "replace"), said
 
 
 def breaks_at(made: str, key: Key, load: str, until: str) -> bool:
@@ -126,16 +122,13 @@ def breaks_at(made: str, key: Key, load: str, until: str) -> bool:
     settings = dict(zip(OPTIONS, key[3:]))
     name = rewrite(key[0], load, int(settings["queues"]) > 1)
     try:
-        with open(name, "rb") as file:
-            status, out, said = ran([made, *option_words(settings)], stdin=file)
+        status, out, said = outcome(made, name, settings)
     finally:
         unlink(name)
         unfinished.discard(name)
     if status:
-        raise Refusal(
-            f"{shown(key[0])}: {shown((said.decode('ascii', 'replace').splitlines() or [f'status {status}'])[-1])[:200]}"
-        )
-    return breaking.is_over(values_of(out.decode("ascii", "replace")), until)
+        raise Refusal(f"{shown(key[0])}: {last_line(said, f'status {status}')[:200]}")
+    return breaking.is_over(values_of(out), until)
 
 
 def row_of(made: str, key: Key) -> Row:
@@ -147,10 +140,9 @@ def row_of(made: str, key: Key) -> Row:
     with_flows = int(settings["queues"]) > 1
     with making:
         name = path if Fraction(load) == 1 and has_flows(path) == with_flows else rewritten(path, load, with_flows)
-    with open(name, "rb") as file:
-        status, out, said = ran([made, *option_words(settings)], stdin=file)
+    status, out, said = outcome(made, name, settings)
     row: Row = {**dict(zip(KEY, key)), "status": status, "fault": fault_of(made, status, said, FAULT)}
-    return {**row, **(values_of(out.decode("ascii", "replace")) if status == 0 else {})}
+    return {**row, **(values_of(out) if status == 0 else {})}
 
 
 TABLE = Combinations("what-if", KEY, ["status", "fault", *VALUES], row_of)
@@ -164,14 +156,10 @@ def band_of(key: Key, percent: int) -> Key:
     return (*key[:3], *map(str, with_costs(dict(zip(OPTIONS, key[3:])), percent).values()))
 
 
-def lost(row: Row) -> int:
-    return int(row["dropped"]) + int(row["refused"])
-
-
 ORDERS = {
     "the median wait to the end of use": lambda row: int(row["used_p50"]),
     "the 99th percentile of that wait": lambda row: int(row["used_p99"]),
-    "drops": lost,
+    "drops": tables.lost,
 }
 
 
@@ -193,8 +181,7 @@ def orders_that_change(
     rows: Sequence[Row], keys: Sequence[Key], percent: int
 ) -> Iterator[tuple[str, list[tuple[int, int]], str]]:
     """Yields the combinations whose order changes within the band of costs: lines, and for each line the index pairs of their keys."""
-    told = [row for row in rows if str(row["status"]) == "0"]
-    by_key = {TABLE.key_of({**row, **{name: str(row[name]) for name in VARIED}}): row for row in told}
+    by_key = {TABLE.key_of({**row, **{name: str(row[name]) for name in VARIED}}): row for row in told_in(rows)}
     varied = {name for name, values in zip(VARIED, zip(*(key[2:] for key in keys))) if len(set(values)) > 1}
     groups = grouped(keys, varied - {"load", *COSTS})
     for what, of in ORDERS.items():
@@ -228,8 +215,7 @@ def changes(by_key: Mapping[Key, Row], one: Key, other: Key, side: int, of: Call
 def of_budgets(rows: Sequence[Row]) -> Iterator[str]:
     """With one queue on a processor no budget changes a wait, because in the model, which has no ksoftirqd, the next run follows without a pause.
     Returns a line that says so, or none."""
-    budgets = {str(row["budget"]) for row in rows} - {"0"}
-    told = [row for row in rows if str(row["status"]) == "0"]
+    budgets, told = {str(row["budget"]) for row in rows} - {"0"}, told_in(rows)
     if len(budgets) > 1 and told and all(int(row["queues_of_a_processor"]) <= 1 for row in told):
         yield (
             "in the model, with one queue on each processor, net.core.netdev_budget changes no latency and no drops, only how many runs are "
@@ -239,16 +225,11 @@ def of_budgets(rows: Sequence[Row]) -> Iterator[str]:
 
 def status_for(rows: Sequence[Row], conditions: Sequence[Condition]) -> int:
     """Returns the exit status by --fail-if; rejected rows have no values."""
-    varied = varied_in(rows)
-    told = [row for row in rows if str(row["status"]) == "0"]
-    named = (
-        (
-            ", ".join(f"{name} {row[name]}" for name in varied),
-            {**row, **{short: row[name] for short, name in SHORT.items()}},
-        )
-        for row in told
-    )
-    return status_of(conditions, list(named))
+    named = []
+    for row in told_in(rows):
+        name = ", ".join(f"{name} {row[name]}" for name in varied_in(rows))
+        named.append((name, {**row, **{short: row[name] for short, name in SHORT.items()}}))
+    return status_of(conditions, named)
 
 
 # ---- the table and the picture
@@ -260,41 +241,22 @@ def varied_in(rows: Sequence[Row]) -> dict[str, list[str]]:
     return {name: each for name, each in values.items() if len(each) > 1}
 
 
-def value_of(text: str) -> int | float | str | None:
-    """Converts a value of a row to its JSON type."""
-    return (
-        int(text)
-        if re.fullmatch("[0-9]+", text)
-        else float(text)
-        if re.fullmatch(r"[0-9]+\.[0-9]+", text)
-        else text or None
-    )
-
-
 def columns_of(rows: Sequence[Row]) -> list[str]:
     """Returns the columns of the results: with several seeds also the minimum and the maximum of each value."""
     return [each for name in VALUES for each in (name, f"{name}_least", f"{name}_most") if each in rows[0]]
 
 
-def objects_of(rows: Sequence[Row]) -> Iterator[str]:
-    """Returns a line of JSON for each row."""
+def objects_of(rows: Sequence[Row]) -> Iterator[Row]:
+    """Yields an object for each row."""
     names = [name for name in (*KEY, "status", "fault", *columns_of(rows)) if name in rows[0]]
     for row in rows:
-        told = {
+        yield {
             identifier(name): row[name] if name in ("arrivals", "sum") else value_of(str(row[name])) for name in names
         }
-        yield json.dumps({"version": FORMAT, **told}) + "\n"
 
 
-def print_rows(rows: Sequence[Row], words: Words) -> None:
-    """Prints the rows, as CSV or JSON; JSON goes to the file of --out, if there is one."""
-    if words.form == "json":
-        lines = list(objects_of(rows))
-        if words.json_out:
-            write_whole(words.json_out, lines, replaces=False)
-        else:
-            write_out(None, lines)
-        return
+def print_rows(rows: Sequence[Row]) -> None:
+    """Prints the rows as CSV."""
     faults = ["fault"] if any(row["fault"] for row in rows) else []
     table = csv.DictWriter(
         sys.stdout, [*varied_in(rows), *faults, *columns_of(rows)], extrasaction="ignore", lineterminator="\n"
@@ -306,19 +268,19 @@ def print_rows(rows: Sequence[Row], words: Words) -> None:
 def answer(rows: Sequence[Row], every: Sequence[Row], keys: Sequence[Key], words: Words) -> None:
     """Prints the rows with their conclusions and warnings: below a table, else on standard error."""
     orders = list(orders_that_change(every, keys, words.band)) if len(every) > len(rows) else []
+    if words.form == "csv":
+        print_rows(rows)
+    write_json(words.json, "what-if", objects_of(rows))
     if words.form != "table":
-        print_rows(rows, words)
         for line in [*of_budgets(rows), *(line for line, _, _ in orders)]:
             say(line)
         return
-    told = [row for row in rows if str(row["status"]) == "0"]
-    print(*tables.table(told, varied_in(rows)), sep="\n")
-    print(*tables.what_follows(told), *of_budgets(told), sep="\n")
+    told = told_in(rows)
+    print(*tables.table(told, varied_in(rows)), *tables.what_follows(told), *of_budgets(told), sep="\n")
     for _, pairs, what in orders:
+        named = ", ".join(f"{one} and {other}" for one, other in pairs[:3])
         more = f", and {len(pairs) - 3} more pairs" if len(pairs) > 3 else ""
-        print(
-            f"{', '.join(f'{one} and {other}' for one, other in pairs[:3])}{more} are equal within the costs' doubt of {words.band} %: their order by {what} changes"
-        )
+        print(f"{named}{more} are equal within the costs' doubt of {words.band} %: their order by {what} changes")
     for row in rows:
         if row["fault"]:
             print(f"refused: {row['fault']}")
@@ -326,9 +288,9 @@ def answer(rows: Sequence[Row], every: Sequence[Row], keys: Sequence[Key], words
 
 def message_of(rows: Sequence[Row]) -> str:
     """Returns the picture's main message: which combination has the lowest 99th percentile at the highest load, of those without losses there."""
-    told = [row for row in rows if str(row["status"]) == "0"]
+    told = told_in(rows)
     top = max((float(row["load"]) for row in told), default=0)
-    whole = [row for row in told if float(row["load"]) == top and not lost(row) and int(row["used_p99"])]
+    whole = [row for row in told if float(row["load"]) == top and not tables.lost(row) and int(row["used_p99"])]
     if not whole:
         return "; each loses packets at the highest load" if told and len(varied_in(rows)) else ""
     best = min(whole, key=lambda row: int(row["used_p99"]))
@@ -341,9 +303,7 @@ def title_of(rows: Sequence[Row], name: str) -> str:
     varied = varied_in(rows)
     told = "; ".join(f"{each} {', '.join(values)}" for each, values in varied.items())
     given = ", ".join(f"{each} {rows[0][each]}" for each in COSTS if each not in varied)
-    return f"{name}: {told}{message_of(rows)}.\n" + (
-        f"Costs are given, in ns: {given}." if given else "Costs are given."
-    )
+    return f"{name}: {told}{message_of(rows)}.\nCosts are given{f', in ns: {given}' if given else ''}."
 
 
 def check_curves(words: Words) -> None:
@@ -354,9 +314,8 @@ def check_curves(words: Words) -> None:
         raise Refusal("nothing to draw: no option has several values")
     count = math.prod(varied.values()) // varied.get("load", max(varied.values()))
     if count > MOST_CURVES:
-        raise Refusal(
-            f"{count} curves, of which at most {MOST_CURVES} can be distinguished: vary fewer options at a time"
-        )
+        most = f"of which at most {MOST_CURVES} can be distinguished"
+        raise Refusal(f"{count} curves, {most}: vary fewer options at a time")
 
 
 def curves_of(rows: Sequence[Row]) -> tuple[str, dict[str, list[Row]]]:
@@ -364,18 +323,12 @@ def curves_of(rows: Sequence[Row]) -> tuple[str, dict[str, list[Row]]]:
     varied = varied_in(rows)
     axis = "load" if "load" in varied else max(varied, key=lambda name: len(varied[name]))
     curves: dict[str, list[Row]] = {}
-    for row in rows:
-        if row["status"] in (0, "0"):
-            curves.setdefault(" ".join(f"{name} {row[name]}" for name in varied if name != axis) or "all", []).append(
-                row
-            )
+    for row in told_in(rows):
+        title = " ".join(f"{name} {row[name]}" for name in varied if name != axis)
+        curves.setdefault(title or "all", []).append(row)
     if not curves:
         raise Refusal("nothing to draw: each row is refused")
     return axis, {title: sorted(each, key=lambda row: float(row[axis])) for title, each in curves.items()}
-
-
-def lost_percent(row: Row) -> float:
-    return 100 * lost(row) / max(1, int(row["arrived"]))
 
 
 def line(points: Sequence[tuple[float, float]], place: int, name: str = "", is_dashed: bool = False) -> Curve:
@@ -395,7 +348,7 @@ def described(rows: Sequence[Row], title: str) -> Picture:
     for place, (name, points) in enumerate(curves.items()):
         waits.append(line(waits_of(points, axis, "delivered_p99"), place, f"{name}, to delivery", True))
         waits.append(line(waits_of(points, axis, "used_p99"), place, name))
-        lost_of.append(line([(float(row[axis]), lost_percent(row)) for row in points], place, name))
+        lost_of.append(line([(float(row[axis]), tables.lost_percent(row)) for row in points], place, name))
         shares.append(line([(float(row[axis]), float(row["use_percent"])) for row in points], place, name))
     panels = [
         ("99th percentile of waits, ms", "to delivery dashed, to the end of use", waits, True),
@@ -404,25 +357,15 @@ def described(rows: Sequence[Row], title: str) -> Picture:
     ]
     ends = [float(row[axis]) for points in curves.values() for row in points]
     margin = 0.03 * (max(ends) - min(ends) or 1)
-    return {
-        "title": title,
-        "axis": {
-            "label": f"{axis} (times the arrivals)" if axis == "load" else axis,
-            "low": min(ends) - margin,
-            "high": max(ends) + margin,
-        },
-        "panels": [
-            {
-                "label": label,
-                "heading": heading,
-                "top": 102,
-                "log": is_log and any(each["points"] for each in told),
-                "curves": [each for each in told if each["points"]],
-                "legend": not heading and len(curves) > 1,
-            }
-            for label, heading, told, is_log in panels
-        ],
-    }
+    label = f"{axis} (times the arrivals)" if axis == "load" else axis
+    described: list[dict[str, Any]] = []
+    for name, heading, every, is_log in panels:
+        told = [each for each in every if each["points"]]
+        legend = not heading and len(curves) > 1
+        shown_as = {"label": name, "heading": heading, "top": 102, "log": bool(is_log and told)}
+        described.append({**shown_as, "curves": told, "legend": legend})
+    scale = {"label": label, "low": min(ends) - margin, "high": max(ends) + margin}
+    return {"title": title, "axis": scale, "panels": described}
 
 
 def draw(rows: Sequence[Row], words: Words) -> None:
@@ -448,55 +391,28 @@ def columns_told() -> str:
 
 def parser() -> Parser:
     parser = parser_of(__doc__ + columns_told())
-    parser.add_argument(
-        "arrivals", nargs="?", help="arrivals, made with --arrivals of from-pcap, from-ftrace or traffic"
-    )
-    parser.add_argument(
-        "--load",
-        type=choices(load),
-        default=["1"],
-        metavar="N,..",
-        help="factors of the arrivals' rate, as 0.5,1,2 (1)",
-    )
+    what = "arrivals, made with --arrivals of from-pcap, from-ftrace or traffic"
+    parser.add_argument("arrivals", nargs="?", help=what)
+    what = "factors of the arrivals' rate, as 0.5,1,2 (1)"
+    parser.add_argument("--load", type=choices(load), default=["1"], metavar="N,..", help=what)
     for name, (low, high, default) in OPTIONS.items():
-        parser.add_argument(
-            f"--{name}", type=choices(number(low, high)), default=[str(default)], metavar="N,..", help=help_of(name)
-        )
-    parser.add_argument(
-        "--band",
-        type=number(0, 90),
-        metavar="N",
-        help="warn if an order changes with costs N %% lower or higher (20; 0 with --out or --part)",
-    )
+        how: dict[str, Any] = {"type": choices(number(low, high)), "default": [str(default)], "metavar": "N,.."}
+        parser.add_argument(f"--{name}", help=help_of(name), **how)
+    what = f"warn if an order changes with costs N %% lower or higher ({DOUBT}; 0 with --out or --part); advise prints that of a recording"
+    parser.add_argument("--band", type=number(0, 90), metavar="N", help=what)
     form = parser.add_mutually_exclusive_group()
-    for name, what in (
-        ("table", "a table with units (on a terminal)"),
-        ("csv", "CSV (elsewhere)"),
-        ("json", "an object per line"),
-    ):
+    for name, what in (("table", "a table with units (on a terminal)"), ("csv", "CSV (elsewhere)")):
         form.add_argument(f"--{name}", dest="form", action="store_const", const=name, help=what)
-    parser.add_argument(
-        "--until",
-        type=breaking.limit,
-        metavar="drops|p99=US",
-        help="search for the load at which each combination breaks",
-    )
-    parser.add_argument(
-        "--traffic", metavar="OPTIONS", help="make arrivals by fintaqush traffic with these options, in one argument"
-    )
-    parser.add_argument(
-        "--seeds", type=number(1, 1000), metavar="N", help="with --traffic: repeat with the seeds 1 to N (5)"
-    )
+    add_json(parser)
+    what = "search for the load at which each combination breaks"
+    parser.add_argument("--until", type=breaking.limit, metavar="drops|p99=US", help=what)
+    what = "make arrivals by fintaqush traffic with these options, in one argument"
+    parser.add_argument("--traffic", metavar="OPTIONS", help=what)
+    what = "with --traffic: repeat with the seeds 1 to N (5)"
+    parser.add_argument("--seeds", type=number(1, 1000), metavar="N", help=what)
     add_fail_if(parser, [*SHORT, *VALUES], [*SHORT, *WAITS])
     parser.add_argument("--plot", metavar="FILE", help="a picture, .png, .svg or .html")
-    add_words(
-        parser,
-        "napi_machine",
-        {
-            "metavar": "FILE",
-            "help": "a file of rows with all options and results: CSV, or with --json an object per line",
-        },
-    )
+    add_words(parser, "napi_machine", {"metavar": "FILE", "help": "a CSV file of rows with all options and results"})
     return parser
 
 
@@ -511,9 +427,8 @@ def check_together(options: Parser, words: Words) -> None:
         if value and is_spread:
             options.error(f"{name} doesn't go with --out, --part and --sshloginfile")
     if words.until and any((words.traffic, words.plot, words.fail_if, words.load != ["1"])):
-        options.error(
-            "--until searches the load, of one file, so it doesn't go with --load, --traffic, --plot and --fail-if"
-        )
+        others = "--load, --traffic, --plot and --fail-if"
+        options.error(f"--until searches the load, of one file, so it doesn't go with {others}")
     require_end(options, "--plot", words.plot, ENDS)
     if words.resume and not words.out:
         options.error("--resume goes with --out")
@@ -526,11 +441,10 @@ def read_words(given: Sequence[str]) -> Words:
     words = options.parse_args(given)
     check_together(options, words)
     if words.band is None:
-        words.band = 0 if words.out or words.part else 20
-    words.form = words.form or ("table" if sys.stdout.isatty() else "csv")
-    if words.form == "json" and words.out and (words.resume or words.part):
-        options.error("with --json the file is written at the end, so --out doesn't go with --resume and --part")
-    words.json_out, words.out = (words.out, None) if words.form == "json" else (None, words.out)
+        words.band = 0 if words.out or words.part else DOUBT
+    if is_printed(words.json) and (words.form or words.out):
+        options.error("--json without a file prints only JSON; --json FILE goes with --table, --csv and --out")
+    words.form = words.form or ("json" if is_printed(words.json) else "table" if sys.stdout.isatty() else "csv")
     return words
 
 
@@ -549,11 +463,6 @@ def keys_of(words: Words, arrivals: str) -> tuple[list[Key], list[Key]]:
 def print_breakings(found: Sequence[breaking.Breaking], words: Words, rate: float, percents: Sequence[int]) -> None:
     """Prints where each combination breaks."""
     varied = [name for name, values in zip(VARIED, zip(*(each.key[2:] for each in found))) if len(set(values)) > 1]
-    if words.form == "table":
-        for each in found:
-            named = name_of(each.key, varied)
-            print(f"{named}: " * bool(named) + breaking.told(words.until, each, rate, percents))
-        return
     lines = []
     for each in found:
         holds, broken = each.ends[100]
@@ -562,23 +471,24 @@ def print_breakings(found: Sequence[breaking.Breaking], words: Words, rate: floa
         for percent in percents[1:]:
             line[f"breaks_at_costs_{percent}"] = breaking.text_of(each.ends[percent][1])
         lines.append(({name: value for name, value in zip(VARIED, each.key[2:]) if name != "load"}, line))
-    if words.form == "json":
-        for options, line in lines:
-            print(
-                json.dumps(
-                    {
-                        "version": FORMAT,
-                        "arrivals": words.arrivals,
-                        "until": words.until,
-                        **{identifier(name): value_of(value) for name, value in options.items()},
-                        **{name: None if value is None else value_of(str(value)) for name, value in line.items()},
-                    }
-                )
-            )
-        return
-    table = csv.DictWriter(sys.stdout, [*varied, *lines[0][1]], extrasaction="ignore", lineterminator="\n")
-    table.writeheader()
-    table.writerows({**options, **line} for options, line in lines)
+    if words.form == "table":
+        for each in found:
+            named = name_of(each.key, varied)
+            print(f"{named}: " * bool(named) + breaking.told(words.until, each, rate, percents))
+    elif words.form == "csv":
+        table = csv.DictWriter(sys.stdout, [*varied, *lines[0][1]], extrasaction="ignore", lineterminator="\n")
+        table.writeheader()
+        table.writerows({**options, **line} for options, line in lines)
+    write_json(words.json, "what-if", (object_of_breaking(words, *each) for each in lines))
+
+
+def object_of_breaking(words: Words, options: Mapping[str, str], line: Row) -> Row:
+    return {
+        "arrivals": words.arrivals,
+        "until": words.until,
+        **{identifier(name): value_of(value) for name, value in options.items()},
+        **{name: None if value is None else value_of(str(value)) for name, value in line.items()},
+    }
 
 
 def until_it_breaks(made: str, words: Words) -> None:
@@ -604,10 +514,8 @@ def all_rows(made: str, words: Words) -> tuple[list[Key], list[Row]]:
     of = [keys_of(words, name) for name in repeats.made(words.traffic, words.seeds or 5)]
     every = [list(dict.fromkeys([*keys, *band])) for keys, band in of]
     rows = TABLE.make(made, words, [key for keys in every for key in keys])
-    told = {"arrivals": f"traffic {words.traffic}", "sum": f"{len(of)} seeds"}
-    spread = [
-        {**repeats.spread(rows[place :: len(every[0])], VARIED, VALUES), **told} for place in range(len(every[0]))
-    ]
+    told, count = {"arrivals": f"traffic {words.traffic}", "sum": f"{len(of)} seeds"}, len(every[0])
+    spread = [{**repeats.spread(rows[place::count], VARIED, VALUES), **told} for place in range(count)]
     return [(told["arrivals"], told["sum"], *key[2:]) for key in of[0][0]], spread
 
 
@@ -616,6 +524,11 @@ def check_arrivals(words: Words) -> None:
     check_regular(words.arrivals, reason)
     if "\n" in words.arrivals or "\r" in words.arrivals:
         raise Refusal(f"{shown(words.arrivals)}: {reason}")
+    with open(words.arrivals, "rb") as file:
+        if file.readline(1000).startswith(TRACE):
+            raise Refusal(
+                f"{shown(words.arrivals)}: a trace, whose runs are given; arrivals are made by --arrivals of from-pcap, from-ftrace or traffic"
+            )
     if any(int(each) > 1 for each in words.queues) and not has_flows(words.arrivals):
         raise Refusal(
             f"{shown(words.arrivals)}: there is no column flow, which --queues above 1 needs: moment,device,bytes,flow, as from-pcap, from-ftrace and "
@@ -627,17 +540,15 @@ def main(given: Sequence[str]) -> int:
     words = read_words(given)
     rewritten.cache_clear()
     if words.play:
-        return TABLE.play(words.program, words.play)
+        return TABLE.play(words.binary, words.play)
     check_words("what-if", words)
-    if words.json_out:
-        check_target(words.json_out, replaces=False)
     if words.arrivals:
         check_arrivals(words)
     if words.plot:
         check_target(words.plot)
         check_library(words.plot)
         check_curves(words)
-    made = program("napi_machine", words.program)
+    made = program("napi_machine", words.binary)
     if words.until:
         until_it_breaks(made, words)
         return 0

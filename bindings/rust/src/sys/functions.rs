@@ -18,15 +18,15 @@ extern "C" {
     /// name of a status, or its message ("?" for an unknown number); the name of a trace's fault. It returns the
     /// length of the text; if that isn't below `room`, the array is unchanged.
     pub fn fq_fault_text(fault: u32, to: *mut c_char, room: usize) -> usize;
+    /// Returns the library's version as a number, as `FQ_VERSION_NUMBER` is that of the header. Since 1.1.
+    pub fn fq_version_number() -> u32;
     /// The structs that calls read and write, except those of `fq_replay` and those that begin with their size.
     /// `fq_struct_size` returns the size of one in bytes, so that bindings can check theirs; 0 for an unknown number.
     pub fn fq_struct_size(which: u32) -> usize;
-    /// Returns a new limit between `min` and `max` bytes, with the slack hold time `hold_ms` (`dql_init`), and the
-    /// status `FQ_OK` or `FQ_BAD_BOUNDS`; after `FQ_BAD_BOUNDS` it is a limit of 0.
-    pub fn fq_dql_new(min: u32, max: u32, hold_ms: u64, now_ms: u64) -> fq_dql_made;
-    /// Like `fq_dql_init`, for callers that can't use returned structs. `*dql` has to be all 0 or a limit; it is
-    /// unchanged if the call returns `FQ_BAD_BOUNDS`.
-    pub fn fq_dql_renew(dql: *mut fq_dql, min: u32, max: u32, hold_ms: u64, now_ms: u64) -> u32;
+    /// Makes a new limit between `min` and `max` bytes, with the slack hold time `hold_ms` (`dql_init`). `*dql` has
+    /// to be all 0 or a limit; it is unchanged if the call returns `FQ_BAD_BOUNDS`. Returns `FQ_OK`; `FQ_BAD_BOUNDS`.
+    /// Since 1.1.
+    pub fn fq_dql_init(dql: *mut fq_dql, min: u32, max: u32, hold_ms: u64, now_ms: u64) -> u32;
     /// Adds an object of `count` bytes that was sent to the device (`dql_queued`). Returns `FQ_OK`; `FQ_TOO_LARGE`;
     /// `FQ_TOO_MUCH_IN_FLIGHT`.
     pub fn fq_dql_queued(dql: *mut fq_dql, count: u32) -> u32;
@@ -93,27 +93,27 @@ extern "C" {
     pub fn fq_napi_enable(napi: *mut fq_napi, who: u32, threaded: bool) -> u32;
     /// Returns the state word, a sum of `FQ_BIT_..`
     pub fn fq_napi_word(napi: *const fq_napi) -> u64;
-    /// Frees the object of a handle, which is unset after that. Returns `FQ_OK`; `FQ_BAD_HANDLE`; `FQ_NOT_ALLOWED`,
-    /// and nothing is freed, for a seat that isn't at rest, for a controller that isn't off, and for a list in a run:
-    /// then the handle still has its object, which leaks unless a later call frees it. Packets in a ring are lost, so
-    /// poll them before.
+    /// Frees the object of a handle, which is unset after that. AN OBJECT IN USE IS NOT FREED: for a seat that isn't
+    /// at rest, a controller that isn't off, and a list in a run it returns `FQ_NOT_ALLOWED`, and the handle still
+    /// has its object, which leaks unless a later call frees it. Rings, transmit rings and drivers are freed in any
+    /// state; packets in a ring are lost, so poll them before. Returns `FQ_OK`; `FQ_BAD_HANDLE`; `FQ_NOT_ALLOWED`.
     pub fn fq_free(handle: *mut fq_handle) -> u32;
-    /// Frees the object of a handle in any state. Returns `FQ_OK`; `FQ_BAD_HANDLE`. An instance whose poller was
-    /// abandoned is never polled again. The status may be ignored.
+    /// Frees the object of a handle in any state, so nothing leaks. Returns `FQ_OK`; `FQ_BAD_HANDLE`. An instance
+    /// whose poller was abandoned is never polled again. The status may be ignored.
     pub fn fq_abandon(handle: *mut fq_handle) -> u32;
     /// Moves the object of `from` to `to`; `from` is unset after that. Returns `FQ_OK`; `FQ_IN_USE` if `to` is set;
     /// `FQ_BAD_HANDLE`.
     pub fn fq_move(from: *mut fq_handle, to: *mut fq_handle) -> u32;
     /// Makes a ring of capacity 1 to 65536. Returns `FQ_OK`; `FQ_IN_USE`; `FQ_BAD_CAPACITY`; `FQ_OUT_OF_MEMORY`.
-    pub fn fq_ring_new(ring: *mut fq_handle, capacity: usize) -> u32;
+    pub fn fq_ring_new(ring: *mut fq_ring, capacity: usize) -> u32;
     /// Puts a packet into the ring, after all others. Returns `FQ_OK`; `FQ_FULL`; `FQ_BAD_HANDLE`.
-    pub fn fq_ring_put(ring: *mut fq_handle, number: u64, bytes: u32) -> u32;
+    pub fn fq_ring_put(ring: *mut fq_ring, number: u64, bytes: u32) -> u32;
     /// Puts the packets of an array into the ring, after all others and in order: as many of the first ones as fit.
     /// Sets `*count` to how many. Returns `FQ_OK` if all fit; `FQ_FULL` if not; `FQ_BAD_HANDLE`, and `*count` is 0. A
     /// poll sees all of them at once. A circular pool of buffers needs as many as the ring's capacity, plus 64 for a
     /// poll, plus the longest burst, which is 1 for `fq_ring_put`.
     pub fn fq_ring_put_all(
-        ring: *mut fq_handle,
+        ring: *mut fq_ring,
         packets: *const fq_packet,
         len: usize,
         count: *mut usize,
@@ -123,7 +123,7 @@ extern "C" {
     /// `FQ_BAD_WEIGHT`; `FQ_NO_ROOM`; `FQ_BAD_HANDLE`, also for a ring whose poll end belongs to an instance or to
     /// another handle.
     pub fn fq_ring_poll(
-        ring: *mut fq_handle,
+        ring: *mut fq_ring,
         weight: usize,
         out: *mut fq_packet,
         len: usize,
@@ -132,22 +132,22 @@ extern "C" {
     /// Sets `*counts` to the counts of a ring's polls. The handle has to own the poll end: it is a ring, or the poll
     /// end of one that was split; a seat that polls; the controller of a disabled instance. Returns `FQ_OK`;
     /// `FQ_BAD_HANDLE`; `FQ_NOT_ALLOWED` for any other. `*counts` is unchanged unless it returns `FQ_OK`.
-    pub fn fq_count(handle: *mut fq_handle, counts: *mut fq_counts) -> u32;
+    pub fn fq_count(handle: *const fq_handle, counts: *mut fq_counts) -> u32;
     /// Sets `*shown` to the state of a ring, or of its input. Returns `FQ_OK`; `FQ_BAD_HANDLE`, and `*shown` is
     /// unchanged.
-    pub fn fq_ring_show(ring: *mut fq_handle, shown: *mut fq_ring_shown) -> u32;
+    pub fn fq_ring_show(ring: *const fq_ring, shown: *mut fq_ring_shown) -> u32;
     /// Splits a ring without an instance for two threads: after it, `ring` is the ring's input, for puts, and `out`
     /// its poll end, for polls. Each is freed separately. Returns `FQ_OK`; `FQ_IN_USE`; `FQ_BAD_HANDLE`;
     /// `FQ_OUT_OF_MEMORY`.
-    pub fn fq_ring_split(ring: *mut fq_handle, out: *mut fq_handle) -> u32;
+    pub fn fq_ring_split(ring: *mut fq_ring, out: *mut fq_ring) -> u32;
     /// Frees a ring that was never split, and sets `*totals` to its totals; the handle is unset after that. Returns
     /// `FQ_OK`; `FQ_BAD_HANDLE`, and nothing changes.
-    pub fn fq_ring_finish(ring: *mut fq_handle, totals: *mut fq_totals) -> u32;
+    pub fn fq_ring_finish(ring: *mut fq_ring, totals: *mut fq_totals) -> u32;
     /// Makes a ring of capacity 1 to 65536, not stopped, over a new limit between `min` and `max` bytes, with the
     /// slack hold time `hold_ms` (`dql_init`). `fq_free` frees it, whatever it holds. Returns `FQ_OK`; `FQ_IN_USE`;
     /// `FQ_BAD_BOUNDS`; `FQ_BAD_CAPACITY`; `FQ_OUT_OF_MEMORY`.
     pub fn fq_tx_new(
-        tx: *mut fq_handle,
+        tx: *mut fq_tx,
         capacity: usize,
         min: u32,
         max: u32,
@@ -157,18 +157,18 @@ extern "C" {
     /// Sends a packet of `bytes` bytes to the device (`netdev_tx_sent_queue`): adds it to the ring, and stops the
     /// queue if `avail` becomes negative. Returns `FQ_OK`; otherwise nothing is sent: `FQ_STOPPED`, else `FQ_FULL`,
     /// else `FQ_TOO_LARGE`, else `FQ_TOO_MUCH_IN_FLIGHT`; `FQ_BAD_HANDLE`.
-    pub fn fq_tx_send(tx: *mut fq_handle, bytes: u32) -> u32;
+    pub fn fq_tx_send(tx: *mut fq_tx, bytes: u32) -> u32;
     /// Completes the `count` oldest packets (`netdev_tx_completed_queue`). If these have any bytes, the limit adapts,
     /// and the queue is started if the limit has room again. Returns `FQ_OK`; `FQ_MORE_THAN_SENT`, and nothing is
     /// completed; `FQ_BAD_HANDLE`.
-    pub fn fq_tx_done(tx: *mut fq_handle, count: u32, now_ms: u64) -> u32;
+    pub fn fq_tx_done(tx: *mut fq_tx, count: u32, now_ms: u64) -> u32;
     /// Sets `*state` to the state of the ring. Returns `FQ_OK`; `FQ_BAD_HANDLE`, and `*state` is unchanged.
-    pub fn fq_tx_state(tx: *mut fq_handle, state: *mut fq_tx_shown) -> u32;
+    pub fn fq_tx_state(tx: *const fq_tx, state: *mut fq_tx_shown) -> u32;
     /// Checks a ring at each tick of that timer. Sets `*stuck` to whether the ring has been stopped, with no byte
     /// completed, for `limit_ms` since the first check that found it so; if the clock went back to before that check,
     /// 0 ms have passed. Returns `FQ_OK`; `FQ_BAD_HANDLE`, and `*stuck` is false. Since 1.1.
     pub fn fq_tx_watch(
-        tx: *mut fq_handle,
+        tx: *const fq_tx,
         watchdog: *mut fq_tx_watchdog,
         limit_ms: u64,
         now_ms: u64,
@@ -178,55 +178,55 @@ extern "C" {
     /// for each caller. It is disabled. After it, `ring` is only the ring's input. Returns `FQ_OK`; `FQ_IN_USE`;
     /// `FQ_BAD_COUNT`; `FQ_BAD_HANDLE`; `FQ_OUT_OF_MEMORY`.
     pub fn fq_shared_new(
-        ring: *mut fq_handle,
-        control: *mut fq_handle,
-        seats: *mut fq_handle,
+        ring: *mut fq_ring,
+        control: *mut fq_control,
+        seats: *mut fq_seat,
         count: usize,
     ) -> u32;
     /// Makes an instance without a ring, for a card that the caller polls itself; `fq_seat_poll` returns no packets.
     /// Otherwise like `fq_shared_new`. Returns `FQ_OK`; `FQ_IN_USE`; `FQ_BAD_COUNT`; `FQ_OUT_OF_MEMORY`.
-    pub fn fq_shared_bare(control: *mut fq_handle, seats: *mut fq_handle, count: usize) -> u32;
+    pub fn fq_shared_bare(control: *mut fq_control, seats: *mut fq_seat, count: usize) -> u32;
     /// The calls of a seat, which is one caller of the instance. Each makes one attempt, after checks for
     /// `FQ_BAD_KIND`, `FQ_BAD_WEIGHT`, `FQ_NO_ROOM` and `FQ_BAD_HANDLE`; `fq_seat_schedule_prep` and
     /// `fq_seat_complete_done` repeat it while another thread changes the instance. A seat at rest, which owns
     /// nothing, may request a poll (`napi_schedule_prep`), take the instance from the list or as its thread, take it
     /// to busy poll it (`napi_busy_loop`), and set whether polls are queued for its thread (`dev_set_threaded`).
     /// `FQ_GRANTED`, `FQ_MISSED`, `FQ_DISABLED`, `FQ_CHANGED`.
-    pub fn fq_seat_schedule(seat: *mut fq_handle) -> u32;
+    pub fn fq_seat_schedule(seat: *mut fq_seat) -> u32;
     /// The calls of a seat, which is one caller of the instance. Each makes one attempt, after checks for
     /// `FQ_BAD_KIND`, `FQ_BAD_WEIGHT`, `FQ_NO_ROOM` and `FQ_BAD_HANDLE`; `fq_seat_schedule_prep` and
     /// `fq_seat_complete_done` repeat it while another thread changes the instance. A seat at rest, which owns
     /// nothing, may request a poll (`napi_schedule_prep`), take the instance from the list or as its thread, take it
     /// to busy poll it (`napi_busy_loop`), and set whether polls are queued for its thread (`dev_set_threaded`).
     /// `FQ_GRANTED`, `FQ_MISSED`, `FQ_DISABLED`, since 1.1.
-    pub fn fq_seat_schedule_prep(seat: *mut fq_handle) -> u32;
+    pub fn fq_seat_schedule_prep(seat: *mut fq_seat) -> u32;
     /// The calls of a seat, which is one caller of the instance. Each makes one attempt, after checks for
     /// `FQ_BAD_KIND`, `FQ_BAD_WEIGHT`, `FQ_NO_ROOM` and `FQ_BAD_HANDLE`; `fq_seat_schedule_prep` and
     /// `fq_seat_complete_done` repeat it while another thread changes the instance. A seat at rest, which owns
     /// nothing, may request a poll (`napi_schedule_prep`), take the instance from the list or as its thread, take it
     /// to busy poll it (`napi_busy_loop`), and set whether polls are queued for its thread (`dev_set_threaded`).
     /// `FQ_TAKEN`, `FQ_NOT_THERE`.
-    pub fn fq_seat_take(seat: *mut fq_handle, kind: u32) -> u32;
+    pub fn fq_seat_take(seat: *mut fq_seat, kind: u32) -> u32;
     /// The calls of a seat, which is one caller of the instance. Each makes one attempt, after checks for
     /// `FQ_BAD_KIND`, `FQ_BAD_WEIGHT`, `FQ_NO_ROOM` and `FQ_BAD_HANDLE`; `fq_seat_schedule_prep` and
     /// `fq_seat_complete_done` repeat it while another thread changes the instance. A seat at rest, which owns
     /// nothing, may request a poll (`napi_schedule_prep`), take the instance from the list or as its thread, take it
     /// to busy poll it (`napi_busy_loop`), and set whether polls are queued for its thread (`dev_set_threaded`).
     /// `FQ_TAKEN`, `FQ_BUSY`, `FQ_CHANGED`.
-    pub fn fq_seat_busy_take(seat: *mut fq_handle) -> u32;
+    pub fn fq_seat_busy_take(seat: *mut fq_seat) -> u32;
     /// The calls of a seat, which is one caller of the instance. Each makes one attempt, after checks for
     /// `FQ_BAD_KIND`, `FQ_BAD_WEIGHT`, `FQ_NO_ROOM` and `FQ_BAD_HANDLE`; `fq_seat_schedule_prep` and
     /// `fq_seat_complete_done` repeat it while another thread changes the instance. A seat at rest, which owns
     /// nothing, may request a poll (`napi_schedule_prep`), take the instance from the list or as its thread, take it
     /// to busy poll it (`napi_busy_loop`), and set whether polls are queued for its thread (`dev_set_threaded`).
     /// `FQ_OK`.
-    pub fn fq_seat_set_threaded(seat: *mut fq_handle, threaded: bool) -> u32;
+    pub fn fq_seat_set_threaded(seat: *mut fq_seat, threaded: bool) -> u32;
     /// A seat that was granted the instance has to queue it (`____napi_schedule`). `FQ_OK`.
-    pub fn fq_seat_hand(seat: *mut fq_handle, kind: u32) -> u32;
+    pub fn fq_seat_hand(seat: *mut fq_seat, kind: u32) -> u32;
     /// A seat that polls may poll the ring, like `fq_ring_poll`, and then requeues the instance or completes
     /// (`napi_complete_done`).
     pub fn fq_seat_poll(
-        seat: *mut fq_handle,
+        seat: *mut fq_seat,
         weight: usize,
         out: *mut fq_packet,
         len: usize,
@@ -234,26 +234,26 @@ extern "C" {
     ) -> u32;
     /// A seat that polls may poll the ring, like `fq_ring_poll`, and then requeues the instance or completes
     /// (`napi_complete_done`). `FQ_OK`: it is on the list again.
-    pub fn fq_seat_requeue(seat: *mut fq_handle) -> u32;
+    pub fn fq_seat_requeue(seat: *mut fq_seat) -> u32;
     /// A seat that polls may poll the ring, like `fq_ring_poll`, and then requeues the instance or completes
     /// (`napi_complete_done`). `FQ_RELEASED`, `FQ_AGAIN`, `FQ_CHANGED`; `FQ_HELD` for a busy poller.
-    pub fn fq_seat_complete(seat: *mut fq_handle) -> u32;
+    pub fn fq_seat_complete(seat: *mut fq_seat) -> u32;
     /// A seat that polls may poll the ring, like `fq_ring_poll`, and then requeues the instance or completes
     /// (`napi_complete_done`). `FQ_RELEASED`, `FQ_AGAIN`; `FQ_HELD` for a busy poller, since 1.1.
-    pub fn fq_seat_complete_done(seat: *mut fq_handle) -> u32;
+    pub fn fq_seat_complete_done(seat: *mut fq_seat) -> u32;
     /// A seat that busy polls may poll and complete, and stops (`busy_poll_stop`): it then polls once more. `FQ_OK`,
     /// `FQ_CHANGED`.
-    pub fn fq_seat_busy_stop(seat: *mut fq_handle) -> u32;
+    pub fn fq_seat_busy_stop(seat: *mut fq_seat) -> u32;
     /// Sets `*word` to the state word, a sum of `FQ_BIT_..`, in any state of the seat. Returns `FQ_OK`;
     /// `FQ_BAD_HANDLE`.
-    pub fn fq_seat_look(seat: *mut fq_handle, word: *mut u64) -> u32;
+    pub fn fq_seat_look(seat: *mut fq_seat, word: *mut u64) -> u32;
     /// Sets `*answers` to how often the seat's calls returned each result since it was made. Returns `FQ_OK`;
     /// `FQ_BAD_HANDLE`, and `*answers` is unchanged.
-    pub fn fq_seat_count(seat: *mut fq_handle, answers: *mut fq_answers) -> u32;
+    pub fn fq_seat_count(seat: *const fq_seat, answers: *mut fq_answers) -> u32;
     /// Queues a granted instance as the kernel does (`____napi_schedule`): for its thread if `FQ_BIT_THREADED` is
     /// set. Sets `*next` to `FQ_NEXT_AGAIN` or `FQ_NEXT_AGAIN_THREAD`. Returns `FQ_OK`; `FQ_BAD_HANDLE`;
     /// `FQ_NOT_ALLOWED`. `*next` is `FQ_NEXT_GONE` unless it returns `FQ_OK`. Since 1.1.
-    pub fn fq_seat_hand_again(seat: *mut fq_handle, next: *mut u32) -> u32;
+    pub fn fq_seat_hand_again(seat: *mut fq_seat, next: *mut u32) -> u32;
     /// Ends a poll as the kernel does (`__napi_poll`). `full` says that it returned its whole weight. After a full
     /// poll, if no disable is pending, a seat that took the instance from the list puts it on the list again, and one
     /// that took it as its thread polls again, at once (`FQ_HELD`). After any other poll the instance is completed
@@ -264,115 +264,114 @@ extern "C" {
     /// `FQ_OK`; `FQ_HELD`: the seat keeps polling, as a busy poller does; `FQ_NOT_ALLOWED` if it doesn't poll;
     /// `FQ_BAD_HANDLE`. `*next` is `FQ_NEXT_GONE` unless it returns `FQ_OK`. A seat polls as the thread while
     /// `FQ_BIT_SCHED_THREADED` is set, which `fq_seat_requeue` doesn't clear. Since 1.1.
-    pub fn fq_seat_end(seat: *mut fq_handle, full: bool, next: *mut u32) -> u32;
+    pub fn fq_seat_end(seat: *mut fq_seat, full: bool, next: *mut u32) -> u32;
     /// The calls of the controller. If the instance is off: enable (`napi_enable`). If it is on: mark. If it is
     /// marked: try to take, until that returns `FQ_TAKEN`, and the instance is off again (`napi_disable`). Request a
     /// poll once after each enable, by a seat (`fq_seat_request`), or enable by `fq_control_open`, which does so: an
     /// earlier request was missed and isn't polled, and a masked card with a full ring would wait forever. `FQ_OK`,
     /// `FQ_CHANGED`.
-    pub fn fq_control_enable(control: *mut fq_handle, threaded: bool) -> u32;
+    pub fn fq_control_enable(control: *mut fq_control, threaded: bool) -> u32;
     /// The calls of the controller. If the instance is off: enable (`napi_enable`). If it is on: mark. If it is
     /// marked: try to take, until that returns `FQ_TAKEN`, and the instance is off again (`napi_disable`). Request a
     /// poll once after each enable, by a seat (`fq_seat_request`), or enable by `fq_control_open`, which does so: an
     /// earlier request was missed and isn't polled, and a masked card with a full ring would wait forever. `FQ_OK`.
-    pub fn fq_control_mark(control: *mut fq_handle) -> u32;
+    pub fn fq_control_mark(control: *mut fq_control) -> u32;
     /// The calls of the controller. If the instance is off: enable (`napi_enable`). If it is on: mark. If it is
     /// marked: try to take, until that returns `FQ_TAKEN`, and the instance is off again (`napi_disable`). Request a
     /// poll once after each enable, by a seat (`fq_seat_request`), or enable by `fq_control_open`, which does so: an
     /// earlier request was missed and isn't polled, and a masked card with a full ring would wait forever.
     /// `FQ_TAKEN`, `FQ_BUSY`, `FQ_CHANGED`.
-    pub fn fq_control_try_take(control: *mut fq_handle) -> u32;
+    pub fn fq_control_try_take(control: *mut fq_control) -> u32;
     /// Makes one step of a driver's open (`on`) or stop; repeat it between the driver's polls until it returns
     /// `FQ_OK`. After `FQ_OK` the instance is enabled, and a poll still has to be requested once (`fq_control_open`
     /// does so); or it is off. Returns `FQ_OK`, also to stop an instance that is off; `FQ_BUSY`: a disable is
     /// pending, and the owner has to complete the instance before the next step; `FQ_NOT_ALLOWED` to open one that
     /// isn't off; `FQ_BAD_HANDLE`. Since 1.1.
-    pub fn fq_control_step(control: *mut fq_handle, on: bool, threaded: bool) -> u32;
+    pub fn fq_control_step(control: *mut fq_control, on: bool, threaded: bool) -> u32;
+    /// Returns `FQ_OK` if the seat belongs to the controller's instance, otherwise `FQ_BAD_HANDLE`. Since 1.1.
+    pub fn fq_control_has(control: *const fq_control, seat: *const fq_seat) -> u32;
     /// Makes a poll list for up to 64 numbers of devices; for more devices use more lists, for example one for each
     /// processor. A number leaves the list when its poll ends with `FQ_NEXT_GONE`, or by `fq_list_remove`. Returns
     /// `FQ_OK`; `FQ_IN_USE`; `FQ_OUT_OF_MEMORY`.
-    pub fn fq_list_new(list: *mut fq_handle) -> u32;
+    pub fn fq_list_new(list: *mut fq_list) -> u32;
     /// Puts a number at the list's tail. Returns `FQ_OK`; `FQ_IN_USE` if it is on the list, or waits in the run over
     /// it; `FQ_FULL` if the list and its run hold 64, including the number that is being polled: then end that poll
     /// with `FQ_NEXT_AGAIN` instead of a push.
-    pub fn fq_list_push(list: *mut fq_handle, id: u32) -> u32;
+    pub fn fq_list_push(list: *mut fq_list, id: u32) -> u32;
     /// Removes a number from the list, for a device that goes away; the others keep their order. It may be called
     /// during a run. Returns `FQ_OK`; `FQ_BUSY` if it isn't on the list, but the run over it has it, which polls it,
     /// will poll it, or lists it at its end: then end its poll with `FQ_NEXT_GONE`, or end the run first;
     /// `FQ_NOT_THERE` if neither the list nor its run has it; `FQ_BAD_HANDLE`. Nothing changes unless it returns
     /// `FQ_OK`. Since 1.1.
-    pub fn fq_list_remove(list: *mut fq_handle, id: u32) -> u32;
+    pub fn fq_list_remove(list: *mut fq_list, id: u32) -> u32;
     /// Sets `*len` to how many numbers the list and its run hold, including the one that is being polled. Returns
     /// `FQ_OK`; `FQ_BAD_HANDLE`.
-    pub fn fq_list_len(list: *mut fq_handle, len: *mut u32) -> u32;
+    pub fn fq_list_len(list: *const fq_list, len: *mut u32) -> u32;
     /// Begins a run with a budget in packets, a weight in packets per poll, and a window in polls, as in struct
     /// `fq_settings`. Returns `FQ_OK`; `FQ_NOT_ALLOWED` if a run is in progress; `FQ_BAD_WEIGHT`; `FQ_BAD_BUDGET`.
-    pub fn fq_run_begin(list: *mut fq_handle, budget: u32, weight: u32, window: u32) -> u32;
+    pub fn fq_run_begin(list: *mut fq_list, budget: u32, weight: u32, window: u32) -> u32;
     /// Sets `*id` to the number to poll next. Returns `FQ_OK`; `FQ_DONE` if the run is over; `FQ_NOT_ALLOWED` without
     /// a run, or if the last poll wasn't reported.
-    pub fn fq_run_next(list: *mut fq_handle, id: *mut u32) -> u32;
+    pub fn fq_run_next(list: *mut fq_list, id: *mut u32) -> u32;
     /// Reports the outcome of the poll: its packets, and how it ended (enum `fq_next`). Returns `FQ_OK`;
     /// `FQ_NOT_ALLOWED`; `FQ_BAD_WORK` above the weight; `FQ_BAD_NEXT`; `FQ_IN_USE` if the number would be listed
     /// twice, and the poll still has to be reported. It isn't checked that `FQ_NEXT_REPOLL` follows a whole weight,
     /// because a device may have its own weight, below the run's; nor that `FQ_NEXT_ABSENT` comes without packets.
-    pub fn fq_run_polled(list: *mut fq_handle, work: u32, next: u32) -> u32;
+    pub fn fq_run_polled(list: *mut fq_list, work: u32, next: u32) -> u32;
     /// Ends the run, and sets `*report`. The numbers that weren't polled, and those to be polled again, are on the
     /// list. Returns `FQ_OK`; `FQ_NOT_ALLOWED`.
-    pub fn fq_run_end(list: *mut fq_handle, report: *mut fq_run_report) -> u32;
-    /// Makes a driver of 1 to 64 devices, all closed, their cards masked. Budget, weight and window are those of
-    /// `fq_run_begin`. `fq_free` frees it in any state. Returns `FQ_OK`; `FQ_IN_USE`; `FQ_BAD_COUNT`;
-    /// `FQ_BAD_WEIGHT`; `FQ_BAD_BUDGET`; `FQ_OUT_OF_MEMORY`. Since 1.1.
-    pub fn fq_driver_new(
-        driver: *mut fq_handle,
+    pub fn fq_run_end(list: *mut fq_list, report: *mut fq_run_report) -> u32;
+    /// Like `fq_driver_new`, for bindings. Drivers with different salts number their actions differently, so that
+    /// none takes a report that is another one's. Since 1.1.
+    pub fn fq_driver_new_salted(
+        driver: *mut fq_driver,
         devices: u32,
         budget: u32,
         weight: u32,
         window: u32,
+        salt: u16,
     ) -> u32;
     /// Opens a closed device (`napi_enable`): its card will be unmasked and looked at, so that packets which came
     /// before are polled too. Returns `FQ_OK`; `FQ_NOT_DUE` if it isn't closed; `FQ_BAD_DEVICE`; `FQ_BAD_HANDLE`.
     /// Since 1.1.
-    pub fn fq_driver_open(driver: *mut fq_handle, device: u32) -> u32;
+    pub fn fq_driver_open(driver: *mut fq_driver, device: u32) -> u32;
     /// Stops an open device (`napi_disable`). Polls that were requested are still made, its card is masked, and then
     /// it is closed, which `fq_driver_show` shows. Packets that stay in the card are polled after the next open.
     /// Returns `FQ_OK`; `FQ_NOT_DUE` if it is closed or being stopped; `FQ_BAD_DEVICE`; `FQ_BAD_HANDLE`. Since 1.1.
-    pub fn fq_driver_stop(driver: *mut fq_handle, device: u32) -> u32;
+    pub fn fq_driver_stop(driver: *mut fq_driver, device: u32) -> u32;
     /// Reports an interrupt of a card (`napi_schedule`), at any time, also before an action that is due is reported.
     /// Returns `FQ_GRANTED`: a poll was requested, whose first action is to mask the card; `FQ_MISSED`: a poll is
     /// requested already, and one more follows, or the device is closed; `FQ_DISABLED`: it is being stopped;
     /// `FQ_BAD_DEVICE`; `FQ_BAD_HANDLE`. It may be called too often: an interrupt without packets costs one empty
-    /// poll. Since 1.1.
-    pub fn fq_driver_interrupt(driver: *mut fq_handle, device: u32) -> u32;
-    /// Sets `*todo` to what has to be done now. It is the same action, with the same number, until that is reported
-    /// or isn't due any more. Returns `FQ_OK`; `FQ_BAD_HANDLE`, and `*todo` is set to sleep; `FQ_BAD_SIZE` if
-    /// `todo->size` is too small, and `*todo` is unchanged. The status may be ignored if `size` and the handle are
-    /// right. Since 1.1.
-    pub fn fq_driver_next(driver: *mut fq_handle, todo: *mut fq_todo) -> u32;
+    /// poll. The status may be ignored if the device and the handle are right. Since 1.1.
+    pub fn fq_driver_interrupt(driver: *mut fq_driver, device: u32) -> u32;
+    /// Like `fq_driver_next` and `fq_driver_step`, for bindings, which set `todo->size` themselves. Return
+    /// `FQ_BAD_SIZE` if that is too small, and nothing is read, written or changed. Since 1.1.
+    pub fn fq_driver_next_sized(driver: *mut fq_driver, todo: *mut fq_todo) -> u32;
+    /// Like `fq_driver_next` and `fq_driver_step`, for bindings, which set `todo->size` themselves. Return
+    /// `FQ_BAD_SIZE` if that is too small, and nothing is read, written or changed. Since 1.1.
+    pub fn fq_driver_step_sized(driver: *mut fq_driver, todo: *mut fq_todo) -> u32;
     /// Reports that the action in `*todo` was done, with `todo->packets`; only `todo->number` and `todo->packets` are
     /// read. Call it before the next call of `fq_driver_next`, or not at all: an action that isn't reported is
-    /// returned again. Returns `FQ_OK`; `FQ_BAD_HANDLE`; `FQ_BAD_SIZE` if `todo->size` is too small; `FQ_NOT_DUE`:
-    /// the driver doesn't wait for this report any more, because of an interrupt, an open, a stop or an earlier
-    /// report, and `fq_driver_next` says what is due instead, so the status may be ignored; `FQ_BAD_WORK` if a fetch
-    /// took more than `most`. Nothing changes unless it returns `FQ_OK`. Since 1.1.
-    pub fn fq_driver_done(driver: *mut fq_handle, todo: *const fq_todo) -> u32;
-    /// Reports the action in `*todo`, unless its number is 0, and sets `*todo` to what has to be done now:
-    /// `fq_driver_done` and then `fq_driver_next` in one call. Report interrupts that came meanwhile before it, so
-    /// that they count before the next poll. Returns `FQ_OK`; `FQ_BAD_HANDLE`, and `*todo` is set to sleep;
-    /// `FQ_BAD_SIZE` if `todo->size` is too small, and nothing changes; `FQ_NOT_DUE`: the driver didn't wait for this
-    /// report any more, and `*todo` is what is due instead, so the status may be ignored; `FQ_BAD_WORK` if a fetch
-    /// took more than `most`, and nothing changes: `*todo` is still that fetch. Since 1.1.
-    pub fn fq_driver_step(driver: *mut fq_handle, todo: *mut fq_todo) -> u32;
-    /// Sets `*shown` to the state of a device and the counts of its polls. Returns `FQ_OK`; `FQ_BAD_HANDLE`;
-    /// `FQ_BAD_SIZE` if `shown->size` is too small; `FQ_BAD_DEVICE`. `*shown` is unchanged unless it returns `FQ_OK`.
+    /// returned again. Returns `FQ_OK`; `FQ_BAD_HANDLE`; `FQ_NOT_DUE`: the driver doesn't wait for this report any
+    /// more, because of an interrupt, an open, a stop or an earlier report, or it is another driver's, and
+    /// `fq_driver_next` says what is due instead; `FQ_BAD_WORK` if a fetch took more than `most`. Nothing changes
+    /// unless it returns `FQ_OK`. Since 1.1.
+    pub fn fq_driver_done(driver: *mut fq_driver, todo: *const fq_todo) -> u32;
+    /// Sets `*shown` to the state of a device and the counts of its polls. Returns `FQ_OK`; `FQ_BAD_SIZE` if
+    /// `shown->size` is too small; `FQ_BAD_HANDLE`; `FQ_BAD_DEVICE`. `*shown` is unchanged unless it returns `FQ_OK`.
     /// Since 1.1.
-    pub fn fq_driver_show(driver: *mut fq_handle, device: u32, shown: *mut fq_device_shown) -> u32;
-    /// Replays a trace of `len` bytes, and writes its report to an array of `room` bytes. Returns `FQ_BAD_WEIGHT`,
-    /// `FQ_BAD_BUDGET` for the settings; `FQ_OUT_OF_MEMORY`; `FQ_BAD_TRACE`, and `replayed->fault` and
-    /// `replayed->row` say why; `FQ_NO_ROOM`, and `replayed->length` is the room that the report needs; `FQ_OK`, and
-    /// the first `replayed->length` bytes of the array are the report, with no terminating 0. All other bytes of the
-    /// array are unchanged, and all of them unless it returns `FQ_OK`. For an empty trace or array the pointer still
-    /// points to some byte. An instance's thread polls at most 131072 times at a time, which no trace of 100000 rows
-    /// reaches.
+    pub fn fq_driver_show(
+        driver: *const fq_driver,
+        device: u32,
+        shown: *mut fq_device_shown,
+    ) -> u32;
+    /// Replays a trace of `len` bytes, and writes its report to an array of `room` bytes. Returns `FQ_BAD_SIZE`, and
+    /// `*replayed` is unchanged; `FQ_BAD_WEIGHT`, `FQ_BAD_BUDGET` for the settings; `FQ_OUT_OF_MEMORY`;
+    /// `FQ_BAD_TRACE`, and `replayed->fault` and `replayed->row` say why; `FQ_NO_ROOM`, and `replayed->length` is the
+    /// room that the report needs; `FQ_OK`, and the first `replayed->length` bytes of the array are the report, with
+    /// no terminating 0. All other bytes of the array are unchanged, and all of them unless it returns `FQ_OK`. An
+    /// instance's thread polls at most 131072 times at a time, which no trace of 100000 rows reaches.
     pub fn fq_replay(
         settings: *const fq_settings,
         trace: *const u8,
@@ -396,16 +395,15 @@ extern "C" {
         room: usize,
         replayed: *mut fq_replayed,
     ) -> u32;
-    /// Sets all settings to the defaults of `napi_machine`, in a struct of `size` bytes: call it with sizeof
-    /// `*settings`, and then set others. Returns `FQ_OK`; `FQ_BAD_SIZE`, and the struct is unchanged. Since 1.1.
-    pub fn fq_machine_default(settings: *mut fq_machine_settings, size: usize) -> u32;
+    /// Sets all settings to the defaults of `napi_machine`, after the caller has set `settings->size`. Returns
+    /// `FQ_OK`; `FQ_BAD_SIZE`, and the struct is unchanged. Since 1.1.
+    pub fn fq_machine_default(settings: *mut fq_machine_settings) -> u32;
     /// Runs the machine on arrivals of `len` bytes, and writes its report to an array of `room` bytes. Returns
     /// `FQ_BAD_SIZE` if a struct's `size` isn't set, and `*ran` is unchanged; `FQ_BAD_SETTING`, and `ran->setting`
     /// says which; `FQ_OUT_OF_MEMORY`; `FQ_BAD_ARRIVALS`, and `ran->fault`, `ran->row` and `ran->message` say why;
     /// `FQ_NO_ROOM`, and `ran->length` is the room that the report needs; `FQ_OK`, and the first `ran->length` bytes
     /// of the array are the report, with no terminating 0. All other bytes of the array are unchanged, and all of
-    /// them unless it returns `FQ_OK`. For empty arrivals or an empty array the pointer still points to some byte.
-    /// Since 1.1.
+    /// them unless it returns `FQ_OK`. Since 1.1.
     pub fn fq_machine(
         settings: *const fq_machine_settings,
         arrivals: *const u8,

@@ -1,8 +1,8 @@
-use Rattle.std.proofs.Common.{arith}
-use Rattle.c_handles.proofs.StepFacts.{next_made}
+use Rattle.std.proofs.Common.{refl}
+use Rattle.c_handles.proofs.StepFacts.{says}
 use Rattle.c_handles.proofs.drive.next.Goals as goal
 
 pub returns : goal.returns
 returns c =
-    next_made c.args.todo.now c.make_step.new.todo c.args.driver.now c.make_step.result c.make_step.new.driver (omega arith)
-    c.make_step.ensures
+    let next = c.next_into in
+    (refl, says c.args.todo.now.size next.new.place c.args.driver.now next.new.self next.result next.ensures.asks next.ensures.takes)

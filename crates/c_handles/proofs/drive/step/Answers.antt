@@ -1,11 +1,9 @@
-use Rattle.std.proofs.Common.{arith}
-use Rattle.c_handles.proofs.StepFacts.{step_made, step_short}
+use Rattle.c_handles.proofs.StepFacts.{step_made}
 use Rattle.c_handles.proofs.drive.step.Goals as goal
-
-pub returns-then-todo-lt48 : goal.returns-then-todo-lt48
-returns-then-todo-lt48 c = step_short c.args.todo.now c.args.driver.now (omega arith)
 
 pub returns : goal.returns
 returns c =
-    step_made c.args.todo.now c.make_step.new.todo c.args.driver.now c.make_step.result c.make_step.new.driver (omega arith)
-    c.make_step.ensures
+    let step = c.step_into-reported in
+    let settled = rw c.report_status-said.ensures at c.settle.ensures in
+    rw c.report_status-said.ensures (step_made c.args.todo.now step.new.place c.settle.new.self c.args.driver.now step.new.self
+    step.result.0 step.result.1 step.ensures.steps step.ensures.takes step.ensures.kept settled)

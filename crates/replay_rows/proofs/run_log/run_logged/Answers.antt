@@ -1,4 +1,5 @@
 use Rattle.std.proofs.{Common.{◌≡◌, ◌∙◌, ◌∷◌, ◌++◌, Some, [], length-append, refl, sym, arith}, lemmas.List.{append-nil, map-append}}
+use Rattle.device_bench.specs.DeviceBench.{IsListPoll, devices_of}
 use Rattle.{poll_runs.specs.Polls.At, poll_runs.proofs.PollFacts.chain-push}
 use Rattle.{replay_rows.specs.{RunLog.{logged, polls_in}, declared.run_log.RunPoll.RunPoll}, replay_rows.proofs.RunLogFacts.logged-push}
 use Rattle.replay_rows.proofs.run_log.run_logged.Goals as goal
@@ -30,8 +31,7 @@ loop-device-preserved g c =
     let entry : RunPoll = record { device = device; once = once; counts = c.counts_of.result } in
     let pushed : polls_in (log ++ entry ∷ []) ≡ polls_in log ++ record { id = device; once = once } ∷ [] =
     map-append (λ (e : RunPoll). record { id = e.device; once = e.once }) log (entry ∷ []) in
-    let is = g.met.B.ReplayBench.polled c.loop-device.bench c.poll_once-once.new.self device c.args.settings.now.weight once
-    c.poll_once-once.ensures.leads in
+    let is = c.poll_once-once.ensures.leads in
     let items = c.push_reserved.ensures.items in
     record {
       going = rw (items, pushed)
@@ -43,15 +43,15 @@ loop-device-preserved g c =
       weight = c.polled.ensures.settings.weight ∙ (c.next.ensures.settings.weight ∙ before.weight);
       window = c.polled.ensures.settings.window ∙ (c.next.ensures.settings.window ∙ before.window);
       chain = rw (items, pushed)
-          (chain-push (At g.B.Bench.polls c.args.settings.now.weight) c.args.bench.now (polls_in log) c.loop-device.bench
+          (chain-push (At IsListPoll c.args.settings.now.weight) c.args.bench.now (polls_in log) c.loop-device.bench
           c.poll_once-once.new.self (record { id = device; once = once }) before.chain c.poll_once-once.ensures.leads);
       count = rw items
           (omega (arith, length-append log (entry ∷ []), before.count, c.polled.ensures.counts.0, c.next.ensures.counts));
       capacity = omega (arith, before.capacity, c.push_reserved.ensures.capacity);
       shows = λ all shows. is.transmits all (before.shows all shows);
       logged = λ all shows. rw items
-          (logged-push c.args.settings.now all (g.B.ReplayBench.devices c.args.bench.now) (g.B.ReplayBench.devices c.loop-device.bench)
-          (g.B.ReplayBench.devices c.poll_once-once.new.self) log entry (before.logged all shows) is.exact.1
+          (logged-push c.args.settings.now all (devices_of c.args.bench.now) (devices_of c.loop-device.bench)
+          (devices_of c.poll_once-once.new.self) log entry (before.logged all shows) is.exact.1
           (c.counts_of.ensures all (is.transmits all (before.shows all shows))));
     }
 

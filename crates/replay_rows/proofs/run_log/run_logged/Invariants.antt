@@ -1,4 +1,5 @@
 use Rattle.std.proofs.Common.{◌≡◌, ◌≤◌, ◌-◌, ◌++◌, None, List, length, vec_capacity}
+use Rattle.device_bench.specs.DeviceBench.{IsListPoll, ShowsTransmits, devices_of}
 use Rattle.device_bench.specs.Transmits.{Transmits}
 use Rattle.poll_runs.specs.{Driven.{IsGoing, held}, Plain.{HasListRoom, NothingBehind, OwnPushes, all_held}, Polls.{At, Chain, Poll}}
 use Rattle.replay_rows.specs.RunLog.{logged, polls_in}
@@ -12,13 +13,13 @@ invariant-loop-device g l = record {
   budget : l.run.budget ≡ l.settings.budget;
   weight : l.run.weight ≡ l.settings.weight;
   window : l.run.window ≡ l.settings.window;
-  chain : Chain (At g.B.Bench.polls l.settings.weight) l.fn.bench (polls_in l.polls.items) l.bench;
+  chain : Chain (At IsListPoll l.settings.weight) l.fn.bench (polls_in l.polls.items) l.bench;
   count : length l.polls.items ≡ l.run.polls;
   capacity : l.settings.window ≤ vec_capacity l.polls;
-  shows : (all : Transmits) → g.B.ReplayBench.shows l.fn.bench all → g.B.ReplayBench.shows l.bench all;
-  logged : (all : Transmits) → g.B.ReplayBench.shows l.fn.bench all → (more : List Poll)
-      → logged l.settings all (g.B.ReplayBench.devices l.fn.bench) (polls_in l.polls.items ++ more)
-      ≡ l.polls.items ++ logged l.settings all (g.B.ReplayBench.devices l.bench) more;
+  shows : (all : Transmits) → ShowsTransmits l.fn.bench all → ShowsTransmits l.bench all;
+  logged : (all : Transmits) → ShowsTransmits l.fn.bench all → (more : List Poll)
+      → logged l.settings all (devices_of l.fn.bench) (polls_in l.polls.items ++ more)
+      ≡ l.polls.items ++ logged l.settings all (devices_of l.bench) more;
 }
 
 abbrev pub decreases-loop-device : goal.decreases-loop-device

@@ -2,4 +2,4 @@ use Rattle.{std.proofs.Common.{sym, subst, false}, device_bench.{specs.Kept.IsKe
 use Rattle.device_bench.proofs.bench.DeviceBench.over.Goals as goal
 
 pub invariant_of-result : goal.invariant_of-result
-invariant_of-result g c = record { kept = subst (IsKept false) (sym c.in_ok-no_devices.ensures) kept-empty }
+invariant_of-result g c = record { kept = subst (IsKept false) (sym c.in_ok-empty_table.ensures) kept-empty }

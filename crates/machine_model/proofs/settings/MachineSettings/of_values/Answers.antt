@@ -27,6 +27,7 @@ invariant_of-result c =
       packet_in = (at 18 (omega arith)).1;
       use_in = (at 19 (omega arith)).1;
       wake_in = (at 20 (omega arith)).1;
+      rx_gap_in = (at 22 (omega arith)).1;
     }
 
 pub returns : goal.returns

@@ -21,10 +21,10 @@ loop-number-preserved g c = λ all shows.
     elim c.if-is_attached.branch [
       | then-is_attached+in_ok-add_device w ↦
           let here : device_lines version number w.uses_transmit-used.result (Some w.counts.result)
-          ≡ lines_of version (replay_state g.B.ReplayBench.devices c.args.self.now) all number =
+          ≡ lines_of version (replay_state c.args.self.now) all number =
           ap (λ o. device_lines version number w.uses_transmit-used.result o) (w.counts.ensures.devices all shows)
           ∙ ap (λ used. device_lines version number used
-          (reported_counts (replay_state g.B.ReplayBench.devices c.args.self.now) all number))
+          (reported_counts (replay_state c.args.self.now) all number))
           (w.uses_transmit-used.ensures all shows) in
           rw (next, w.text-is)
           (one-more _ _ _ _ _ (w.in_ok-add_device.ensures ∙ ap (λ (l : List ℕ). string_bytes c.loop-number.text ++ l) here) before)

@@ -2,4 +2,4 @@ use Rattle.std.proofs.Common.{arith}
 use Rattle.replay_rows.proofs.replay.Replay.list_left.Goals as goal
 
 pub push-requires : goal.push-requires
-push-requires g c = omega (arith, g.met.B.ReplayBench.few c.args.self.now.bench, c.args.self.now.room)
+push-requires g c = omega (arith, c.args.self.now.bench.kept.few, c.args.self.now.room)

@@ -1,4 +1,5 @@
 use Rattle.std.proofs.{Common.{◌≡◌, ◌+◌, inl, inr, ◌<◌, length, get_or, take, ap, subst, sym, arith}, lemmas.Result.err_from_is_err_and}
+use Rattle.device_bench.specs.DeviceBench.{ShowsTransmits, devices_of}
 use Rattle.device_rows.{specs.declared.{event.RowEvent.TheVariants.Opened, row.Row.Row}, proofs.Accepted.accepted-at}
 use Rattle.replay_rows.specs.{Played.replay_state, Replay.{after_row, all_tried}, ReplayState.ReplayState}
 use Rattle.replay_rows.{specs.Transmits.after_transmits, proofs.PlayFacts.{after_transmits-more, played-early, played-more, report-early}}
@@ -18,17 +19,17 @@ pub loop-i-preserved : goal.loop-i-preserved
 loop-i-preserved g c =
     let below : c.loop-i.i < length c.args.rows.now = omega arith in
     let row : Row = get_or c.args.rows.now c.loop-i.i none in
-    let new : ReplayState = record (replay_state g.B.ReplayBench.devices c.play_event.new.self) {
-      devices = g.B.ReplayBench.devices c.settle.new.self;
+    let new : ReplayState = record (replay_state c.play_event.new.self) {
+      devices = devices_of c.settle.new.self;
     } in
-    let is : new ≡ after_row c.args.settings.now (c.loop-i.i + 1) row (replay_state g.B.ReplayBench.devices c.loop-i.self) =
+    let is : new ≡ after_row c.args.settings.now (c.loop-i.i + 1) row (replay_state c.loop-i.self) =
     rw c.settle.ensures.devices (ap all_tried c.in_ok-play_event.ensures.state) in
     record {
       played =
           played-more c.args.settings.now c.args.rows.now c.loop-i.i none _ new below (c.loop-i.invariant.played)
           (c.in_ok-play_event.ensures.on_time) is;
       transmits =
-          λ all shown. subst (g.B.ReplayBench.shows c.settle.new.self)
+          λ all shown. subst (ShowsTransmits c.settle.new.self)
           (sym (after_transmits-more c.args.rows.now all c.loop-i.i none below))
           (c.settle.ensures.transmits _
           (c.in_ok-play_event.ensures.transmits (after_transmits (take c.loop-i.i c.args.rows.now) all)

@@ -1,0 +1,117 @@
+"""The band in which a measured value is nine times of ten: for advise and the tests; what-if takes from here how costs
+are varied.
+
+The doubt of the costs is twice the change of all costs by which the recorded setting's median waits would have been
+predicted, at least 15 % and at most 50 %. A band holds the predictions with all costs lower and higher by the doubt, or at the ends of a cost's confidence interval if
+that is wider; and the prediction plus twice what was missed at the recorded setting: times and few packets by the
+difference, all else by the ratio. Both of its ends are 3 % further, because recordings of one setting differ.
+
+Twice, because what the model lacks may take longer with another setting; tests/tools/test_bands.py counts how many
+recorded values are within.
+"""
+
+from __future__ import annotations
+
+from collections.abc import Iterable, Mapping, Sequence
+from typing import Any
+
+from fintaqush_tools.machine import COSTS, OPTIONS, WAITS
+from fintaqush_tools.predicting import FEW, MEASURED, Compared
+
+Costs = Mapping[str, int]  # in ns, by the names of the machine's options, TIMERS and `app-wake-apart`
+Interval = tuple[float, float]
+
+TIMERS = ("timer", "timer-wake")  # costs that the recording may lack, and the machine too
+VARIED = {*COSTS, *TIMERS, "app-wake-apart"}
+DOUBT = 20  # % of the costs, if no recording says more
+LEAST, MOST = 15, 50  # % of the costs; those of three like recordings differed by 15 %
+TIMES = 2  # how much further than at the recorded setting a prediction may be off
+ALIKE = 0.03  # relative difference between recordings of one setting
+# If no NAPI timer was recorded: ns that its handler may take longer than an interrupt's, of which 3 to 6 us were
+# measured; and by which its polls may be late, because waking a processor after a long idle time took 16 to 40 us.
+TIMER, LATE = 5_000, 30_000
+POLLS = ("polls", "runs", "timers")  # which a late timer makes fewer
+LIKE = {"lost": "dropped", "kernel_percent": "poll_percent"}  # predicted values whose error is that of another one
+
+
+def with_costs(settings: Mapping[str, Any], percent: int) -> dict[str, Any]:
+    """Returns the settings with each cost scaled to `percent`."""
+    return {
+        name: min(OPTIONS["poll"][1], (int(value) * percent + 50) // 100) if name in VARIED else value
+        for name, value in settings.items()
+    }
+
+
+def doubt_of(rows: Iterable[Compared], higher: Mapping[str, float]) -> int:
+    """Returns the doubt of the costs in %, by the values of the recorded setting. `higher` are those predicted with costs
+    `DOUBT` % higher: a wait for a timer hardly depends on them."""
+    changes = []
+    for name, measured, value, _ in rows:
+        if name.endswith("_p50") and value:
+            slope = (higher[name] - value) * 100 / DOUBT
+            changes.append(abs(measured - value) / (slope if slope > 0 else value))
+    return max(LEAST, min(MOST, round(100 * TIMES * max(changes)))) if changes else DOUBT
+
+
+def timer_of(costs: Costs) -> int:
+    """Returns the cost of a NAPI timer, which counts as an interrupt if none was recorded."""
+    return costs.get("timer", costs.get("interrupt", 0))
+
+
+class Doubt:
+    """What a recording leaves open: other costs that it may have, and how far its own setting was missed.
+
+    `sides` are these costs, each with a description.
+    """
+
+    sides: list[tuple[str, dict[str, int]]]
+
+    def __init__(
+        self,
+        costs: Costs,
+        rows: Sequence[Compared],
+        higher: Mapping[str, float],
+        intervals: Mapping[str, Interval] | None = None,
+    ) -> None:
+        """`rows` compare the recorded setting with its prediction, and `higher` is predicted with costs `DOUBT` % higher.
+        `intervals` has the ends of each cost; without those of polls and packets only their sum is known, of which each
+        has the half in `costs`."""
+        self.rows = {row[0]: row for row in rows}
+        self.percent = doubt_of(rows, higher)
+        self.sides = []
+        for what, percent, end in (("lower", 100 - self.percent, min), ("higher", 100 + self.percent, max)):
+            side = with_costs(costs, percent)
+            for name, interval in (intervals or {}).items():
+                side[name] = round(end(side[name], *interval))
+            self.sides.append((f"costs {self.percent} % {what}", side))
+        self.lacks_timer = "timer" not in costs
+        if self.lacks_timer:
+            self.sides[1][1]["timer"] = timer_of(costs) + TIMER
+        if intervals is not None and "packet" not in intervals:
+            for what, name, other in (("packets", "poll", "packet"), ("polls", "packet", "poll")):
+                self.sides.append((f"{what} that cost nothing", {**costs, name: 2 * costs[name], other: 0}))
+
+    def moved(self, name: str, value: float) -> float:
+        """Returns a predicted value if it is missed further than at the recorded setting."""
+        row = self.rows.get(LIKE.get(name, name))
+        if not row:
+            return value
+        name, measured, predicted, _ = row
+        if MEASURED[name][0] == "us" or predicted < FEW and name != "poll_percent":
+            return value + TIMES * (measured - predicted)
+        return value * (1 + TIMES * (measured / predicted - 1)) if predicted else value
+
+    def band(self, name: str, value: float, others: Iterable[float], timeout: int = 0) -> Interval:
+        """Returns the band of a predicted value; `others` are its predictions with the costs of `sides`. `timeout` is that
+        of NAPI's timer in ns, if polls wait for it."""
+        ends = [value, *others, self.moved(name, value)]
+        if timeout and self.lacks_timer:
+            late = (
+                max(ends) + LATE
+                if name in WAITS
+                else min(ends) * timeout / (timeout + LATE)
+                if name in POLLS
+                else value
+            )
+            ends.append(late)
+        return max(0.0, min(ends) * (1 - ALIKE)), max(ends) * (1 + ALIKE)

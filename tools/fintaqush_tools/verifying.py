@@ -1,0 +1,109 @@
+"""Records today's settings and advised ones in turn, and says whether the goal's value became lower: for advise
+--verify."""
+
+from __future__ import annotations
+
+import os
+import tempfile
+from collections.abc import Sequence
+from dataclasses import asdict, dataclass
+from statistics import median
+from typing import Any
+
+from fintaqush_tools.advice import Change, Machine
+from fintaqush_tools.bands import Interval
+from fintaqush_tools.commands import record
+from fintaqush_tools.errors import Refusal, unfinished, unlink, why
+from fintaqush_tools.options import Words
+from fintaqush_tools.predicting import TOLD, told_value
+from fintaqush_tools.progress import say
+from fintaqush_tools.recorded import Recording
+from fintaqush_tools.recording import Head
+
+TIMES = 3  # recordings of each setting
+
+
+def record_again(head: Head, words: Words) -> Recording:
+    """Makes a recording with the present settings, in the same way as the one with that head."""
+    handle, path = tempfile.mkstemp(suffix=".rec")
+    os.close(handle)
+    unfinished.add(path)
+    given = [str(max(1, round(float(head.get("seconds", "1"))))), "--out", path]
+    for name, key in (("--netns", "netns"), ("--program", "program"), ("--buffer", "buffer")):
+        given += [name, head[key]] if head.get(key) else []
+    devices = head["device"].split()
+    for device, sender in zip(devices, head.get("sender", "").split() or [""] * len(devices)):
+        given += ["--device", device, *(["--sender", sender] if sender else [])]
+    try:
+        of_record = record.parser().parse_args(given)
+        record.recorded_by(of_record, lambda _: None)
+        record.check_whole(of_record)
+        return Recording(path, words).read()
+    except (Refusal, OSError) as error:
+        raise Refusal(f"recording again failed: {why(error)}") from None
+    finally:
+        unlink(path)
+        unfinished.discard(path)
+
+
+def record_in_turn(
+    head: Head, words: Words, machine: Machine, changes: Sequence[Change]
+) -> tuple[list[Recording], list[Recording]]:
+    """Returns recordings of today's settings, and as many with the changes, each after one of today's: what changes
+    with time meets both."""
+    if os.geteuid() != 0:
+        raise Refusal("--verify needs root")
+    today, changed = [], []
+    for number in range(1, TIMES + 1):
+        say(f"recording today's settings and the advised ones during traffic, {number} of {TIMES}")
+        today.append(record_again(head, words))
+        with machine.with_changes(changes):
+            changed.append(record_again(head, words))
+    return today, changed
+
+
+@dataclass
+class Verdict:
+    """The value that the goal is about, in each recording of today's and of the advised settings in which it could be
+    measured, and as predicted for one of the latter."""
+
+    name: str
+    today: list[float]
+    advised: list[float]
+    predicted: float
+    band: Interval
+
+    def judgement(self) -> str:
+        """Returns better or worse if all recordings of one setting are below all of the other; alike if they overlap;
+        else unknown."""
+        if min(len(self.today), len(self.advised)) < TIMES:
+            return "unknown"
+        if max(self.advised) < min(self.today):
+            return "better"
+        return "worse" if min(self.advised) > max(self.today) else "alike"
+
+    def told(self, values: Sequence[float]) -> str:
+        """Returns the median of values, and their range."""
+        middle, low, high = (told_value(self.name, each) for each in (median(values), min(values), max(values)))
+        return f"{middle} ({low} to {high})"
+
+    def lines(self) -> list[str]:
+        if not self.today or not self.advised:
+            return [f"the advice isn't verified: {TOLD[self.name]} wasn't measured"]
+        before, after = median(self.today), median(self.advised)
+        low, high = (told_value(self.name, end) for end in self.band)
+        change = f"{100 * (after - before) / before:+.0f} %" if before else told_value(self.name, after - before)
+        what = {
+            "better": "better in all recordings",
+            "worse": "worse in all recordings",
+            "alike": "which is within their noise",
+            "unknown": f"measured in too few recordings, of {TIMES} each",
+        }[self.judgement()]
+        return [
+            f"{TOLD[self.name]}: {self.told(self.today)} today, {self.told(self.advised)} with the advised settings: {change}, {what}",
+            f"predicted for these packets: {told_value(self.name, self.predicted)}, nine times of ten {low} to {high}, "
+            f"which {'holds' if self.band[0] <= after <= self.band[1] else 'does not hold'} the measured median",
+        ]
+
+    def object(self) -> dict[str, Any]:
+        return {**asdict(self), "verdict": self.judgement()}
