@@ -91,13 +91,13 @@ refuse_each() {
 # some_refused WHAT: at least one failed call ended the program.
 some_refused() { [ "$count" -gt "$idle" ] || fail "$mode: no $1 was refused"; }
 
-# Devices 1, 3 and 16 have one poller, or two of three: then one more thread is started.
+# Devices 1, 3 and 16 have one poller, or three, of which one has no device: then two more threads are started.
 each_poller_is_started() {
     words="--mode $mode --pollers 3"
     refuse_each REFUSE_MEMORY 4 'memory fault 11 OutOfMemory'
     refuse_each REFUSE_THREAD 4 'worker fault 16 SpawnFailed'
     set_mode
-    [ $((count - threads)) = 1 ] || fail "$threads starts of threads with one poller, and $count with 3"
+    [ $((count - threads)) = 2 ] || fail "$threads starts of threads with one poller, and $count with 3"
 }
 
 refuse_all() {

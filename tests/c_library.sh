@@ -140,7 +140,7 @@ echo 'it tells of itself what the header says' > "$scratch/told"
 check 'told.c compiles' compile gcc "$top/tests/c/told.c" "$scratch/tells" -O2
 check 'what the library tells of itself' compared "$scratch/told" "$scratch/tells"
 
-echo '20 corners, each answered as it has to be' > "$scratch/cornered"
+echo '21 corners, each answered as it has to be' > "$scratch/cornered"
 check 'corners.c compiles' compile gcc "$top/tests/c/corners.c" "$scratch/corners" -O2 "$wraps"
 check 'answers at corners' compared "$scratch/cornered" "$scratch/corners"
 
@@ -317,7 +317,7 @@ refuses_machine_settings() {
         for value in "$least" "$most"; do as_napi_machine "$top/crates/napi_machine/stdin" "$name=$value" || { echo "$name=$value"; return 1; }; done
     done < <(python3 -c 'import sys; sys.path.insert(0, sys.argv[1]); from fintaqush_tools import machine
 for name, (least, most, _) in machine.OPTIONS.items(): print(name, least, most)' "$top/tools")
-    [ "$number" = 22 ]
+    [ "$number" = 23 ]
 }
 
 { echo 'moment,device,bytes' && awk 'BEGIN { for (i = 0; i < 20000; i++) print i * 900, i % 7 + 1, i % 1400 + 60 }' OFS=, ; } > "$scratch/arrivals.csv"

@@ -139,7 +139,7 @@ def random_options(chance: random.Random, program: str) -> Settings:
         "processors": (1, 2, 3, chance.randint(1, 64)), "queues": (1, 1, 2, 3, 8, 64), "ring": (1, 2, 4, 16, 256), "socket": (1, 2, 8, 512),
         "backlog": (0, 1), "budget": (0, 1, 2, 3, 16, 64, 300), "weight": (1, 2, 3, 8, 64), "window": (1, 2, 3, 1024),
         "time-limit": (1, 1000, 5000, 20000, 8000000), "rx-nsecs": (0, 1, 500, 3000, 20000, 100000), "rx-frames": (0, 1, 2, 5),
-        "defer-hard-irqs": (0, 1, 2, 2, 9), "gro-flush-timeout": (0, 500, 1000, 20000, 20000), "threaded": (0, 1), "apart": (0, 1),
+        "defer-hard-irqs": (0, 1, 2, 2, 9), "gro-flush-timeout": (0, 500, 1000, 20000, 20000), "threaded": (0, 1), "apart": (0, 1, 1),
         "rx-gap": (0, 1, 500, 20000, 100000), "latched": (0, 1, 2), "gro-batch": (0, 1, 2, 8, 64), "heedless": (0, 1)}
     chosen: Settings = {}
     share, known = chance.choice((0.15, 0.4, 0.8)), options_of(program)

@@ -51,7 +51,7 @@ class Files(InFolder):
         self.assertIn("poll changed by +10.0 %", run("compare", before, after, "--fail-if", "poll>+9%").stderr)
         self.assertIn("there is no p99 on both sides; these are: poll", run("compare", before, after, "--fail-if", "p99>+1%").stderr)
         for wrong in ("poll>10%", "poll>+", "+1%"):
-            self.assertEqual(run("compare", before, after, "--fail-if", wrong).returncode, 2, wrong)
+            self.assertEqual(run("compare", before, after, "--fail-if", wrong).returncode, 64, wrong)
 
     def test_several_files_on_a_side(self) -> None:
         """Means of 2000 and of 1010, 990 and 1000; the noise is that between the files."""
@@ -81,10 +81,10 @@ class Files(InFolder):
         self.fails("results of plot, which aren't compared", "compare", good, self.result("c", "plot", {"title": "x"}))
         self.fails("not the results of one tool in version 1", "compare", good, self.write("d", '{"version": 2, "tool": "costs"}\n'))
         self.fails("not the results of --json", "compare", good, self.write("e", "{\n"))
-        self.fails("no file before --, to compare b.csv with", "compare", "--", "b.csv", status=2)
+        self.fails("no file before --, to compare b.csv with", "compare", "--", "b.csv", status=64)
         self.fails("no trace, whose replays", "compare", good, "--")
         for words in (["a", "b", "c"], ["a", "b", "--raise"], ["a", "--budget", "1", "--", "b"], NO_WORDS):
-            self.fails("fintaqush compare: error: ", "compare", *words, status=2)
+            self.fails("fintaqush compare: error: ", "compare", *words, status=64)
 
     def test_recordings(self) -> None:
         """Of the short recording 63 packets came in 6.6 ms; compared with itself nothing changes, and a wait's noise isn't known of so few."""
@@ -133,7 +133,7 @@ class Json(InFolder):
     def test_no_other_file_is_replaced(self) -> None:
         """A file that isn't JSON may be an input that the option took for its own."""
         path = self.write("x.rec", "fintaqush-recording 1\n")
-        self.fails("exists and isn't JSON, so it isn't replaced", "costs", "--json", path, RECORDED, status=2)
+        self.fails("exists and isn't JSON, so it isn't replaced", "costs", "--json", path, RECORDED, status=64)
         self.assertEqual(path.read_text(), "fintaqush-recording 1\n")
         with self.assertRaises(Refusal):
             results.objects_in("")

@@ -147,7 +147,7 @@ class Options(InFolder):
                                   ("plot", ["--series", "a", "b", "--json"], ""), ("traffic", ["--xyz"], "")):
             done = run(name, *words)
             usage, error = done.stderr.splitlines()
-            self.assertEqual((done.returncode, usage[:17], error.startswith(f"fintaqush {name}: error: ")), (2, "usage: fintaqush ", True))
+            self.assertEqual((done.returncode, usage[:17], error.startswith(f"fintaqush {name}: error: ")), (64, "usage: fintaqush ", True))
             self.assertTrue(error.endswith(near), error)
 
     def test_each_option_means_one_thing(self) -> None:

@@ -99,8 +99,8 @@ class Surroundings(InFolder):
                 ("json", NO_WORDS, REPORT.replace("devices 0", f"devices {digits}"), 1), ("from-ftrace", ["-", "other"], event, 1),
                 ("from-ftrace", ["-", "other"], event.replace("-1  [000]", f"-{digits}  [000]"), 1),
                 ("from-pcap", ["-", "other"], CAPTURED.replace("100.", f"{digits}."), 1), ("plot", ["--series", "-"], SERIES_HEAD + f"{digits}" + "," * 14, 1),
-                ("compare-recording", ["made"], "", 1), ("raise", ["-", "--budget", digits], HEADER, 2), ("sweep", ["--part", f"1/{digits}", "."], "", 2),
-                ("traffic", ["--rate", digits], "", 2), ("traffic", ["--seed", digits], "", 2), ("from-pcap", ["-", "other", "-c", digits], CAPTURED, 2),
+                ("compare-recording", ["made"], "", 1), ("raise", ["-", "--budget", digits], HEADER, 64), ("sweep", ["--part", f"1/{digits}", "."], "", 64),
+                ("traffic", ["--rate", digits], "", 64), ("traffic", ["--seed", digits], "", 64), ("from-pcap", ["-", "other", "-c", digits], CAPTURED, 64),
                 ("raise", ["-"], HEADER + f"0,1,open,{digits}\n", 1), ("steps", ["-", "--out", "x.html"], HEADER + f"0,1,open,{digits}\n", 1)):
             self.write("made.work", f"polls {digits} work 1\n")
             done = run(tool, *words, text=text, folder=self.folder)
@@ -196,10 +196,10 @@ class Surroundings(InFolder):
     def test_a_standard_error_that_takes_nothing(self) -> None:
         """The exit status is the same."""
         for tool in ALL:
-            for words, status in ((["--no-such-word"], 2), (["--help"], 0)):
+            for words, status in ((["--no-such-word"], 64), (["--help"], 0)):
                 with contextlib.redirect_stdout(io.StringIO()), failing("full") as full, contextlib.redirect_stderr(full):
                     self.assertEqual(call(tool, words), status, (tool, words))
-        for words, status in ((["json", "--no-such-word"], 2), (["json", "none"], 1), (["plot", "--help"], 0)):
+        for words, status in ((["json", "--no-such-word"], 64), (["json", "none"], 1), (["plot", "--help"], 0)):
             done = process("sh", "-c", 'exec "$0" "$@" 2> /dev/full', *BARE, *START, *words)
             self.assertEqual(done.returncode, status, words)
 

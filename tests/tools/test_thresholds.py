@@ -33,4 +33,4 @@ class Conditions(unittest.TestCase):
         for text in ("dropped>1%", "dropped>1us", "p99>1%", "use_percent>1us", "use%>1", "other>1", "p99>", "p99>-1"):
             with contextlib.redirect_stderr(io.StringIO()), self.assertRaises(SystemExit, msg=text) as end:
                 self.conditions(text)
-            self.assertEqual(end.exception.code, 2)
+            self.assertEqual(end.exception.code, 64)

@@ -6,7 +6,7 @@ use Rattle.std.proofs.lemmas.Bool.Decides.{eqb_tells}
 use Rattle.driver_core.specs.Driver.{AsksNext, AwaitsNothing, IsDone, IsReport, IsStep, Reports, polled_device, said_number_of}
 use Rattle.driver_core.specs.declared.{driver.Driver.Driver, todo.Todo.Todo}
 use Rattle.driver_core.specs.declared.todo.Refused.{Refused, TheVariants.{NotDue, TooMany}}
-use Rattle.c_handles.specs.Drivers.{IsDriverStep, IsTodoReport, Says, failed_in, report_status, settled, todo_in}
+use Rattle.c_handles.specs.Drivers.{IsDriverStep, IsTodoReport, Says, failed_in, report_status, todo_settled, todo_in}
 use Rattle.c_handles.specs.declared.drive.FqTodo.{FqTodo}
 use Rattle.c_handles.specs.Status.{OK, NOT_DUE, BAD_WORK}
 
@@ -143,9 +143,9 @@ step_many before after d e todo h is =
 done_good : OK ≡ BAD_WORK → ⊥
 done_good bad = omega (arith, bad)
 
-settled_late : (number : ℕ) (todo : FqTodo) → settled (report_status number (Err NotDue)) todo ≡ todo
+settled_late : (number : ℕ) (todo : FqTodo) → todo_settled (report_status number (Err NotDue)) todo ≡ todo
 settled_late number todo =
-    let P : Bool → Type 0 = λ b. settled (if b then OK else NOT_DUE) todo ≡ todo in
+    let P : Bool → Type 0 = λ b. todo_settled (if b then OK else NOT_DUE) todo ≡ todo in
     elim (eqb_tells number 0) [ inl is ↦ subst P (sym is.0) refl | inr is ↦ subst P (sym is.0) refl ]
 
 -- the next action was written, unless a fetch took too many packets
@@ -153,7 +153,7 @@ pub step_made : (before placed after : FqTodo) (d e : Driver) (reported : Result
     → IsStep before.number before.packets d reported todo e
     → (reported ≢ Err TooMany → placed ≡ todo_in before.size todo.number todo.what)
     → (reported ≡ Err TooMany → placed ≡ before)
-    → after ≡ settled (report_status before.number reported) placed
+    → after ≡ todo_settled (report_status before.number reported) placed
     → IsDriverStep before after d (report_status before.number reported) e
 step_made before placed after d e (Ok done) todo h takes kept is =
     step_says before after d e (Ok done) todo h done_good (is ∙ takes (λ bad. cc bad))

@@ -89,8 +89,8 @@ failed_in size status = record {
 }
 
 -- what a step leaves in the struct, which has the next action unless a fetch took too many packets
-abbrev pub settled : ℕ → FqTodo → FqTodo
-settled n todo = if n == BAD_WORK then failed_in todo.size BAD_WORK else todo
+abbrev pub todo_settled : ℕ → FqTodo → FqTodo
+todo_settled n todo = if n == BAD_WORK then failed_in todo.size BAD_WORK else todo
 
 -- The driver asks for this action, which is due. It asks for the same action again until the action is reported or isn't due
 -- any more, and for any other one under a new number.

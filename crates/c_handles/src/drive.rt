@@ -135,7 +135,7 @@ impl TodoPlace for FqTodo {
 }
 
 impl FqTodo {
-    ghost use Rattle.c_handles.specs.Drivers.{failed_in, settled};
+    ghost use Rattle.c_handles.specs.Drivers.{failed_in, todo_settled};
 
     /// Writes that a call failed with this status, which it returns: there is nothing to do.
     pub fn fail(&mut self, status: u32) -> u32
@@ -158,7 +158,7 @@ impl FqTodo {
     // Ends a step whose report had this status: after a report of too many packets nothing was written, and the step failed.
     #[inline(always)]
     fn settle(&mut self, said: u32)
-        ensures { self.new ≡ settled said self.old }
+        ensures { self.new ≡ todo_settled said self.old }
     {
         if said == status::BAD_WORK {
             self.fail(said);

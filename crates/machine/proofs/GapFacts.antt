@@ -7,8 +7,9 @@ use Rattle.machine_model.specs.declared.settings.MachineSettings.{MachineSetting
 use Rattle.device_places.specs.Places.{at}
 use Rattle.machine.specs.{Gaps.InterruptsAreApart, Lives.{MachineEvent, behind, next, packet}}
 use Rattle.machine_model.specs.declared.device.{Phase.Phase, Line.{Line, TheVariants.{Quiet, Coalescing, Raised, Masked}}}
-use Rattle.machine_model.specs.Device.{QueueView, after_napi_timer, after_packet, asks, asks_later, card_handled, card_timer, coalesced, expired}
-use Rattle.machine_model.specs.Device.{gap_end, handled, has_room, interrupted, is_at_once, is_card_first, is_fired, is_masked, is_masked_line}
+use Rattle.machine_model.specs.Device.{QueueView, after_napi_timer, after_packet, asks, asks_later, card_handled, card_timer, coalesced}
+use Rattle.machine_model.specs.Device.{expired, gap_end, handled, has_room, interrupted, is_at_once, is_card_first, is_fired, is_masked}
+use Rattle.machine_model.specs.Device.{is_masked_line}
 use Rattle.machine_model.specs.Device.{is_raised, notified, queue_completed, queue_polled, timer_handled, unmasked_line, without_next}
 use Rattle.machine_model.specs.{Devices.asks_at, Processor.{ProcessorView, is_polling, step, upcoming}, Waits.saturated}
 use Rattle.machine.proofs.TableFacts.{IfThere, map_at}

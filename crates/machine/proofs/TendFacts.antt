@@ -9,8 +9,9 @@ use Rattle.machine.specs.{Lives.{MachineEvent, behind, next, packet}, Fates.{tak
 use Rattle.machine_model.specs.declared.device.{Phase.Phase, Line.{Line, TheVariants.{Quiet, Raised}}}
 use Rattle.machine_model.specs.declared.device.Expiry.{Expiry, TheVariants.Expired}
 use Rattle.machine_model.specs.declared.processor.{Work.{Work, TheVariants.{Interrupt, Packet}}, InHand.InHand}
-use Rattle.machine_model.specs.Device.{QueueView, after_packet, asks_later, coalesced, completed_state, expired, expired_phase, handled, has_room}
-use Rattle.machine_model.specs.Device.{interrupted, is_at_once, is_fired, is_napi_idle, is_masked, is_missed, notified, queue_completed}
+use Rattle.machine_model.specs.Device.{QueueView, after_packet, asks_later, coalesced, completed_state, expired, expired_phase, handled}
+use Rattle.machine_model.specs.Device.{has_room, interrupted, is_at_once, is_fired, is_napi_idle, is_masked, is_missed, notified}
+use Rattle.machine_model.specs.Device.{queue_completed}
 use Rattle.machine_model.specs.Device.{queue_polled, raised_again, unmasked_line, without_next}
 use Rattle.machine_model.specs.{Devices.{QueueViews, next_packet_at}, Waits.saturated}
 use Rattle.machine_model.specs.Kept.{is_scheduled, polled_by, scheduled_at}
@@ -328,7 +329,12 @@ unstuck-raised phase false free = refl
 
 unstuck-ends : (p : ProcessorView) → Keeps Unstuck p
 unfolding map_at
-unstuck-ends p = record { raised = λ lone o t. first o t; next = λ backlog o plain polls t. second backlog o t; delivered = third; polled = fourth }
+unstuck-ends p = record {
+  raised = λ lone o t. first o t;
+  next = λ backlog o plain polls t. second backlog o t;
+  delivered = third;
+  polled = fourth;
+}
   where
     first : (o : Option QueueView) → Unstuck o → Unstuck (map_at raised_again o)
     first None t = tt
