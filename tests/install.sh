@@ -41,8 +41,8 @@ exports_calls_alone() {
 
 # What came with 1.0 stays there: a program that was linked then asks for it by that version.
 stays_in_its_version() {
-    [ "$(grep -c '@@FINTAQUSH_1\.0$' "$scratch/exported")" -ge 66 ] && grep -q '^fq_seat_poll@@FINTAQUSH_1\.0$' "$scratch/exported" &&
-        grep -q '^fq_driver_next@@FINTAQUSH_1\.1$' "$scratch/exported" && grep -q '^fq_machine@@FINTAQUSH_1\.1$' "$scratch/exported"
+    [ "$(grep -c '@@FINTAQUSH_1\.0$' "$scratch/exported")" -ge 65 ] && grep -q '^fq_seat_poll@@FINTAQUSH_1\.0$' "$scratch/exported" &&
+        grep -q '^fq_driver_next_sized@@FINTAQUSH_1\.1$' "$scratch/exported" && grep -q '^fq_machine@@FINTAQUSH_1\.1$' "$scratch/exported"
 }
 
 # by_a_prefix_with_spaces: pkg-config prints it so that a shell can read it.
@@ -153,7 +153,7 @@ subcommand_starts() {
     case $2 in
         replay) ends_with 64 "$1/fintaqush" replay --no-such-option 2> err && grep '^fintaqush replay: .*is no option' err ;;
         *) [ "$("$1/fintaqush" "$2" --version)" = "fintaqush $2 of Fintaqush $version" ] &&
-            ends_with 2 "$1/fintaqush" "$2" --no-such-option 2> err && grep "^fintaqush $2: error: " err ;;
+            ends_with 64 "$1/fintaqush" "$2" --no-such-option 2> err && grep "^fintaqush $2: error: " err ;;
     esac
 }
 
