@@ -463,6 +463,7 @@ class TestDriver(Refusals):
         self.assertEqual((fetch.what, fetch.most), (What.FETCH, 8))
         self.refused(Status.BAD_WORK, driver.done, fetch, 9)
         self.assertTrue(driver.done(driver.next(), 8))
+        self.assertIs(driver.act(card), What.ENDED)
         card.fetch = lambda device, most: most + 1
         self.refused(Status.BAD_WORK, driver.act, card)
         card.fetch = lambda device, most: [][0]
