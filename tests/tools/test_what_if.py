@@ -247,7 +247,7 @@ class WhatIf(InFolder):
 
     def test_made_traffic_over_seeds(self) -> None:
         """The median, the minimum and the maximum of the plain program's values for each seed's arrivals; one row per setting."""
-        words = ["--kind", "poisson", "--rate", "100000", "--seconds", "0.01"]
+        words, before = ["--kind", "poisson", "--rate", "100000", "--seconds", "0.01"], set(os.listdir("/tmp"))
         of = [run("traffic", "--arrivals", *words, "--seed", seed).stdout for seed in (1, 2, 3)]
         told = self.repeated(" ".join(words), "--seeds", "3", "--threaded", "0,1")
         self.assertEqual([row["threaded"] for row in told], ["0", "1"])
@@ -256,7 +256,7 @@ class WhatIf(InFolder):
             self.assertEqual([int(row[name]) for name in ("used_p99_least", "used_p99", "used_p99_most")], values)
             shares = sorted(float(self.modelled(text, "--threaded", row["threaded"])["poll_percent"]) for text in of)
             self.assertEqual([float(row[name]) for name in ("poll_percent_least", "poll_percent", "poll_percent_most")], shares)
-        self.assertEqual({name for name in os.listdir("/tmp") if name.startswith("what-if")}, set())
+        self.assertEqual({name for name in set(os.listdir("/tmp")) - before if name.startswith("what-if")}, set())
 
     def repeated(self, traffic: str, *words: object) -> list[dict[str, str]]:
         done = run("what-if", "--traffic", traffic, *words)
