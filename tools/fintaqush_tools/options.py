@@ -3,6 +3,7 @@
 from __future__ import annotations
 
 import argparse
+import contextlib
 import os
 import re
 import sys
@@ -66,8 +67,10 @@ class Parser(argparse.ArgumentParser):
         message += f": is {' or '.join(near)} meant?" if near else ""
         if self.raises:
             raise Refusal(message)
-        self.print_usage(sys.stderr)
-        self.exit(BAD_USAGE, f"{self.prog}: error: {message}\n")
+        with contextlib.suppress(OSError):  # a standard error that takes nothing changes no status
+            self.print_usage(sys.stderr)
+            sys.stderr.write(f"{self.prog}: error: {message}\n")
+        self.exit(BAD_USAGE)
 
 
 def parser_of(text: str, **others: Any) -> Parser:
