@@ -1,6 +1,7 @@
 """The reference of the Rattle crates as pages in Markdown, from the sources: for each facade its public items with `///`, signatures and
-clauses (rattle/FACADE.md), and for each crate its definitions (definitions/CRATE.md). A name in a clause or in a definition links to where
-it is defined. scripts/site.sh begins it: reference.py FOLDER.
+clauses (rattle/FACADE.md), for each crate its definitions (definitions/CRATE.md), and for each crates/CRATE/claims.txt the claims
+(claims/CRATE.md). A name in a clause or in a definition links to where it is defined, a call that carries a claim to its contract.
+scripts/site.sh begins it: reference.py FOLDER.
 """
 
 from __future__ import annotations
@@ -194,14 +195,32 @@ class Facade:
         yield re.sub(r"\[(`[^`\n]*`)\]\(([\w:]+)\)", self.resolve, text)
 
 
+def claims_page(crate: str, anchors: set[str]) -> Iterator[str]:
+    """Yields the claims of a crate. A call that carries one links to its contract, if the page of the facade's items has it."""
+
+    def one(found: re.Match[str]) -> str:
+        at = found[1].replace("::", ".")
+        return f"[{found[0]}](../rattle/{crate}.md#{at})" if at in anchors else found[0]
+
+    text = (TOP / "crates" / crate / "claims.txt").read_text()
+    yield from (f"# Claims of {crate}", "")
+    yield re.sub(r"^  `.*$", lambda line: re.sub(r"`([\w:]+)`", one, line[0]), text, flags=re.M)
+
+
 def write(path: pathlib.Path, lines: Iterable[str]) -> None:
     path.parent.mkdir(parents=True, exist_ok=True)
     path.write_text("\n".join(lines) + "\n")
 
 
 def main(folder: pathlib.Path) -> None:
-    for facade in FACADES:
-        write(folder / "rattle" / f"{facade}.md", Facade(facade).page())
+    anchors: dict[str, set[str]] = {}
+    for name in FACADES:
+        facade = Facade(name)
+        anchors[name] = facade.anchors
+        write(folder / "rattle" / f"{name}.md", facade.page())
+    for path in sorted((TOP / "crates").glob("*/claims.txt")):
+        crate = path.parent.name
+        write(folder / "claims" / f"{crate}.md", claims_page(crate, anchors.get(crate, set())))
     specs = [path for path in (TOP / "crates").glob("*/specs/*.antt") if path.stem != "Lib"]
     for crate in sorted({path.parent.parent.name for path in specs}):
         write(folder / "definitions" / f"{crate}.md", definition_page(crate))

@@ -95,6 +95,7 @@ reference_page() {
         echo '- [C and C++](c/index.html): the calls of `fintaqush.h` by [group](c/modules.html), the [classes](c/annotated.html) of `fintaqush.hpp`'
     [ ! -d "$new/reference/rust" ] || echo '- [Rust](rust/fintaqush/index.html): the crate `fintaqush`'
     echo "- Rattle, each facade crate with the clauses of its calls: $(links_to rattle .md "$made"/reference/rattle/*)"
+    echo "- What is proved, claim by claim, with the clauses that carry it: $(links_to claims .md "$made"/reference/claims/*)"
     echo "- Rattle, the definitions that clauses cite, by crate: $(links_to definitions .md "$made"/reference/definitions/*)"
     echo "- Manual pages: $(links_to ../docs/man '' docs/man/* "$made"/docs/man/*)"
 }

@@ -1,6 +1,6 @@
-"""What pages claim, compared with the sources: each function and clause that a claim names is there, and the function is public.
+"""What is claimed to be proved, compared with the sources: each function and clause that a claim names is there, and the function is public.
 
-A claim is a bullet of a facade's page under a heading of what is proved. Its last lines name the contracts that carry it, as
+A claim is a bullet of a crate's claims.txt. Its last lines name the contracts that carry it, as
 `` `Type::call`: `clause`, `clause`; `other` ``; a function without clauses after it has one contract without a name. A program's
 functions are its own, and count as public.
 """
@@ -54,17 +54,14 @@ def functions(crates: Iterable[str]) -> dict[str, set[str]]:
 
 
 def claims(text: str) -> Iterator[list[str]]:
-    """The claims of a page, each its bullet's lines."""
-    for part in re.split(r"^## ", text, flags=re.M)[1:]:
-        if "roved" in part.splitlines()[0]:
-            for bullet in re.split(r"^- ", part, flags=re.M)[1:]:
-                yield bullet.split("\n\n")[0].splitlines()
+    """The claims of a list, each its bullet's lines."""
+    yield from (bullet.splitlines() for bullet in re.split(r"^- ", text, flags=re.M)[1:])
 
 
-def judge(page: pathlib.Path, crates: Iterable[str]) -> Iterator[str]:
-    """What is wrong with the claims of a page over these crates."""
+def judge(claimed: pathlib.Path, crates: Iterable[str]) -> Iterator[str]:
+    """What is wrong with a list of claims over these crates."""
     known, count = functions(crates), 0
-    for bullet in claims(page.read_text()):
+    for bullet in claims(claimed.read_text()):
         count += 1
         at = next((place for place, line in enumerate(bullet) if place and line.strip().startswith("`")), None)
         if at is None:

@@ -78,7 +78,7 @@ def source_words() -> set[str]:
     """All words of the sources, without pages, and of the files' names."""
     found = set(re.findall(r"\w+", "\n".join(listed())))
     for name in listed():
-        if not name.endswith((".md", ".png", ".gz")) and (TOP / name).is_file():
+        if not name.endswith((".md", "claims.txt", ".png", ".gz")) and (TOP / name).is_file():
             found.update(re.findall(r"\w+", (TOP / name).read_text(errors="replace")))
     return found
 
@@ -182,15 +182,16 @@ def unprinted(crates: Iterable[str], names: Iterable[str], surface: str) -> Iter
 
 
 def door_page(page: pathlib.Path) -> Iterator[str]:
-    """A facade's page names each of its internal crates and claims what they have; `scripts/surface.sh` prints all that it
-    re-exports."""
+    """A facade's page names each of its internal crates and leads to its claims, which these crates have; `scripts/surface.sh`
+    prints all that it re-exports."""
     door = page.parent.name
     behind = [name for name, at in door_of().items() if at == door]
     programs = {"replay": ["napi_replay", "napi_serial", "napi_series"], "machine": ["napi_machine"]}.get(door, [])
     yield from (f"it doesn't describe {name}" for name in behind if f"`{name}`" not in page.read_text())
     passed_on = " ".join(re.findall(r"pub use ([^;]*);", (page.parent / "src/lib.rt").read_text()))
     known = {*behind, *(needs_of_crates().keys() & {*re.findall(r"(\w+)::", passed_on)})}
-    yield from claims.judge(page, [door, *sorted(known), *programs])
+    yield from claims.judge(page.parent / "claims.txt", [door, *sorted(known), *programs])
+    yield from () if "](claims.txt)" in page.read_text() else ("it doesn't lead to claims.txt",)
     surface = subprocess.run(["scripts/surface.sh", door], cwd=TOP, capture_output=True, text=True, check=True).stdout
     others = {name: own for own, name in re.findall(r"(\w+) as (\w+)", passed_on)}
     names = re.findall(r"\b\w+\b(?=[,}\s]|$)", re.sub(r"\w+ as |\w+::", "", passed_on))
@@ -325,6 +326,8 @@ def options_of_linux() -> list[str]:
 
 def checks() -> Iterator[PageJudged]:
     """Pairs of a page and what is wrong with it."""
+    for claimed in listed("crates/*/claims.txt"):
+        yield TOP / claimed, names(TOP / claimed)
     for page in pages():
         for check in (links, named_files, names, kits, leftovers, pictures_by, snippets.snippets):
             yield page, check(page)
@@ -336,7 +339,7 @@ def checks() -> Iterator[PageJudged]:
         yield TOP / name, durations(TOP / name)
     for door in DOORS:
         yield TOP / "crates" / door / "README.md", door_page(TOP / "crates" / door / "README.md")
-    yield TOP / "docs/C.md", claims.judge(TOP / "docs/C.md", ["napi_c", "c_handles", "files_c"])
+    yield TOP / "crates/napi_c/claims.txt", claims.judge(TOP / "crates/napi_c/claims.txt", ["napi_c", "c_handles", "files_c"])
     for rule, name in ((lengths, "README.md"), (places, "docs/WORKING.md"), (scripts_told, "docs/WORKING.md"), (assurance, "docs/ASSURANCE.md"), (door_rules, "crates.txt"),
                         (crate_picture, "docs/pictures/crates.dot")):
         yield TOP / name, rule(TOP / name)

@@ -85,6 +85,8 @@ def references(made: pathlib.Path, texts: dict[pathlib.Path, str]) -> Iterator[s
     wanted = '<a href="../definitions/dql_core.html#Limit.after_queued">after_queued</a>'
     if wanted not in facade or 'id="Limit.after_queued"' not in texts.get(made / "reference/definitions/dql_core.html", ""):
         yield "after_queued in a clause of dql_core doesn't link to its definition"
+    if 'href="../rattle/dql_core.html#Dql.completed"' not in texts.get(made / "reference/claims/dql_core.html", ""):
+        yield "no claim of dql_core links to Dql::completed"
 
 
 def anchors(made: pathlib.Path, texts: dict[pathlib.Path, str]) -> Iterator[str]:
