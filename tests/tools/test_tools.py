@@ -146,20 +146,9 @@ CPU:1 [7 EVENTS DROPPED]
             self.assertEqual((done.returncode, self.names(), path.read_text()), (1, [f"made.{end}"], "mine\n"))
             path.unlink()
 
-    def recipe(self) -> Path:
-        """Returns the shell commands in docs/TOOLS.md that record."""
-        lines = (TOP / "docs/TOOLS.md").read_text().splitlines()
-        first = lines.index("    set -u")
-        last = next(place for place in range(first, len(lines)) if not lines[place].startswith("    "))
-        return self.write("recipe", "".join(f"{line[4:]}\n" for line in lines[first:last]))
-
-    def test_the_recipe_is_bash(self) -> None:
-        done = process("bash", "-n", self.recipe())
-        self.assertEqual((done.stderr, done.returncode), ("", 0))
-
     @unittest.skipUnless(os.environ.get("RECORD"), "RECORD=yes")
     def test_the_recipe_records(self) -> None:
-        done = process("unshare", "-m", "bash", self.recipe(), folder=self.folder)
+        done = process("unshare", "-m", TOP / "examples/veth.sh", folder=self.folder)
         self.assertEqual((done.stderr, done.returncode), ("", 0))
         self.succeeds("from-ftrace", "recording.txt", "made", "--pair", "va1:vb1", folder=self.folder)
         self.assertTrue(max(int(line.split()[3]) for line in (self.folder / "made.work").read_text().splitlines()) > 30)
