@@ -333,9 +333,9 @@ def checks() -> Iterator[PageJudged]:
             yield page, check(page)
     for name in ("README.md", "CITATION.cff"):
         yield TOP / name, versions(TOP / name)
-    for name in ("README.md", "docs/FAQ.md", "docs/LIMITS.md", "docs/COMPARISON.md", "docs/C.md", "docs/GUIDE.md"):
+    for name in ("README.md", "docs/LIMITS.md", "docs/COMPARISON.md", "docs/C.md", "docs/GUIDE.md"):
         yield TOP / name, speeds(TOP / name)
-    for name in ("README.md", "docs/FAQ.md", "docs/WORKING.md"):
+    for name in ("README.md", "docs/WORKING.md"):
         yield TOP / name, durations(TOP / name)
     for door in DOORS:
         yield TOP / "crates" / door / "README.md", door_page(TOP / "crates" / door / "README.md")
