@@ -1,5 +1,5 @@
-"""The definitions that the theorem of docs/ASSURANCE.md cites: the files that define what "The headline" of crates/napi_calls/README.md names or
-what the types of its values use, and all files that these import, with their lines. Prints a file in each line, and the sum last.
+"""The definitions that the theorem of docs/ASSURANCE.md cites: the files that define what the table of crates/napi_calls/claims.txt names or what
+the types of its values use, and all files that these import, with their lines. Prints a file in each line, and the sum last.
 """
 
 from __future__ import annotations
@@ -23,9 +23,9 @@ def imports(path: pathlib.Path) -> Iterator[pathlib.Path]:
 
 
 def roots() -> Iterator[pathlib.Path]:
-    """Yields the files that define what the headline names, and those that the types of its values use."""
+    """Yields the files that define what the table names, and those that the types of its values use."""
     crate = TOP / "crates/napi_calls"
-    named = set(re.findall(r"`(\w+)`", (crate / "README.md").read_text().split("## The headline")[1].split("\n## ")[0]))
+    named = set(re.findall(r"`(\w+)`", (crate / "claims.txt").read_text().split("\n- ")[0]))
     for name, modules in reference.definitions("napi_calls").items():
         yield from (crate / f"specs/{module}.antt" for module in modules if name in named)
     yield from imports(crate / "src/types.rt")
