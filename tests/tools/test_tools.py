@@ -8,7 +8,6 @@ import re
 import struct
 import unittest
 from collections.abc import Iterable
-from pathlib import Path
 from typing import Any
 
 from tooltest import HEADER, HERE, NO_WORDS, REPLAY, START, TOP, InFolder, process, run, skip_without
