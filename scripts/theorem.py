@@ -25,7 +25,8 @@ def imports(path: pathlib.Path) -> Iterator[pathlib.Path]:
 def roots() -> Iterator[pathlib.Path]:
     """Yields the files that define what the table names, and those that the types of its values use."""
     crate = TOP / "crates/napi_calls"
-    named = set(re.findall(r"`(\w+)`", (crate / "claims.txt").read_text().split("\n- ")[0]))
+    table = re.findall(r"^\|.*$", (crate / "claims.txt").read_text(), re.M)
+    named = set(re.findall(r"`(\w+)`", "\n".join(table)))
     for name, modules in reference.definitions("napi_calls").items():
         yield from (crate / f"specs/{module}.antt" for module in modules if name in named)
     yield from imports(crate / "src/types.rt")
