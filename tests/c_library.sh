@@ -104,7 +104,7 @@ as_short_as_the_pages_say() {
     driver=$(wc -l < "$examples/edge.c") simulator=$(wc -l < "$examples/simulator.cpp")
     [ "$driver" -le 65 ] && [ "$simulator" -le 60 ] && grep -q "edge.c. is a whole driver in $driver lines" "$top/docs/GUIDE.md" &&
         grep -q "edge.c. is such a driver in $driver lines" "$top/docs/C.md" && grep -q "The whole simulator has $simulator lines" "$top/docs/GUIDE.md" &&
-        grep -q "one with a clock in $simulator lines" "$top/docs/C.md"
+        grep -q "a simulator with a clock in $simulator lines" "$top/docs/C.md"
 }
 check 'a driver and a simulator in at most 60 lines' as_short_as_the_pages_say
 
