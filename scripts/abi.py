@@ -28,6 +28,7 @@ MAP_HEAD = """\
 # program that was linked with it asks for it there. scripts/abi.py writes this file.
 """
 WIDEST = 140
+ROW = 16  # calls in a row of the table of docs/C.md
 
 
 def as_json(read: Mapping[str, Any]) -> str:
@@ -82,7 +83,8 @@ def table(read: Mapping[str, Any]) -> Iterator[str]:
     yield from ("| What | Calls |", "|---|---|")
     for group in read["groups"]:
         calls = [call for block in group["blocks"] for call in calls_of_block(block)]
-        yield f"| {coded(group['title'])} | {', '.join(calls)} |"
+        for first in range(0, len(calls), ROW):
+            yield f"| {'' if first else coded(group['title'])} | {', '.join(calls[first : first + ROW])} |"
 
 
 def calls_of_block(block: Mapping[str, Any]) -> list[str]:
