@@ -205,14 +205,17 @@ relink() {
 
 # show PAGE
 show() {
-    local place form=gfm nav=$scratch/nav-$BASHPID.html
+    local place claims form=gfm nav=$scratch/nav-$BASHPID.html
     place=$(place_of "$1")
+    claims=$(way_up "$place")reference/claims # of a list of claims the site has a page
     # shellcheck disable=SC2209 # a word
     [ "${1##*.}" = md ] || form=man
     mkdir -p "$new/$(dirname "$place")"
     sed "s|@UP@|$(way_up "$place")|g" "$scratch/menus" > "$nav"
     pandoc --from "$form" --to html5 --standalone --metadata pagetitle="Fintaqush: $(title_of "$1")" --metadata document-css=false \
-        --include-in-header "$scratch/style.html" --include-before-body "$nav" "$(text_of "$1")" | relink > "$new/$place"
+        --include-in-header "$scratch/style.html" --include-before-body "$nav" "$(text_of "$1")" | relink |
+        sed -E -e "s|href=\"claims\.txt\"|href=\"$claims/$(basename "$(dirname "$1")").html\"|g" \
+            -e "s|href=\"(\.\./)*crates/(\w+)/claims\.txt\"|href=\"$claims/\2.html\"|g" > "$new/$place"
 }
 
 # linked: prints the files and folders of the repository to which a page links, without anchors; for a folder all its files.
