@@ -18,6 +18,7 @@ napi_machine, has to print the same bytes; settings that need an option which it
 import functools
 import gzip
 import json
+import re
 import sys
 import tempfile
 from collections.abc import Callable, Iterator, Mapping
@@ -363,15 +364,18 @@ def page(is_into: bool) -> bool:
 # ---- the table of drivers
 
 
+def sources() -> list[tuple[str, str, str, str]]:
+    """Returns the rows of sources.txt: the driver and the fact, the file of Linux, the line, and a part of it."""
+    return re.findall(r"^(\w+: .+?): (\S+):(\d+): (.*)$", (HERE / "sources.txt").read_text(encoding="utf-8"), re.M)
+
+
 def check_sources(folder: str) -> bool:
-    """Compares each line of the table of drivers with the sources of Linux. Returns whether one differs."""
+    """Compares each row with the sources of Linux. Returns whether one differs."""
     wrong = []
-    for name, driver in drivers.DRIVERS.items():
-        for source in driver.sources:
-            text = (Path(folder) / source.path).read_text(encoding="utf-8", errors="replace")
-            line = text.splitlines()[source.line - 1]
-            if " ".join(source.text.split()) not in " ".join(line.split()):
-                wrong.append(f"{name}: {source.fact}: {source.path}:{source.line} is {line.strip()!r}")
+    for fact, path, number, text in sources():
+        line = (Path(folder) / path).read_text(encoding="utf-8", errors="replace").splitlines()[int(number) - 1]
+        if " ".join(text.split()) not in " ".join(line.split()):
+            wrong.append(f"{fact}: {path}:{number} is {line.strip()!r}")
     print(*wrong, sep="\n")
     return bool(wrong)
 
@@ -379,8 +383,7 @@ def check_sources(folder: str) -> bool:
 def main(what: str, argument: str = "") -> bool:
     """Returns whether it failed."""
     if what == "files":
-        sources = [source for driver in drivers.DRIVERS.values() for source in driver.sources]
-        print(*sorted({source.path for source in sources}), sep="\n")
+        print(*sorted({path for _, path, _, _ in sources()}), sep="\n")
         return False
     if what == "fetch":
         return not emulation.fetch()
