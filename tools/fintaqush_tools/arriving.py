@@ -54,12 +54,8 @@ class PollBegins:
     """For each processor, when the current poll began, or the interrupt that requested it. A packet that the poll takes arrived before
     that, or during the poll."""
 
-    handlers: dict[int, int]
-    ended: dict[int, tuple[int, int]]
-    began: dict[int, int]
-
-    def __init__(self) -> None:
-        self.handlers, self.ended, self.began = {}, {}, {}  # by processor
+    def __init__(self) -> None:  # by processor
+        self.handlers, self.ended, self.began = dict[int, int](), dict[int, tuple[int, int]](), dict[int, int]()
 
     def look(self, event: Event) -> None:
         kind, _, end = event.name.rpartition("_")

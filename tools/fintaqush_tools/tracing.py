@@ -80,14 +80,13 @@ def is_alive(pid: str) -> bool:
 class Instance:
     """The instance. It is removed with its settings when it closes, also after a failure or a signal."""
 
-    processors: set[int] | None
-    marks: dict[int, tuple[int, int]]
+    processors: set[int] | None = None  # those that are recorded, if not all
 
     def __init__(self, folder: str) -> None:
         self.folder = folder
         self.path = f"{folder}/instances/{NAME.format(os.getpid())}"
-        self.processors = None  # those that are recorded, if not all
-        self.marks = {}  # for each number when it was written, by CLOCK_MONOTONIC, before and after
+        # For each number when it was written, by CLOCK_MONOTONIC, before and after.
+        self.marks = dict[int, tuple[int, int]]()
 
     def __enter__(self) -> Instance:
         self.remove_abandoned()
@@ -252,13 +251,11 @@ class Instance:
 class Stamps:
     """Converts the counter's stamps in the trace's lines to seconds of CLOCK_MONOTONIC with nine digits."""
 
-    seen: dict[int, int]
-
     LINE = re.compile(rb"(.{16}-\d+\s+\[\d+\] \S+ +)(\d+)(?:\.(\d{1,9}))?(: .*)", re.S)
 
     def __init__(self, clock: str, marks: dict[int, tuple[int, int]]) -> None:
         self.clock, self.marks = clock, marks
-        self.seen = {}  # the stamp of each mark
+        self.seen = dict[int, int]()  # the stamp of each mark
 
     @staticmethod
     def is_mark(line: bytes) -> bool:

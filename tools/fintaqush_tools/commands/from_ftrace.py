@@ -187,16 +187,6 @@ def has_come(event: Event) -> bool:
 class Trace:
     """The rows of a trace, the kernel's work for those that poll, and the notes."""
 
-    rows: list[str]
-    work: list[str]
-    notes: list[str]
-    waiting: defaultdict[int, deque[tuple[int, str]]]
-    unsent: Counter[str]
-    elsewhere: Counter[str]
-    by_backlog: Counter[str]
-    known: Counter[int]
-    owed: Counter[int]
-
     def __init__(self, events: Sequence[Event], words: Words, head: Head) -> None:
         self.tick, span = SECOND // TICKS[words.unit], words.rows
         counts = received_in(events)
@@ -204,19 +194,19 @@ class Trace:
             raise Refusal(why_no_packet(head, len(events)))
         self.kind, self.devices, self.arrives_at = source_of(counts, names_of(events), words, head, MOST_DEVICES)
         self.pollings, strays = group_polls(events)
-        self.rows, self.work, self.notes = [], [], []
+        self.rows, self.work, self.notes = list[str](), list[str](), list[str]()
         self.start = events[0].time
         self.first: float = span[0] if span else 0
         self.last: float = span[1] if span else math.inf
         # The number of the next row among all rows; the number of rows outside the span.
-        self.number, self.left_out = (0, 0)
+        self.number, self.left_out = 0, 0
         # for each device, the packets that wait before the first row of the span, each with its row number; and how many there are
-        self.waiting, self.in_front = defaultdict(deque), 0
-        self.unsent, self.elsewhere, self.arrived = Counter(), Counter(), 0
+        self.waiting, self.in_front = defaultdict[int, deque[tuple[int, str]]](deque), 0
+        self.unsent, self.elsewhere, self.arrived = Counter[str](), Counter[str](), 0
         # The senders to these ends; their packets by end.
-        self.unpolled, self.by_backlog = (self.ends_without_polls(), Counter())
+        self.unpolled, self.by_backlog = self.ends_without_polls(), Counter[str]()
         # For each device: packets that wait; packets that were polled before their event.
-        self.known, self.owed = (Counter(), Counter())
+        self.known, self.owed = Counter[int](), Counter[int]()
         self.open_devices(words.capacity, look_at_threads(self.pollings, self.devices))
         if self.kind == BY_PAIR:
             self.count_within(events)
@@ -411,13 +401,11 @@ def told_of(what: str, counter: Mapping[str, int]) -> list[str]:
 class SameProcessor:
     """Packets that the processor sent which polls them. It has the sender until its next softirq begins, so they arrive then."""
 
-    waiting: defaultdict[tuple[int, str], list[int]]
-    entered: dict[int, int]
-
     def __init__(self, words: Words) -> None:
         self.pairs, self.peers = words.pair or words.pairs, dict[str, str]()
-        self.waiting = defaultdict(list)  # by processor and receiver, the indices of packets that it hasn't polled yet
-        self.entered = {}  # for each processor, when its softirq began
+        # By processor and receiver, the indices of packets that it hasn't polled yet.
+        self.waiting = defaultdict[tuple[int, str], list[int]](list)
+        self.entered = dict[int, int]()  # for each processor, when its softirq began
 
     def peer_of(self, sender: str) -> str:
         """Returns the other end of a sender's pair, or an empty text."""
@@ -449,13 +437,11 @@ class SameProcessor:
 class Arriving:
     """The packets of a recording, by the kind of event."""
 
-    unsent: Counter[str]
-    dropped: Counter[str]
-
     def __init__(self, events: Iterable[Event], words: Words) -> None:
         self.words, self.count = words, 0
         self.packets = {kind: Packets() for kind in dict.fromkeys(KINDS.values())}
-        self.unsent, self.dropped, begins, self.same = Counter(), Counter(), PollBegins(), SameProcessor(words)
+        self.unsent, self.dropped, self.same = Counter[str](), Counter[str](), SameProcessor(words)
+        begins = PollBegins()
         for event in events:
             self.count += 1
             kind = KINDS.get(event.name)

@@ -133,12 +133,9 @@ def flow_of(said: str) -> int:
 class Records:
     """The packets of a capture by its records, and the number without a row."""
 
-    packets: Packets
-    without: Counter[str]
-    kinds: dict[tuple[Link, bytes, int], Optional[Kind]]
-
     def __init__(self, is_both_ways: bool) -> None:
-        self.packets, self.without, self.kinds, self.is_both_ways = Packets(), Counter(), {}, is_both_ways
+        self.packets, self.without, self.is_both_ways = Packets(), Counter[str](), is_both_ways
+        self.kinds = dict[tuple[Link, bytes, int], Optional[Kind]]()
 
     def add(self, time: int, link: Link, ends: bytes, flow: int, length: int) -> None:
         key = link, ends, flow

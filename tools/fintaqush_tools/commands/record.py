@@ -144,12 +144,9 @@ def wait(instance: Instance, words: Words, drain: Callable[[], bool]) -> bool:
 class Body:
     """The trace's text in a file, and what is in it: `pairs` are the ends of veth pairs, each sender with its receiver."""
 
-    sent: Counter[str]
-    received: Counter[tuple[str, bool]]
-
     def __init__(self, path: str, stamps: Stamps, pairs: Sequence[tuple[str, str]]) -> None:
         self.path, self.stamps, self.lines, self.read = path, stamps, 0, 0
-        self.instances, self.sent, self.received = Instances(pairs), Counter(), Counter()
+        self.instances, self.sent, self.received = Instances(pairs), Counter[str](), Counter[tuple[str, bool]]()
         self.looks = {
             b"napi_poll": self.look_at_poll,
             b"net_dev_start_xmit": self.look_at_start,
