@@ -410,30 +410,17 @@ def recorded_by(words: Words, tell: Callable[[str], None]) -> str:
 
 def parser() -> Parser:
     parser = parser_of(__doc__)
-    parser.add_argument(
-        "seconds", nargs="?", type=number(1, 3600), default=5, metavar="SECONDS", help="how long, 1 to 3600 (5)"
-    )
-    parser.add_argument(
-        "--device",
-        action="append",
-        required=True,
-        metavar="NAME",
-        help="a device that receives; may be given many times",
-    )
+    how = number(1, 3600)
+    parser.add_argument("seconds", nargs="?", type=how, default=5, metavar="SECONDS", help="how long, 1 to 3600 (5)")
+    parser.many("--device", "NAME", "a device that receives; may be given many times", required=True)
     parser.add_argument("--out", required=True, metavar="FILE", help="the file for the recording")
     parser.add_argument("--netns", metavar="NAME", help="the network namespace of the devices")
-    parser.add_argument(
-        "--sender",
-        action="append",
-        default=[],
-        metavar="NAME",
-        help="the other end of the veth pair, one for each device (found automatically if possible)",
-    )
+    what = "the other end of the veth pair, one for each device (found automatically if possible)"
+    parser.many("--sender", "NAME", what)
     parser.add_argument("--program", metavar="NAME|PID", help="the program that reads the packets")
     parser.add_argument("--processors", type=processors, metavar="LIST", help="record only these, as 2,3 or 0-3 (all)")
-    parser.add_argument(
-        "--buffer", type=number(1, 65536), default=32, metavar="MB", help="the buffer of each processor (32)"
-    )
+    what = "the buffer of each processor (32)"
+    parser.add_argument("--buffer", type=number(1, 65536), default=32, metavar="MB", help=what)
     return parser
 
 
