@@ -202,6 +202,13 @@ class InFolder(unittest.TestCase):
         path.chmod(0o755)
         return path
 
+    def begun(self, *command: object, **others: Any) -> subprocess.Popen[str]:
+        """Starts a process, with our programs, which ends with the test."""
+        process = started(*command, folder=self.folder, **others)
+        self.addCleanup(process.communicate)
+        self.addCleanup(process.kill)
+        return process
+
     def opened(self, process: subprocess.Popen[str], name: str) -> int:
         """Waits until a process reads a FIFO of the folder, and returns an end to write to it."""
         until = time.monotonic() + MOST_SECONDS
