@@ -63,13 +63,8 @@ def values_of(report: Iterable[Mapping[str, Any]]) -> dict[str, dict[str, Any]]:
     for line in report:
         if line["line"] in ("device", "napi", "tx"):
             told = values.setdefault(f"device {line['device']}", {})
-            told.update(
-                {
-                    f"{line['line']} {name}" if name in told else name: value
-                    for name, value in line.items()
-                    if name not in ("version", "tool", "line", "device", "flags")
-                }
-            )
+            names = [name for name in line if name not in ("version", "tool", "line", "device", "flags")]
+            told.update({f"{line['line']} {name}" if name in told else name: line[name] for name in names})
         elif line["line"] == "total":
             values["total"] = {
                 name: value for name, value in line.items() if name not in ("version", "tool", "line", "devices")
@@ -151,11 +146,8 @@ def values_in(seen: Receiving, waits: Waits, span: tuple[float, float]) -> dict[
     """Returns what was measured between two times: of packets that were sent then, and of polls that ended then."""
     begin, end = span
     sent = [has_come for time, has_come in zip(seen.sent, seen.has_come) if begin <= time < end]
-    polls = [
-        (work, ended - begun if begun else 0)
-        for ended, begun, work in zip(seen.ended, seen.begun, seen.work)
-        if begin <= ended < end
-    ]
+    inside = [poll for poll in zip(seen.ended, seen.begun, seen.work) if begin <= poll[0] < end]
+    polls = [(work, ended - begun if begun else 0) for ended, begun, work in inside]
     seconds = (end - begin) / 10**9
     values = {
         "packets_per_second": len(sent) / seconds,
@@ -183,10 +175,8 @@ def of_recording(path: str, device: str | None) -> Values:
     begin, end = min(seen.sent), max(*seen.sent, *seen.ended) + 1
     whole = values_in(seen, waits, (begin, end))
     step = (end - begin) / PARTS
-    parts = [
-        values_in(seen, waits, (begin + place * step, begin + (place + 1) * step))
-        for place in range(PARTS if len(seen.sent) >= FEWEST else 0)
-    ]
+    edges = [begin + place * step for place in range(PARTS + 1)] if len(seen.sent) >= FEWEST else []
+    parts = [values_in(seen, waits, span) for span in zip(edges, edges[1:])]
     values = {}
     for name, value in whole.items():
         known = [part[name] for part in parts if name in part]
@@ -281,27 +271,17 @@ class Change(NamedTuple):
         return "higher" if self.difference > 0 else "lower"
 
     def as_object(self) -> dict[str, Any]:
-        return {
-            "row": self.row,
-            "name": identifier(self.name).replace(" ", "_"),
-            "before": self.before.middle,
-            "after": self.after.middle,
-            "change_percent": self.percent,
-            "noise": self.noise,
-            "is_noise": self.is_noise,
-        }
+        ends = {"before": self.before.middle, "after": self.after.middle, "change_percent": self.percent}
+        noise = {"noise": self.noise, "is_noise": self.is_noise}
+        return {"row": self.row, "name": identifier(self.name).replace(" ", "_"), **ends, **noise}
 
 
 def changes_in(before: Values, after: Values) -> list[Change]:
     """Returns the changes of all values that both have. Fails if there are none."""
     if len(before) == len(after) == 1:  # whichever options they have
         after = dict(zip(before, after.values()))
-    changes = [
-        Change(row, name, value, after[row][name])
-        for row, values in before.items()
-        for name, value in values.items()
-        if name in after.get(row, {})
-    ]
+    every = [(row, name, value) for row, values in before.items() for name, value in values.items()]
+    changes = [Change(*each, after[each[0]][each[1]]) for each in every if each[1] in after.get(each[0], {})]
     if not changes:
         raise Refusal("the two sides have no value in common")
     return changes

@@ -35,15 +35,9 @@ class Cost:
         return f"{self.value:.0f} ns ({self.low:.0f} to {self.high:.0f})"
 
     def as_object(self) -> dict[str, Any]:
-        return {
-            "value": round(self.value),
-            "low": round(self.low),
-            "high": round(self.high),
-            "count": self.count,
-            "explained": self.explained,
-            "half": [round(each) for each in self.middle] or None,
-            "source": self.source,
-        }
+        told = {name: round(getattr(self, name)) for name in ("value", "low", "high")}
+        half = [round(each) for each in self.middle] or None
+        return {**told, "count": self.count, "explained": self.explained, "half": half, "source": self.source}
 
 
 def cost_of(times: Sequence[float], source: str, less: float = 0) -> Cost | None:

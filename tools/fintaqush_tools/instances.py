@@ -42,20 +42,15 @@ class NapiInstance:
     def text(self) -> str:
         """Returns its line in a recording's head, without the key: names and values."""
         on = ",".join(f"{each}:{count}:{self.packets[each]}" for each, count in self.polls.most_common())
-        return " ".join(
-            f"{name} {value}"
-            for name, value in (
-                ("device", self.device),
-                ("napi", self.napi),
-                ("napi_id", self.napi_id),
-                ("queue", self.queue),
-                ("kind", "receive" if self.receives else "transmit"),
-                ("polls", sum(self.polls.values())),
-                ("packets", sum(self.packets.values())),
-                ("on", on),
-            )
-            if value is not None
-        )
+        kind = "receive" if self.receives else "transmit"
+        values: dict[str, object] = {
+            "device": self.device,
+            "napi": self.napi,
+            "napi_id": self.napi_id,
+            "queue": self.queue,
+        }
+        values |= {"kind": kind, "polls": sum(self.polls.values()), "packets": sum(self.packets.values()), "on": on}
+        return " ".join(f"{name} {value}" for name, value in values.items() if value is not None)
 
 
 def parsed(key: str, text: str) -> NapiInstance:
@@ -145,7 +140,7 @@ class Instances:
                 each.queue = queue
                 taken.add((device, queue))
         yield from sorted(
-            self.of.values(), key=lambda each: (each.device, not each.receives, each.queue is None, each.queue or 0)
+            self.of.values(), key=lambda it: (it.device, not it.receives, it.queue is None, it.queue or 0)
         )
 
 

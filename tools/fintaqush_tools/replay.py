@@ -113,15 +113,9 @@ class Run:
     def __init__(self, call: Call, command: Sequence[str], memory: int = 0, is_kept: bool = True, **where: Any) -> None:
         self.call = call
         self.told: tuple[Optional[bytes], bytes] = (None, b"")
-        self.process = subprocess.Popen(
-            command,
-            stdin=subprocess.PIPE,
-            stdout=subprocess.PIPE if is_kept else None,
-            stderr=subprocess.PIPE,
-            preexec_fn=lambda: child(memory=memory),
-            restore_signals=False,
-            **where,
-        )
+        where |= {"stdin": subprocess.PIPE, "stdout": subprocess.PIPE if is_kept else None, "stderr": subprocess.PIPE}
+        where |= {"preexec_fn": lambda: child(memory=memory), "restore_signals": False}
+        self.process: subprocess.Popen[bytes] = subprocess.Popen(command, **where)
         to, self.process.stdin = self.process.stdin, None
         threading.Thread(target=call.pass_on, args=(to, self.process), daemon=True).start()
         self.reader = threading.Thread(target=self.read, daemon=True)

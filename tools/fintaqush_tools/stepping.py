@@ -90,15 +90,11 @@ class Step:
 
     def polls(self) -> None:
         """Describes a softirq, kthread or busy row."""
-        reason = {"off": "disabled", "pending": "about to be disabled"}
-        self.say(
-            "polls" if self.line["polls"] else "spins" if self.event == "busy" else "nothing",
-            rule=RULES[self.event],
-            who=POLLERS[self.event].format(self.device),
-            reason=self.was and reason.get(self.was["state"], "scheduled already"),
-            polls=count_of(self.line["polls"], "poll"),
-            packets=count_of(self.line["work"], "packet"),
-        )
+        reasons = {"off": "disabled", "pending": "about to be disabled"}
+        reason = self.was and reasons.get(self.was["state"], "scheduled already")
+        who = {"rule": RULES[self.event], "who": POLLERS[self.event].format(self.device), "reason": reason}
+        did = {"polls": count_of(self.line["polls"], "poll"), "packets": count_of(self.line["work"], "packet")}
+        self.say("polls" if self.line["polls"] else "spins" if self.event == "busy" else "nothing", **who, **did)
         for device, packets in self.line["gave"].items():
             self.polled(device, packets)
         if self.line["squeezed"]:

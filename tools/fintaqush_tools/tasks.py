@@ -50,10 +50,8 @@ class Tasks:
     def idle(self) -> dict[int, float]:
         """Returns the share of the time in which each processor was idle, of those on which a task was switched."""
         whole = max(1, self.last - self.first)
-        return {
-            processor: sum(time for (_, number, _), time in times.items() if not number) / whole
-            for processor, times in self.times.items()
-        }
+        idle = {cpu: [time for (_, number, _), time in of.items() if not number] for cpu, of in self.times.items()}
+        return {cpu: sum(times) / whole for cpu, times in idle.items()}
 
     def others(self, processor: int, known: Collection[int], names: Collection[str]) -> dict[str, float]:
         """Returns the shares of a processor's time that other tasks had, which can disturb: tasks that don't poll and that aren't in `known`

@@ -51,10 +51,8 @@ def mount_tracefs() -> str:
     )
     for name, *words in calls:
         if getattr(libc, name)(*words) != 0:
-            raise Refusal(
-                f"tracefs can't be mounted: {os.strerror(ctypes.get_errno())}; a container needs CAP_SYS_ADMIN for it, and a "
-                "kernel that is locked down has no tracing"
-            )
+            why = "a container needs CAP_SYS_ADMIN for it, and a kernel that is locked down has no tracing"
+            raise Refusal(f"tracefs can't be mounted: {os.strerror(ctypes.get_errno())}; {why}")
     return PLACES[0]
 
 
@@ -168,28 +166,17 @@ class Instance:
         names = os.listdir(vectors) if os.path.isdir(vectors) else []
         interrupts = [f"irq_vectors/{name}" for name in sorted(names) if name.endswith(("_entry", "_exit"))]
         interrupts = interrupts or ["ipi/ipi_entry", "ipi/ipi_exit"]
-        events = [
-            *POLLS,
-            "net/net_dev_xmit",
-            "irq/irq_handler_entry",
-            "irq/irq_handler_exit",
-            *interrupts,
-            "sched/sched_switch",
-            "timer/hrtimer_start",
-            "timer/hrtimer_expire_entry",
-        ]
+        events = [*POLLS, "net/net_dev_xmit", "irq/irq_handler_entry", "irq/irq_handler_exit", *interrupts]
+        events += ["sched/sched_switch", "timer/hrtimer_start", "timer/hrtimer_expire_entry"]
         chosen = {name: FILTERS.get(name) for name in events}
         chosen |= {name: of_devices(sources.receivers) for name in RECEIVED if sources.receivers}
         if sources.moved:
             chosen[STACK] = of_devices([*sources.receivers, *sources.moved])
         if sources.senders:
             chosen[START] = of_devices(sources.senders)
-        if sources.program:
-            for call in READS:
-                chosen[f"syscalls/sys_enter_{call}"], chosen[f"syscalls/sys_exit_{call}"] = (
-                    sources.program,
-                    f"({sources.program}) && ret > 0",
-                )
+        for call in READS if sources.program else ():
+            chosen[f"syscalls/sys_enter_{call}"] = sources.program
+            chosen[f"syscalls/sys_exit_{call}"] = f"({sources.program}) && ret > 0"
         return chosen
 
     def enable(self, sources: Sources) -> tuple[list[str], list[str]]:

@@ -28,17 +28,8 @@ from fintaqush_tools import comparing
 from fintaqush_tools.comparing import Change, Values, found_name, numbers_of, values_of
 from fintaqush_tools.errors import Refusal
 from fintaqush_tools.files import check_target, read_bytes, write_out
-from fintaqush_tools.options import (
-    Parser,
-    Words,
-    add_binary,
-    add_out,
-    add_raise,
-    add_settings,
-    given_settings,
-    parser_of,
-    settings_of,
-)
+from fintaqush_tools.options import Parser, Words, add_binary, add_out, add_raise, add_settings
+from fintaqush_tools.options import given_settings, parser_of, settings_of
 from fintaqush_tools.processes import program, run_program
 from fintaqush_tools.progress import Program
 from fintaqush_tools.recording import HEAD

@@ -80,23 +80,14 @@ def program_filter(named: str) -> tuple[str, list[int]]:
 
 def most_memory() -> int:
     """Returns how many MB each processor's buffer may have: together at most half of the free memory."""
-    free = next(
-        (
-            int(line.split()[1]) // 1024
-            for line in observed.lines_in_proc("meminfo")
-            if line.startswith("MemAvailable:")
-        ),
-        0,
-    )
-    return free // 2 // (os.cpu_count() or 1)
+    free = [int(line.split()[1]) for line in observed.lines_in_proc("meminfo") if line.startswith("MemAvailable:")]
+    return sum(free) // 1024 // 2 // (os.cpu_count() or 1)
 
 
 def check_memory(megabytes: int) -> None:
     if megabytes > most_memory():
-        raise Refusal(
-            f"--buffer {megabytes}: {os.cpu_count()} processors with so many MB each take more than half of the free memory; "
-            f"at most {most_memory()}"
-        )
+        why = f"{os.cpu_count()} processors with so many MB each take more than half of the free memory"
+        raise Refusal(f"--buffer {megabytes}: {why}; at most {most_memory()}")
 
 
 def advice_on_buffer(words: Words, took: float, most: int) -> str:
@@ -106,11 +97,9 @@ def advice_on_buffer(words: Words, took: float, most: int) -> str:
     if needed <= most:
         return f"record again with --buffer {needed}"
     fits = int(most * took / words.buffer)
-    return (
-        f"{words.seconds} s would need --buffer {needed}, and this machine has memory for {most}: "
-        + (f"record for {fits} s with --buffer {most}, or" if fits else "record")
-        + " fewer processors (--processors), or less traffic"
-    )
+    why = f"{words.seconds} s would need --buffer {needed}, and this machine has memory for {most}"
+    what = f"record for {fits} s with --buffer {most}, or" if fits else "record"
+    return f"{why}: {what} fewer processors (--processors), or less traffic"
 
 
 def is_drained(pipe: int, file: IO[bytes]) -> bool:
@@ -236,22 +225,13 @@ def recorded(
                 pass
         lost = sum(each for _, each in instance.statistics())
         if lost:
-            raise Refusal(
-                f"the kernel lost {lost} events, so the recording isn't written: record for a shorter time, or with a larger "
-                "--buffer"
-            )
+            how = "record for a shorter time, or with a larger --buffer"
+            raise Refusal(f"the kernel lost {lost} events, so the recording isn't written: {how}")
     body = Body(words.scratch, Stamps(clock, instance.marks), list(zip(words.sender, words.device)))
     body.scan()
     words.took = took if is_full else None
-    head = {
-        "clock": clock,
-        **began,
-        "seconds": f"{took:.6f}",
-        "recorder.seconds": f"{spent:.6f}",
-        "events": " ".join(events),
-        "missing": " ".join(missing),
-        "lost": lost,
-    }
+    head: dict[str, Any] = {"clock": clock, **began, "seconds": f"{took:.6f}", "recorder.seconds": f"{spent:.6f}"}
+    head |= {"events": " ".join(events), "missing": " ".join(missing), "lost": lost}
     return head, {key: f"{value} {after.get(key, value)}" for key, value in before.items()}, body
 
 
@@ -262,33 +242,19 @@ def polled_of(words: Words, body: Body) -> list[str]:
 
 
 def head_of(
-    words: Words,
-    head: Mapping[str, Any],
-    settings: Mapping[str, str],
-    counts: Mapping[str, str],
-    body: Body,
-    pids: Sequence[int],
+    words: Words, head: Mapping[str, Any], others: Mapping[str, str], body: Body, pids: Sequence[int]
 ) -> list[str]:
-    """Returns the lines before the trace."""
-    told = {
-        **head,
-        "buffer": words.buffer,
-        "lines": body.lines,
-        "device": " ".join(words.device),
-        "netns": words.netns or "",
-        "sender": " ".join(words.sender),
-        "pair": " ".join(map(":".join, zip(words.sender, words.device)))
-        if len(words.sender) == len(words.device)
-        else "",
-        "polled": " ".join(polled_of(words, body)),
-        "program": words.program or "",
-        "program.pids": " ".join(map(str, pids)),
-    }
+    """Returns the lines before the trace; `others` are the settings and the counts."""
+    ends = zip(words.sender, words.device) if len(words.sender) == len(words.device) else ()
+    told = {**head, "buffer": words.buffer, "lines": body.lines, "device": " ".join(words.device)}
+    told |= {"netns": words.netns or "", "sender": " ".join(words.sender), "pair": " ".join(map(":".join, ends))}
+    told |= {"polled": " ".join(polled_of(words, body)), "program": words.program or ""}
+    told["program.pids"] = " ".join(map(str, pids))
     told |= {f"instance.{place}": each.text() for place, each in enumerate(body.napi, 1)}
     told |= {f"sent.{device}": count for device, count in sorted(body.sent.items())}
     told |= {f"received.{device}": taken_of(body, device) for device in words.device if taken_of(body, device)}
     told |= {f"program.{pid}.{key}": value for pid in pids[:64] for key, value in observed.of_task(pid)}
-    lines = [f"{key} {value}".rstrip() for key, value in {**told, **settings, **counts}.items() if str(value)]
+    lines = [f"{key} {value}".rstrip() for key, value in {**told, **others}.items() if str(value)]
     return ["fintaqush-recording 1", *lines, "trace"]
 
 
@@ -311,15 +277,12 @@ def sources_of(words: Words, settings: Mapping[str, str], program: str) -> Sourc
     """Returns what to record of these devices with these settings."""
     if not words.sender:
         return Sources(program, words.device)
-    moved = [
-        name
-        for name in words.device
-        if settings.get(f"device.{name}.ethtool.feature.generic-receive-offload") == "off"
-        or any(
-            re.fullmatch(rf"device\.{re.escape(name)}\.rx-\d+\.rps_cpus", key) and value.strip("0,")
-            for key, value in settings.items()
-        )
-    ]
+    by_rps = {
+        key.rpartition(".rx-")[0] for key, value in settings.items() if key.endswith(".rps_cpus") and value.strip("0,")
+    }
+    without_gro = {key for key, value in settings.items() if value == "off"}
+    offload = "ethtool.feature.generic-receive-offload"
+    moved = [it for it in words.device if f"device.{it}" in by_rps or f"device.{it}.{offload}" in without_gro]
     senders = [sender for sender, name in zip(words.sender, words.device) if f"device.{name}.rx-1.rps_cpus" in settings]
     return Sources(program, (), moved, senders)
 
@@ -332,14 +295,13 @@ def told_end(words: Words, head: Mapping[str, Any], body: Body) -> str:
         f"{body.lines} events, by {float(head['recorder.seconds']):.1f} s of processor time",
         *(described(name, body.napi) for name in own),
     ]
+    named = ", ".join(words.device)
     if not own:
-        parts.append(f"no poll of {', '.join(words.device)}")
+        parts.append(f"no poll of {named}")
     if words.sender:
         parts.append(f"{sum(body.sent[name] for name in words.sender)} packets of {', '.join(words.sender)}")
     else:
-        parts.append(
-            f"{sum(taken_of(body, name) for name in words.device)} packets that {', '.join(words.device)} received"
-        )
+        parts.append(f"{sum(taken_of(body, name) for name in words.device)} packets that {named} received")
     return f"{shown(words.out)}: {'; '.join(parts)}"
 
 
@@ -379,7 +341,7 @@ def record(words: Words, tell: Callable[[str], None]) -> str:
     head, counts, body = recorded(words, mount_tracefs(), sources_of(words, settings, program), tell)
     pids = pids or (program_filter(words.program)[1] if words.program else [])
     with WholeFile(words.out) as new, open(new, "wb") as file:
-        text = "\n".join(head_of(words, head, settings, counts, body, pids))
+        text = "\n".join(head_of(words, head, {**settings, **counts}, body, pids))
         file.write(text.encode("utf-8", "replace") + b"\n")
         body.put(file)
     for note in notes_on(words, head, body):
@@ -390,10 +352,9 @@ def record(words: Words, tell: Callable[[str], None]) -> str:
 def check_whole(words: Words) -> None:
     """Fails if the recording ended early."""
     if words.took:
-        raise Refusal(
-            f"a buffer of {words.buffer} MB was nearly full after {words.took:.1f} of {words.seconds} s, so the recording ended early: "
-            + advice_on_buffer(words, words.took, most_memory())
-        )
+        what = f"a buffer of {words.buffer} MB was nearly full after {words.took:.1f} of {words.seconds} s"
+        how = advice_on_buffer(words, words.took, most_memory())
+        raise Refusal(f"{what}, so the recording ended early: {how}")
 
 
 def recorded_by(words: Words, tell: Callable[[str], None]) -> str:

@@ -195,20 +195,16 @@ def orders_that_change(
         if changed:
             one, other, side = changed[0]
             more = f", and so does that of {len(changed) - 1} more pairs" if len(changed) > 1 else ""
-            yield (
-                f"with costs {abs(side)} % {'lower' if side < 0 else 'higher'} the order by {what} changes: {name_of(one, varied)} and "
-                f"{name_of(other, varied)}{more}",
-                sorted({(keys.index(one) + 1, keys.index(other) + 1) for one, other, _ in changed}),
-                what,
-            )
+            costs = f"with costs {abs(side)} % {'lower' if side < 0 else 'higher'}"
+            both = f"{name_of(one, varied)} and {name_of(other, varied)}"
+            pairs = sorted({(keys.index(one) + 1, keys.index(other) + 1) for one, other, _ in changed})
+            yield f"{costs} the order by {what} changes: {both}{more}", pairs, what
 
 
 def changes(by_key: Mapping[Key, Row], one: Key, other: Key, side: int, of: Callable[[Row], int]) -> bool:
     """Returns whether, of two combinations, the other one is better with costs changed by that many percent."""
-    values = [
-        [of(by_key[key]) for key in (band_of(one, each), band_of(other, each)) if key in by_key]
-        for each in (100, 100 + side)
-    ]
+    keys = [[band_of(one, each), band_of(other, each)] for each in (100, 100 + side)]
+    values = [[of(by_key[key]) for key in both if key in by_key] for both in keys]
     return all(len(each) == 2 for each in values) and (values[0][0] - values[0][1]) * (values[1][0] - values[1][1]) < 0
 
 
@@ -217,10 +213,8 @@ def of_budgets(rows: Sequence[Row]) -> Iterator[str]:
     Returns a line that says so, or none."""
     budgets, told = {str(row["budget"]) for row in rows} - {"0"}, told_in(rows)
     if len(budgets) > 1 and told and all(int(row["queues_of_a_processor"]) <= 1 for row in told):
-        yield (
-            "in the model, with one queue on each processor, net.core.netdev_budget changes no latency and no drops, only how many runs are "
-            "squeezed"
-        )
+        no = "net.core.netdev_budget changes no latency and no drops, only how many runs are squeezed"
+        yield f"in the model, with one queue on each processor, {no}"
 
 
 def status_for(rows: Sequence[Row], conditions: Sequence[Condition]) -> int:
@@ -249,20 +243,21 @@ def columns_of(rows: Sequence[Row]) -> list[str]:
 def objects_of(rows: Sequence[Row]) -> Iterator[Row]:
     """Yields an object for each row."""
     names = [name for name in (*KEY, "status", "fault", *columns_of(rows)) if name in rows[0]]
+    texts = ("arrivals", "sum")
     for row in rows:
-        yield {
-            identifier(name): row[name] if name in ("arrivals", "sum") else value_of(str(row[name])) for name in names
-        }
+        yield {identifier(it): row[it] if it in texts else value_of(str(row[it])) for it in names}
+
+
+def write_rows(columns: Sequence[str], rows: Sequence[Row]) -> None:
+    table = csv.DictWriter(sys.stdout, columns, extrasaction="ignore", lineterminator="\n")
+    table.writeheader()
+    table.writerows(rows)
 
 
 def print_rows(rows: Sequence[Row]) -> None:
     """Prints the rows as CSV."""
     faults = ["fault"] if any(row["fault"] for row in rows) else []
-    table = csv.DictWriter(
-        sys.stdout, [*varied_in(rows), *faults, *columns_of(rows)], extrasaction="ignore", lineterminator="\n"
-    )
-    table.writeheader()
-    table.writerows(rows)
+    write_rows([*varied_in(rows), *faults, *columns_of(rows)], rows)
 
 
 def answer(rows: Sequence[Row], every: Sequence[Row], keys: Sequence[Key], words: Words) -> None:
@@ -476,9 +471,7 @@ def print_breakings(found: Sequence[breaking.Breaking], words: Words, rate: floa
             named = name_of(each.key, varied)
             print(f"{named}: " * bool(named) + breaking.told(words.until, each, rate, percents))
     elif words.form == "csv":
-        table = csv.DictWriter(sys.stdout, [*varied, *lines[0][1]], extrasaction="ignore", lineterminator="\n")
-        table.writeheader()
-        table.writerows({**options, **line} for options, line in lines)
+        write_rows([*varied, *lines[0][1]], [{**options, **line} for options, line in lines])
     write_json(words.json, "what-if", (object_of_breaking(words, *each) for each in lines))
 
 
@@ -526,14 +519,11 @@ def check_arrivals(words: Words) -> None:
         raise Refusal(f"{shown(words.arrivals)}: {reason}")
     with open(words.arrivals, "rb") as file:
         if file.readline(1000).startswith(TRACE):
-            raise Refusal(
-                f"{shown(words.arrivals)}: a trace, whose runs are given; arrivals are made by --arrivals of from-pcap, from-ftrace or traffic"
-            )
+            made = "arrivals are made by --arrivals of from-pcap, from-ftrace or traffic"
+            raise Refusal(f"{shown(words.arrivals)}: a trace, whose runs are given; {made}")
     if any(int(each) > 1 for each in words.queues) and not has_flows(words.arrivals):
-        raise Refusal(
-            f"{shown(words.arrivals)}: there is no column flow, which --queues above 1 needs: moment,device,bytes,flow, as from-pcap, from-ftrace and "
-            "traffic write it by --flows"
-        )
+        how = "moment,device,bytes,flow, as from-pcap, from-ftrace and traffic write it by --flows"
+        raise Refusal(f"{shown(words.arrivals)}: there is no column flow, which --queues above 1 needs: {how}")
 
 
 def main(given: Sequence[str]) -> int:
