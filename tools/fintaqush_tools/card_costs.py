@@ -30,9 +30,8 @@ class CardTimes:
     def __init__(self, polled: Iterable[str] = ()) -> None:
         self.polled = set(polled)
         self.takes = list[int]()  # from one packet that a poll passes to GRO to the next one
-        self.woken_uses = list[
-            int
-        ]()  # from the end of a poll of one packet, for which a program slept, to its next read
+        # From the end of a poll of one packet, for which a program slept, to its next read.
+        self.woken_uses = list[int]()
         self.taken = dict[int, int]()  # by processor: when the poll that it makes last passed a packet to GRO
         self.sleeps = dict[int, int]()  # by task that sleeps: how many packets polls had delivered by then
         self.woken = dict[int, int]()  # by task that read the only packet since then: the end of that packet's poll

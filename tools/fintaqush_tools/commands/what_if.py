@@ -37,6 +37,7 @@ import itertools
 import math
 import os
 import re
+import shlex
 import sys
 import tempfile
 import threading
@@ -45,10 +46,11 @@ from fractions import Fraction
 from pathlib import Path
 from typing import Any
 
-from fintaqush_tools import breaking, repeats, tables
+from fintaqush_tools import breaking, tables
 from fintaqush_tools.bands import DOUBT, with_costs
 from fintaqush_tools.combinations import Combinations, Key, Row
 from fintaqush_tools.combinations import add_words, check_words, choices, fault_of, sum_of, told_in
+from fintaqush_tools.commands import traffic
 from fintaqush_tools.errors import Refusal, unfinished, unlink
 from fintaqush_tools.files import WholeFile, check_regular, check_target
 from fintaqush_tools.machine import ARE, COSTS, OPTIONS, VALUES, WAITS, help_of, identifier, option_words, values_of
@@ -67,6 +69,15 @@ FAULT = re.compile(r"arrivals fault (?!10 )\d+ \w+ row \d+$")
 HEADER, TRACE = b"moment,device,bytes", b"moment,device,event"
 MOST_CURVES = len(COLORS)
 SHORT = {"p50": "used_p50", "p99": "used_p99", "p999": "used_p999"}  # names for --fail-if
+TAKEN = (
+    "--arrivals",
+    "--out",
+    "--seed",
+    "--help",
+    "-h",
+    "--version",
+    "--manual",
+)  # options of traffic that are set here
 making = threading.Lock()
 
 
@@ -499,17 +510,53 @@ def until_it_breaks(made: str, words: Words) -> None:
     print_breakings(found, words, rate, percents)
 
 
+def made_traffic(words: str, seeds: int) -> list[str]:
+    """Returns the names of files with arrivals by these options of fintaqush traffic, for seeds from 1 on. They are removed when the tool ends."""
+    try:
+        options = shlex.split(words)
+    except ValueError as error:
+        raise Refusal(f"--traffic: {error}") from None
+    if own := [word for word in options if word.partition("=")[0] in TAKEN]:
+        raise Refusal(f"--traffic: {shown(own[0])} isn't for this: --arrivals, --seed and --out are set here")
+    names = []
+    for seed in range(1, seeds + 1):
+        handle, name = tempfile.mkstemp(suffix=".csv")
+        os.close(handle)
+        unfinished.add(name)
+        try:
+            traffic.main([*options, "--arrivals", "--seed", str(seed), "--out", name], raises=True)
+        except Refusal as error:
+            raise Refusal(f"--traffic: {error}") from None
+        names.append(name)
+    return names
+
+
+def numeric(text: object) -> float:
+    return float(str(text)) if "." in str(text) else int(str(text))
+
+
+def spread(rows: Sequence[dict[str, Any]], settings: Iterable[str], values: Iterable[str]) -> dict[str, Any]:
+    """Combines rows with the same settings into one: for each value the median (of an even number the lower one), the minimum and the maximum."""
+    row = {name: rows[0][name] for name in settings}
+    row["status"] = max(int(each["status"]) for each in rows)
+    row["fault"] = next((each["fault"] for each in rows if each["fault"]), "")
+    for name in values:
+        of = sorted((each[name] for each in rows), key=numeric)
+        row.update({name: of[(len(of) - 1) // 2], f"{name}_least": of[0], f"{name}_most": of[-1]})
+    return row
+
+
 def all_rows(made: str, words: Words) -> tuple[list[Key], list[Row]]:
     """Returns the requested rows and those of the band, with their keys; for generated traffic the spread over the seeds."""
     if not words.traffic:
         keys, band = keys_of(words, words.arrivals)
         return keys, TABLE.make(made, words, list(dict.fromkeys([*keys, *band])))
-    of = [keys_of(words, name) for name in repeats.made(words.traffic, words.seeds or 5)]
+    of = [keys_of(words, name) for name in made_traffic(words.traffic, words.seeds or 5)]
     every = [list(dict.fromkeys([*keys, *band])) for keys, band in of]
     rows = TABLE.make(made, words, [key for keys in every for key in keys])
     told, count = {"arrivals": f"traffic {words.traffic}", "sum": f"{len(of)} seeds"}, len(every[0])
-    spread = [{**repeats.spread(rows[place::count], VARIED, VALUES), **told} for place in range(count)]
-    return [(told["arrivals"], told["sum"], *key[2:]) for key in of[0][0]], spread
+    spreads = [{**spread(rows[place::count], VARIED, VALUES), **told} for place in range(count)]
+    return [(told["arrivals"], told["sum"], *key[2:]) for key in of[0][0]], spreads
 
 
 def check_arrivals(words: Words) -> None:
