@@ -44,8 +44,7 @@ def arrivals_within(capture: str, head: Head, device: str) -> list[int]:
     end = begin + round(float(head.get("seconds", "0")) * SECOND)
     within = [moment - int(real) + int(monotonic) for moment in times if begin <= moment <= end]
     if not within:
-        raise Refusal(
-            f"{shown(capture)}: its packets to {shown(device)} are from {date(times[0])} to {date(times[-1])}, and the recording from {date(begin)} to "
-            f"{date(end)}; if they were captured meanwhile, {CLOCK}"
-        )
+        own = f"its packets to {shown(device)} are from {date(times[0])} to {date(times[-1])}"
+        other = f"the recording from {date(begin)} to {date(end)}; if they were captured meanwhile, {CLOCK}"
+        raise Refusal(f"{shown(capture)}: {own}, and {other}")
     return within

@@ -76,10 +76,8 @@ def values_of(report: Iterable[Mapping[str, Any]]) -> dict[str, dict[str, Any]]:
 
 def numbers_of(values: Mapping[str, Mapping[str, Any]]) -> Values:
     """Returns the numbers among the values of a replay, which are exact."""
-    return {
-        row: {name: Value(value) for name, value in each.items() if type(value) is int and name != "word"}
-        for row, each in values.items()
-    }
+    some = {row: [name for name in each if type(each[name]) is int and name != "word"] for row, each in values.items()}
+    return {row: {name: Value(values[row][name]) for name in names} for row, names in some.items()}
 
 
 def number(value: Any) -> float:
@@ -103,11 +101,8 @@ def values_of_rows(rows: Sequence[Mapping[str, Any]]) -> Values:
         name for name in rows[0] if name not in NO_OPTION | ROW_VALUES.keys() and not name.endswith(("_least", "_most"))
     ]
     varied = [name for name in own if len({str(row.get(name)) for row in rows}) > 1]
-    return {
-        ", ".join(f"{name} {row.get(name)}" for name in varied): values_of_row(row)
-        for row in rows
-        if str(row.get("status", 0)) == "0"
-    }
+    whole = [row for row in rows if str(row.get("status", 0)) == "0"]
+    return {", ".join(f"{name} {row.get(name)}" for name in varied): values_of_row(row) for row in whole}
 
 
 def costs_in(told: Mapping[str, Mapping[str, float]]) -> dict[str, Value]:
@@ -125,12 +120,8 @@ def of_advice(objects: Sequence[Line]) -> Values:
 
 
 READERS: dict[str, Callable[[Sequence[Line]], Values]] = {
-    "replay": lambda objects: numbers_of(values_of(objects)),
-    "what-if": values_of_rows,
-    "machine": values_of_rows,
-    "sweep": values_of_rows,
-    "costs": of_costs,
-    "advise": of_advice,
+    **dict.fromkeys(("what-if", "machine", "sweep"), values_of_rows),
+    **{"replay": lambda objects: numbers_of(values_of(objects)), "costs": of_costs, "advise": of_advice},
 }
 
 
@@ -201,10 +192,9 @@ def values_in_file(path: str, device: str | None) -> Values:
             return reader(objects)
         if ROW_VALUES.keys() & set(first.strip().split(",")):
             return values_of_rows(list(csv.DictReader(io.StringIO(first + "".join(lines)))))
-    raise Refusal(
-        "neither results (--json FILE of a tool, or CSV of what-if or sweep) nor a file of fintaqush record; a trace is replayed with two "
-        "settings by: fintaqush compare TRACE OPTION .. -- OPTION .."
-    )
+    what = "neither results (--json FILE of a tool, or CSV of what-if or sweep) nor a file of fintaqush record"
+    how = "a trace is replayed with two settings by: fintaqush compare TRACE OPTION .. -- OPTION .."
+    raise Refusal(f"{what}; {how}")
 
 
 def values_in_files(paths: Sequence[str], device: str | None) -> Values:
@@ -310,10 +300,8 @@ def lines_of(changes: Sequence[Change]) -> list[str]:
             rows.append([each.row, heading(each.name).replace("_", " "), *told, change, noise, each.verdict()])
     counts = Counter(each.verdict() for each in changes)
     certain = counts["higher"] + counts["lower"]
-    summary = (
-        f"of {len(changes)} values {certain} changed by more than the noise, {counts[CHANCE]} within it, {counts[UNKNOWN]} by an unknown part of it, "
-        f"and {counts[SAME]} are the same"
-    )
+    changed = f"{certain} changed by more than the noise, {counts[CHANCE]} within it, {counts[UNKNOWN]} by an unknown part of it"
+    summary = f"of {len(changes)} values {changed}, and {counts[SAME]} are the same"
     return [*(aligned(rows, 2) if len(rows) > 1 else []), summary]
 
 

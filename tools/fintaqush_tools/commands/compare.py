@@ -87,11 +87,9 @@ def status_for(words: Words, changes: Sequence[Change]) -> int:
     for is_relative in (True, False):
         some = [each for each in changes if not (is_relative and each.is_noise)]
         names = [each.as_object()["name"] for each in some]
-        status |= status_of(
-            [each for each in conditions if each.is_relative == is_relative],
-            [(each.row, {name: each.after.middle}) for name, each in zip(names, some)],
-            [{name: each.before.middle} for name, each in zip(names, some)],
-        )
+        own, named = [each for each in conditions if each.is_relative == is_relative], list(zip(names, some))
+        after = [(each.row, {name: each.after.middle}) for name, each in named]
+        status |= status_of(own, after, [{name: each.before.middle} for name, each in named])
     return status
 
 

@@ -335,19 +335,18 @@ class Trace:
         """Notes what is unknown about the row that was just added; compare-recording reads the numbers."""
         row = f"row {len(self.rows)}"
         if polling.within:
-            self.notes.append(
-                f"{row}: packets that arrived while it was under way and stand before it: {polling.within}; "
-                "which poll had them isn't recorded, and later rows carry the difference on"
-            )
+            what = "which poll had them isn't recorded, and later rows carry the difference on"
+            came = f"packets that arrived while it was under way and stand before it: {polling.within}"
+            self.notes.append(f"{row}: {came}; {what}")
         if ahead:
-            self.notes.append(
-                f"{row}: packets that it polled and that were sent after it or before the recording, by their events: {ahead}"
-            )
+            what = "packets that it polled and that were sent after it or before the recording, by their events"
+            self.notes.append(f"{row}: {what}: {ahead}")
         if own < len(polling.polls):
-            packets = sum(work for name, work in polling.polls if name not in self.devices)
-            self.notes.append(
-                f"{row}: polls in it of devices that are in no pair: {len(polling.polls) - own}, of {packets} packets"
+            packets, other = (
+                sum(work for name, work in polling.polls if name not in self.devices),
+                len(polling.polls) - own,
             )
+            self.notes.append(f"{row}: polls in it of devices that are in no pair: {other}, of {packets} packets")
         if polling.thread and own > 1:
             self.notes.append(f"{row}: the thread may have yielded between its {own} polls; it isn't recorded")
 
@@ -355,9 +354,9 @@ class Trace:
         """Adds the notes on the whole recording."""
         lists = {events[polling.last].cpu for polling in self.pollings if not polling.thread}
         if self.left_out:
+            front = f"{self.in_front} waited when the first of these rows came, and stand in front"
             self.notes.append(
-                f"rows that aren't in {self.first}:{self.last}: {self.left_out}; of their packets "
-                f"{self.in_front} waited when the first of these rows came, and stand in front"
+                f"rows that aren't in {self.first}:{self.last}: {self.left_out}; of their packets {front}"
             )
         if len(lists) > 1:
             alone = "each with a poll list of its own: the trace has one list"
@@ -451,11 +450,8 @@ class Arriving:
         if words.flows:
             self.check_flows(kind, packets)
         notes = self.notes_on(kind, devices, arrives_at, of)
-        rows = (
-            (time, arrives_at[name], size, *((flow,) if words.flows else ()))
-            for time, (name, flow), size in packets.in_order()
-            if name in arrives_at
-        )
+        own = (packet for packet in packets.in_order() if packet[1][0] in arrives_at)
+        rows = ((time, arrives_at[name], size, flow)[: 3 + words.flows] for time, (name, flow), size in own)
         count = number_of(sum(of[name] for name in arrives_at), words.rows)
         if not count:
             raise Refusal(f"no packet arrives at {shown(', '.join(devices))} in it")

@@ -302,11 +302,8 @@ def text_of(
     some = [f"rows {words.rows[0]} to {words.rows[1]} alone{front}"] if words.rows else []
     if words.arrivals:
         check_devices(len(names))
-        rows = (
-            (time, place, size, *((kind.flow,) if words.flows else ()))
-            for time, kind, size in packets.in_order()
-            for place in places[kind]
-        )
+        every = ((time, place, size, kind.flow) for time, kind, size in packets.in_order() for place in places[kind])
+        rows = (row[: 3 + words.flows] for row in every)
         count = sum(count * len(places[kind]) for kind, count in packets.counted().items())
         return arrivals_text(rows, words.rows, words.flows), number_of(count, words.rows), some
     if len(names) > MOST_DEVICES:

@@ -136,14 +136,9 @@ class Body:
     def __init__(self, path: str, stamps: Stamps, pairs: Sequence[tuple[str, str]]) -> None:
         self.path, self.stamps, self.lines, self.read = path, stamps, 0, 0
         self.instances, self.sent, self.received = Instances(pairs), Counter[str](), Counter[tuple[str, bool]]()
-        self.looks = {
-            b"napi_poll": self.look_at_poll,
-            b"net_dev_start_xmit": self.look_at_start,
-            b"net_dev_xmit": self.look_at_sent,
-            b"napi_gro_receive_entry": self.look_at_taken,
-            b"napi_gro_frags_entry": self.look_at_taken,
-            b"netif_receive_skb": self.look_at_stacked,
-        }
+        self.looks = {b"napi_poll": self.look_at_poll, b"net_dev_start_xmit": self.look_at_start}
+        self.looks |= {b"net_dev_xmit": self.look_at_sent, b"netif_receive_skb": self.look_at_stacked}
+        self.looks |= dict.fromkeys((b"napi_gro_receive_entry", b"napi_gro_frags_entry"), self.look_at_taken)
 
     def scan(self) -> None:
         """Looks at all lines."""
@@ -310,10 +305,9 @@ def notes_on(words: Words, head: Mapping[str, Any], body: Body) -> Iterator[str]
     if head["missing"]:
         yield f"this kernel has no event {head['missing']}"
     if not words.sender and any(taken_of(body, name) for name in words.device):
-        yield (
-            "its arrivals are when polls took the packets, because no device that sends to it is known, as of a veth pair: waits in a card's ring "
-            "before the interrupt aren't in it"
-        )
+        why = "because no device that sends to it is known, as of a veth pair"
+        waits = "waits in a card's ring before the interrupt aren't in it"
+        yield f"its arrivals are when polls took the packets, {why}: {waits}"
     elif not words.sender:
         yield f"it has no arrivals: {', '.join(words.device)} received nothing"
     elif not any(body.sent[name] for name in words.sender):
