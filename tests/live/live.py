@@ -110,7 +110,6 @@ def seen_in(setting: Setting, recorded: rig.Recorded) -> tuple[Receiving, dict[s
 
 
 def values_of(setting: Setting, recorded: rig.Recorded) -> dict[str, Any]:
-    """The measured values of a recording."""
     seen, head = seen_in(setting, recorded)
     ends = [(seen.sent[number], read + rig.USE_NS) for number, read in recorded.reads]
     return predicting.measured_of(seen, head, ends)
@@ -142,7 +141,6 @@ class Recordings:
                          f"hypervisor took {recorded.stolen} hundredths of a second from its processors")
 
     def of(self, group: Group) -> dict[str, list[rig.Recorded]]:
-        """The recordings of each setting of the group."""
         made: dict[str, list[rig.Recorded]] = {setting.name: [] for setting in group.settings}
         for _ in range(TIMES):
             for setting in group.settings:

@@ -7,7 +7,7 @@ import unittest
 from collections.abc import Sequence
 
 from prefixes import report_of, series_by_reports, values_of
-from tooltest import HEADER, NO_WORDS, REPLAY, SERIES, TOP, process, process_to
+from tooltest import HEADER, NO_WORDS, REPLAY, SERIES, TOP, process
 
 NAMES = "row,moment,device,state,waiting,arrived,dropped,polled,in_flight,limit,avail,stopped,polls,work,squeezed,word,list,gave\n"
 
@@ -114,8 +114,3 @@ class Series(unittest.TestCase):
         self.assertEqual([process(SERIES, *words, text=HEADER).stdout for words in (["--rows"], ["--rows", "--raise"], ["--raise=3", "--rows"])], [HEADER] * 3)
         done = process(SERIES, b"--every", b"\xff")
         self.assertEqual((done.stderr, done.returncode), ("usage fault 64\n", 64))
-
-    def test_ends_that_fail(self) -> None:
-        self.assertEqual(process_to("full", SERIES, text=HEADER), ("output fault 15 OutputFailed\n", 4))
-        done = process("sh", "-c", f"'{SERIES}' < '{TOP}/examples'")
-        self.assertEqual((done.stdout, done.stderr, done.returncode), ("", "trace fault 10 ReadFailed\n", 2))

@@ -67,7 +67,6 @@ class Steps(InFolder):
         self.assertTrue(found and 0 < int(found[1]) <= 360, found)
 
     def data(self, trace: object, *words: object) -> Any:
-        """Returns the data of a page."""
         return json.loads(group_in(r"^const page = (.*);$", self.steps(trace, *words), re.M))
 
     def said(self, rows: Sequence[str], *words: object, header: str = HEADER) -> list[list[list[str]]]:

@@ -169,7 +169,6 @@ def process_to(kind: str, *command: object, **others: Any) -> tuple[str, int]:
 
 
 def keys_of(told: object) -> Iterator[str]:
-    """Yields all keys of a JSON object and of the objects in it."""
     if isinstance(told, dict):
         yield from told
     for each in told.values() if isinstance(told, dict) else told if isinstance(told, list) else ():
@@ -242,7 +241,6 @@ class InFolder(unittest.TestCase):
             path.unlink()
 
     def names(self) -> list[str]:
-        """Returns the names in the folder."""
         return sorted(path.name for path in self.folder.iterdir())
 
     def succeeds(self, name: str, *words: object, **others: Any) -> str:

@@ -113,7 +113,6 @@ def load_text(load: Fraction) -> str:
 
 
 def text_of(load: Optional[Fraction]) -> Optional[str]:
-    """Formats a load, if it is known."""
     return None if load is None else load_text(load)
 
 

@@ -135,7 +135,6 @@ def flow_of(data: mmap.mmap, record: Record) -> int:
 
 
 def in_pcap(data: mmap.mmap) -> Iterator[Record]:
-    """Yields the records of a pcap file."""
     order, tick = ORDERS[data[:4]]
     link = LINKS.get(struct.unpack_from(order + "I", data, 20)[0] & 0xFFFF)
     if struct.unpack_from(order + "HH", data, 4) != VERSION or not link:
@@ -170,7 +169,6 @@ def interface_of(data: mmap.mmap, order: str, at: int, end: int) -> tuple[Link, 
 
 
 def in_pcapng(data: mmap.mmap) -> Iterator[Record]:
-    """Yields the records of a pcapng file."""
     place, size, order = 0, len(data), "<"
     interfaces: list[tuple[Link, int]] = []
     while place < size:

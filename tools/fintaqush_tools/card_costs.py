@@ -38,12 +38,10 @@ class CardTimes:
         self.delivered, self.poll_end, self.poll_on, self.was_lone = 0, 0, -1, False
 
     def add(self, event: Event) -> None:
-        """Processes the next event of the recording."""
         if look := self.look_at(event.name):
             look(event)
 
     def look_at(self, name: str) -> Optional[Callable[[Event], None]]:
-        """Returns what handles the events of this name."""
         if name.startswith("sys_"):
             return self.end_read if name.startswith("sys_exit_") else self.begin_read
         return {

@@ -31,7 +31,6 @@ def unknown(name: str) -> str:
 
 
 def module_of(name: str) -> ModuleType:
-    """Imports the module of a subcommand."""
     from importlib import import_module
 
     Program.name = f"fintaqush {name}"

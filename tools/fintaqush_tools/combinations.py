@@ -145,7 +145,6 @@ class Combinations:
             return None, f"{' '.join([shown(key[0]), *words])}: {why(error)}"
 
     def line_of(self, row: Row) -> str:
-        """Formats a row as a line of the file."""
         text = io.StringIO()
         csv.DictWriter(text, self.columns, lineterminator="\n").writerow(row)
         return text.getvalue()

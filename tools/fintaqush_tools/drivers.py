@@ -82,7 +82,6 @@ def number_in(head: Head, key: str, otherwise: int = 0) -> int:
 
 
 def usecs_in(head: Head, device: str) -> int:
-    """Returns a recorded device's rx-usecs."""
     return number_in(head, f"device.{device}.ethtool.coalesce.rx-usecs")
 
 

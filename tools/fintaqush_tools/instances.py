@@ -193,7 +193,6 @@ class Routes:
         return (self.backlogs.get(event.cpu), packet) if device in self.moved else (None, packet)
 
     def of_poll(self, device: str, napi: str) -> Place:
-        """Returns the instance of a poll."""
         return (device, napi) if self.are_known else ANY
 
 

@@ -154,7 +154,6 @@ def of_task(pid: int) -> Iterator[tuple[str, str]]:
 
 
 def threads_of(name: str) -> Iterator[tuple[str, str]]:
-    """Yields the NAPI threads of a device."""
     for pid, thread in sorted(tasks_named(lambda each: each.startswith(f"napi/{name}-"))):
         for key, value in of_task(pid):
             yield f"thread.{thread.rpartition('-')[2]}.{key}", value
@@ -196,7 +195,6 @@ def of_kernel() -> Iterator[tuple[str, str]]:
 
 
 def settings_of_device(name: str, netns: str | None) -> Iterator[tuple[str, str]]:
-    """Yields all settings of a device."""
     of = of_device(name, netns)
     counts = ("statistics.", "ifindex", "iflink")
     for key, value in of.items():

@@ -148,7 +148,6 @@ def saved(figure: Any, end: str, title: str, alternative: str) -> bytes:
 
 
 def draw_curve(axes: Any, each: Curve, colors: Mapping[str, str]) -> None:
-    """Draws one curve of a panel."""
     color, name, points = colors[each["color"]], each["name"] or None, each["points"]
     x, y = [point[0] for point in points], [point[-1] for point in points]
     if each["kind"] == "area":

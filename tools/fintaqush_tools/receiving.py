@@ -77,7 +77,6 @@ class Receiving:
         self.looks = dict[str, Optional[Callable[[Event], None]]]()
 
     def add(self, event: Event) -> None:
-        """Processes the next event of the recording."""
         self.span = (self.span[0] if self.span else event.time, event.time)
         if self.receivers:
             self.begins.look(event)
@@ -89,7 +88,6 @@ class Receiving:
             look(event)
 
     def look_at(self, name: str) -> Optional[Callable[[Event], None]]:
-        """Returns what handles the events of this name."""
         if name.startswith("sys_"):
             return self.end_read if name.startswith("sys_exit_") else self.begin_read
         return {

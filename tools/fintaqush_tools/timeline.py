@@ -98,7 +98,6 @@ class Reads:
         self.forget()
 
     def forget(self) -> None:
-        """Forgets all reads."""
         # For each task in a call: when the call began, and what was taken then.
         self.called: dict[int, tuple[int, int]] = {}
         # For each task that slept since its last read: when it last did, and whether in a call.
@@ -247,7 +246,6 @@ class Timeline:
             look(self.on[event.cpu], event)
 
     def look_at(self, name: str) -> Optional[Callable[[Processor, Event], None]]:
-        """Returns what handles the events of this name."""
         if name.startswith("hrtimer_"):
             return self.timer
         if name.startswith("sys_enter_"):

@@ -43,7 +43,6 @@ def add_files(parser: Parser, files: str) -> None:
 
 
 def check_flows(options: Parser, words: Words) -> None:
-    """Rejects --flows for a trace."""
     if words.flows and not words.arrivals:
         options.error("--flows goes with --arrivals")
 

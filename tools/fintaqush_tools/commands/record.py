@@ -269,7 +269,6 @@ def find_senders(words: Words) -> list[str]:
 
 
 def sources_of(words: Words, settings: Mapping[str, str], program: str) -> Sources:
-    """Returns what to record of these devices with these settings."""
     if not words.sender:
         return Sources(program, words.device)
     by_rps = {

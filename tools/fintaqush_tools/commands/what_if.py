@@ -129,7 +129,6 @@ def outcome(made: str, name: str, settings: Mapping[str, str]) -> tuple[int, str
 
 
 def breaks_at(made: str, key: Key, load: str, until: str) -> bool:
-    """Returns whether a combination breaks at a load."""
     settings = dict(zip(OPTIONS, key[3:]))
     name = rewrite(key[0], load, int(settings["queues"]) > 1)
     try:
@@ -252,7 +251,6 @@ def columns_of(rows: Sequence[Row]) -> list[str]:
 
 
 def objects_of(rows: Sequence[Row]) -> Iterator[Row]:
-    """Yields an object for each row."""
     names = [name for name in (*KEY, "status", "fault", *columns_of(rows)) if name in rows[0]]
     texts = ("arrivals", "sum")
     for row in rows:
@@ -384,14 +382,12 @@ def draw(rows: Sequence[Row], words: Words) -> None:
 
 
 def load(text: str) -> str:
-    """Parses a load."""
     if not re.fullmatch(r"[0-9]{1,6}(\.[0-9]{1,6})?", text) or Fraction(text) == 0:
         raise wrong(text, "a load, as 0.5")
     return text
 
 
 def columns_told() -> str:
-    """Returns the descriptions of the result columns."""
     return "\nColumns of the results:\n\n" + "".join(f"    {name}: {ARE[name]}\n" for name in VALUES)
 
 
