@@ -51,7 +51,7 @@ home=lib/fintaqush # where what `fintaqush` runs lies, as in a checkout
 tool_pages=(FORMATS.md OPERATORS.md TOOLS.md) # which --help names
 parts=(fintaqush scripts/start.py docs/usage.txt examples/{linux-veth-bursts,busy-poll}.csv examples/veth-backlog.rec)
 package=tools/fintaqush_tools
-for file in "$top/$package"/{,commands/}*.{py,html,json}; do
+for file in "$top/$package"/{,commands/}*.{py,html,json,txt,bash,zsh}; do
     [ ! -f "$file" ] || parts+=("${file#"$top/"}")
 done
 mapfile -t subcommands < <("$top/fintaqush" --names)

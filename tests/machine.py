@@ -41,7 +41,6 @@ Settings = dict[str, int]
 
 
 def settings_of(given: Settings) -> Settings:
-    """Returns the value of each option."""
     settings = {name: default for name, (_, _, default) in OPTIONS.items()} | given
     return {name: settings[value] if isinstance(value, str) else value for name, value in settings.items()}  # type: ignore[misc]
 
@@ -88,7 +87,6 @@ OF_CARDS = "rx-gap", "latched", "gro-batch", "take", "heedless", "timer", "timer
 
 @functools.lru_cache(None)
 def options_of(program: str) -> dict[str, tuple[int, int, int | str]]:
-    """Returns the options that the program has."""
     lacks = [name for name in OF_CARDS if ran(program, [f"--{name}", "0"], text_of([]))[2] != 0]
     if lacks:
         print(f"not compared, because {program} lacks them: {' '.join(lacks)}, and app-wake on the processor that polls")
@@ -341,23 +339,6 @@ def options(program: str) -> list[str]:
 
 
 def ends(program: str) -> list[str]:
-    """A reader and a writer that fail."""
-    wrong: list[str] = []
-    folder = os.open("/", os.O_RDONLY)
-    try:
-        done = subprocess.run([program], stdin=folder, capture_output=True, text=True, check=False)
-    finally:
-        os.close(folder)
-    if (done.stdout, done.stderr, done.returncode) != ("", "arrivals fault 10 ReadFailed\n", 2):
-        wrong.append(f"a reader that fails: {done}")
-    with open("/dev/full", "wb") as full:
-        done = subprocess.run([program], input=text_of([(0, 1, 60)]), stdout=full, stderr=subprocess.PIPE, text=True, check=False)
-    if (done.stderr, done.returncode) != ("output fault 15 OutputFailed\n", 4):
-        wrong.append(f"a writer that fails: {done}")
-    return wrong + slow_ends(program)
-
-
-def slow_ends(program: str) -> list[str]:
     """A pipe that gives some bytes at a time, and a terminal, on which one Ctrl-D ends the text."""
     wrong: list[str] = []
     text = text_of([(0, 1, 60), (5, 1, 60), (9, 1, 60)])

@@ -16,8 +16,7 @@ napi_machine, has to print the same bytes; settings that need an option which it
 """
 
 import functools
-import gzip
-import json
+import re
 import sys
 import tempfile
 from collections.abc import Callable, Iterator, Mapping
@@ -27,14 +26,15 @@ from typing import Any
 
 HERE = Path(__file__).resolve().parent
 TOP = HERE.parent.parent
-sys.path[:0] = [str(TOP / "tools"), str(TOP / "tests"), str(HERE)]
+sys.path[:0] = [str(TOP / "tools"), str(TOP / "tests"), str(TOP / "scripts"), str(HERE)]
 
 import emulation  # noqa: E402
 import machine  # noqa: E402
 from emulation import Setting  # noqa: E402
 from fintaqush_tools import drivers, predicting  # noqa: E402
 from fintaqush_tools.machine import values_of  # noqa: E402
-from judging import Judged, difference, judge  # noqa: E402
+from judging import Judged, Skipped, difference, judge, read_kept, write_kept  # noqa: E402
+from parts import with_part  # noqa: E402
 from seen import DEVICE, HEAD, Seen, frames_in  # noqa: E402
 
 Options = dict[str, int]
@@ -43,7 +43,7 @@ Predict = Callable[[Options, str], str]  # the machine's report for options and 
 
 KEPT = HERE / "kept"
 PAGE = TOP / "docs/TIMING.md"
-BEGIN, END = "<!-- emulated cards: begin -->\n", "<!-- emulated cards: end -->"
+BEGIN, END = "<!-- emulated cards: begin -->", "<!-- emulated cards: end -->"
 NO_LIMIT = 65536  # packets of a socket's buffer, which holds all
 # The values that are compared: by how much each may differ, in %, from the range in which the measured one is known; its column in the table.
 VALUES = {
@@ -148,20 +148,6 @@ def kept_of(card: Card, folder: Path) -> Kept:
     }
 
 
-def read_kept(card: Card) -> Kept:
-    kept: Kept = json.loads((KEPT / f"{card.driver}.json").read_text(encoding="utf-8"))
-    arrivals = gzip.decompress((KEPT / f"{card.driver}.csv.gz").read_bytes()).decode("ascii")
-    return {**kept, "arrivals": arrivals}
-
-
-def write_kept(card: Card, kept: Kept) -> None:
-    KEPT.mkdir(exist_ok=True)
-    packed = gzip.compress(kept["arrivals"].encode("ascii"), 9, mtime=0)
-    (KEPT / f"{card.driver}.csv.gz").write_bytes(packed)
-    others = {name: value for name, value in kept.items() if name != "arrivals"}
-    (KEPT / f"{card.driver}.json").write_text(json.dumps(others, indent=1) + "\n", encoding="utf-8")
-
-
 def recorded(card: Card, folder: Path) -> Kept:
     """Makes the recordings of a card here, and returns what may be kept of them."""
     emulation.record(card.model, card.driver, card.settings, folder)
@@ -262,14 +248,6 @@ def lines_of(card: Card, kept: Kept, predict: Predict) -> Iterator[Line]:
 # ---- the comparison
 
 
-class Skipped(list[str]):
-    """What is skipped, and printed at once."""
-
-    def add(self, what: str, need: str) -> None:
-        self.append(what)
-        print(f"skipped: cards: {what} needs {need}", flush=True)
-
-
 def judged_lines(card: Card, kept: Kept) -> Iterator[Judged]:
     """Compares the model with what was measured."""
     for line in lines_of(card, kept, by_model):
@@ -284,7 +262,7 @@ def judged_program(card: Card, kept: Kept, program: str, skipped: Skipped) -> It
         options = options_of(card, setting, kept)
         what = f"{card.driver}, {setting.name}, by napi_machine"
         if lacks := needed_by(options) - has:
-            skipped.add(what, " ".join(f"--{name}" for name in sorted(lacks)))
+            skipped.add("cards", f"{what} needs {' '.join(f'--{name}' for name in sorted(lacks))}")
             continue
         words = words_of({name: value for name, value in options.items() if name in has})
         out, _, _ = machine.ran(program, words, kept["arrivals"])
@@ -298,7 +276,7 @@ def without(rule: str) -> Predict:
 def judged_rules() -> Iterator[Judged]:
     """The recordings need each rule: without it some value is off."""
     for rule in RULES:
-        lines = [line for card in CARDS for line in lines_of(card, read_kept(card), without(rule))]
+        lines = [line for card in CARDS for line in lines_of(card, read_kept(KEPT / card.driver), without(rule))]
         off = sum(not line.is_good for line in lines)
         print(f"without {rule} {off} of {len(lines)} values are off")
         yield rule, [] if off else ["no value needs it"]
@@ -309,8 +287,8 @@ def judged_kept(program: str, skipped: Skipped) -> Iterator[Judged]:
     yield "docs/TIMING.md", [] if page(False) else ["another table; tests/cards/cards.py page --into puts it there"]
     yield from judged_rules()
     for card in CARDS:
-        yield from judged_lines(card, read_kept(card))
-        yield from judged_program(card, read_kept(card), program, skipped)
+        yield from judged_lines(card, read_kept(KEPT / card.driver))
+        yield from judged_program(card, read_kept(KEPT / card.driver), program, skipped)
 
 
 def judged_here(program: str, skipped: Skipped) -> Iterator[Judged]:
@@ -320,7 +298,7 @@ def judged_here(program: str, skipped: Skipped) -> Iterator[Judged]:
             try:
                 kept = recorded(card, Path(folder))
             except emulation.Late as error:
-                skipped.add(f"recordings of {card.driver}", f"a machine that does less: {error}")
+                skipped.add("cards", f"recordings of {card.driver} needs a machine that does less: {error}")
                 continue
             except emulation.Failed as error:
                 yield card.driver, [str(error)]
@@ -329,49 +307,50 @@ def judged_here(program: str, skipped: Skipped) -> Iterator[Judged]:
         if program:
             yield from judged_program(card, kept, program, skipped)
         else:
-            write_kept(card, kept)
+            write_kept(KEPT / card.driver, kept)
 
 
 # ---- the table of docs/TIMING.md
 
 
-def table() -> str:
-    """Returns the table of the kept recordings: in each cell the predicted value, the measured one, and the difference."""
+def table() -> list[str]:
+    """Returns the rows of the table of the kept recordings: in each cell the predicted value, the measured one, and the difference."""
     columns = " | ".join(column for _, column in VALUES.values())
     rows = [f"| Driver | Setting | {columns} |", "|" + "---|" * (2 + len(VALUES))]
     for card in CARDS:
         cells: dict[str, dict[str, str]] = {setting.name: {} for setting in card.settings}
-        for line in lines_of(card, read_kept(card), by_model):
+        for line in lines_of(card, read_kept(KEPT / card.driver), by_model):
             cells[line.setting][line.name] = "{}, {} ({})".format(*line.cells())
         for setting, of in cells.items():
             told = " | ".join(of.get(name, "") for name in VALUES)
             rows.append(f"| {card.driver} | {setting.replace(' us', ' µs')} | {told} |")
-    return "".join(f"{row}\n" for row in rows)
+    return rows
 
 
 def page(is_into: bool) -> bool:
     """Returns whether docs/TIMING.md has the table; if `is_into`, puts it there."""
     old = PAGE.read_text(encoding="utf-8")
-    before, begin, rest = old.partition(BEGIN)
-    _, end, after = rest.partition(END)
-    new = before + begin + table() + end + after
+    new = with_part(old, BEGIN, END, table())
     if is_into:
         PAGE.write_text(new, encoding="utf-8")
-    return bool(begin) and (is_into or new == old)
+    return is_into or new == old
 
 
 # ---- the table of drivers
 
 
+def sources() -> list[tuple[str, str, str, str]]:
+    """Returns the rows of sources.txt: the driver and the fact, the file of Linux, the line, and a part of it."""
+    return re.findall(r"^(\w+: .+?): (\S+):(\d+): (.*)$", (HERE / "sources.txt").read_text(encoding="utf-8"), re.M)
+
+
 def check_sources(folder: str) -> bool:
-    """Compares each line of the table of drivers with the sources of Linux. Returns whether one differs."""
+    """Compares each row with the sources of Linux. Returns whether one differs."""
     wrong = []
-    for name, driver in drivers.DRIVERS.items():
-        for source in driver.sources:
-            text = (Path(folder) / source.path).read_text(encoding="utf-8", errors="replace")
-            line = text.splitlines()[source.line - 1]
-            if " ".join(source.text.split()) not in " ".join(line.split()):
-                wrong.append(f"{name}: {source.fact}: {source.path}:{source.line} is {line.strip()!r}")
+    for fact, path, number, text in sources():
+        line = (Path(folder) / path).read_text(encoding="utf-8", errors="replace").splitlines()[int(number) - 1]
+        if " ".join(text.split()) not in " ".join(line.split()):
+            wrong.append(f"{fact}: {path}:{number} is {line.strip()!r}")
     print(*wrong, sep="\n")
     return bool(wrong)
 
@@ -379,8 +358,7 @@ def check_sources(folder: str) -> bool:
 def main(what: str, argument: str = "") -> bool:
     """Returns whether it failed."""
     if what == "files":
-        sources = [source for driver in drivers.DRIVERS.values() for source in driver.sources]
-        print(*sorted({source.path for source in sources}), sep="\n")
+        print(*sorted({path for _, path, _, _ in sources()}), sep="\n")
         return False
     if what == "fetch":
         return not emulation.fetch()

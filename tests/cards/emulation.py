@@ -51,7 +51,6 @@ class Setting:
 
     @property
     def file(self) -> str:
-        """Returns the name of its files."""
         return self.name.replace(" ", "-").replace(",", "")
 
     def line(self) -> str:

@@ -166,6 +166,6 @@ def own_of(root: Root, programs: Iterable[Path], job: str) -> bytes:
     for path in programs:
         archive.add_file(f"rig/{path.name}", path)
     add_compiled(archive, root, "fq/tools/fintaqush_tools", TOP / "tools/fintaqush_tools")
-    for name in ("tools/fintaqush_tools/options.json", "scripts/start.py", "include/fintaqush.h"):
+    for name in ("tools/fintaqush_tools/options.json", "tools/fintaqush_tools/usage.txt", "scripts/start.py", "include/fintaqush.h"):
         archive.add_file(f"fq/{name}", TOP / name, TEXT)
     return archive.content()

@@ -11,15 +11,13 @@ recordings. The last line is `N passed, M failed, K skipped`.
 
 from __future__ import annotations
 
-import gzip
-import json
 import signal
 import statistics
 import subprocess
 import sys
 import tempfile
 import time
-from collections.abc import Iterable
+from collections.abc import Iterable, Iterator
 from concurrent.futures import ProcessPoolExecutor
 from dataclasses import dataclass
 from pathlib import Path
@@ -27,13 +25,14 @@ from typing import Any
 
 HERE = Path(__file__).resolve().parent
 TOP = HERE.parent.parent
-sys.path[:0] = [str(TOP / "tools"), str(HERE)]
+sys.path[:0] = [str(TOP / "tools"), str(TOP / "tests"), str(HERE)]
 
 from fintaqush_tools import predicting  # noqa: E402
 from fintaqush_tools.choosing import settings_of  # noqa: E402
 from fintaqush_tools.commands import costs  # noqa: E402
 from fintaqush_tools.errors import Refusal  # noqa: E402
 import rig  # noqa: E402
+from judging import Judged, Skipped, judge, read_kept, write_kept  # noqa: E402
 from fintaqush_tools.receiving import Receiving  # noqa: E402
 from fintaqush_tools.recording import BACKLOG, check_lost, events_in  # noqa: E402
 from rig import Setting, Traffic  # noqa: E402
@@ -43,6 +42,7 @@ TRIES = 8  # until a recording is one that nothing disturbed
 MOST_SECONDS = 240  # for all recordings; what isn't recorded by then is skipped
 MOST_LATE = 2_000_000  # ns, of the sender's bursts
 MOST_STOLEN = 1  # hundredths of a second, which a hypervisor took
+QUIET = "needs a quiet machine"
 NO_LIMIT = 65536  # packets of a socket's buffer, which holds all
 
 OVERLOAD = Traffic("fixed", 15000, 1500, 8, pace=10400, gso=8, filter=3900)
@@ -64,6 +64,10 @@ class Group:
 
     base: Setting
     cases: tuple[Case, ...]
+
+    @property
+    def settings(self) -> list[Setting]:
+        return [self.base, *(case.setting for case in self.cases)]
 
 
 def backlog_of(packets: int) -> dict[str, int]:
@@ -106,7 +110,6 @@ def seen_in(setting: Setting, recorded: rig.Recorded) -> tuple[Receiving, dict[s
 
 
 def values_of(setting: Setting, recorded: rig.Recorded) -> dict[str, Any]:
-    """The measured values of a recording."""
     seen, head = seen_in(setting, recorded)
     ends = [(seen.sent[number], read + rig.USE_NS) for number, read in recorded.reads]
     return predicting.measured_of(seen, head, ends)
@@ -138,18 +141,16 @@ class Recordings:
                          f"hypervisor took {recorded.stolen} hundredths of a second from its processors")
 
     def of(self, group: Group) -> dict[str, list[rig.Recorded]]:
-        """The recordings of each setting of the group."""
-        settings = [group.base, *(case.setting for case in group.cases)]
-        made: dict[str, list[rig.Recorded]] = {setting.name: [] for setting in settings}
+        made: dict[str, list[rig.Recorded]] = {setting.name: [] for setting in group.settings}
         for _ in range(TIMES):
-            for setting in settings:
+            for setting in group.settings:
                 made[setting.name].append(self.once(setting))
         return made
 
 
 def kept_of(group: Group, made: dict[str, list[rig.Recorded]]) -> dict[str, Any]:
     """What is kept of a group's recordings: all measured values, and costs and arrivals of the base's middle recording."""
-    settings = {setting.name: setting for setting in (group.base, *(case.setting for case in group.cases))}
+    settings = {setting.name: setting for setting in group.settings}
     every = [(settings[name], recorded) for name, each in made.items() for recorded in each]
     with ProcessPoolExecutor() as pool:
         values = list(pool.map(values_of, *zip(*every)))
@@ -221,32 +222,16 @@ def grade_of(lines: list[Line]) -> str:
     return predicting.grade_of([(line.name, line.median, line.predicted, line.error) for line in lines])
 
 
-class Sum:
-    """What passed, failed and was skipped."""
-
-    def __init__(self) -> None:
-        self.passed = self.failed = self.skipped = 0
-
-    def skip(self, why: str) -> None:
-        self.skipped += 1
-        print(f"skipped: live: {why}", flush=True)
-
-    def take(self, line: Line, is_good: bool = True) -> None:
-        """Judges a line; one that differs too much fails if the recorded setting is predicted well, and two of the three
-        recordings agree about the value."""
+def judged_lines(lines: list[Line], skipped: Skipped, is_good: bool = True) -> Iterator[Judged]:
+    """Judges lines; one that differs too much fails if the recorded setting is predicted well, and two of the three recordings agree about
+    the value."""
+    for line in lines:
         print(line, flush=True)
-        if abs(line.error) <= line.limit:
-            self.passed += 1
-        elif not is_good or not line.is_steady:
-            why = f"no two recordings agree about {line.name}" if is_good else "the recorded setting itself isn't predicted well"
-            self.skip(f"{line.setting}: needs a quiet machine: {why}")
+        if abs(line.error) <= line.limit or is_good and line.is_steady:
+            yield line.setting, [f"{line.name} may be {line.limit} % off"] * (abs(line.error) > line.limit)
         else:
-            self.failed += 1
-            print(f"FAILED: it may be {line.limit} % off")
-
-    def end(self) -> bool:
-        print(f"{self.passed} passed, {self.failed} failed, {self.skipped} skipped")
-        return self.failed > 0
+            why = f"no two recordings agree about {line.name}" if is_good else "the recorded setting itself isn't predicted well"
+            skipped.add("live", f"{line.setting}: {QUIET}: {why}")
 
 
 def is_off(lines: list[Line]) -> bool:
@@ -254,29 +239,20 @@ def is_off(lines: list[Line]) -> bool:
     return any(abs(line.error) > line.limit for line in lines)
 
 
-def judged(program: str, group: Group, kept: dict[str, Any]) -> tuple[list[Line], list[Line]]:
+def predicted_lines(program: str, group: Group, kept: dict[str, Any]) -> tuple[list[Line], list[Line]]:
     """The lines of the base, and those of the settings that are predicted from it."""
     return (lines_of(program, group.base, own_check(group), kept),
             [line for case in group.cases for line in lines_of(program, case.setting, case.limits, kept)])
 
 
-def check_kept(program: str, total: Sum) -> None:
-    """Checks the recording in the repository."""
+def judged_kept(program: str, skipped: Skipped) -> Iterator[Judged]:
+    """Judges the recording in the repository, and the table of docs/TIMING.md, which is that of this recording."""
     for place, group in enumerate(GROUPS):
-        own, lines = judged(program, group, read_kept(place))
-        for line in own:
-            print(line)
-        for line in lines:
-            total.take(line)
-
-
-def check_page(program: str, total: Sum) -> None:
-    """The table of docs/TIMING.md is that of this recording."""
+        own, lines = predicted_lines(program, group, read_kept(HERE / f"kept/{place + 1}"))
+        print(*own, sep="\n")
+        yield from judged_lines(lines, skipped)
     done = subprocess.run([sys.executable, "-B", HERE / "table.py", program, "--check", TOP / "docs/TIMING.md"], check=False)
-    total.passed += done.returncode == 0
-    total.failed += done.returncode != 0
-    if done.returncode:
-        print("FAILED: docs/TIMING.md has another table; tests/live/table.py PROGRAM --into docs/TIMING.md puts it there")
+    yield "docs/TIMING.md", ["another table; tests/live/table.py PROGRAM --into docs/TIMING.md puts it there"] * (done.returncode != 0)
 
 
 def recorded_group(program: str, group: Group, until: float) -> tuple[dict[str, Any], list[Line], list[Line]]:
@@ -286,63 +262,49 @@ def recorded_group(program: str, group: Group, until: float) -> tuple[dict[str, 
         rig.build(Path(scratch))
         for _ in range(2):
             kept = kept_of(group, Recordings(Path(scratch), until).of(group))
-            own, lines = judged(program, group, kept)
+            own, lines = predicted_lines(program, group, kept)
             if not is_off(lines):
                 break
     return kept, own, lines
 
 
-def check_here(program: str, folder: Path | None, numbers: Iterable[int], total: Sum) -> None:
+def judged_here(program: str, folder: Path | None, numbers: Iterable[int], skipped: Skipped) -> Iterator[Judged]:
     """Records these groups on this machine, and keeps in a folder, if one is named, what is predicted well."""
-    lacks = rig.missing()
-    if lacks:
-        total.skip(f"recordings made here: needs {', '.join(lacks)}")
+    if lacks := rig.missing():
+        skipped.add("live", f"recordings made here: needs {', '.join(lacks)}")
         return
     until = time.monotonic() + MOST_SECONDS
     for place in numbers:
         group = GROUPS[place]
+        named = ", ".join(case.setting.name for case in group.cases)
         try:
             kept, own, lines = recorded_group(program, group, until)
         except (rig.Failed, Refusal, OSError) as error:
-            total.skip(f"{group.base.name}, and what is predicted from it: needs a quiet machine: {error}")
+            skipped.add("live", f"{group.base.name}, and what is predicted from it: {QUIET}: {error}")
             continue
         print(*own, sep="\n", flush=True)
         grade = grade_of(own)
         if grade == "poor":
-            total.skip(f"{', '.join(case.setting.name for case in group.cases)}: needs a quiet machine: {group.base.name} itself isn't predicted well")
-            continue
-        if not all(line.is_of_one_speed for line in own):
-            total.skip(f"{', '.join(case.setting.name for case in group.cases)}: needs a quiet machine: recordings of {group.base.name} differ by over 15 %")
-            continue
-        bad = total.failed + total.skipped
-        for line in lines:
-            total.take(line, grade == "good")
-        if folder and bad == total.failed + total.skipped:
-            write_kept(folder, place, kept)
+            skipped.add("live", f"{named}: {QUIET}: {group.base.name} itself isn't predicted well")
+        elif not all(line.is_of_one_speed for line in own):
+            skipped.add("live", f"{named}: {QUIET}: recordings of {group.base.name} differ by over 15 %")
+        else:
+            found = list(judged_lines(lines, skipped, grade == "good"))
+            yield from found
+            if folder and len(found) == len(lines) and not any(wrong for _, wrong in found):
+                write_kept(folder / str(place + 1), kept)
 
 
-# ---- recordings in the repository
-
-def read_kept(place: int, folder: Path = HERE / "kept") -> dict[str, Any]:
-    kept = json.loads((folder / f"{place + 1}.json").read_text(encoding="utf-8"))
-    return {**kept, "arrivals": gzip.decompress((folder / f"{place + 1}.csv.gz").read_bytes()).decode("ascii")}
-
-
-def write_kept(folder: Path, place: int, kept: dict[str, Any]) -> None:
-    folder.mkdir(exist_ok=True)
-    (folder / f"{place + 1}.csv.gz").write_bytes(gzip.compress(kept["arrivals"].encode("ascii"), 9, mtime=0))
-    others = {name: value for name, value in kept.items() if name != "arrivals"}
-    (folder / f"{place + 1}.json").write_text(json.dumps(others, indent=1) + "\n", encoding="utf-8")
+def judged(what: str, program: str, *others: str, skipped: Skipped) -> Iterator[Judged]:
+    if what == "test":
+        yield from judged_kept(program, skipped)
+    numbers = [int(number) - 1 for number in others[1:]] or range(len(GROUPS))
+    yield from judged_here(program, Path(others[0]) if others else None, numbers, skipped)
 
 
 def main(words: list[str]) -> bool:
-    what, program, *others = words
-    total = Sum()
-    if what == "test":
-        check_kept(program, total)
-        check_page(program, total)
-    check_here(program, Path(others[0]) if others else None, [int(number) - 1 for number in others[1:]] or range(len(GROUPS)), total)
-    return total.end()
+    skipped = Skipped()
+    return judge(judged(*words, skipped=skipped), skipped)
 
 
 if __name__ == "__main__":

@@ -235,7 +235,6 @@ class Rig:
         return process
 
     def record(self, path: Path) -> Recorded:
-        """Sends the traffic, and returns what was recorded in that file."""
         traffic, read = self.setting.traffic, self.folder / "read"
         receiver = self.receiver(read) if self.setting.devices == 1 else None
         recorder = self.recorder(path)
@@ -255,7 +254,6 @@ class Rig:
 
 
 def record(folder: Path, setting: Setting, path: Path) -> Recorded:
-    """Makes one recording with this setting."""
     wait_for_quiet()
     with Rig(folder, setting) as rig:
         return rig.record(path)

@@ -13,7 +13,8 @@ from collections.abc import Iterator
 from pathlib import Path
 from typing import Any
 
-from live import GROUPS, TOP, Line, judged, read_kept
+from live import GROUPS, HERE, TOP, Line, predicted_lines
+from judging import read_kept
 from fintaqush_tools.pictures import LIGHT, canvas, saved
 
 sys.path.append(str(TOP / "scripts"))
@@ -36,7 +37,7 @@ def text_of(name: str, value: float) -> str:
 def rows_of(program: str) -> Iterator[tuple[str, list[Line], list[Line]]]:
     """For each group: its base's name, the lines of the base, and the predicted lines."""
     for place, group in enumerate(GROUPS):
-        yield group.base.name, *judged(program, group, read_kept(place))
+        yield group.base.name, *predicted_lines(program, group, read_kept(HERE / f"kept/{place + 1}"))
 
 
 def table_of(program: str) -> str:

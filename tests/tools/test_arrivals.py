@@ -108,11 +108,9 @@ class FromPcap(Arrivals):
         self.assertEqual((len(rows), rows[-1], said), (120000, "119999000,1,60", "made.csv: 1 devices, 120000 rows; 1 note in made.notes:\n  device 1 is eth0, 120000 packets\n"))
 
     def test_refusals(self) -> None:
-        done = run("from-pcap", "-", self.folder / "made", "--arrivals", text=self.TEXT.splitlines(True)[2])
-        self.assertIn("no packet arrives in it", done.stderr)
+        self.fails("no packet arrives in it", "from-pcap", "-", self.folder / "made", "--arrivals", text=self.TEXT.splitlines(True)[2])
         many = "".join(f"100.{place:06} eth{place}  In  ifindex 2 02:00:00:00:00:01 ethertype IPv4 (0x0800), length 60: UDP\n" for place in range(4097))
-        done = run("from-pcap", "-", self.folder / "made", "--arrivals", text=many)
-        self.assertIn("4097 devices, and arrivals have at most 4096", done.stderr)
+        self.fails("4097 devices, and arrivals have at most 4096", "from-pcap", "-", self.folder / "made", "--arrivals", text=many)
         self.assertEqual(self.names(), [])
 
 
@@ -224,13 +222,10 @@ class FromFtrace(Arrivals):
         self.assertEqual((self.folder / "made.work").read_text(), "polls 2 work 3\npolls 1 work 1\n")
         for without, why in ((("napi_gro_receive_entry", "netif_receive_skb"), "there is no packet in it: record the event net/net_dev_xmit"),
                              (("softirq_entry", "napi_poll"), "nothing polls in it")):
-            done = run("from-ftrace", "-", self.folder / "none", text=self.of_a_card(*without))
-            self.assertEqual((done.returncode, done.stdout, done.stderr.count("\n"), self.names()), (1, "", 1, ["made.csv", "made.notes", "made.work", "recorded"]))
-            self.assertIn(why, done.stderr)
-        done = run("from-ftrace", "-", self.folder / "none", "--pair", "peer:eth0", text=self.of_a_card("napi_gro_receive_entry", "netif_receive_skb"))
-        self.assertEqual((done.returncode, done.stderr.count("\n")), (1, 1))
-        done = run("from-ftrace", "-", self.folder / "none", "--device", "eth7", text=self.of_a_card())
-        self.assertEqual(done.stderr, "fintaqush from-ftrace: -: no packet of eth7 is received in it; those that receive are: eth0\n")
+            said = self.fails(why, "from-ftrace", "-", self.folder / "none", text=self.of_a_card(*without))
+            self.assertEqual((said.count("\n"), self.names()), (1, ["made.csv", "made.notes", "made.work", "recorded"]))
+        self.fails("fintaqush from-ftrace: -: no packet of eth7 is received in it; those that receive are: eth0\n", "from-ftrace", "-", self.folder / "none",
+                   "--device", "eth7", text=self.of_a_card())
 
     def test_recordings_that_it_refuses(self) -> None:
         """Each fails with one line, and no file is written."""
@@ -248,14 +243,13 @@ class FromFtrace(Arrivals):
                 (b"PERFILE2 and more", "this is the file of `perf record`: take the text of `perf script --ns`"),
                 (b"\x17\x08\x44tracing6", "this is the file of `trace-cmd record`"), (b"\xd4\xc3\xb2\xa1\x02\0\x04\0", "this is a capture, which fintaqush from-pcap reads"),
                 (b"\x0a\x0d\x0d\x0a\x1c\0\0\0", "this is a capture"), (b"moment,device,bytes\n0,1,60\n", "line 1: no line of ftrace"),
+                ("# nothing\n", "there is no packet in it"), (event.replace("va1", "x"), "no device of --pair is recorded; these are: x"),
                 (gzip.compress(text.encode())[:-700], "it isn't whole"), (b"\x1f\x8bxx", "it isn't whole"), (text.replace("recording 1", "recording 7"), "another version")]
         for changed, why in refused:
             self.write("recorded", "")
             (self.folder / "recorded").write_bytes(changed if isinstance(changed, bytes) else changed.encode())
-            done = run("from-ftrace", "recorded", "made", "--arrivals", folder=self.folder)
-            self.assertEqual((done.returncode, done.stdout, done.stderr.count("\n"), self.names()), (1, "", 1, ["recorded"]), done.stderr)
-            self.assertTrue(done.stderr.startswith("fintaqush from-ftrace: recorded: "), done.stderr)
-            self.assertIn(why, done.stderr)
+            said = self.fails(why, "from-ftrace", "recorded", "made", "--arrivals", folder=self.folder)
+            self.assertEqual((said.count("\n"), said[:33], self.names()), (1, "fintaqush from-ftrace: recorded: ", ["recorded"]), said)
 
     def test_a_recording(self) -> None:
         """The packets of the trace that another converter made, in their order and with their sizes; the times round to its own."""
@@ -270,12 +264,6 @@ class FromFtrace(Arrivals):
         fine, coarse = ([row.split(",") for row in (self.folder / f"{unit}.csv").read_text().splitlines()[1:]] for unit in ("us", "ms"))
         self.assertEqual([[str(int(row[0]) // 1000), *row[1:]] for row in fine], coarse)
         self.assertTrue(any(int(row[0]) % 1000 for row in fine))
-
-    def test_refusals(self) -> None:
-        for text, why in (("# nothing\n", "there is no packet in it"), ("what\n", "line 1: no line of ftrace"),
-                          ("   a-1  [000] b....  5.000000: net_dev_xmit: dev=x skbaddr=0 len=61 rc=0\n", "no device of --pair is recorded; these are: x")):
-            self.fails(why, "from-ftrace", "-", self.folder / "made", "--arrivals", text=text)
-            self.assertEqual(self.names(), [])
 
 
 @HAS_MACHINE
@@ -317,14 +305,10 @@ class Traffic(Arrivals):
         self.assertEqual(run("traffic", "--flows", "8").returncode, 64)
 
     def test_the_seed_decides(self) -> None:
-        words = ["--kind", "poisson", "--devices", "3", "--seed"]
-        self.assertEqual(self.rows(*words, "1"), self.rows(*words, "1"))
-        self.assertNotEqual(self.rows(*words, "1"), self.rows(*words, "2"))
-
-    def test_the_seed_decides_when_packets_come(self) -> None:
-        """And not only their sizes; each device has times of its own."""
+        """The same seed has the same rows, and another one has other times; each device has times of its own."""
         for kind in ("constant", "poisson", "bursts"):
-            words = ["--kind", kind, "--devices", "2", "--rate", "2000", "--bytes", "60", "--seed"]
+            words = ["--kind", kind, "--devices", "2", "--rate", "2000", "--seed"]
+            self.assertEqual(self.rows(*words, 1), self.rows(*words, 1))
             times = [{(device, moment) for moment, device, _ in self.rows(*words, seed)} for seed in (1, 2)]
             self.assertLess(len(times[0] & times[1]), len(times[0]) / 10, kind)
             of = [{moment for device, moment in times[0] if device == number} for number in (1, 2)]

@@ -16,6 +16,7 @@ from tooltest import HAS_MACHINE, MACHINE, TOP
 
 sys.path += [str(TOP / "tests/live"), str(TOP / "tests/cards")]
 import cards
+import judging
 import live
 import rig
 
@@ -39,7 +40,7 @@ def of_veth() -> Iterator[Case]:
     """Yields the settings on veth pairs. Each is predicted from the recording of its group that has the middle wait. The waits to delivery that
     are kept end with the poll, not with the packet's delivery in it, so they aren't compared."""
     for place, group in enumerate(live.GROUPS):
-        kept = live.read_kept(place)
+        kept = judging.read_kept(live.HERE / f"kept/{place + 1}")
         for values in (each for some in kept["measured"].values() for each in some):
             for name in [name for name in values if name.startswith("delivered")]:
                 del values[name]
@@ -55,7 +56,7 @@ def of_veth() -> Iterator[Case]:
 def of_cards() -> Iterator[Case]:
     """Yields the settings on emulated cards. The costs of timers are from another recording, so they aren't used."""
     for card in cards.CARDS:
-        kept = cards.read_kept(card)
+        kept = judging.read_kept(cards.KEPT / card.driver)
         costs = {name: cost for name, cost in kept["costs"].items() if not name.startswith("timer")}
 
         def predict(costs: Mapping[str, int], setting: Any, card: Any = card, kept: Any = kept) -> Values:

@@ -2,22 +2,21 @@
 
 from __future__ import annotations
 
-import html
 import json
 import os
 import struct
-import subprocess
 import sys
 import zlib
 from unittest import mock
 
-from finding import group_in
 from prefixes import report_of
-from tooltest import HEADER, NO_WORDS, TOP, Done, InFolder, contrast, run, skip_without
+from tooltest import HAS_BROWSER, HEADER, HERE, NO_WORDS, TOP, Done, InFolder, contrast, run, skip_without
 
 from fintaqush_tools import pictures
 
 
+# Zooms with the wheel and the buttons, points at a row, and reports the range of each panel and the displayed values.
+ZOOM = (HERE / "zoom.html").read_text()
 # The points of each curve, by its name.
 Curves = dict[str, list[list[float]]]
 
@@ -196,30 +195,12 @@ class Plot(InFolder):
             self.succeeds("plot", TOP / "examples/bursts.csv", *words, "--force", "--out", self.folder / "x.png")
             self.assertEqual(first_pixel((self.folder / "x.png").read_bytes()), color)
 
-    # Zooms with the wheel and the buttons, points at a row, and reports the range of each panel and the displayed values.
-    WALK = """<script>
-const told = [], tell = () => told.push(charts.map(({ graph }) => graph.xAxisRange().map(Math.round)));
-tell();
-const target = document.querySelector('.dygraph-rangesel-fgcanvas') || document.querySelectorAll('.chart canvas')[1];
-const box = target.getBoundingClientRect();
-target.dispatchEvent(new WheelEvent('wheel', { deltaY: -100, clientX: box.left + box.width / 2, clientY: box.top + 20, bubbles: true, cancelable: true })); tell();
-by('in').click(); tell();
-by('all').click(); tell();
-tellValues(4); told.push([...document.querySelectorAll('.values')].map(line => line.textContent));
-told.push(document.documentElement.scrollWidth <= innerWidth);
-document.body.replaceChildren(made('pre', 'told', JSON.stringify(told)));
-</script>"""
-
-    @skip_without("chromium")
+    @HAS_BROWSER
     @skip_without("dygraphs")
     def test_a_page_is_zoomed_and_tells_values(self) -> None:
         """All panels have the same range after each step, a smaller one after a zoom; at row 4 one packet waits, and the run took one."""
         self.plot(self.ROWS, "--out", self.folder / "x.html")
-        page = self.write("walked.html", (self.folder / "x.html").read_text().replace("</body>", self.WALK + "</body>"))
-        done = subprocess.run(["chromium", "--headless", "--no-sandbox", "--disable-gpu", f"--user-data-dir={self.folder}/profile",
-                               "--virtual-time-budget=3000", "--dump-dom", f"file://{page}"], capture_output=True, text=True, check=False, timeout=300,
-                              env={**os.environ, "HOME": str(self.folder)})
-        *ranges, values, fits = json.loads(html.unescape(group_in(r'<pre class="told">(.*?)</pre>', done.stdout)))
+        *ranges, values, fits = self.walked((self.folder / "x.html").read_text(), ZOOM, "--virtual-time-budget=3000")
         self.assertTrue(all(each == step[0] for step in ranges for each in step), ranges)
         whole, wheeled, nearer, all_again = (step[0] for step in ranges)
         self.assertEqual((whole, all_again, fits), ([1, 7], [1, 7], True))

@@ -4,7 +4,6 @@ from __future__ import annotations
 
 import os
 import re
-import select
 import shutil
 import signal
 import socket
@@ -19,7 +18,7 @@ from collections.abc import Iterator, Sequence
 from pathlib import Path
 from typing import Any
 
-from tooltest import NO_WORDS, START, TOP, InFolder, run, skip_without
+from tooltest import NO_WORDS, START, TOP, InFolder, limited, process, run, skip_without
 
 from fintaqush_tools import instances, observed, tracing
 from fintaqush_tools.commands import record
@@ -70,19 +69,14 @@ HAS_TRACING = HAS_NAMESPACES and in_tracing("ls events/napi/napi_poll") is not N
 class Refused(InFolder):
     """Errors that need no tracing."""
 
-    def refused(self, *words: str, status: int = 1, **options: Any) -> str:
-        done: subprocess.CompletedProcess[str] = subprocess.run([*START, "record", *words], capture_output=True, text=True, check=False, cwd=self.folder, **options)
-        self.assertEqual((done.returncode, done.stdout, self.names()), (status, "", []), done.stderr)
-        return done.stderr
-
     def test_words(self) -> None:
         for words in (NO_WORDS, ["--device", "lo"], ["--out", "x"], ["0", "--device", "lo", "--out", "x"], ["5", "6", "--device", "lo", "--out", "x"],
                       ["--device", "lo", "--out", "x", "--buffer", "0"], ["--device", "lo", "--out", "x", "--processors", "3-1"]):
-            self.assertIn("usage: fintaqush record", self.refused(*words, status=64))
+            self.fails("usage: fintaqush record", "record", *words, status=64, folder=self.folder)
 
     def test_without_root_it_says_so_at_once(self) -> None:
         front = [] if os.geteuid() else ["unshare", "-U"]  # run without root
-        done = subprocess.run([*front, *START, "record", "--device", "none", "--out", "none/x"], capture_output=True, text=True, check=False)
+        done = process(*front, *START, "record", "--device", "none", "--out", "none/x")
         self.assertEqual((done.stderr, done.stdout, done.returncode), ("fintaqush record: recording needs root: sudo fintaqush record ..\n", "", 1))
 
     @unittest.skipUnless(IS_ROOT, "root")
@@ -97,12 +91,11 @@ class Refused(InFolder):
                            (["--device", "lo", "--program", "4194305"], "--program 4194305: there is no such process"),
                            (["--device", "lo", "--program", 'a"b'], '--program a"b: a name of printable ASCII characters without quotes, or a process\'s number'),
                            (["--device", "lo", "--buffer", "65536"], "more than half of the free memory")):
-            said = self.refused("1", *words, "--out", "x")
-            self.assertTrue(said.count("\n") == 1 and said.startswith("fintaqush record: ") and why in said, said)
+            said = self.fails(why, "record", "1", *words, "--out", "x", folder=self.folder)
+            self.assertEqual((said.count("\n"), self.names()), (1, []), said)
         (self.folder / "folder").mkdir()
         for out, why in (("folder", "folder: this is a folder"), ("none/x", "none: there is no such folder")):
-            done = run("record", "1", "--device", "lo", "--out", out, folder=self.folder)
-            self.assertEqual((done.returncode, done.stderr), (1, f"fintaqush record: {why}\n"))
+            self.fails(f"fintaqush record: {why}\n", "record", "1", "--device", "lo", "--out", out, folder=self.folder)
 
 
 class NothingThere(InFolder):
@@ -110,28 +103,25 @@ class NothingThere(InFolder):
 
     def setUp(self) -> None:
         super().setUp()
-        self.observed, path = observed, os.environ["PATH"]
+        path = os.environ["PATH"]
         os.environ["PATH"] = f"{self.folder}:{path}"
         self.addCleanup(os.environ.__setitem__, "PATH", path)
-
-    def stand_in(self, name: str, script: str) -> None:
-        self.program(name, script)
 
     def test_ip(self) -> None:
         """`ip -j link show type` of a kind that the kernel doesn't know prints an empty object for each device."""
         for said in ("echo '[{},{},{},{}]'", "echo '[]'", ":", "exit 1", "echo 'Error: argument \"-j\" is wrong' >&2; exit 255"):
-            self.stand_in("ip", said)
-            self.assertEqual((self.observed.pairs_in(""), self.observed.pairs_in("x"), self.observed.peer_of("eth0", "")), ([], [], ""), said)
+            self.program("ip", said)
+            self.assertEqual((observed.pairs_in(""), observed.pairs_in("x"), observed.peer_of("eth0", "")), ([], [], ""), said)
         # a veth whose peer is in a namespace without a name
-        self.stand_in("ip", """case "$*" in *list-id*) : ;; *) echo '[{},{"ifindex":3,"ifname":"vb1","link_index":2,"link_netnsid":0}]' ;; esac""")
-        self.assertEqual(self.observed.peer_of("vb1", ""), "")
+        self.program("ip", """case "$*" in *list-id*) : ;; *) echo '[{},{"ifindex":3,"ifname":"vb1","link_index":2,"link_netnsid":0}]' ;; esac""")
+        self.assertEqual(observed.peer_of("vb1", ""), "")
 
     def test_ethtool(self) -> None:
         for said in ("echo 'netlink error: Operation not supported' >&2; exit 1", ":", "echo 'Cannot get driver information: Operation not supported' >&2; exit 71"):
-            self.stand_in("ethtool", said)
-            self.assertEqual((list(self.observed.driver_of("eth0", "")), list(self.observed.by_ethtool("eth0", ""))), ([], []))
-        self.stand_in("ethtool", "printf 'Ring parameters for eth0:\\nPre-set maximums:\\nRX:\\t\\tn/a\\nCurrent hardware settings:\\nRX:\\t\\tn/a\\n'")
-        self.assertEqual([pair for pair in self.observed.by_ethtool("eth0", "") if "ring" in pair[0]], [])
+            self.program("ethtool", said)
+            self.assertEqual((list(observed.driver_of("eth0", "")), list(observed.by_ethtool("eth0", ""))), ([], []))
+        self.program("ethtool", "printf 'Ring parameters for eth0:\\nPre-set maximums:\\nRX:\\t\\tn/a\\nCurrent hardware settings:\\nRX:\\t\\tn/a\\n'")
+        self.assertEqual([pair for pair in observed.by_ethtool("eth0", "") if "ring" in pair[0]], [])
 
     @unittest.skipUnless(IS_ROOT, "root")
     def test_tracefs(self) -> None:
@@ -139,8 +129,7 @@ class NothingThere(InFolder):
         for front, why in (("mount -t tmpfs nodev /sys/kernel", "this kernel has no tracing: boot one with CONFIG_FTRACE"),
                            ("mount -t tmpfs nodev /sys/kernel && mkdir /sys/kernel/tracing && exec setpriv --bounding-set=-sys_admin", "tracefs can't be mounted")):
             run_it = " && exec " if "exec" not in front else " "
-            done = subprocess.run(["unshare", "-m", "sh", "-c", f'{front}{run_it}"$0" "$@"', *START, "record", "1", "--device", "lo",
-                                   "--out", "x"], capture_output=True, text=True, check=False, cwd=self.folder)
+            done = process("unshare", "-m", "sh", "-c", f'{front}{run_it}"$0" "$@"', *START, "record", "1", "--device", "lo", "--out", "x", folder=self.folder)
             self.assertEqual((done.returncode, done.stdout, self.names()), (1, "", []), done.stderr)
             self.assertIn(why, done.stderr.splitlines()[-1])
 
@@ -148,7 +137,7 @@ class NothingThere(InFolder):
         """Without a sender, on a machine whose kernel has no veth devices."""
         if not HAS_TRACING:
             self.skipTest("tracing")
-        self.stand_in("ip", "echo '[{},{},{},{}]'")
+        self.program("ip", "echo '[{},{},{},{}]'")
         done = run("record", "1", "--device", "lo", "--out", self.folder / "x.rec", PATH=f"{self.folder}:{os.environ['PATH']}")
         self.assertEqual(done.returncode, 0, done.stderr)
 
@@ -333,32 +322,24 @@ class Recorded(InFolder):
     def ip(self, *words: str) -> None:
         subprocess.run(["ip", *words], check=True)
 
-    def start(self, *words: str, seconds: str = "1") -> subprocess.Popen[bytes]:
+    def recording(self, seconds: str, *words: str, start: Sequence[str] = tuple(START)) -> subprocess.Popen[str]:
         """Starts the tool, and returns when it records."""
-        command = [*START, "record", seconds, "--device", self.ends[1], "--netns", self.receiving, "--out", str(self.folder / "made"), *words]
-        process = subprocess.Popen(command, stdout=subprocess.PIPE, stderr=subprocess.PIPE, cwd=self.folder,
-                                   preexec_fn=lambda: signal.signal(signal.SIGINT, signal.SIG_DFL))
-        self.addCleanup(process.communicate)
-        self.addCleanup(process.kill)
+        process = self.begun(*start, "record", seconds, "--out", "made", *words)
         assert process.stderr
-        said = b""
-        while b"recording for" not in said:
-            self.assertTrue(select.select([process.stderr], [], [], 60)[0])
-            said += os.read(process.stderr.fileno(), 1000)
-            self.assertIsNone(process.poll(), said)
-        self.assertEqual(said, f"fintaqush record: recording for {seconds} s\n".encode())
+        self.assertEqual(process.stderr.readline(), f"fintaqush record: recording for {seconds} s\n")
         return process
+
+    def start(self, *words: str, seconds: str = "1", **others: Any) -> subprocess.Popen[str]:
+        return self.recording(seconds, "--device", self.ends[1], "--netns", self.receiving, *words, **others)
 
     def send(self, *numbers: object) -> None:
         subprocess.run(["ip", "netns", "exec", self.sending, sys.executable, "-c", CLIENT, *map(str, numbers)], check=True)
 
-    def serve(self, count: int) -> subprocess.Popen[bytes]:
+    def serve(self, count: int) -> subprocess.Popen[str]:
         """Starts a program that reads so many packets."""
-        process = subprocess.Popen(["ip", "netns", "exec", self.receiving, sys.executable, "-c", SERVER, self.reader, str(count)], stdout=subprocess.PIPE)
-        self.addCleanup(process.communicate)
-        self.addCleanup(process.kill)
+        process = self.begun("ip", "netns", "exec", self.receiving, sys.executable, "-c", SERVER, self.reader, count)
         assert process.stdout
-        self.assertEqual(process.stdout.readline(), b"ready\n")
+        self.assertEqual(process.stdout.readline(), "ready\n")
         return process
 
     def head(self) -> tuple[dict[str, str], str]:
@@ -367,7 +348,7 @@ class Recorded(InFolder):
         self.assertEqual(first, "fintaqush-recording 1")
         return dict(line.split(" ", 1) for line in lines), body
 
-    def check_gone(self, process: subprocess.Popen[bytes]) -> None:
+    def check_gone(self, process: subprocess.Popen[str]) -> None:
         """Checks that no instance and no file but the recording is left, and that tracing is as before."""
         self.assertNotIn(f"fintaqush-{process.pid}", instances_there())
         self.assertIn(self.names(), ([], ["made"]))
@@ -380,7 +361,7 @@ class Recorded(InFolder):
         process = self.start("--program", self.reader, seconds="3")
         self.send(1, 1, 40, 0.005)
         out, said = process.communicate(timeout=120)
-        self.assertEqual((said, process.returncode), (b"", 0))
+        self.assertEqual((said, process.returncode), ("", 0))
         self.check_gone(process)
         self.assertEqual(in_tracing("cat current_tracer tracing_on trace_clock events/enable buffer_size_kb saved_cmdlines_size"), set_before)
         head, body = self.head()
@@ -401,8 +382,7 @@ class Recorded(InFolder):
         self.assertEqual(len(re.findall(r"sys_recv\w+ -> 0x64\n", body)), 820)
         self.assertTrue(all(f" {name}: " in body for name in ("napi_poll", "softirq_entry", "softirq_exit", "sched_switch")))
         self.assertNotIn("netdev_rss_key", "".join(head))
-        self.assertTrue(out.decode().startswith(f"{self.folder}/made: 3."), out)
-        self.assertIn(f"; 820 packets of {self.ends[0]}\n", out.decode())
+        self.assertRegex(out, rf"^made: 3\..*; 820 packets of {self.ends[0]}\n")
         self.succeeds("from-ftrace", "made", "arrivals", "--arrivals", folder=self.folder)
         self.assertEqual((self.folder / "arrivals.csv").read_text().count(",1,142\n"), 820)
         self.check_clock(lines, head)
@@ -433,12 +413,7 @@ class Recorded(InFolder):
 
     def test_a_device_without_a_pair(self) -> None:
         """On the loopback device, as on a card, it records the received packets: at least those sent here. They are arrivals."""
-        process = subprocess.Popen([*START, "record", "2", "--device", "lo", "--out", "made"], stdout=subprocess.PIPE,
-                                   stderr=subprocess.PIPE, text=True, cwd=self.folder)
-        self.addCleanup(process.communicate)
-        self.addCleanup(process.kill)
-        assert process.stderr
-        self.assertEqual(process.stderr.readline(), "fintaqush record: recording for 2 s\n")
+        process = self.recording("2", "--device", "lo")
         with socket.socket(socket.AF_INET, socket.SOCK_DGRAM) as end, socket.socket(socket.AF_INET, socket.SOCK_DGRAM) as out:
             end.bind(("127.0.0.1", 0))
             for _ in range(60):
@@ -459,8 +434,7 @@ class Recorded(InFolder):
             self.assertIn(f"fintaqush-{process.pid}", instances_there())
             process.send_signal(number)
             out, said = process.communicate(timeout=60)
-            self.assertEqual((out, said, process.returncode), (b"", b"fintaqush record: interrupted\n", 128 + number))
-            self.assertEqual(self.names(), [])
+            self.assertEqual((out, said, process.returncode, self.names()), ("", "fintaqush record: interrupted\n", 128 + number, []))
             self.check_gone(process)
 
     def test_what_a_killed_one_left_is_removed(self) -> None:
@@ -486,7 +460,7 @@ class Recorded(InFolder):
         process.send_signal(signal.SIGSTOP)
         self.send(1, 40000, 40000, 0)
         process.send_signal(signal.SIGCONT)
-        said = process.communicate(timeout=60)[1].decode()
+        said = process.communicate(timeout=60)[1]
         self.assertRegex(said, r"^fintaqush record: the kernel lost \d+ events, so the recording isn't written: record for a shorter time, or with a larger --buffer\n$")
         self.assertEqual((process.returncode, self.names(), (self.folder / "made").read_text()), (1, ["made"], "old\n"))
 
@@ -495,7 +469,7 @@ class Recorded(InFolder):
         process = self.start("--buffer", "1", seconds="6")
         self.send(400, 40, 40, 0.01)
         _, said = process.communicate(timeout=100)
-        self.assertEqual((said, process.returncode), (b"", 0))
+        self.assertEqual((said, process.returncode), ("", 0))
         head, body = self.head()
         self.assertEqual((head["buffer"], head[f"sent.{self.ends[0]}"], len(re.findall(r" net_dev_xmit: dev=fqa", body))), ("1", "16000", 16000))
         self.assertTrue(0 < float(head["recorder.seconds"]) < 6)
@@ -506,33 +480,28 @@ class Recorded(InFolder):
         tool = self.tool("""drained, end, ended = record.is_drained, tracing.Instance.end, []
 tracing.Instance.end = lambda self: (end(self), ended.append(self))
 record.is_drained = lambda pipe, file: not ended or drained(pipe, file)""")
-        process = subprocess.Popen([sys.executable, "-BEs", "-c", tool, "record", "60", "--device", self.ends[1], "--netns", self.receiving, "--buffer", "1", "--out",
-                                    "made"], stderr=subprocess.PIPE, stdout=subprocess.DEVNULL, cwd=self.folder)
-        self.addCleanup(process.kill)
-        assert process.stderr
-        self.assertIn(b"recording for", process.stderr.readline())
+        process = self.start("--buffer", "1", seconds="60", start=tool)
         self.send(400, 40, 40, 0.01)
-        said = process.communicate(timeout=100)[1].decode()
+        said = process.communicate(timeout=100)[1]
         self.assertRegex(said.splitlines()[-1], r"^fintaqush record: a buffer of 1 MB was nearly full after [\d.]+ of 60 s, so the recording ended early: (record again with|60 s)")
         self.assertEqual((process.returncode, self.names()), (1, ["made"]))
         self.assertEqual(self.head()[0]["buffer"], "1")
 
     @staticmethod
-    def tool(change: str) -> str:
-        """Returns a program that changes a module, and is the tool then."""
-        return f"""import sys
+    def tool(change: str) -> list[str]:
+        """Returns a command that changes a module, and is the tool then."""
+        return [sys.executable, "-BEs", "-c", f"""import sys
 sys.path.insert(0, "{TOP}/tools")
 from fintaqush_tools import cli, tracing
 from fintaqush_tools.commands import record
 {change}
 cli.entry()
-"""
+"""]
 
     def test_a_machine_without_an_even_counter(self) -> None:
         """CLOCK_MONOTONIC is used instead, and times have six digits."""
         tool = self.tool('tracing.Instance.set_clock = lambda self: self.write("trace_clock", "mono") or "mono"')
-        done = subprocess.run([sys.executable, "-BEs", "-c", tool, "record", "3", "--device", "lo", "--out", "made"], capture_output=True, text=True,
-                              check=False, cwd=self.folder)
+        done = process(*tool, "record", "3", "--device", "lo", "--out", "made", folder=self.folder)
         self.assertEqual(done.returncode, 0, done.stderr)
         head, body = self.head()
         self.assertEqual(head["clock"], "mono")
@@ -544,7 +513,6 @@ cli.entry()
         self.assertEqual(set(re.findall(r"^.{16}-\d+\s+\[(\d+)\]", self.head()[1], re.M)), {"000"})
 
     def test_a_disk_that_is_full(self) -> None:
-        process = subprocess.run(["bash", "-c", 'ulimit -f 1; trap "" XFSZ; exec "$0" "$@"', *START, "record", "1",
-                                  "--device", "lo", "--out", "made"], capture_output=True, text=True, check=False, cwd=self.folder)
-        self.assertEqual((process.returncode, process.stdout, self.names()), (1, "", []))
-        self.assertEqual(process.stderr.splitlines()[-1], "fintaqush record: File too large")
+        done = limited("-f 1", "record", "1", "--device", "lo", "--out", "made", folder=self.folder)
+        self.assertEqual((done.returncode, done.stdout, self.names()), (1, "", []))
+        self.assertEqual(done.stderr.splitlines()[-1], "fintaqush record: File too large")

@@ -7,42 +7,15 @@ import unittest
 from collections.abc import Sequence
 
 from prefixes import report_of, series_by_reports, values_of
-from tooltest import HEADER, NO_WORDS, REPLAY, SERIES, TOP, process, process_to
+from tooltest import HEADER, NO_WORDS, REPLAY, SERIES, TOP, process
 
 NAMES = "row,moment,device,state,waiting,arrived,dropped,polled,in_flight,limit,avail,stopped,polls,work,squeezed,word,list,gave\n"
 
 # Every event, a full ring, a pending disable, a thread, a queue over its limit, a rejected completion.
-MIXED = """0,1,open,3
-0,2,open,2
-1,1,rx,100
-1,1,rx,200
-1,2,rx,300
-1,1,rx,50
-1,1,rx,60
-2,0,softirq,0
-2,1,disable,0
-3,0,softirq,0
-3,1,rx,70
-4,2,threaded,1
-4,2,tx,500
-4,2,tx,600
-4,2,tx,700
-5,2,done,1
-6,2,done,9
-6,2,rx,80
-7,2,kthread,0
-7,0,softirq,0
-7,0,softirq,0
-7,0,softirq,0
-7,0,softirq,0
-8,1,enable,0
-8,1,tx,65535
-2000,1,done,1
-2001,2,done,0
-2001,0,softirq,0
-2001,2,disable,0
-2002,1,threaded,0
-"""
+MIXED = """0,1,open,3 0,2,open,2 1,1,rx,100 1,1,rx,200 1,2,rx,300 1,1,rx,50 1,1,rx,60 2,0,softirq,0 2,1,disable,0 3,0,softirq,0
+3,1,rx,70 4,2,threaded,1 4,2,tx,500 4,2,tx,600 4,2,tx,700 5,2,done,1 6,2,done,9 6,2,rx,80 7,2,kthread,0 7,0,softirq,0
+7,0,softirq,0 7,0,softirq,0 7,0,softirq,0 8,1,enable,0 8,1,tx,65535 2000,1,done,1 2001,2,done,0 2001,0,softirq,0
+2001,2,disable,0 2002,1,threaded,0""".split()
 
 
 class Series(unittest.TestCase):
@@ -58,7 +31,7 @@ class Series(unittest.TestCase):
         traces = {name: (TOP / f"examples/{name}.csv").read_text().split() for name in (
             "two-packets", "bursts", "queue-limit", "busy-poll", "linux-napi-disable", "linux-veth-threaded")}
         self.assertEqual(traces["busy-poll"][0], "moment,device,event,value,2")
-        for name, (header, *rows) in {**traces, "mixed": [HEADER.strip(), *MIXED.split()]}.items():
+        for name, (header, *rows) in {**traces, "mixed": [HEADER.strip(), *MIXED]}.items():
             if name.startswith("linux"):
                 self.check_prefixes(rows[:600], ["--budget", "64"] if "disable" in name else [], 7)
                 continue
@@ -141,8 +114,3 @@ class Series(unittest.TestCase):
         self.assertEqual([process(SERIES, *words, text=HEADER).stdout for words in (["--rows"], ["--rows", "--raise"], ["--raise=3", "--rows"])], [HEADER] * 3)
         done = process(SERIES, b"--every", b"\xff")
         self.assertEqual((done.stderr, done.returncode), ("usage fault 64\n", 64))
-
-    def test_ends_that_fail(self) -> None:
-        self.assertEqual(process_to("full", SERIES, text=HEADER), ("output fault 15 OutputFailed\n", 4))
-        done = process("sh", "-c", f"'{SERIES}' < '{TOP}/examples'")
-        self.assertEqual((done.stdout, done.stderr, done.returncode), ("", "trace fault 10 ReadFailed\n", 2))

@@ -2,59 +2,27 @@
 
 from __future__ import annotations
 
-import html
 import json
-import os
 import re
-import shutil
-import subprocess
-import unittest
 from collections.abc import Iterator, Sequence
 from typing import Any
 
 from finding import group_in
 from prefixes import report_of
-from tooltest import HEADER, NO_WORDS, SERIES, TOP, InFolder, contrast, run
+from tooltest import HAS_BROWSER, HEADER, HERE, NO_WORDS, SERIES, TOP, InFolder, contrast, run
 
-BROWSER: str | None = next(filter(None, map(shutil.which, ("chromium", "chromium-browser", "google-chrome"))), None)
 # docs/FORMATS.md, "The state word".
 FLAGS = {0: "SCHED", 1: "MISSED", 2: "DISABLE", 3: "NPSVC", 6: "IN_BUSY_POLL", 8: "THREADED", 9: "SCHED_THREADED", 32: "QUEUED", 33: "TO_THREAD"}
 # Steps forward with the key, the button, the slider and a swipe in turn, then back with each, and prints what is shown after each step.
-WALK = """<script>
-const one = name => document.querySelector(name).textContent;
-const opened = [], told = [], shown = () => told.push({ place: by('place').textContent, list: one('.list'), said: one('.said'),
-  devices: [...document.querySelectorAll('.device')].map(card => [card.dataset.device, card.querySelector('h2').textContent,
-    card.querySelector('.waiting').textContent, card.querySelector('.counts').textContent,
-    [...card.querySelectorAll('.chip')].map(chip => chip.textContent).join(' '), (card.querySelector('.limit') || {}).textContent || '']) });
-const key = name => document.dispatchEvent(new KeyboardEvent('keydown', { key: name }));
-const touch = (kind, x) => { const event = new Event(kind); event.changedTouches = [{ clientX: x, clientY: 5 }]; document.dispatchEvent(event); };
-const stroke = (from, to) => { touch('touchstart', from); touch('touchend', to); };
-const slide = by_how_many => { slider.value = Number(slider.value) + by_how_many; slider.dispatchEvent(new Event('input')); };
-const on = [() => key('ArrowRight'), () => by('forth').click(), () => slide(1), () => stroke(300, 100)];
-const back = [() => key('ArrowLeft'), () => by('back').click(), () => slide(-1), () => stroke(100, 300)];
-opened.push(page.steps[here()].at);
-key('Home'); shown();
-for (let place = 1; place < count; place++) { on[place % 4](); shown(); }
-on[0](); shown();
-for (let place = 1; place < count; place++) { back[place % 4](); shown(); }
-key('End'); shown(); key('Home'); shown();
-document.body.replaceChildren(made('pre', 'told', JSON.stringify({ opened, told })));
-</script>"""
+WALK = (HERE / "walk.html").read_text()
+# Clicks on a mark and on a poll, plays, pauses and steps with keys, and reports the row and the list after each.
+CLICKS = (HERE / "clicks.html").read_text()
 
 
 class Steps(InFolder):
     def steps(self, trace: object, *words: object) -> str:
         self.succeeds("steps", trace, "--out", "page.html", *words, folder=self.folder)
         return (self.folder / "page.html").read_text()
-
-    def dumped(self, page: str, *words: str) -> str:
-        """Returns what a browser makes of a page."""
-        self.write("walked.html", page)
-        assert BROWSER
-        done = subprocess.run([BROWSER, "--headless", "--no-sandbox", "--disable-gpu", f"--user-data-dir={self.folder}/profile", *words,
-                               "--dump-dom", f"file://{self.folder}/walked.html"], capture_output=True, text=True, check=False, timeout=300,
-                              env={**os.environ, "HOME": str(self.folder)})
-        return done.stdout
 
     @staticmethod
     def wanted(header: str, rows: Sequence[str], words: Sequence[str]) -> Iterator[dict[str, Any]]:
@@ -74,16 +42,13 @@ class Steps(InFolder):
                                 f"{queues[one][13]} free" + (", stopped" if queues[one][15] == "1" else "") if one in queues else ""]
                                for one, line in devices.items()]}
 
-    @unittest.skipUnless(BROWSER, "chromium")
+    @HAS_BROWSER
     def test_what_is_shown_is_what_the_reports_tell(self) -> None:
         for name, words in (("two-packets", NO_WORDS), ("queue-limit", NO_WORDS), ("two-queues", NO_WORDS), ("busy-poll", NO_WORDS), ("two-packets", ["--weight", "1"])):
             header, *rows = (TOP / f"examples/{name}.csv").read_text().splitlines()
             page = self.steps(TOP / f"examples/{name}.csv", *words)
             self.assertNotRegex(re.sub(r'<a href="[^"]*">', "", page), r"(src|href)=")  # it loads nothing; its links are for the reader
-            found = re.search(r'<pre class="told">(.*?)</pre>', self.dumped(page.replace("</body>", WALK + "</body>")))
-            self.assertTrue(found, name)
-            assert found
-            walked = json.loads(html.unescape(found[1]))
+            walked = self.walked(page, WALK)
             told = walked["told"]
             self.assertEqual(walked["opened"], ["1"])  # the first row with a device
             wanted = list(self.wanted(f"{header}\n", rows, words))
@@ -91,18 +56,17 @@ class Steps(InFolder):
             self.assertEqual([{part: step[part] for part in ("place", "list", "devices")} for step in told], walk, name)
             self.assertTrue(all(step["said"] for step in told))
 
-    @unittest.skipUnless(BROWSER, "chromium")
+    @HAS_BROWSER
     def test_a_page_is_no_wider_than_a_phone(self) -> None:
         """A browser's window is at least 500 wide, so the page is shown in a frame of 360."""
         page = self.steps(TOP / "examples/two-queues.csv")
         frame = self.write("frame.html", page.replace("</body>", "<script>go(9); parent.postMessage(document.documentElement.scrollWidth, '*')"
                                                       "</script></body>"))
-        found = re.search(r"<b>(\d+)</b>", self.dumped(f"<script>onmessage = event => document.body.innerHTML = `<b>${{event.data}}</b>`</script>"
+        found = re.search(r"<b>(\d+)</b>", self.browsed(f"<script>onmessage = event => document.body.innerHTML = `<b>${{event.data}}</b>`</script>"
                                                        f"<body><iframe width=360 height=700 src='{frame.name}'></iframe>"))
         self.assertTrue(found and 0 < int(found[1]) <= 360, found)
 
     def data(self, trace: object, *words: object) -> Any:
-        """Returns the data of a page."""
         return json.loads(group_in(r"^const page = (.*);$", self.steps(trace, *words), re.M))
 
     def said(self, rows: Sequence[str], *words: object, header: str = HEADER) -> list[list[list[str]]]:
@@ -245,34 +209,13 @@ class Steps(InFolder):
         for wrong in ("--budget", "--budget x", "'", "3"):
             self.assertEqual(run("steps", trace, "--out", "x.html", "--beside", wrong, folder=self.folder).returncode, 64)
 
-    # Clicks on a mark and on a poll, plays, pauses and steps with keys, and reports the row and the list after each.
-    CLICKS = """<script>
-const told = [], tell = () => told.push([page.steps[here()].at, document.querySelector('.list').textContent, document.querySelectorAll('tr.chosen').length]);
-const near = number => {
-  const box = document.querySelectorAll('.mark')[number].getBoundingClientRect();
-  by('timeline').dispatchEvent(new MouseEvent('click', { clientX: box.left + box.width / 2 + 3, clientY: box.top, bubbles: true }));
-  tell();
-};
-near(0); near(1);
-document.querySelector('.polls tbody tr').click(); tell();
-const key = name => document.dispatchEvent(new KeyboardEvent('keydown', { key: name }));
-key('ArrowDown'); tell(); key('ArrowUp'); key('ArrowUp'); tell(); key('p'); tell(); key('n'); tell();
-by('next').click(); tell();
-key('Home'); by('pace').value = '20'; by('play').click(); told.push(by('play').getAttribute('aria-label'));
-setTimeout(() => { by('play').click(); told.push(by('play').getAttribute('aria-label')); told.push(here() > 0);
-  told.push(document.querySelector('#timeline').getAttribute('aria-label'));
-  document.body.replaceChildren(made('pre', 'told', JSON.stringify(told))); }, 400);
-</script>"""
-
-    @unittest.skipUnless(BROWSER, "chromium")
+    @HAS_BROWSER
     def test_marks_polls_and_play(self) -> None:
         """The run of row 11 is squeezed after two polls by a budget of 3; at row 10 a packet finds the ring of device 2 full. A click near a
         mark goes to its row, and a click on a poll shows the list after it."""
         rows = [self.QUEUED[0], "0,2,open,1", *self.QUEUED[2:], "1,2,rx,60", "2,0,softirq,0"]
         page = self.steps(self.write("trace.csv", HEADER + "".join(f"{row}\n" for row in rows)), "--weight", "2", "--budget", "3")
-        found = re.search(r'<pre class="told">(.*?)</pre>', self.dumped(page.replace("</body>", self.CLICKS + "</body>"), "--virtual-time-budget=5000"))
-        assert found
-        told = json.loads(html.unescape(found[1]))
+        told = self.walked(page, CLICKS, "--virtual-time-budget=5000")
         before, after = "device 1device 2device 3", "device 3device 1"
         self.assertEqual(told[:8], [["10", before, 0], ["11", after, 0], ["11", "device 2device 3device 1", 1], ["11", after, 1], ["11", after, 0],
                                     ["10", before, 0], ["11", after, 0], ["11", after, 0]])

@@ -4,7 +4,9 @@ napi_machine, also for the tools."""
 from __future__ import annotations
 
 import contextlib
+import html
 import io
+import json
 import os
 import shutil
 import signal
@@ -23,6 +25,7 @@ TOP = HERE.parent.parent
 sys.path += [str(TOP / "tests"), str(TOP / "tools"), str(TOP / "bench")]
 import machine  # noqa: E402
 import needs  # noqa: E402
+from finding import group_in  # noqa: E402
 
 from fintaqush_tools import cli, errors  # noqa: E402
 from fintaqush_tools.progress import Program  # noqa: E402
@@ -37,6 +40,8 @@ MACHINE = os.environ.get("MACHINE") or str(TOP / "crates/napi_machine/out/napi_m
 if not os.path.exists(MACHINE) and shutil.which("g++"):
     MACHINE = machine.plain()  # if napi_machine isn't built, the tools are tested with the bench's program in its place
 PROGRAMS = {"PROGRAM": REPLAY, "SERIES": SERIES, "MACHINE": MACHINE}
+BROWSER: str | None = next(filter(None, map(shutil.which, ("chromium", "chromium-browser", "google-chrome"))), None)
+HAS_BROWSER = unittest.skipUnless(BROWSER, "chromium")
 HAS_MACHINE = unittest.skipUnless(os.path.exists(MACHINE), "g++")
 HEADER = "moment,device,event,value\n"
 NO_WORDS: list[str] = []  # among lists of words: mypy takes the type of [] for another one
@@ -164,7 +169,6 @@ def process_to(kind: str, *command: object, **others: Any) -> tuple[str, int]:
 
 
 def keys_of(told: object) -> Iterator[str]:
-    """Yields all keys of a JSON object and of the objects in it."""
     if isinstance(told, dict):
         yield from told
     for each in told.values() if isinstance(told, dict) else told if isinstance(told, list) else ():
@@ -202,6 +206,25 @@ class InFolder(unittest.TestCase):
         path.chmod(0o755)
         return path
 
+    def begun(self, *command: object, **others: Any) -> subprocess.Popen[str]:
+        """Starts a process, with our programs, which ends with the test."""
+        process = started(*command, folder=self.folder, **others)
+        self.addCleanup(process.communicate)
+        self.addCleanup(process.kill)
+        return process
+
+    def browsed(self, page: str, *words: str) -> str:
+        """Returns what a browser makes of a page."""
+        command = [str(BROWSER), "--headless", "--no-sandbox", "--disable-gpu", f"--user-data-dir={self.folder}/profile", *words, "--dump-dom"]
+        done = subprocess.run([*command, f"file://{self.write('walked.html', page)}"], capture_output=True, text=True, check=False, timeout=300,
+                              env={**os.environ, "HOME": str(self.folder)})
+        return done.stdout
+
+    def walked(self, page: str, script: str, *words: str) -> Any:
+        """Returns what a script, which is added to a page, reports in a browser."""
+        told = group_in(r'<pre class="told">(.*?)</pre>', self.browsed(page.replace("</body>", f"{script}</body>"), *words))
+        return json.loads(html.unescape(told))
+
     def opened(self, process: subprocess.Popen[str], name: str) -> int:
         """Waits until a process reads a FIFO of the folder, and returns an end to write to it."""
         until = time.monotonic() + MOST_SECONDS
@@ -218,7 +241,6 @@ class InFolder(unittest.TestCase):
             path.unlink()
 
     def names(self) -> list[str]:
-        """Returns the names in the folder."""
         return sorted(path.name for path in self.folder.iterdir())
 
     def succeeds(self, name: str, *words: object, **others: Any) -> str:

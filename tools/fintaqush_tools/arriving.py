@@ -22,12 +22,10 @@ TAKEN = re.compile(
 RECEIVED = re.compile(r"dev=(\S+) .*\blen=(\d{1,10})")
 LINK_HEADER = 14  # bytes of the Ethernet header, which is removed before a packet is received
 MOST_PACKET = 65535  # bytes
-HOW = {
-    BY_POLL: "a packet's moment is when the poll that took it began, or the interrupt that asked for this poll (napi_gro_receive_entry): its arrival "
-    "and a longer wait in the ring aren't recorded, nor is a packet that the card dropped",
-    BY_STACK: "a packet's moment is when the poll that took it began, or the interrupt that asked for this poll (netif_receive_skb): GRO may have merged "
-    "several packets to one, and what the card dropped isn't recorded",
-}
+WHEN = "a packet's moment is when the poll that took it began, or the interrupt that asked for this poll"
+NOT_KNOWN = "its arrival and a longer wait in the ring aren't recorded, nor is a packet that the card dropped"
+MERGED = "GRO may have merged several packets to one, and what the card dropped isn't recorded"
+HOW = {BY_POLL: f"{WHEN} ({BY_POLL}): {NOT_KNOWN}", BY_STACK: f"{WHEN} ({BY_STACK}): {MERGED}"}
 
 
 def size_in(event: Event, size: int) -> int:
@@ -54,12 +52,8 @@ class PollBegins:
     """For each processor, when the current poll began, or the interrupt that requested it. A packet that the poll takes arrived before
     that, or during the poll."""
 
-    handlers: dict[int, int]
-    ended: dict[int, tuple[int, int]]
-    began: dict[int, int]
-
-    def __init__(self) -> None:
-        self.handlers, self.ended, self.began = {}, {}, {}  # by processor
+    def __init__(self) -> None:  # by processor
+        self.handlers, self.ended, self.began = dict[int, int](), dict[int, tuple[int, int]](), dict[int, int]()
 
     def look(self, event: Event) -> None:
         kind, _, end = event.name.rpartition("_")
@@ -86,9 +80,10 @@ class PollBegins:
         return self.began.get(event.cpu, event.time)
 
 
-def chosen_kind(
-    names: Mapping[str, Mapping[str, int]], pairs: Iterable[tuple[str, str]], words: Words, head: Head
-) -> str:
+Counts = Mapping[str, Mapping[str, int]]  # packets of each device, by the kind of event
+
+
+def chosen_kind(names: Counts, pairs: Iterable[tuple[str, str]], words: Words, head: Head) -> str:
     """Returns the kind of event that counts as an arrival. `names` has the devices of each kind, `pairs` the ends of possible pairs."""
     if words.pair:
         return BY_PAIR
@@ -100,9 +95,8 @@ def chosen_kind(
             return kind
     if words.device:
         known = sorted(set(names.get(BY_POLL, ())) | set(names.get(BY_STACK, ())))
-        raise Refusal(
-            f"no packet of {shown(', '.join(words.device))} is received in it; those that receive are: {shown(', '.join(known)) or 'none'}"
-        )
+        named, others = (shown(", ".join(names)) for names in (words.device, known))
+        raise Refusal(f"no packet of {named} is received in it; those that receive are: {others or 'none'}")
     return BY_PAIR
 
 

@@ -59,10 +59,8 @@ def lines_of(seen: Receiving, layout: Layout, known: Collection[int]) -> Iterato
     slowest = waits[-max(1, len(waits) // SLOWEST) :]
     (share, names), (slow_share, slow_names) = (told(each, seen.tasks, known) for each in (waits, slowest))
     if max(share, slow_share) >= NOTABLE:
-        yield (
-            f"of the waits to delivery {100 * share:.0f} % passed while another task had the processor"
-            + (f" ({names})" if names else "")
-            + f", and of the slowest one in {SLOWEST} {100 * slow_share:.0f} %"
-            + (f" ({slow_names})" if slow_names else "")
-            + ": no setting that is tried here changes that; priorities and other processors for these tasks do"
-        )
+        named, slow_named = (f" ({each})" if each else "" for each in (names, slow_names))
+        all_of = f"of the waits to delivery {100 * share:.0f} % passed while another task had the processor{named}"
+        slow = f"of the slowest one in {SLOWEST} {100 * slow_share:.0f} %{slow_named}"
+        what = "no setting that is tried here changes that; priorities and other processors for these tasks do"
+        yield f"{all_of}, and {slow}: {what}"

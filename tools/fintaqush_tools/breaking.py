@@ -85,13 +85,11 @@ class Breaking:
     ends: dict[int, Ends]  # for each percentage of the costs: the load that holds and the load that breaks
 
 
-def breakings(
-    keys: Sequence[Key],
-    percents: Sequence[int],
-    breaks: Callable[[Key, int, Fraction], bool],
-    jobs: int,
-    step: Callable[[], None],
-) -> list[Breaking]:
+Breaks = Callable[[Key, int, Fraction], bool]
+Step = Callable[[], None]
+
+
+def breakings(keys: Sequence[Key], percents: Sequence[int], breaks: Breaks, jobs: int, step: Step) -> list[Breaking]:
     """Returns the Breaking of each key. `breaks` returns whether a key breaks at a percentage and a load; `step` is called after each search."""
 
     def searched(job: tuple[Key, int]) -> tuple[tuple[Key, int], Ends]:
@@ -115,7 +113,6 @@ def load_text(load: Fraction) -> str:
 
 
 def text_of(load: Optional[Fraction]) -> Optional[str]:
-    """Formats a load, if it is known."""
     return None if load is None else load_text(load)
 
 
@@ -127,9 +124,8 @@ def about(load: Fraction) -> str:
 def told(until: str, each: Breaking, rate: float, percents: Sequence[int]) -> str:
     """Returns the sentence that describes a combination of settings."""
     holds, broken = each.ends[100]
-    what = (
-        "packets are lost" if until == "drops" else f"the 99th percentile of waits is over {until.partition('=')[2]} µs"
-    )
+    over = f"the 99th percentile of waits is over {until.partition('=')[2]} µs"
+    what = "packets are lost" if until == "drops" else over
     if broken is None:
         return f"it holds up to {about(holds or HIGHEST)} times this load, the highest one tried"
     if holds is None:

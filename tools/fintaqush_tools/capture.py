@@ -135,7 +135,6 @@ def flow_of(data: mmap.mmap, record: Record) -> int:
 
 
 def in_pcap(data: mmap.mmap) -> Iterator[Record]:
-    """Yields the records of a pcap file."""
     order, tick = ORDERS[data[:4]]
     link = LINKS.get(struct.unpack_from(order + "I", data, 20)[0] & 0xFFFF)
     if struct.unpack_from(order + "HH", data, 4) != VERSION or not link:
@@ -148,14 +147,8 @@ def in_pcap(data: mmap.mmap) -> Iterator[Record]:
             raise Strange
         whole, fraction, held, length = unpack(data, place)
         place += 16
-        if (
-            not header <= held <= length
-            or not held
-            or held > most
-            or place + held > size
-            or fraction >= ticks
-            or whole >= MOST_SECONDS
-        ):
+        is_late = fraction >= ticks or whole >= MOST_SECONDS
+        if is_late or not header <= held <= length or not held or held > most or place + held > size:
             raise Strange
         yield make((whole * SECOND + fraction * tick, length, place, held, link))
         place += held
@@ -176,7 +169,6 @@ def interface_of(data: mmap.mmap, order: str, at: int, end: int) -> tuple[Link, 
 
 
 def in_pcapng(data: mmap.mmap) -> Iterator[Record]:
-    """Yields the records of a pcapng file."""
     place, size, order = 0, len(data), "<"
     interfaces: list[tuple[Link, int]] = []
     while place < size:
@@ -199,13 +191,10 @@ def in_pcapng(data: mmap.mmap) -> Iterator[Record]:
         place += whole
 
 
-def read(
-    file: IO[bytes],
-    count: int | None,
-    with_flows: bool,
-    add: Callable[[int, Link, bytes, int, int], None],
-    told: list[int],
-) -> bool:
+Add = Callable[[int, Link, bytes, int, int], None]  # takes time, link, ends, flow and length of a packet
+
+
+def read(file: IO[bytes], count: int | None, with_flows: bool, add: Add, told: list[int]) -> bool:
     """Reads the packets of an open file from its beginning. Calls `add(time, link, ends, flow, length)` for each; `ends` are the bytes of the
     link's header for `ends_of`; `told` is the file's position. Returns whether the whole file could be read."""
     if not file.seekable():
@@ -219,13 +208,8 @@ def read(
                     break
                 time, length, at, _, link = record
                 told[0] = at
-                add(
-                    time,
-                    link,
-                    data[at + link.begin : at + link.end],
-                    flow_of(data, record) if with_flows else 0,
-                    length,
-                )
+                flow = flow_of(data, record) if with_flows else 0
+                add(time, link, data[at + link.begin : at + link.end], flow, length)
         except (Strange, struct.error):
             return False
     return True

@@ -21,11 +21,8 @@ def times_in(capture: str, address: str) -> list[int]:
     """Returns the times of the packets to a link address and of broadcasts, in ns of CLOCK_REALTIME. Multicasts are left out, because a card
     accepts only those that its driver has enabled."""
     packets, _ = from_pcap.packets_in(Words(capture=capture, count=None, flows=False, way=from_pcap.IN), [])
-    return [
-        moment
-        for moment, kind, _ in packets.in_order()
-        if not kind.is_multicast and address in kind.receivers([address])
-    ]
+    own = {kind for kind in packets.numbers if not kind.is_multicast and address in kind.receivers([address])}
+    return [moment for moment, kind, _ in packets.in_order() if kind in own]
 
 
 def date(moment: int) -> str:
@@ -47,8 +44,7 @@ def arrivals_within(capture: str, head: Head, device: str) -> list[int]:
     end = begin + round(float(head.get("seconds", "0")) * SECOND)
     within = [moment - int(real) + int(monotonic) for moment in times if begin <= moment <= end]
     if not within:
-        raise Refusal(
-            f"{shown(capture)}: its packets to {shown(device)} are from {date(times[0])} to {date(times[-1])}, and the recording from {date(begin)} to "
-            f"{date(end)}; if they were captured meanwhile, {CLOCK}"
-        )
+        own = f"its packets to {shown(device)} are from {date(times[0])} to {date(times[-1])}"
+        other = f"the recording from {date(begin)} to {date(end)}; if they were captured meanwhile, {CLOCK}"
+        raise Refusal(f"{shown(capture)}: {own}, and {other}")
     return within

@@ -52,7 +52,7 @@ def sum_of(file: IO[bytes]) -> str:
 def add_words(parser: Parser, what: str, out: dict[str, Any]) -> None:
     """Adds the options of a tool that makes rows."""
     parser.add_argument("--out", **out)
-    parser.add_argument("--resume", action="store_true", help="continue an existing file")
+    parser.flag("--resume", "continue an existing file")
     text = "only part K of N: every Nth row from the Kth on, for a job array"
     parser.add_argument("--part", type=pair("/", "3/16"), metavar="K/N", help=text)
     parser.add_argument("--jobs", type=number(1, 999999), help="programs to run at once (one per processor)")
@@ -145,7 +145,6 @@ class Combinations:
             return None, f"{' '.join([shown(key[0]), *words])}: {why(error)}"
 
     def line_of(self, row: Row) -> str:
-        """Formats a row as a line of the file."""
         text = io.StringIO()
         csv.DictWriter(text, self.columns, lineterminator="\n").writerow(row)
         return text.getvalue()
@@ -223,10 +222,9 @@ class Combinations:
         rows = list(csv.DictReader(lines[1:], self.columns))
         for place, row in enumerate(rows, 2):
             if None in row or None in row.values():
-                removes = (
-                    f"`sed -i {place}d {shlex.quote(shown(path))}` removes it, and --resume makes the missing rows"
-                )
-                raise Refusal(f"{shown(path)}: row {place} isn't a row of {self.tool}: {removes}")
+                sed = f"sed -i {place}d {shlex.quote(shown(path))}"
+                how = f"`{sed}` removes it, and --resume makes the missing rows"
+                raise Refusal(f"{shown(path)}: row {place} isn't a row of {self.tool}: {how}")
         return {self.key_of(row): row for row in rows}
 
     def repaired_head(self, path: str, lines: Sequence[str]) -> str:

@@ -63,13 +63,8 @@ def values_of(report: Iterable[Mapping[str, Any]]) -> dict[str, dict[str, Any]]:
     for line in report:
         if line["line"] in ("device", "napi", "tx"):
             told = values.setdefault(f"device {line['device']}", {})
-            told.update(
-                {
-                    f"{line['line']} {name}" if name in told else name: value
-                    for name, value in line.items()
-                    if name not in ("version", "tool", "line", "device", "flags")
-                }
-            )
+            names = [name for name in line if name not in ("version", "tool", "line", "device", "flags")]
+            told.update({f"{line['line']} {name}" if name in told else name: line[name] for name in names})
         elif line["line"] == "total":
             values["total"] = {
                 name: value for name, value in line.items() if name not in ("version", "tool", "line", "devices")
@@ -81,10 +76,8 @@ def values_of(report: Iterable[Mapping[str, Any]]) -> dict[str, dict[str, Any]]:
 
 def numbers_of(values: Mapping[str, Mapping[str, Any]]) -> Values:
     """Returns the numbers among the values of a replay, which are exact."""
-    return {
-        row: {name: Value(value) for name, value in each.items() if type(value) is int and name != "word"}
-        for row, each in values.items()
-    }
+    some = {row: [name for name in each if type(each[name]) is int and name != "word"] for row, each in values.items()}
+    return {row: {name: Value(values[row][name]) for name in names} for row, names in some.items()}
 
 
 def number(value: Any) -> float:
@@ -108,11 +101,8 @@ def values_of_rows(rows: Sequence[Mapping[str, Any]]) -> Values:
         name for name in rows[0] if name not in NO_OPTION | ROW_VALUES.keys() and not name.endswith(("_least", "_most"))
     ]
     varied = [name for name in own if len({str(row.get(name)) for row in rows}) > 1]
-    return {
-        ", ".join(f"{name} {row.get(name)}" for name in varied): values_of_row(row)
-        for row in rows
-        if str(row.get("status", 0)) == "0"
-    }
+    whole = [row for row in rows if str(row.get("status", 0)) == "0"]
+    return {", ".join(f"{name} {row.get(name)}" for name in varied): values_of_row(row) for row in whole}
 
 
 def costs_in(told: Mapping[str, Mapping[str, float]]) -> dict[str, Value]:
@@ -130,12 +120,8 @@ def of_advice(objects: Sequence[Line]) -> Values:
 
 
 READERS: dict[str, Callable[[Sequence[Line]], Values]] = {
-    "replay": lambda objects: numbers_of(values_of(objects)),
-    "what-if": values_of_rows,
-    "machine": values_of_rows,
-    "sweep": values_of_rows,
-    "costs": of_costs,
-    "advise": of_advice,
+    **dict.fromkeys(("what-if", "machine", "sweep"), values_of_rows),
+    **{"replay": lambda objects: numbers_of(values_of(objects)), "costs": of_costs, "advise": of_advice},
 }
 
 
@@ -151,11 +137,8 @@ def values_in(seen: Receiving, waits: Waits, span: tuple[float, float]) -> dict[
     """Returns what was measured between two times: of packets that were sent then, and of polls that ended then."""
     begin, end = span
     sent = [has_come for time, has_come in zip(seen.sent, seen.has_come) if begin <= time < end]
-    polls = [
-        (work, ended - begun if begun else 0)
-        for ended, begun, work in zip(seen.ended, seen.begun, seen.work)
-        if begin <= ended < end
-    ]
+    inside = [poll for poll in zip(seen.ended, seen.begun, seen.work) if begin <= poll[0] < end]
+    polls = [(work, ended - begun if begun else 0) for ended, begun, work in inside]
     seconds = (end - begin) / 10**9
     values = {
         "packets_per_second": len(sent) / seconds,
@@ -183,10 +166,8 @@ def of_recording(path: str, device: str | None) -> Values:
     begin, end = min(seen.sent), max(*seen.sent, *seen.ended) + 1
     whole = values_in(seen, waits, (begin, end))
     step = (end - begin) / PARTS
-    parts = [
-        values_in(seen, waits, (begin + place * step, begin + (place + 1) * step))
-        for place in range(PARTS if len(seen.sent) >= FEWEST else 0)
-    ]
+    edges = [begin + place * step for place in range(PARTS + 1)] if len(seen.sent) >= FEWEST else []
+    parts = [values_in(seen, waits, span) for span in zip(edges, edges[1:])]
     values = {}
     for name, value in whole.items():
         known = [part[name] for part in parts if name in part]
@@ -211,10 +192,9 @@ def values_in_file(path: str, device: str | None) -> Values:
             return reader(objects)
         if ROW_VALUES.keys() & set(first.strip().split(",")):
             return values_of_rows(list(csv.DictReader(io.StringIO(first + "".join(lines)))))
-    raise Refusal(
-        "neither results (--json FILE of a tool, or CSV of what-if or sweep) nor a file of fintaqush record; a trace is replayed with two "
-        "settings by: fintaqush compare TRACE OPTION .. -- OPTION .."
-    )
+    what = "neither results (--json FILE of a tool, or CSV of what-if or sweep) nor a file of fintaqush record"
+    how = "a trace is replayed with two settings by: fintaqush compare TRACE OPTION .. -- OPTION .."
+    raise Refusal(f"{what}; {how}")
 
 
 def values_in_files(paths: Sequence[str], device: str | None) -> Values:
@@ -281,27 +261,17 @@ class Change(NamedTuple):
         return "higher" if self.difference > 0 else "lower"
 
     def as_object(self) -> dict[str, Any]:
-        return {
-            "row": self.row,
-            "name": identifier(self.name).replace(" ", "_"),
-            "before": self.before.middle,
-            "after": self.after.middle,
-            "change_percent": self.percent,
-            "noise": self.noise,
-            "is_noise": self.is_noise,
-        }
+        ends = {"before": self.before.middle, "after": self.after.middle, "change_percent": self.percent}
+        noise = {"noise": self.noise, "is_noise": self.is_noise}
+        return {"row": self.row, "name": identifier(self.name).replace(" ", "_"), **ends, **noise}
 
 
 def changes_in(before: Values, after: Values) -> list[Change]:
     """Returns the changes of all values that both have. Fails if there are none."""
     if len(before) == len(after) == 1:  # whichever options they have
         after = dict(zip(before, after.values()))
-    changes = [
-        Change(row, name, value, after[row][name])
-        for row, values in before.items()
-        for name, value in values.items()
-        if name in after.get(row, {})
-    ]
+    every = [(row, name, value) for row, values in before.items() for name, value in values.items()]
+    changes = [Change(*each, after[each[0]][each[1]]) for each in every if each[1] in after.get(each[0], {})]
     if not changes:
         raise Refusal("the two sides have no value in common")
     return changes
@@ -330,10 +300,8 @@ def lines_of(changes: Sequence[Change]) -> list[str]:
             rows.append([each.row, heading(each.name).replace("_", " "), *told, change, noise, each.verdict()])
     counts = Counter(each.verdict() for each in changes)
     certain = counts["higher"] + counts["lower"]
-    summary = (
-        f"of {len(changes)} values {certain} changed by more than the noise, {counts[CHANCE]} within it, {counts[UNKNOWN]} by an unknown part of it, "
-        f"and {counts[SAME]} are the same"
-    )
+    changed = f"{certain} changed by more than the noise, {counts[CHANCE]} within it, {counts[UNKNOWN]} by an unknown part of it"
+    summary = f"of {len(changes)} values {changed}, and {counts[SAME]} are the same"
     return [*(aligned(rows, 2) if len(rows) > 1 else []), summary]
 
 

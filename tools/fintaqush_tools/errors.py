@@ -53,7 +53,6 @@ class Signals:
 
     @classmethod
     def resume(cls) -> None:
-        """Takes a signal that was deferred."""
         cls.is_deferred = False
         if cls.waiting:
             cls.take(cls.waiting)
@@ -124,7 +123,6 @@ def clean_up() -> None:
 
 
 def unlink(name: str) -> None:
-    """Removes a file if it exists."""
     try:
         os.unlink(name)
     except OSError:

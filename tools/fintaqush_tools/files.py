@@ -13,7 +13,6 @@ TYPE_CHECKING = False  # `typing` is slow to import
 if TYPE_CHECKING:
     from collections.abc import Iterable, Iterator, Mapping
     from io import BufferedReader
-    from types import TracebackType
     from typing import IO, AnyStr
 
 MOST_BYTES = 64 * 1024 * 1024  # of a trace or a report; the largest trace has 7 MB
@@ -49,9 +48,7 @@ class WholeFile:
         os.close(os.open(self.new, os.O_WRONLY | os.O_CREAT | os.O_EXCL, mode))
         return self.new
 
-    def __exit__(
-        self, kind: type[BaseException] | None, _error: BaseException | None, _trace: TracebackType | None
-    ) -> None:
+    def __exit__(self, kind: type[BaseException] | None, *_: object) -> None:
         try:
             if kind is None:
                 self.put()

@@ -35,15 +35,9 @@ class Cost:
         return f"{self.value:.0f} ns ({self.low:.0f} to {self.high:.0f})"
 
     def as_object(self) -> dict[str, Any]:
-        return {
-            "value": round(self.value),
-            "low": round(self.low),
-            "high": round(self.high),
-            "count": self.count,
-            "explained": self.explained,
-            "half": [round(each) for each in self.middle] or None,
-            "source": self.source,
-        }
+        told = {name: round(getattr(self, name)) for name in ("value", "low", "high")}
+        half = [round(each) for each in self.middle] or None
+        return {**told, "count": self.count, "explained": self.explained, "half": half, "source": self.source}
 
 
 def cost_of(times: Sequence[float], source: str, less: float = 0) -> Cost | None:
@@ -119,11 +113,10 @@ def cost_line(points: Sequence[Point], known: float, source: str) -> Line:
     error = sqrt(left / max(1, count - 2))
     by_slope, by_start = WIDE * error / sqrt(spread), WIDE * error * sqrt(1 / count + mean_x * mean_x / spread)
     if explained < NOTHING or explained < LITTLE and slope <= by_slope:
-        raise Refusal(
-            f"what a packet costs isn't known: over {count} polls of {min(kept)[0]} to {max(kept)[0]} packets the time doesn't "
-            f"grow with them (the line explains {100 * max(0, explained):.0f} % of how the times differ): record more varied traffic, on a processor "
-            "that does nothing else"
-        )
+        polls = f"over {count} polls of {min(kept)[0]} to {max(kept)[0]} packets the time doesn't grow with them"
+        part = f"the line explains {100 * max(0, explained):.0f} % of how the times differ"
+        how = "record more varied traffic, on a processor that does nothing else"
+        raise Refusal(f"what a packet costs isn't known: {polls} ({part}): {how}")
     off = median(abs(y - start - slope * x) / max(1, start + slope * x) for x, y in kept)
     poll = Cost(start, max(0, start - by_start), start + by_start, count, source, round(explained, 4))
     packet = Cost(slope, max(0, slope - by_slope), slope + by_slope, count, source, round(explained, 4))

@@ -42,20 +42,15 @@ class NapiInstance:
     def text(self) -> str:
         """Returns its line in a recording's head, without the key: names and values."""
         on = ",".join(f"{each}:{count}:{self.packets[each]}" for each, count in self.polls.most_common())
-        return " ".join(
-            f"{name} {value}"
-            for name, value in (
-                ("device", self.device),
-                ("napi", self.napi),
-                ("napi_id", self.napi_id),
-                ("queue", self.queue),
-                ("kind", "receive" if self.receives else "transmit"),
-                ("polls", sum(self.polls.values())),
-                ("packets", sum(self.packets.values())),
-                ("on", on),
-            )
-            if value is not None
-        )
+        kind = "receive" if self.receives else "transmit"
+        values: dict[str, object] = {
+            "device": self.device,
+            "napi": self.napi,
+            "napi_id": self.napi_id,
+            "queue": self.queue,
+        }
+        values |= {"kind": kind, "polls": sum(self.polls.values()), "packets": sum(self.packets.values()), "on": on}
+        return " ".join(f"{name} {value}" for name, value in values.items() if value is not None)
 
 
 def parsed(key: str, text: str) -> NapiInstance:
@@ -83,22 +78,18 @@ def instances_in(head: Head) -> list[NapiInstance]:
 class Instances:
     """Counts the polls of a recording by instance, and finds the queue of each."""
 
-    of: dict[tuple[str, str], NapiInstance]
-    begun: dict[str, tuple[str, int]]
-    sent: dict[str, Counter[int]]
-    last: dict[tuple[str, str], tuple[int, Mapping[int, int]]]
-    common: Counter[tuple[str, str, int]]
-    named: dict[int, tuple[str, int, int]]
-
     def __init__(self, pairs: Iterable[tuple[str, str]] = ()) -> None:
         self.receivers = dict(pairs)  # for each sender the device at which its packets arrive
-        self.of = {}
-        self.begun = {}  # for each packet that is being sent: the device at which it arrives, and its queue there
-        self.sent = {}  # for each device how many packets each queue has got
+        self.of = dict[tuple[str, str], NapiInstance]()
+        # For each packet that is being sent: the device at which it arrives, and its queue there.
+        self.begun = dict[str, tuple[str, int]]()
+        self.sent = dict[str, Counter[int]]()  # for each device how many packets each queue has got
         # For each instance: the packets that it took before its last poll that wasn't full, and what its device's queues had got then.
-        self.last = {}
-        self.common = Counter()  # for each instance and each queue of its device, the packets that they have in common
-        self.named = {}  # by processor: the device, the napi_id and the queue of the last packet that a poll took
+        self.last = dict[tuple[str, str], tuple[int, Mapping[int, int]]]()
+        # For each instance and each queue of its device, the packets that they have in common.
+        self.common = Counter[tuple[str, str, int]]()
+        # By processor: the device, the napi_id and the queue of the last packet that a poll took.
+        self.named = dict[int, tuple[str, int, int]]()
 
     def poll(self, cpu: int, napi: str, device: str, work: int, budget: int) -> None:
         """Counts a poll."""
@@ -149,7 +140,7 @@ class Instances:
                 each.queue = queue
                 taken.add((device, queue))
         yield from sorted(
-            self.of.values(), key=lambda each: (each.device, not each.receives, each.queue is None, each.queue or 0)
+            self.of.values(), key=lambda it: (it.device, not it.receives, it.queue is None, it.queue or 0)
         )
 
 
@@ -158,19 +149,14 @@ class Routes:
     backlog of the processor that receives the packet later. `pairs` has the device at which each sender's packets arrive.
     """
 
-    only: dict[str, Place]
-    by_queue: dict[tuple[str, int], Place]
-    queues: dict[str, int]
-    backlogs: dict[int, Place]
-    moved: set[str]
-
     STARTED = re.compile(r"dev=(\S+) queue_mapping=(\d+) skbaddr=(\S+)")
     SENT = re.compile(r"dev=\S+ skbaddr=(\S+)")
     STACKED = re.compile(r"dev=(\S+) skbaddr=(\S+)")
 
     def __init__(self, head: Head, pairs: Mapping[str, str]) -> None:
         self.receivers, self.are_known = dict(pairs), False
-        self.only, self.by_queue, self.queues, self.moved = {}, {}, {}, set()
+        self.only, self.queues, self.moved = dict[str, Place](), dict[str, int](), set[str]()
+        self.by_queue = dict[tuple[str, int], Place]()
         own: dict[str, list[NapiInstance]] = {}
         for each in instances_in(head):
             self.are_known = True
@@ -207,7 +193,6 @@ class Routes:
         return (self.backlogs.get(event.cpu), packet) if device in self.moved else (None, packet)
 
     def of_poll(self, device: str, napi: str) -> Place:
-        """Returns the instance of a poll."""
         return (device, napi) if self.are_known else ANY
 
 

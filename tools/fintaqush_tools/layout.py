@@ -13,10 +13,8 @@ from fintaqush_tools.receiving import Receiving
 
 MAJOR = 1000  # packets: the waits of a device with fewer don't count if another one has so many
 MOST_PROCESSORS, MOST_INSTANCES = 64, 64  # of napi_machine, and of each processor
-UNEVEN, EVENED = (
-    1.5,
-    1.2,
-)  # times the mean from which a processor's share is uneven; by how much another layout has to lower it
+UNEVEN = 1.5  # times the mean from which a processor's share is uneven
+EVENED = 1.2  # by how much another layout has to lower it
 TABLE = 128  # entries of a card's table from hashes to queues
 MOVED = 0.05  # share of an instance's packets on processors other than its main one
 

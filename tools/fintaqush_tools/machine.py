@@ -19,11 +19,8 @@ TABLE: list[dict[str, Any]] = json.loads(Path(__file__).with_name("options.json"
 OPTIONS: dict[str, tuple[int, int, int]] = {it["name"]: (it["least"], it["most"], it["default"]) for it in TABLE}
 MEANS: dict[str, str] = {it["name"]: it["what"] for it in TABLE}
 IN_NS = tuple(it["name"] for it in TABLE if it["unit"] == "ns")
-COSTS = tuple(
-    name
-    for name in ("interrupt", "poll", "packet", "use", "wake", "app-wake", "take", "timer", "timer-wake")
-    if name in OPTIONS
-)
+NAMES = ("interrupt", "poll", "packet", "use", "wake", "app-wake", "take", "timer", "timer-wake")
+COSTS = tuple(name for name in NAMES if name in OPTIONS)
 LINES = ("device", "processor", "time", "application", "total")
 SHARES = ("interrupt", "poll", "use", "idle")
 PERCENTILES = {"p50": "wait50", "p99": "wait99", "p999": "wait999"}

@@ -26,18 +26,10 @@ grep -s "" address mtu tx_queue_len threaded napi_defer_hard_irqs gro_flush_time
     queues/*/xps_cpus statistics/rx_dropped statistics/rx_packets statistics/rx_missed_errors
 exit 0"""
 ETHTOOL = {"ring": "-g", "coalesce": "-c", "channels": "-l", "feature": "-k"}
-FEATURES = {
-    "generic-receive-offload",
-    "large-receive-offload",
-    "rx-gro-hw",
-    "rx-gro-list",
-    "rx-udp-gro-forwarding",
-    "receive-hashing",
-    "tcp-segmentation-offload",
-    "generic-segmentation-offload",
-    "tx-udp-segmentation",
-    "ntuple-filters",
-}
+FEATURES = set(
+    "generic-receive-offload large-receive-offload rx-gro-hw rx-gro-list rx-udp-gro-forwarding receive-hashing "
+    "tcp-segmentation-offload generic-segmentation-offload tx-udp-segmentation ntuple-filters".split()
+)
 READINGS = 16  # of both clocks, of which the fastest counts
 PACKAGES = {"ip": "iproute2", "ethtool": "ethtool"}
 os.environ[
@@ -83,10 +75,8 @@ def of_device(name: str, netns: str | None) -> dict[str, str]:
     """Returns a device's settings in sysfs."""
     status, out, _ = ran([*within(netns), "sh", "-c", DEVICE, "sh", name])
     if status != 0:
-        raise Refusal(
-            f"--device {shown(name)}: there is no such device"
-            + (f" in {shown(netns)}" if netns else "; one in a network namespace needs --netns")
-        )
+        where = f" in {shown(netns)}" if netns else "; one in a network namespace needs --netns"
+        raise Refusal(f"--device {shown(name)}: there is no such device{where}")
     lines = [line.partition(":") for line in out.decode("utf-8", "replace").splitlines()]
     return {path.replace("queues/", "").replace("/", "."): value for path, _, value in lines}
 
@@ -158,19 +148,12 @@ def of_task(pid: int) -> Iterator[tuple[str, str]]:
         if line.startswith("Cpus_allowed_list:"):
             yield "processors", line.split()[1]
     with contextlib.suppress(OSError):
-        policy = {
-            os.SCHED_OTHER: "other",
-            os.SCHED_FIFO: "fifo",
-            os.SCHED_RR: "rr",
-            os.SCHED_BATCH: "batch",
-            os.SCHED_IDLE: "idle",
-        }
+        policy = {getattr(os, f"SCHED_{name.upper()}"): name for name in ("other", "fifo", "rr", "batch", "idle")}
         yield "policy", policy.get(os.sched_getscheduler(pid) & 0xFF, "unknown")
         yield "priority", str(os.sched_getparam(pid).sched_priority)
 
 
 def threads_of(name: str) -> Iterator[tuple[str, str]]:
-    """Yields the NAPI threads of a device."""
     for pid, thread in sorted(tasks_named(lambda each: each.startswith(f"napi/{name}-"))):
         for key, value in of_task(pid):
             yield f"thread.{thread.rpartition('-')[2]}.{key}", value
@@ -180,9 +163,8 @@ def pairs_in(netns: str | None) -> list[dict[str, Any]]:
     """Returns the ends of veth pairs in a network namespace, as `ip` describes them. If the kernel has no veth devices, because the module isn't
     loaded, `ip` prints an empty object for each device of any kind."""
     with contextlib.suppress(ValueError):
-        links = json.loads(
-            output_of(["ip", *(["-n", netns] if netns else []), "-j", "link", "show", "type", "veth"]) or "[]"
-        )
+        command = ["ip", *(["-n", netns] if netns else []), "-j", "link", "show", "type", "veth"]
+        links = json.loads(output_of(command) or "[]")
         return [link for link in links if "ifname" in link and "ifindex" in link]
     return []
 
@@ -194,11 +176,8 @@ def peer_of(name: str, netns: str | None) -> str:
         return str(own.get("link", ""))
     listed = output_of(["ip", *(["-n", netns] if netns else []), "netns", "list-id"])
     named = dict(re.findall(r"nsid (\d+) .*netns name: ([^)\s]+)", listed))
-    found = [
-        link["ifname"]
-        for link in pairs_in(named.get(str(own.get("link_netnsid")), ""))
-        if (link["ifindex"], link.get("link_index")) == (own["link_index"], own["ifindex"])
-    ]
+    others, numbers = pairs_in(named.get(str(own.get("link_netnsid")), "")), (own["link_index"], own["ifindex"])
+    found = [link["ifname"] for link in others if (link["ifindex"], link.get("link_index")) == numbers]
     return str(found[0]) if len(found) == 1 else ""
 
 
@@ -216,7 +195,6 @@ def of_kernel() -> Iterator[tuple[str, str]]:
 
 
 def settings_of_device(name: str, netns: str | None) -> Iterator[tuple[str, str]]:
-    """Yields all settings of a device."""
     of = of_device(name, netns)
     counts = ("statistics.", "ifindex", "iflink")
     for key, value in of.items():
@@ -237,20 +215,13 @@ def counters(devices: Sequence[str], netns: str | None) -> dict[str, int]:
         for name, column in COUNTED.items():
             if column < len(columns):
                 counted[f"softnet.{processor}.{name}"] = int(columns[column], 16)
-    told = [
-        line.split()
-        for line in output_of([*within(netns), "cat", "/proc/net/snmp"]).splitlines()
-        if line.startswith("Udp: ")
-    ]
-    counted |= (
-        {f"udp.{name}": int(value) for name, value in zip(*told[:2]) if value.isdigit()} if len(told) >= 2 else {}
-    )
+    lines = output_of([*within(netns), "cat", "/proc/net/snmp"]).splitlines()
+    told = [line.split() for line in lines if line.startswith("Udp: ")]
+    if len(told) >= 2:
+        counted |= {f"udp.{name}": int(value) for name, value in zip(*told[:2]) if value.isdigit()}
     for device in devices:
-        counted |= {
-            f"device.{device}.{key}": int(value)
-            for key, value in of_device(device, netns).items()
-            if key.startswith("statistics.")
-        }
+        values = {key: value for key, value in of_device(device, netns).items() if key.startswith("statistics.")}
+        counted |= {f"device.{device}.{key}": int(value) for key, value in values.items()}
     return counted
 
 
@@ -260,11 +231,8 @@ def lacking(netns: str | None) -> list[str]:
         "ethtool": "rings, coalescing and offloads aren't recorded",
         "ip": "the other end of a veth pair isn't found: name it by --sender",
     }
-    return [
-        f"{name} isn't installed (Debian: apt install {PACKAGES[name]}), so {what}"
-        for name, what in without.items()
-        if not shutil.which(name) and not (name == "ip" and netns)
-    ]
+    lacks = [name for name in without if not shutil.which(name) and not (name == "ip" and netns)]
+    return [f"{it} isn't installed (Debian: apt install {PACKAGES[it]}), so {without[it]}" for it in lacks]
 
 
 def now() -> dict[str, Any]:

@@ -39,6 +39,19 @@ class Parser(argparse.ArgumentParser):
 
     raises = False  # whether a wrong option is a Refusal, as where a subcommand is called by another one
 
+    def flag(self, name: str, what: str) -> None:
+        """Adds an option without a value."""
+        self.add_argument(name, action="store_true", help=what)
+
+    def many(self, name: str, metavar: str, what: str, **others: Any) -> None:
+        """Adds an option that may be given many times."""
+        how: dict[str, Any] = {"action": "append", "default": [], **others}
+        self.add_argument(name, metavar=metavar, help=what, **how)
+
+    def number(self, name: str, low: int, high: int, usual: int | None, what: str) -> None:
+        """Adds an option whose value is a whole number from `low` to `high`."""
+        self.add_argument(name, type=number(low, high), default=usual, metavar="N", help=what)
+
     def print_help(self, file: IO[str] | None = None) -> None:
         (file or sys.stdout).write(self.format_help())
 
@@ -75,19 +88,12 @@ class Parser(argparse.ArgumentParser):
 
 def parser_of(text: str, **others: Any) -> Parser:
     """Returns a parser of a subcommand's options, with those that all have."""
-    how: dict[str, Any] = {
-        "prog": Program.name,
-        "formatter_class": argparse.RawDescriptionHelpFormatter,
-        "allow_abbrev": False,
-    }
-    parser = Parser(description=with_pages(text), **{**how, **others})
+    others |= {"prog": Program.name, "formatter_class": argparse.RawDescriptionHelpFormatter, "allow_abbrev": False}
+    parser = Parser(description=with_pages(text), **others)
     told = f"{parser.prog} of Fintaqush {version()}"
-    parser.add_argument(
-        "--version", action=Printed, nargs=0, const=told, dest=argparse.SUPPRESS, help="print the version"
-    )
-    parser.add_argument(
-        "--quiet", action=Quiet, nargs=0, dest=argparse.SUPPRESS, help="print no progress on standard error"
-    )
+    own: dict[str, Any] = {"nargs": 0, "dest": argparse.SUPPRESS}
+    parser.add_argument("--version", action=Printed, const=told, help="print the version", **own)
+    parser.add_argument("--quiet", action=Quiet, help="print no progress on standard error", **own)
     return parser
 
 
@@ -119,10 +125,10 @@ def pair(sign: str, example: str, low: int = 1) -> Callable[[str], tuple[int, in
     return read
 
 
-def add_settings(parser: argparse.ArgumentParser) -> None:
+def add_settings(parser: Parser) -> None:
     """Adds the options of a run."""
     for name, most in MOST.items():
-        parser.add_argument(f"--{name}", type=number(1, most), metavar="N", help=f"1 to {most} ({USUAL[name]})")
+        parser.number(f"--{name}", 1, most, None, f"1 to {most} ({USUAL[name]})")
 
 
 def given_settings(words: Words) -> dict[str, int]:
@@ -150,9 +156,9 @@ def add_out(parser: argparse.ArgumentParser, what: str) -> None:
     parser.add_argument("--out", metavar="FILE", help=f"the file for the {what} (standard output)")
 
 
-def add_force(parser: argparse.ArgumentParser, names: str) -> None:
+def add_force(parser: Parser, names: str) -> None:
     """Adds the option that lets a tool replace files whose names it makes itself; one that --out names is replaced anyway."""
-    parser.add_argument("--force", action="store_true", help=f"replace existing files: {names}")
+    parser.flag("--force", f"replace existing files: {names}")
 
 
 def add_raise(parser: argparse.ArgumentParser, more: str = "") -> None:

@@ -148,7 +148,6 @@ def saved(figure: Any, end: str, title: str, alternative: str) -> bytes:
 
 
 def draw_curve(axes: Any, each: Curve, colors: Mapping[str, str]) -> None:
-    """Draws one curve of a panel."""
     color, name, points = colors[each["color"]], each["name"] or None, each["points"]
     x, y = [point[0] for point in points], [point[-1] for point in points]
     if each["kind"] == "area":
@@ -245,11 +244,9 @@ def alternative_of(picture: Picture) -> str:
     told = [picture["title"].replace("\n", " ") + "."]
     for number, panel in enumerate(picture["panels"], 1):
         heading = f", {panel['heading']}" if panel["heading"] else ""
-        curves = [
-            f"{each['name']} from {min(point[1] for point in each['points']):g} to {max(point[-1] for point in each['points']):g}"
-            for each in panel["curves"]
-            if each["name"] and each["points"]
-        ]
+        seen = [(each["name"], each["points"]) for each in panel["curves"] if each["name"] and each["points"]]
+        ends = [(name, min(point[1] for point in some), max(point[-1] for point in some)) for name, some in seen]
+        curves = [f"{name} from {low:g} to {high:g}" for name, low, high in ends]
         told.append(f"Panel {number} ({panel['label']}{heading}): {'; '.join(curves) or 'nothing'}.")
     axis = picture["axis"]
     return shown(" ".join(told) + f" The axis is {axis['label']}, from {axis['low']:g} to {axis['high']:g}.")

@@ -67,9 +67,8 @@ def check_signal(process: subprocess.Popen[bytes]) -> None:
 
 def ran(command: Sequence[str], text: bytes | None = None, stdin: IO[bytes] | None = None) -> tuple[int, bytes, bytes]:
     """Runs a program with this input. Returns its status and the bytes of its two outputs."""
-    with begun(
-        command, running, stdin=stdin or subprocess.PIPE, stdout=subprocess.PIPE, stderr=subprocess.PIPE
-    ) as process:
+    ends = {"stdin": stdin or subprocess.PIPE, "stdout": subprocess.PIPE, "stderr": subprocess.PIPE}
+    with begun(command, running, **ends) as process:
         try:
             if stdin:
                 read_now.add(stdin)

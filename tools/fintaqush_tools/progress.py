@@ -10,7 +10,9 @@ TYPE_CHECKING = False  # `typing` is slow to import
 if TYPE_CHECKING:
     import threading
     from collections.abc import Callable
-    from typing import IO, Any
+    from typing import IO, Any, Optional
+
+    Share = Callable[[], Optional[float]]
 
 CLEAR = "\r\033[K"  # the beginning of a terminal's line, and what is in it is removed
 
@@ -62,9 +64,7 @@ class Progress:
     """Shows the progress and the time left of a block: on standard error of a terminal, after the first second, and not with --quiet.
     `how_far` returns a share from 0 to 1, or None if it is unknown; `more` returns a text."""
 
-    def __init__(
-        self, what: str, how_far: Callable[[], float | None] = lambda: None, more: Callable[[], str] = lambda: ""
-    ) -> None:
+    def __init__(self, what: str, how_far: Share = lambda: None, more: Callable[[], str] = lambda: "") -> None:
         self.what, self.how_far, self.more = what, how_far, more
         self.over: threading.Event | None = None
 

@@ -15,10 +15,9 @@ from fintaqush_tools.timeline import Timeline
 from fintaqush_tools.tracing import STACK
 
 DISTURBED = 0.02  # share of the processor's time that other tasks may take
-NO_ARRIVAL = (
-    "no arrival is in it: a veth pair's are what its other end sends (fintaqush record --sender), a card's what polls take "
-    "(napi_gro_receive_entry); or name a capture that was made meanwhile by --capture"
-)
+OF_BOTH = "a veth pair's are what its other end sends (fintaqush record --sender), a card's what polls take"
+CAPTURED = "or name a capture that was made meanwhile by --capture"
+NO_ARRIVAL = f"no arrival is in it: {OF_BOTH} (napi_gro_receive_entry); {CAPTURED}"
 
 
 class Recording:
@@ -86,10 +85,8 @@ class Recording:
         if not self.sender or len(own) < 2:
             return
         if self.polled == BACKLOG and STACK not in events:
-            raise Refusal(
-                f"the backlogs of {len(own)} processors poll, and which of them gets a packet isn't recorded: it is if RPS is set, or GRO is off, "
-                "when the recording begins"
-            )
+            why = "which of them gets a packet isn't recorded: it is if RPS is set, or GRO is off, when the recording begins"
+            raise Refusal(f"the backlogs of {len(own)} processors poll, and {why}")
         if self.polled != BACKLOG and any(each.queue is None for each in own):
             raise Refusal(
                 f"{len(own)} instances of {shown(self.polled)} poll, and which of them has which queue isn't known: record for longer, or more packets"

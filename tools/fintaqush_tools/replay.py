@@ -99,11 +99,14 @@ def about() -> str:
     sources, of_kit = (it.stdout.strip() for it in done)
     built = (crates()[name].is_built() for name in ("napi_serial", "napi_replay"))
     serial, every = ("proved and built" if it else "not built here yet" for it in built)
-    return (
-        f"replay of Fintaqush {version()}\nit replays traces of version 1 and 2 by the NAPI polling of Linux 6.6\n"
-        f"sources: {sources or 'no git history here'}\n"
-        f"program of serial mode: {serial}\nprogram of every mode: {every}\nkit: {of_kit or 'no rt on PATH'}\n"
-    )
+    what = "it replays traces of version 1 and 2 by the NAPI polling of Linux 6.6"
+    lines = [f"replay of Fintaqush {version()}", what, f"sources: {sources or 'no git history here'}"]
+    lines += [
+        f"program of serial mode: {serial}",
+        f"program of every mode: {every}",
+        f"kit: {of_kit or 'no rt on PATH'}",
+    ]
+    return "\n".join([*lines, ""])
 
 
 class Run:
@@ -113,15 +116,9 @@ class Run:
     def __init__(self, call: Call, command: Sequence[str], memory: int = 0, is_kept: bool = True, **where: Any) -> None:
         self.call = call
         self.told: tuple[Optional[bytes], bytes] = (None, b"")
-        self.process = subprocess.Popen(
-            command,
-            stdin=subprocess.PIPE,
-            stdout=subprocess.PIPE if is_kept else None,
-            stderr=subprocess.PIPE,
-            preexec_fn=lambda: child(memory=memory),
-            restore_signals=False,
-            **where,
-        )
+        where |= {"stdin": subprocess.PIPE, "stdout": subprocess.PIPE if is_kept else None, "stderr": subprocess.PIPE}
+        where |= {"preexec_fn": lambda: child(memory=memory), "restore_signals": False}
+        self.process: subprocess.Popen[bytes] = subprocess.Popen(command, **where)
         to, self.process.stdin = self.process.stdin, None
         threading.Thread(target=call.pass_on, args=(to, self.process), daemon=True).start()
         self.reader = threading.Thread(target=self.read, daemon=True)

@@ -37,7 +37,6 @@ ROWS = ("softirq", "kthread", "busy")
 
 
 def names_of(word: int) -> list[str]:
-    """Returns the names of the bits of a state word."""
     if word != sum(1 << bit for bit in BITS if word >> bit & 1):
         raise Refusal(f"{word} is no state word")
     return [name for bit, name in BITS.items() if word >> bit & 1]
@@ -63,7 +62,6 @@ def is_of(shape: Sequence[str], words: Sequence[str]) -> bool:
 
 
 def object_of(line: str) -> Line:
-    """Parses a line of a report."""
     words = line.split(" ")
     if words[0] == "list" and all(map(is_number, words[1:])):
         return {"line": "list", "devices": [int(word) for word in words[1:]]}
@@ -91,7 +89,6 @@ def json_of(value: object) -> str:
 
 
 def lines_of(report: str) -> str:
-    """Returns the lines of JSON for a whole report."""
     head: Line = {"version": FORMAT, "tool": "replay"}
     return "".join(f"{json_of({**head, **told})}\n" for told in objects_of(report))
 
@@ -134,7 +131,6 @@ def check_whole(objects: Sequence[Line]) -> None:
 
 
 def of_kind(objects: Sequence[Line], *kinds: str) -> list[Line]:
-    """Returns the lines of these kinds."""
     return [told for told in objects if told["line"] in kinds]
 
 

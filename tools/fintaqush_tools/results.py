@@ -18,14 +18,8 @@ PRINTED = "-"  # the name for standard output
 
 def add_json(parser: Any, what: str = "the results") -> None:
     """Adds the option --json, with or without a file."""
-    parser.add_argument(
-        "--json",
-        nargs="?",
-        const=PRINTED,
-        type=json_target,
-        metavar="FILE",
-        help=f"write {what} as JSON to a file too; without FILE, print only JSON",
-    )
+    told = f"write {what} as JSON to a file too; without FILE, print only JSON"
+    parser.add_argument("--json", nargs="?", const=PRINTED, type=json_target, metavar="FILE", help=told)
 
 
 def json_target(name: str) -> str:
@@ -41,8 +35,9 @@ def json_target(name: str) -> str:
     except (Refusal, OSError) as error:
         raise argparse.ArgumentTypeError(str(error)) from None
     if is_other:
+        why = "exists and isn't JSON, so it isn't replaced"
         raise argparse.ArgumentTypeError(
-            f"{shown(name)} exists and isn't JSON, so it isn't replaced; --json comes last, or before another option, if no file is meant"
+            f"{shown(name)} {why}; --json comes last, or before another option, if no file is meant"
         )
     return name
 
@@ -65,13 +60,9 @@ def write_json(target: str | None, tool: str, objects: Iterable[Mapping[str, Any
 
 def value_of(text: str) -> int | float | str | None:
     """Converts a value of a row to its JSON type."""
-    return (
-        int(text)
-        if re.fullmatch("[0-9]+", text)
-        else float(text)
-        if re.fullmatch(r"[0-9]+\.[0-9]+", text)
-        else text or None
-    )
+    if re.fullmatch("[0-9]+", text):
+        return int(text)
+    return float(text) if re.fullmatch(r"[0-9]+\.[0-9]+", text) else text or None
 
 
 def objects_in(text: str) -> list[dict[str, Any]]:

@@ -40,11 +40,8 @@ def judge(words: Sequence[str]) -> str:
         option, is_given, value = word.partition("=") if word.startswith("--") else (word, "", "")
         if option not in RANGES:
             near = nearest_to(option, OPTIONS)
-            meant = (
-                f"is {near} meant{', ' + RANGES[near] if near in RANGES else ''}?"
-                if near
-                else f"they are {' '.join(OPTIONS)}"
-            )
+            meant = f"is {near} meant{', ' + RANGES[near] if near in RANGES else ''}?"
+            meant = meant if near else f"they are {' '.join(OPTIONS)}"
             return f"{quoted(option)} is no option: {meant}"
         if option in seen:
             return f"{option} is given twice"

@@ -6,45 +6,14 @@ from __future__ import annotations
 from collections.abc import Mapping
 from typing import Any
 
+from fintaqush_tools.places import TEMPLATES
 from fintaqush_tools.trace import Row
 
 QUEUE = dict.fromkeys(("limit", "in_flight", "stopped"), 0)
 POLLERS = {"softirq": "The run", "kthread": "The thread of device {}", "busy": "A program that busy polls device {}"}
 RULES = {"softirq": "net_rx_action", "kthread": "napi_threaded_poll", "busy": "napi_busy_loop"}
-# Each sentence with its name and the kernel's function. {device} and {value} are those of the row.
-SENTENCES = """
-completes: napi_disable: Nothing has the instance of device {each} scheduled any more, so the pending disable completes: SCHED and NPSVC are set.
-open: netif_napi_add, napi_enable: Device {device} is opened: a ring of {packets}, and an instance that is enabled and idle.
-dropped: : A packet of {value} bytes arrives, but the ring of device {device} is full: the packet is dropped.
-rx: : A packet of {value} bytes goes into the ring of device {device}.
-refused: napi_schedule_prep: The interrupt requests a poll, which is refused because DISABLE is set. Nothing changes.
-off: napi_schedule_prep: The interrupt requests a poll, but the device is disabled, so SCHED is set: MISSED is set too, and no poll follows. \
-That takes another request after the enable.
-missed: napi_schedule_prep: The interrupt requests a poll, but the instance is scheduled already: MISSED is set, which causes one more poll.
-granted: napi_schedule_prep, ____napi_schedule: The interrupt requests a poll, which is granted: SCHED is set, and the instance is scheduled {where}.
-unsent: netif_xmit_stopped: A packet of {value} bytes isn't sent: the queue is stopped, or its ring is full.
-tx: netdev_tx_sent_queue, dql_queued: A packet of {value} bytes is sent: {in_flight} bytes are in flight; the limit is {limit}.
-stopped: netdev_tx_sent_queue: That is over the limit, so the queue is stopped.
-too many: : The completion is refused: fewer packets than {value} are in flight.
-done: netdev_tx_completed_queue: {packets} completed. {in_flight} bytes are in flight.
-limit: dql_completed: The limit goes from {was} to {now} bytes.
-started: netdev_tx_completed_queue, netif_schedule_queue: The queue is within its limit again, so it is started, and scheduled to send what waits.
-disable: napi_disable: Device {device} is to be disabled: DISABLE is set.
-at once: napi_disable: Its instance is idle, so it is disabled at once: SCHED and NPSVC are set, DISABLE and THREADED are cleared.
-pending: napi_disable: Its instance is scheduled, so the disable is pending until that ends.
-enable: napi_enable: Device {device} is enabled: SCHED and NPSVC are cleared.
-threaded: dev_set_threaded: Device {device} is to be polled by {by}.
-spins: {rule}: {who} can't take its instance, which is {reason}. It spins until its loop ends, and polls nothing.
-nothing: {rule}: {who} finds nothing to poll.
-polls: {rule}: {who} makes {polls} and takes {packets}.
-squeezed: net_rx_action, time_squeeze: The run is squeezed: it stopped because its budget or its window was used up.
-taken: napi_poll: {packets} of device {each}; {left} left in its ring.
-again: napi_complete_done: A request for device {each} had been missed: MISSED is cleared, and it is polled once more.
-given up: __napi_poll, napi_disable_pending: A disable of device {each} is pending, so it isn't polled again for the packets that wait: SCHED is cleared.
-idle: napi_complete_done: Device {each} has no more packets: SCHED is cleared, and its instance is idle.
-listed: napi_poll: Device {each} is on the poll list, for the next run.
-"""
-SAID = {line.split(":")[0]: line.split(": ", 2)[1:] for line in SENTENCES.split("\n")[1:-1]}
+with open(f"{TEMPLATES}/sentences.txt", encoding="utf-8") as file:  # by their names, each with the kernel's function
+    SAID = {line.split(":")[0]: line.rstrip().split(": ", 2)[1:] for line in file if not line.startswith("#")}
 
 
 def count_of(number: int, thing: str) -> str:
@@ -121,15 +90,11 @@ class Step:
 
     def polls(self) -> None:
         """Describes a softirq, kthread or busy row."""
-        reason = {"off": "disabled", "pending": "about to be disabled"}
-        self.say(
-            "polls" if self.line["polls"] else "spins" if self.event == "busy" else "nothing",
-            rule=RULES[self.event],
-            who=POLLERS[self.event].format(self.device),
-            reason=self.was and reason.get(self.was["state"], "scheduled already"),
-            polls=count_of(self.line["polls"], "poll"),
-            packets=count_of(self.line["work"], "packet"),
-        )
+        reasons = {"off": "disabled", "pending": "about to be disabled"}
+        reason = self.was and reasons.get(self.was["state"], "scheduled already")
+        who = {"rule": RULES[self.event], "who": POLLERS[self.event].format(self.device), "reason": reason}
+        did = {"polls": count_of(self.line["polls"], "poll"), "packets": count_of(self.line["work"], "packet")}
+        self.say("polls" if self.line["polls"] else "spins" if self.event == "busy" else "nothing", **who, **did)
         for device, packets in self.line["gave"].items():
             self.polled(device, packets)
         if self.line["squeezed"]:

@@ -74,7 +74,6 @@ def lost_percent(row: Row) -> float:
 
 
 def listed(places: Sequence[int]) -> str:
-    """Lists rows by their numbers."""
     return f"row{'s' if len(places) > 1 else ''} {', '.join(map(str, places))}"
 
 

@@ -57,5 +57,4 @@ def as_rows(key: str, value: str, numbers: Mapping[str, object] | Mapping[int, o
 
 
 def lines_of(texts: Iterable[str]) -> str:
-    """Returns these texts, each as a line."""
     return "".join(f"{text}\n" for text in texts)

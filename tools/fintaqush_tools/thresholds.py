@@ -82,20 +82,13 @@ def add_fail_if_changed(parser: Parser) -> None:
             raise wrong(text, f"a limit of {condition.name}; one for its change has a sign, as 'p99>+10%'")
         return condition
 
-    add_condition(
-        parser, read, "for a change of more than its noise, as 'p99>+10%', or for a value after, as 'p99>200us'"
-    )
+    when = "for a change of more than its noise, as 'p99>+10%', or for a value after, as 'p99>200us'"
+    add_condition(parser, read, when)
 
 
 def add_condition(parser: Parser, read: Any, when: str) -> None:
-    parser.add_argument(
-        "--fail-if",
-        action="append",
-        default=[],
-        type=read,
-        metavar="CONDITION",
-        help=f"exit with status {FAILED} if the condition holds {when.replace('%', '%%')}; may be given many times",
-    )
+    what = f"exit with status {FAILED} if the condition holds {when.replace('%', '%%')}; may be given many times"
+    parser.many("--fail-if", "CONDITION", what, type=read)
 
 
 def status_of(
@@ -108,16 +101,10 @@ def status_of(
     status = 0
     pairs = list(zip(results, before or [NONE] * len(results)))
     for condition in conditions:
-        held = [
-            (which, condition.told(values, old))
-            for (which, values), old in pairs
-            if condition.name in values and condition.holds(values, old)
-        ]
+        known = [(which, values, old) for (which, values), old in pairs if condition.name in values]
+        held = [(which, condition.told(values, old)) for which, values, old in known if condition.holds(values, old)]
         if held:
             (which, told), status = held[0], FAILED
-            say(
-                f"--fail-if '{condition.text}': {told}"
-                + (f" with {which}" if which else "")
-                + (f", and so for {len(held) - 1} more" if len(held) > 1 else "")
-            )
+            more = f", and so for {len(held) - 1} more" if len(held) > 1 else ""
+            say(f"--fail-if '{condition.text}': {told}{f' with {which}' if which else ''}{more}")
     return status

@@ -8,13 +8,50 @@ from collections.abc import Iterable, Iterator, Sequence
 from itertools import islice
 
 from fintaqush_tools.errors import Refusal
+from fintaqush_tools.files import told_notes, write_all
+from fintaqush_tools.options import Parser, Words, add_force, pair
 from fintaqush_tools.processes import program, run_program
+from fintaqush_tools.texts import lines_of, shown
 
 Row = tuple[int, int, str, int]  # time, device, event, value
 MOST_DEVICES = 16
 MOST_ROWS = 100000
 HEADERS = {1: "moment,device,event,value", 2: "moment,device,event,value,2"}  # by the version
 TICKS = {"ms": 1000, "us": 1000000}  # time units per second
+
+
+def add_words(parser: Parser) -> None:
+    """Adds the options of what is written: a trace, or arrivals."""
+    parser.number("--capacity", 1, 65536, 256, "packets that each ring holds (256)")
+    parser.add_argument("--unit", choices=TICKS, default="ms", help="the unit of times in a trace (ms)")
+    parser.flag("--arrivals", "write arrivals for napi_machine instead of a trace")
+
+
+def add_delay(parser: Parser) -> None:
+    """Adds the option for the runs of a trace that has only packets."""
+    what = "time from the first waiting packet to the softirq row, in --unit (1)"
+    parser.number("--delay", 0, 10**9, 1, what)
+
+
+def add_files(parser: Parser, files: str) -> None:
+    """Adds the options of a tool that writes these files, or some of their rows."""
+    parser.add_argument("name", help="the name of the output files, without the extension")
+    what = "only these rows, after rows that open the devices and add the packets that wait then"
+    parser.add_argument("--rows", type=pair(":", "1:50000"), metavar="A:B", help=what)
+    add_words(parser)
+    add_force(parser, files)
+
+
+def check_flows(options: Parser, words: Words) -> None:
+    if words.flows and not words.arrivals:
+        options.error("--flows goes with --arrivals")
+
+
+def write_files(words: Words, told: str, notes: list[str], **texts: str | Iterable[str]) -> None:
+    """Writes the files, each by its ending, and prints what is in them."""
+    texts = {"notes": lines_of(notes), **texts}
+    write_all({f"{words.name}.{end}": text for end, text in texts.items()}, words.force)
+    print(f"{shown(words.name)}.csv: {told}; {told_notes(f'{words.name}.notes', notes)}")
 
 
 def records_of(text: bytes) -> list[Row]:
@@ -54,8 +91,6 @@ def trace_text(rows: Iterable[Row], version: int = 1) -> str:
     lines = [HEADERS[version], *(",".join(map(str, row)) for row in islice(rows, MOST_ROWS))]
     more = sum(1 for _ in rows)
     if more:
-        many = MOST_ROWS + more
-        raise Refusal(
-            f"{many} rows, and a trace has at most {MOST_ROWS}: take some of them (from-pcap: --rows, -c), or a shorter time"
-        )
-    return "".join(f"{line}\n" for line in lines)
+        less = "take some of them (from-pcap: --rows, -c), or a shorter time"
+        raise Refusal(f"{MOST_ROWS + more} rows, and a trace has at most {MOST_ROWS}: {less}")
+    return lines_of(lines)

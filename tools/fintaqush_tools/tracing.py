@@ -51,10 +51,8 @@ def mount_tracefs() -> str:
     )
     for name, *words in calls:
         if getattr(libc, name)(*words) != 0:
-            raise Refusal(
-                f"tracefs can't be mounted: {os.strerror(ctypes.get_errno())}; a container needs CAP_SYS_ADMIN for it, and a "
-                "kernel that is locked down has no tracing"
-            )
+            why = "a container needs CAP_SYS_ADMIN for it, and a kernel that is locked down has no tracing"
+            raise Refusal(f"tracefs can't be mounted: {os.strerror(ctypes.get_errno())}; {why}")
     return PLACES[0]
 
 
@@ -80,14 +78,13 @@ def is_alive(pid: str) -> bool:
 class Instance:
     """The instance. It is removed with its settings when it closes, also after a failure or a signal."""
 
-    processors: set[int] | None
-    marks: dict[int, tuple[int, int]]
+    processors: set[int] | None = None  # those that are recorded, if not all
 
     def __init__(self, folder: str) -> None:
         self.folder = folder
         self.path = f"{folder}/instances/{NAME.format(os.getpid())}"
-        self.processors = None  # those that are recorded, if not all
-        self.marks = {}  # for each number when it was written, by CLOCK_MONOTONIC, before and after
+        # For each number when it was written, by CLOCK_MONOTONIC, before and after.
+        self.marks = dict[int, tuple[int, int]]()
 
     def __enter__(self) -> Instance:
         self.remove_abandoned()
@@ -169,28 +166,17 @@ class Instance:
         names = os.listdir(vectors) if os.path.isdir(vectors) else []
         interrupts = [f"irq_vectors/{name}" for name in sorted(names) if name.endswith(("_entry", "_exit"))]
         interrupts = interrupts or ["ipi/ipi_entry", "ipi/ipi_exit"]
-        events = [
-            *POLLS,
-            "net/net_dev_xmit",
-            "irq/irq_handler_entry",
-            "irq/irq_handler_exit",
-            *interrupts,
-            "sched/sched_switch",
-            "timer/hrtimer_start",
-            "timer/hrtimer_expire_entry",
-        ]
+        events = [*POLLS, "net/net_dev_xmit", "irq/irq_handler_entry", "irq/irq_handler_exit", *interrupts]
+        events += ["sched/sched_switch", "timer/hrtimer_start", "timer/hrtimer_expire_entry"]
         chosen = {name: FILTERS.get(name) for name in events}
         chosen |= {name: of_devices(sources.receivers) for name in RECEIVED if sources.receivers}
         if sources.moved:
             chosen[STACK] = of_devices([*sources.receivers, *sources.moved])
         if sources.senders:
             chosen[START] = of_devices(sources.senders)
-        if sources.program:
-            for call in READS:
-                chosen[f"syscalls/sys_enter_{call}"], chosen[f"syscalls/sys_exit_{call}"] = (
-                    sources.program,
-                    f"({sources.program}) && ret > 0",
-                )
+        for call in READS if sources.program else ():
+            chosen[f"syscalls/sys_enter_{call}"] = sources.program
+            chosen[f"syscalls/sys_exit_{call}"] = f"({sources.program}) && ret > 0"
         return chosen
 
     def enable(self, sources: Sources) -> tuple[list[str], list[str]]:
@@ -252,13 +238,11 @@ class Instance:
 class Stamps:
     """Converts the counter's stamps in the trace's lines to seconds of CLOCK_MONOTONIC with nine digits."""
 
-    seen: dict[int, int]
-
     LINE = re.compile(rb"(.{16}-\d+\s+\[\d+\] \S+ +)(\d+)(?:\.(\d{1,9}))?(: .*)", re.S)
 
     def __init__(self, clock: str, marks: dict[int, tuple[int, int]]) -> None:
         self.clock, self.marks = clock, marks
-        self.seen = {}  # the stamp of each mark
+        self.seen = dict[int, int]()  # the stamp of each mark
 
     @staticmethod
     def is_mark(line: bytes) -> bool:

@@ -28,17 +28,8 @@ from fintaqush_tools import comparing
 from fintaqush_tools.comparing import Change, Values, found_name, numbers_of, values_of
 from fintaqush_tools.errors import Refusal
 from fintaqush_tools.files import check_target, read_bytes, write_out
-from fintaqush_tools.options import (
-    Parser,
-    Words,
-    add_binary,
-    add_out,
-    add_raise,
-    add_settings,
-    given_settings,
-    parser_of,
-    settings_of,
-)
+from fintaqush_tools.options import Parser, Words, add_binary, add_out, add_raise, add_settings
+from fintaqush_tools.options import given_settings, parser_of, settings_of
 from fintaqush_tools.processes import program, run_program
 from fintaqush_tools.progress import Program
 from fintaqush_tools.recording import HEAD
@@ -96,11 +87,9 @@ def status_for(words: Words, changes: Sequence[Change]) -> int:
     for is_relative in (True, False):
         some = [each for each in changes if not (is_relative and each.is_noise)]
         names = [each.as_object()["name"] for each in some]
-        status |= status_of(
-            [each for each in conditions if each.is_relative == is_relative],
-            [(each.row, {name: each.after.middle}) for name, each in zip(names, some)],
-            [{name: each.before.middle} for name, each in zip(names, some)],
-        )
+        own, named = [each for each in conditions if each.is_relative == is_relative], list(zip(names, some))
+        after = [(each.row, {name: each.after.middle}) for name, each in named]
+        status |= status_of(own, after, [{name: each.before.middle} for name, each in named])
     return status
 
 

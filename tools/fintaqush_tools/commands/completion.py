@@ -15,6 +15,7 @@ from typing import NamedTuple
 from fintaqush_tools.cli import GROUPS, MODULES, module_of
 from fintaqush_tools.manual import described
 from fintaqush_tools.options import Parser, parser_of
+from fintaqush_tools.pages import filled
 from fintaqush_tools.settings import MOST
 
 # Subcommands that also take the options of a replay.
@@ -40,51 +41,6 @@ def quoted(text: str) -> str:
     return "'" + text.replace("\\", "").replace("'", "’") + "'"
 
 
-BASH = """\
-# Completion of fintaqush for bash, by `fintaqush completion bash`.
-_fintaqush() {
-    local current=${COMP_WORDS[COMP_CWORD]} before=${COMP_WORDS[COMP_CWORD-1]} options='' values=''
-    COMPREPLY=()
-    case ${COMP_WORDS[1]} in
-@WORDS@
-    esac
-    case ${COMP_WORDS[1]}$before in
-@VALUES@
-    esac
-    if [ "$COMP_CWORD" = 1 ]; then
-        values='@NAMES@ --help --version'
-    elif [ -z "$values" ]; then
-        case $current in -*) values=$options ;; esac
-    fi
-    # shellcheck disable=SC2207 # words without spaces
-    [ -z "$values" ] || COMPREPLY=($(compgen -W "$values" -- "$current"))
-}
-complete -o default -F _fintaqush fintaqush ./fintaqush"""
-ZSH = """\
-#compdef fintaqush
-# Completion of fintaqush for zsh, by `fintaqush completion zsh`.
-_fintaqush() {
-    local -a subcommands
-    subcommands=(
-@NAMES@
-    )
-    if (( CURRENT == 2 )); then
-        _describe -t subcommands subcommand subcommands
-        return
-    fi
-    shift words
-    (( CURRENT-- ))
-    case $words[1] in
-@WORDS@
-    esac
-}
-if [ "$funcstack[1]" = _fintaqush ]; then
-    _fintaqush "$@"
-else
-    compdef _fintaqush fintaqush
-fi"""
-
-
 def for_bash(options: dict[str, list[Option]]) -> str:
     """Returns the function that bash calls with the arguments typed so far."""
     words, values = [], []
@@ -92,11 +48,8 @@ def for_bash(options: dict[str, list[Option]]) -> str:
         words.append(f"        {name}) options='{' '.join(word for each in told for word in each.names)}' ;;")
         for each in told:
             values += [f"        {name}{each.names[-1]}) values='{' '.join(each.choices)}' ;;"] * bool(each.choices)
-    return (
-        BASH.replace("@WORDS@", "\n".join(words))
-        .replace("@VALUES@", "\n".join(values))
-        .replace("@NAMES@", " ".join(options))
-    )
+    texts = {"WORDS": "\n".join(words), "VALUES": "\n".join(values), "NAMES": " ".join(options)}
+    return filled("completion.bash", **texts).rstrip()
 
 
 def for_zsh(options: dict[str, list[Option]]) -> str:
@@ -112,14 +65,13 @@ def for_zsh(options: dict[str, list[Option]]) -> str:
     for name, told in options.items():
         specs = [f"                {spec(word, each)} \\" for each in told for word in each.names]
         lines += [f"        {name})", "            _arguments \\", *specs, "                '*:file:_files' ;;"]
-    return ZSH.replace("@NAMES@", "\n".join(names)).replace("@WORDS@", "\n".join(lines))
+    return filled("completion.zsh", NAMES="\n".join(names), WORDS="\n".join(lines)).rstrip()
 
 
 def for_fish(options: dict[str, list[Option]]) -> str:
     """Returns a line for each subcommand and each option."""
-    lines, first = [
-        "# Completion of fintaqush for fish, by `fintaqush completion fish`."
-    ], "complete -c fintaqush -f -n __fish_use_subcommand"
+    lines = ["# Completion of fintaqush for fish, by `fintaqush completion fish`."]
+    first = "complete -c fintaqush -f -n __fish_use_subcommand"
     lines += [f"{first} -a {name} -d {quoted(what)}" for _, group in GROUPS for name, what in group]
     lines += [f"{first} -l {name}" for name in ("help", "version")]
     for name, told in options.items():

@@ -30,25 +30,14 @@ from typing import Optional, Union
 
 from fintaqush_tools import arrivals
 from fintaqush_tools.arrivals import SECOND, Packets, arrivals_text, number_of
-from fintaqush_tools.arriving import (
-    BY_PAIR,
-    BY_POLL,
-    HOW,
-    KINDS,
-    PollBegins,
-    by_device,
-    chosen_kind,
-    packet_of,
-    receivers,
-    size_in,
-    why_no_packet,
-)
+from fintaqush_tools.arriving import BY_PAIR, BY_POLL, HOW, KINDS, PollBegins
+from fintaqush_tools.arriving import by_device, chosen_kind, packet_of, receivers, size_in, why_no_packet
 from fintaqush_tools.errors import Refusal
-from fintaqush_tools.files import check_input, check_target, told_notes, write_all
-from fintaqush_tools.options import Parser, Words, add_force, number, pair, parser_of
+from fintaqush_tools.files import check_input, check_target
+from fintaqush_tools.options import Parser, Words, parser_of
 from fintaqush_tools.recording import NET_RX, POLLED, SENT, SOFTIRQ, Event, Head, check_lost, events_in, is_by_thread
-from fintaqush_tools.texts import shown
-from fintaqush_tools.trace import MOST_DEVICES, MOST_ROWS, TICKS
+from fintaqush_tools.texts import lines_of, shown
+from fintaqush_tools.trace import HEADERS, MOST_DEVICES, MOST_ROWS, TICKS, add_files, check_flows, write_files
 
 Counts = defaultdict[str, Counter[str]]  # packets of each device, by the kind of event
 
@@ -109,10 +98,8 @@ def number_devices(pairs: Sequence[str], names: set[str], most: int = MOST_DEVIC
 
 def check_number(devices: Sequence[str], most: int) -> None:
     if len(devices) > most:
-        raise Refusal(
-            f"{len(devices)} devices, and {'a trace has' if most == MOST_DEVICES else 'arrivals have'} at most {most}: name fewer pairs, or "
-            "some by --device"
-        )
+        have = "a trace has" if most == MOST_DEVICES else "arrivals have"
+        raise Refusal(f"{len(devices)} devices, and {have} at most {most}: name fewer pairs, or some by --device")
 
 
 def source_of(
@@ -121,12 +108,10 @@ def source_of(
     """Returns the kind of event that counts as an arrival, the names of the devices in order, and for each name in such an event the number
     of the receiving device. `counts` has the packets of each kind and device, `names` other devices that may belong to a pair.
     """
-    seen = names | set(counts[BY_PAIR])
-    kind = chosen_kind(
-        counts, [ends for each in words.pair or words.pairs for ends in ends_of(each, seen)], words, head
-    )
+    seen, pairs = names | set(counts[BY_PAIR]), words.pair or words.pairs
+    kind = chosen_kind(counts, [ends for each in pairs for ends in ends_of(each, seen)], words, head)
     if kind == BY_PAIR:
-        return (kind, *number_devices(words.pair or words.pairs, seen, most))
+        return (kind, *number_devices(pairs, seen, most))
     devices = receivers(counts[kind], words, head)
     check_number(devices, most)
     return kind, devices, {name: place for place, name in enumerate(devices, 1)}
@@ -165,12 +150,10 @@ def look_at_threads(pollings: Sequence[Polling], devices: Sequence[str]) -> set[
     """Returns the devices that threads poll. Fails if a device is polled both ways, because a trace has one mode for all its rows."""
     by_thread = {polling.thread for polling in pollings if polling.thread}
     by_softirq = {device for polling in pollings if not polling.thread for device, _ in polling.polls}
-    both = sorted(by_thread & by_softirq & set(devices))
+    both = ", ".join(sorted(by_thread & by_softirq & set(devices)))
     if both:
-        raise Refusal(
-            f"{', '.join(both)}: polled by a thread and in softirqs, and the recording doesn't say when that "
-            "changed: record without the change"
-        )
+        why = "polled by a thread and in softirqs, and the recording doesn't say when that changed"
+        raise Refusal(f"{both}: {why}: record without the change")
     return by_thread
 
 
@@ -187,16 +170,6 @@ def has_come(event: Event) -> bool:
 class Trace:
     """The rows of a trace, the kernel's work for those that poll, and the notes."""
 
-    rows: list[str]
-    work: list[str]
-    notes: list[str]
-    waiting: defaultdict[int, deque[tuple[int, str]]]
-    unsent: Counter[str]
-    elsewhere: Counter[str]
-    by_backlog: Counter[str]
-    known: Counter[int]
-    owed: Counter[int]
-
     def __init__(self, events: Sequence[Event], words: Words, head: Head) -> None:
         self.tick, span = SECOND // TICKS[words.unit], words.rows
         counts = received_in(events)
@@ -204,19 +177,19 @@ class Trace:
             raise Refusal(why_no_packet(head, len(events)))
         self.kind, self.devices, self.arrives_at = source_of(counts, names_of(events), words, head, MOST_DEVICES)
         self.pollings, strays = group_polls(events)
-        self.rows, self.work, self.notes = [], [], []
+        self.rows, self.work, self.notes = list[str](), list[str](), list[str]()
         self.start = events[0].time
         self.first: float = span[0] if span else 0
         self.last: float = span[1] if span else math.inf
         # The number of the next row among all rows; the number of rows outside the span.
-        self.number, self.left_out = (0, 0)
+        self.number, self.left_out = 0, 0
         # for each device, the packets that wait before the first row of the span, each with its row number; and how many there are
-        self.waiting, self.in_front = defaultdict(deque), 0
-        self.unsent, self.elsewhere, self.arrived = Counter(), Counter(), 0
+        self.waiting, self.in_front = defaultdict[int, deque[tuple[int, str]]](deque), 0
+        self.unsent, self.elsewhere, self.arrived = Counter[str](), Counter[str](), 0
         # The senders to these ends; their packets by end.
-        self.unpolled, self.by_backlog = (self.ends_without_polls(), Counter())
+        self.unpolled, self.by_backlog = self.ends_without_polls(), Counter[str]()
         # For each device: packets that wait; packets that were polled before their event.
-        self.known, self.owed = (Counter(), Counter())
+        self.known, self.owed = Counter[int](), Counter[int]()
         self.open_devices(words.capacity, look_at_threads(self.pollings, self.devices))
         if self.kind == BY_PAIR:
             self.count_within(events)
@@ -227,10 +200,8 @@ class Trace:
             raise Refusal(f"there is no packet of {shown(', '.join(self.devices))} in it, so nothing can be replayed")
         self.sum_up(events, strays)
         if len(self.rows) > MOST_ROWS:
-            raise Refusal(
-                f"{len(self.rows)} rows, and a trace has at most {MOST_ROWS}: record for a shorter time, or "
-                f"take some by --rows, as --rows 1:{MOST_ROWS}"
-            )
+            less = f"record for a shorter time, or take some by --rows, as --rows 1:{MOST_ROWS}"
+            raise Refusal(f"{len(self.rows)} rows, and a trace has at most {MOST_ROWS}: {less}")
         if not self.work:
             raise Refusal(self.why_none(events))
 
@@ -263,10 +234,8 @@ class Trace:
         if self.left_out and self.pollings and own:
             return "nothing polls in these rows: take others by --rows"
         if own:
-            return (
-                "nothing polls in it: the polls of its devices stand in no softirq; record the event irq/softirq_entry too, "
-                "and begin before the traffic does"
-            )
+            where = "nothing polls in it: the polls of its devices stand in no softirq"
+            return f"{where}; record the event irq/softirq_entry too, and begin before the traffic does"
         if polled:
             return f"nothing polls in it but devices that are in no pair: {', '.join(sorted(map(shown, polled)))}; see --pair"
         return (
@@ -366,19 +335,18 @@ class Trace:
         """Notes what is unknown about the row that was just added; compare-recording reads the numbers."""
         row = f"row {len(self.rows)}"
         if polling.within:
-            self.notes.append(
-                f"{row}: packets that arrived while it was under way and stand before it: {polling.within}; "
-                "which poll had them isn't recorded, and later rows carry the difference on"
-            )
+            what = "which poll had them isn't recorded, and later rows carry the difference on"
+            came = f"packets that arrived while it was under way and stand before it: {polling.within}"
+            self.notes.append(f"{row}: {came}; {what}")
         if ahead:
-            self.notes.append(
-                f"{row}: packets that it polled and that were sent after it or before the recording, by their events: {ahead}"
-            )
+            what = "packets that it polled and that were sent after it or before the recording, by their events"
+            self.notes.append(f"{row}: {what}: {ahead}")
         if own < len(polling.polls):
-            packets = sum(work for name, work in polling.polls if name not in self.devices)
-            self.notes.append(
-                f"{row}: polls in it of devices that are in no pair: {len(polling.polls) - own}, of {packets} packets"
+            packets, other = (
+                sum(work for name, work in polling.polls if name not in self.devices),
+                len(polling.polls) - own,
             )
+            self.notes.append(f"{row}: polls in it of devices that are in no pair: {other}, of {packets} packets")
         if polling.thread and own > 1:
             self.notes.append(f"{row}: the thread may have yielded between its {own} polls; it isn't recorded")
 
@@ -386,38 +354,33 @@ class Trace:
         """Adds the notes on the whole recording."""
         lists = {events[polling.last].cpu for polling in self.pollings if not polling.thread}
         if self.left_out:
+            front = f"{self.in_front} waited when the first of these rows came, and stand in front"
             self.notes.append(
-                f"rows that aren't in {self.first}:{self.last}: {self.left_out}; of their packets "
-                f"{self.in_front} waited when the first of these rows came, and stand in front"
+                f"rows that aren't in {self.first}:{self.last}: {self.left_out}; of their packets {front}"
             )
         if len(lists) > 1:
-            self.notes.append(
-                f"runs on {len(lists)} processors, each with a poll list of its own: the trace has one list"
-            )
-        for what, counter in (
-            ("packets that weren't sent", self.unsent),
-            ("packets to an end that no NAPI poll in it has, so its processor's backlog", self.by_backlog),
-            ("packets and polls of a device that is in no pair", self.elsewhere),
-            ("polls whose softirq began before the recording, or in none", strays),
-        ):
-            self.notes += told_of(what, counter)
+            alone = "each with a poll list of its own: the trace has one list"
+            self.notes.append(f"runs on {len(lists)} processors, {alone}")
+        self.notes += told_of("packets that weren't sent", self.unsent)
+        backlog = "packets to an end that no NAPI poll in it has, so its processor's backlog"
+        self.notes += told_of(backlog, self.by_backlog)
+        self.notes += told_of("packets and polls of a device that is in no pair", self.elsewhere)
+        self.notes += told_of("polls whose softirq began before the recording, or in none", strays)
 
 
-def told_of(what: str, counter: Mapping[str, int]) -> list[str]:
-    """Returns notes on events that belong to no row."""
-    return [f"no row: {what}: {name}, {count}" for name, count in sorted(counter.items())]
+def told_of(what: str, counter: Mapping[str, int], have: str = "no") -> list[str]:
+    """Returns notes on events that belong to no row, or have `a` row."""
+    return [f"{have} row: {what}: {name}, {count}" for name, count in sorted(counter.items())]
 
 
 class SameProcessor:
     """Packets that the processor sent which polls them. It has the sender until its next softirq begins, so they arrive then."""
 
-    waiting: defaultdict[tuple[int, str], list[int]]
-    entered: dict[int, int]
-
     def __init__(self, words: Words) -> None:
         self.pairs, self.peers = words.pair or words.pairs, dict[str, str]()
-        self.waiting = defaultdict(list)  # by processor and receiver, the indices of packets that it hasn't polled yet
-        self.entered = {}  # for each processor, when its softirq began
+        # By processor and receiver, the indices of packets that it hasn't polled yet.
+        self.waiting = defaultdict[tuple[int, str], list[int]](list)
+        self.entered = dict[int, int]()  # for each processor, when its softirq began
 
     def peer_of(self, sender: str) -> str:
         """Returns the other end of a sender's pair, or an empty text."""
@@ -449,13 +412,11 @@ class SameProcessor:
 class Arriving:
     """The packets of a recording, by the kind of event."""
 
-    unsent: Counter[str]
-    dropped: Counter[str]
-
     def __init__(self, events: Iterable[Event], words: Words) -> None:
         self.words, self.count = words, 0
         self.packets = {kind: Packets() for kind in dict.fromkeys(KINDS.values())}
-        self.unsent, self.dropped, begins, self.same = Counter(), Counter(), PollBegins(), SameProcessor(words)
+        self.unsent, self.dropped, self.same = Counter[str](), Counter[str](), SameProcessor(words)
+        begins = PollBegins()
         for event in events:
             self.count += 1
             kind = KINDS.get(event.name)
@@ -480,9 +441,8 @@ class Arriving:
 
     def text(self, head: Head) -> tuple[Iterator[str], list[str], str]:
         """Returns the lines of the arrivals, the notes, and their counts."""
-        words, counts = self.words, {
-            kind: by_device(packets.counted()) for kind, packets in self.packets.items() if packets.times
-        }
+        words, held = self.words, {kind: packets for kind, packets in self.packets.items() if packets.times}
+        counts = {kind: by_device(packets.counted()) for kind, packets in held.items()}
         if not counts:
             raise Refusal(why_no_packet(head, self.count))
         kind, devices, arrives_at = source_of(defaultdict(Counter, counts), set(), words, head, arrivals.MOST_DEVICES)
@@ -490,11 +450,8 @@ class Arriving:
         if words.flows:
             self.check_flows(kind, packets)
         notes = self.notes_on(kind, devices, arrives_at, of)
-        rows = (
-            (time, arrives_at[name], size, *((flow,) if words.flows else ()))
-            for time, (name, flow), size in packets.in_order()
-            if name in arrives_at
-        )
+        own = (packet for packet in packets.in_order() if packet[1][0] in arrives_at)
+        rows = ((time, arrives_at[name], size, flow)[: 3 + words.flows] for time, (name, flow), size in own)
         count = number_of(sum(of[name] for name in arrives_at), words.rows)
         if not count:
             raise Refusal(f"no packet arrives at {shown(', '.join(devices))} in it")
@@ -503,37 +460,26 @@ class Arriving:
     @staticmethod
     def check_flows(kind: str, packets: Packets) -> None:
         if not any(flow for _, flow in packets.numbers):
-            raise Refusal(
-                "--flows: "
-                + (
-                    "no packet has a hash in it, as the card or its driver gives none"
-                    if kind == BY_POLL
-                    else "only the event napi_gro_receive_entry has the hash of a packet's flow"
-                )
-                + "; of a capture fintaqush from-pcap computes it"
-            )
+            why = "only the event napi_gro_receive_entry has the hash of a packet's flow"
+            if kind == BY_POLL:
+                why = "no packet has a hash in it, as the card or its driver gives none"
+            raise Refusal(f"--flows: {why}; of a capture fintaqush from-pcap computes it")
 
     def notes_on(self, kind: str, devices: Sequence[str], arrives_at: Mapping[str, int], of: Counter[str]) -> list[str]:
         at = {place: name for name, place in arrives_at.items()}
         notes = [f"device {place} is {name}, {of[at[place]]} packets" for place, name in enumerate(devices, 1)]
         if kind == BY_PAIR:
-            notes += [
-                f"a row: packets that a full ring or backlog dropped: {name}, {drops}"
-                for name, drops in sorted(self.dropped.items())
-                if drops and name in arrives_at
-            ]
+            drops = {name: count for name, count in self.dropped.items() if count and name in arrives_at}
+            notes += told_of("packets that a full ring or backlog dropped", drops, "a")
             notes += told_of("packets that weren't sent", self.unsent)
         else:
             notes.append(HOW[kind])
-            without = sum(
-                count for (name, flow), count in self.packets[kind].counted().items() if name in arrives_at and not flow
-            )
+            counts = self.packets[kind].counted().items()
+            without = sum(count for (name, flow), count in counts if name in arrives_at and not flow)
             notes += [f"packets without a hash, which are of flow 0: {without}"] * bool(self.words.flows and without)
         where = "in no pair" if kind == BY_PAIR else "not asked for"
-        return notes + told_of(
-            f"packets of a device that is {where}",
-            {name: count for name, count in of.items() if name not in arrives_at},
-        )
+        others = {name: count for name, count in of.items() if name not in arrives_at}
+        return notes + told_of(f"packets of a device that is {where}", others)
 
 
 def convert(words: Words) -> None:
@@ -543,78 +489,38 @@ def convert(words: Words) -> None:
     lost: list[str] = []
     head: Head = {}
     found = events_in(words.recording, lost, head)
-    if words.arrivals:
-        first = next(found, None)  # the head is known after the first event
-        words.pairs = head.get("pair", "va*:vb*").split()
-        rows, notes, told = Arriving([] if first is None else chain([first], found), words).text(head)
-        check_lost(lost)
-        write_all(
-            {f"{words.name}.notes": "".join(f"{line}\n" for line in notes), f"{words.name}.csv": rows}, words.force
-        )
-        print(f"{shown(words.name)}.csv: {told}; {told_notes(f'{words.name}.notes', notes)}")
-        return
-    events = list(found)
+    first = next(found, None)  # the head is known after the first event
     words.pairs = head.get("pair", "va*:vb*").split()
-    if not events:
+    events: Iterable[Event] = [] if first is None else chain([first], found)
+    if words.arrivals:
+        lines, notes, told = Arriving(events, words).text(head)
+        check_lost(lost)
+        write_files(words, told, notes, csv=lines)
+        return
+    if first is None:
         raise Refusal("there is no event in it")
-    trace = Trace(events, words, head)
-    texts = {"work": trace.work, "notes": lost + trace.notes, "csv": ["moment,device,event,value", *trace.rows]}
-    write_all(
-        {f"{words.name}.{end}": "".join(f"{line}\n" for line in lines) for end, lines in texts.items()}, words.force
-    )
-    print(
-        f"{shown(words.name)}.csv: {len(trace.devices)} devices, {len(trace.rows)} rows, of which {len(trace.work)} poll; "
-        f"{told_notes(f'{words.name}.notes', lost + trace.notes)}"
-    )
+    trace = Trace(list(events), words, head)
+    told = f"{len(trace.devices)} devices, {len(trace.rows)} rows, of which {len(trace.work)} poll"
+    rows = lines_of([HEADERS[1], *trace.rows])
+    write_files(words, told, lost + trace.notes, work=lines_of(trace.work), csv=rows)
 
 
 def parser() -> Parser:
     parser = parser_of(__doc__)
     parser.add_argument("recording", help="the text, also as .gz; - for standard input")
-    parser.add_argument("name", help="the name of the output files, without the extension")
-    parser.add_argument(
-        "--pair",
-        action="append",
-        metavar="A:B",
-        help="two ends of a veth pair; * stands for a number in each; may be given many times "
-        "(where none is given: that of fintaqush record, or va*:vb*)",
-    )
-    parser.add_argument(
-        "--device",
-        action="append",
-        default=[],
-        metavar="NAME",
-        help="a device that receives and isn't in a pair; may be given many times (those of fintaqush record, or all)",
-    )
-    parser.add_argument(
-        "--capacity",
-        type=number(1, 65536),
-        default=256,
-        metavar="N",
-        help="packets that each ring holds (256, as veth's)",
-    )
-    parser.add_argument(
-        "--rows",
-        type=pair(":", "1:50000"),
-        metavar="A:B",
-        help="only these rows, after rows that open the devices and add the packets that wait then",
-    )
-    parser.add_argument("--unit", choices=TICKS, default="ms", help="the unit of times in a trace (ms)")
-    parser.add_argument("--arrivals", action="store_true", help="write arrivals for napi_machine instead of a trace")
-    parser.add_argument(
-        "--flows",
-        action="store_true",
-        help="with --arrivals: add a column with the hash of each packet's flow, for several queues",
-    )
-    add_force(parser, "NAME.csv, NAME.work and NAME.notes")
+    add_files(parser, "NAME.csv, NAME.work and NAME.notes")
+    what = "two ends of a veth pair; * stands for a number in each; may be given many times"
+    parser.many("--pair", "A:B", f"{what} (where none is given: that of fintaqush record, or va*:vb*)")
+    what = "a device that receives and isn't in a pair; may be given many times (those of fintaqush record, or all)"
+    parser.many("--device", "NAME", what)
+    parser.flag("--flows", "with --arrivals: add a column with the hash of each packet's flow, for several queues")
     return parser
 
 
 def main(given: Sequence[str]) -> None:
     options = parser()
     words = options.parse_args(given)
-    if words.flows and not words.arrivals:
-        options.error("--flows goes with --arrivals")
+    check_flows(options, words)
     if words.device and words.pair:
         options.error("--device names a device without a pair, so it doesn't go with --pair")
     check_input(words.recording)

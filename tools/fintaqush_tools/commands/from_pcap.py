@@ -33,11 +33,12 @@ from fintaqush_tools import capture
 from fintaqush_tools.arrivals import SECOND, Packets, arrivals_text, check_devices, number_of, seconds
 from fintaqush_tools.capture import Link, is_group
 from fintaqush_tools.errors import Refusal
-from fintaqush_tools.files import check_input, check_target, lines_in, opened, told_notes, write_all
-from fintaqush_tools.options import Parser, Words, add_force, number, pair, parser_of
+from fintaqush_tools.files import check_input, check_target, lines_in, opened
+from fintaqush_tools.options import Parser, Words, number, parser_of
 from fintaqush_tools.processes import lines_by
 from fintaqush_tools.texts import shown
 from fintaqush_tools.trace import MOST_DEVICES, TICKS, Row, trace_text, with_runs
+from fintaqush_tools.trace import add_delay, add_files, check_flows, write_files
 
 # The first bytes of a capture: pcap with times in µs and ns, in both byte orders, and pcapng.
 MAGIC = (b"\xd4\xc3\xb2\xa1", b"\xa1\xb2\xc3\xd4", b"\x4d\x3c\xb2\xa1", b"\xa1\xb2\x3c\x4d", b"\x0a\x0d\x0d\x0a")
@@ -111,10 +112,8 @@ def by_tcpdump(count: int | None, file: IO[bytes], cut: list[str], links: list[s
         except FileNotFoundError:
             raise Refusal("it needs tcpdump, which isn't on PATH (Debian: apt install tcpdump)") from None
         said.seek(0)
-        told = [
-            shown(line.removeprefix("tcpdump: "))
-            for line in said.read().decode("utf-8", "replace").strip().splitlines()
-        ]
+        lines = said.read().decode("utf-8", "replace").strip().splitlines()
+    told = [shown(line.removeprefix("tcpdump: ")) for line in lines]
     link = re.search(r"link-type (\S+)", " ".join(told))
     if link and link[1] not in ("EN10MB", "LINUX_SLL", "LINUX_SLL2"):
         links.append(link[1])
@@ -133,12 +132,9 @@ def flow_of(said: str) -> int:
 class Records:
     """The packets of a capture by its records, and the number without a row."""
 
-    packets: Packets
-    without: Counter[str]
-    kinds: dict[tuple[Link, bytes, int], Optional[Kind]]
-
     def __init__(self, is_both_ways: bool) -> None:
-        self.packets, self.without, self.kinds, self.is_both_ways = Packets(), Counter(), {}, is_both_ways
+        self.packets, self.without, self.is_both_ways = Packets(), Counter[str](), is_both_ways
+        self.kinds = dict[tuple[Link, bytes, int], Optional[Kind]]()
 
     def add(self, time: int, link: Link, ends: bytes, flow: int, length: int) -> None:
         key = link, ends, flow
@@ -170,9 +166,8 @@ def packets_in(words: Words, cut: list[str]) -> tuple[Packets, Counter[str]]:
         links: list[str] = []
         found = packets_of(by_tcpdump(words.count, file, cut, links), words.count, words.flows, is_both_ways)
         if links and not found[0].times:
-            raise Refusal(
-                f"its link type is {links[0]}; captures of Ethernet, of raw IP and of `tcpdump -i any` are read"
-            )
+            known = "captures of Ethernet, of raw IP and of `tcpdump -i any` are read"
+            raise Refusal(f"its link type is {links[0]}; {known}")
         return found
 
 
@@ -200,11 +195,8 @@ def packets_of(
             ends = (between["sender"], between["to"]) if between else ("", "")
             is_multicast = found["way"] == "M" or is_group(ends[1])
             flow = flow_of(found["said"]) if with_flows else 0
-            packets.add(
-                seconds(found["seconds"], found["fraction"]),
-                Kind(found["interface"] or "", *ends, is_multicast, flow),
-                int(length[1]),
-            )
+            kind = Kind(found["interface"] or "", *ends, is_multicast, flow)
+            packets.add(seconds(found["seconds"], found["fraction"]), kind, int(length[1]))
     return packets, without
 
 
@@ -242,11 +234,9 @@ def devices_of(
         return by_packets(counted), [], lambda kind: [kind.interface]
     own = own_address(counted) if way == IN else ""
     name = own or "the interface of the capture"
-    note = (
-        f"each packet with one receiver comes from {own} or goes to it, so what it sends goes out"
-        if own
-        else "the capture doesn't tell what goes out, so all of it arrives; --to names the addresses that receive"
-    )
+    note = "the capture doesn't tell what goes out, so all of it arrives; --to names the addresses that receive"
+    if own:
+        note = f"each packet with one receiver comes from {own} or goes to it, so what it sends goes out"
     return [name], [note], lambda kind: [] if own and kind.sender == own else [name]
 
 
@@ -270,11 +260,8 @@ def places_of(
     if words.one_device:
         notes = [f"one device is all of: {shown(', '.join(names))}", *notes]
         names = ["one device"]
-    return (
-        names,
-        [*(f"device {place} is {shown(name)}, {of[name]} packets" for place, name in enumerate(names, 1)), *notes],
-        places,
-    )
+    named = [f"device {place} is {shown(name)}, {of[name]} packets" for place, name in enumerate(names, 1)]
+    return names, [*named, *notes], places
 
 
 def some_rows(rows: Iterable[Row], span: tuple[int, int]) -> Iterator[Row]:
@@ -302,9 +289,8 @@ def rows_of(words: Words, packets: Packets, names: Sequence[str], places: Mappin
         for time, kind, size in packets.in_order()
         for place in places[kind]
     )
-    rows = chain(
-        ((0, place, "open", words.capacity) for place in range(1, len(names) + 1)), with_runs(arrivals, words.delay)
-    )
+    opened_at = ((0, place, "open", words.capacity) for place in range(1, len(names) + 1))
+    rows = chain(opened_at, with_runs(arrivals, words.delay))
     return some_rows(rows, words.rows) if words.rows else rows
 
 
@@ -312,33 +298,19 @@ def text_of(
     words: Words, packets: Packets, names: Sequence[str], places: Mapping[Kind, list[int]]
 ) -> tuple[str | Iterator[str], int, list[str]]:
     """Returns the trace, or the lines of the arrivals; the number of its rows; and the notes on them."""
-    some = (
-        [
-            f"rows {words.rows[0]} to {words.rows[1]} alone"
-            + ("" if words.arrivals else ", with the packets that wait before them in front")
-        ]
-        if words.rows
-        else []
-    )
+    front = "" if words.arrivals else ", with the packets that wait before them in front"
+    some = [f"rows {words.rows[0]} to {words.rows[1]} alone{front}"] if words.rows else []
     if words.arrivals:
         check_devices(len(names))
-        rows = (
-            (time, place, size, *((kind.flow,) if words.flows else ()))
-            for time, kind, size in packets.in_order()
-            for place in places[kind]
-        )
-        return (
-            arrivals_text(rows, words.rows, words.flows),
-            number_of(sum(count * len(places[kind]) for kind, count in packets.counted().items()), words.rows),
-            some,
-        )
+        every = ((time, place, size, kind.flow) for time, kind, size in packets.in_order() for place in places[kind])
+        rows = (row[: 3 + words.flows] for row in every)
+        count = sum(count * len(places[kind]) for kind, count in packets.counted().items())
+        return arrivals_text(rows, words.rows, words.flows), number_of(count, words.rows), some
     if len(names) > MOST_DEVICES:
-        raise Refusal(
-            f"{len(names)} interfaces, and a trace has at most {MOST_DEVICES} devices: name some by --to: {shown(', '.join(names))}"
-        )
-    some.append(
-        f"softirq rows stand {words.delay} {words.unit} after the first packet that waits; the capture has none"
-    )
+        many = f"{len(names)} interfaces, and a trace has at most {MOST_DEVICES} devices"
+        raise Refusal(f"{many}: name some by --to: {shown(', '.join(names))}")
+    after = f"{words.delay} {words.unit} after the first packet that waits"
+    some.append(f"softirq rows stand {after}; the capture has none")
     text = trace_text(rows_of(words, packets, names, places))
     return text, text.count("\n") - 1, some
 
@@ -357,68 +329,27 @@ def convert(words: Words) -> None:
     except Refusal as error:
         raise Refusal(f"{shown(words.capture)}: {error}") from None
     notes += [*(f"no row: {what}, {count}" for what, count in sorted(without.items()) if count), *told, *cut]
-    texts = {f"{words.name}.notes": "".join(f"{line}\n" for line in notes), f"{words.name}.csv": text}
-    write_all(texts, words.force)
-    print(f"{shown(words.name)}.csv: {len(names)} devices, {rows} rows; {told_notes(f'{words.name}.notes', notes)}")
+    write_files(words, f"{len(names)} devices, {rows} rows", notes, csv=text)
 
 
 def parser() -> Parser:
     parser = parser_of(__doc__)
     parser.add_argument("capture", help="the capture, or tcpdump's text; - for standard input")
-    parser.add_argument("name", help="the name of the output files, without the extension")
-    parser.add_argument(
-        "--to",
-        action="append",
-        default=[],
-        metavar="WHO",
-        help="a device: an interface, or a link address; may be given many times",
-    )
-    parser.add_argument(
-        "-Q",
-        dest="way",
-        choices=(IN, BOTH),
-        default=IN,
-        help=f"count what arrives ({IN}), or also what goes out, as an arrival ({BOTH})",
-    )
-    parser.add_argument("--one-device", action="store_true", help="one device for all arriving packets")
-    parser.add_argument("--arrivals", action="store_true", help="write arrivals for napi_machine instead of a trace")
-    parser.add_argument(
-        "--flows",
-        action="store_true",
-        help="with --arrivals: add a column with each packet's flow, for several queues (what-if --queues)",
-    )
-    parser.add_argument(
-        "--rows",
-        type=pair(":", "1:50000"),
-        metavar="A:B",
-        help="only these rows, after rows that open the devices and add the packets that wait then",
-    )
-    parser.add_argument(
-        "-c", dest="count", type=number(1, 10**9), metavar="N", help="the first N packets of the capture"
-    )
-    add_times(parser)
-    add_force(parser, "NAME.csv and NAME.notes")
+    add_files(parser, "NAME.csv and NAME.notes")
+    parser.many("--to", "WHO", "a device: an interface, or a link address; may be given many times")
+    what = f"count what arrives ({IN}), or also what goes out, as an arrival ({BOTH})"
+    parser.add_argument("-Q", dest="way", choices=(IN, BOTH), default=IN, help=what)
+    parser.flag("--one-device", "one device for all arriving packets")
+    what = "with --arrivals: add a column with each packet's flow, for several queues (what-if --queues)"
+    parser.flag("--flows", what)
+    what = "the first N packets of the capture"
+    parser.add_argument("-c", dest="count", type=number(1, 10**9), metavar="N", help=what)
+    add_delay(parser)
     return parser
-
-
-def add_times(parser: Parser) -> None:
-    """Adds the options of a trace."""
-    parser.add_argument(
-        "--delay",
-        type=number(0, 10**9),
-        default=1,
-        metavar="N",
-        help="time from the first waiting packet to the softirq row, in --unit (1)",
-    )
-    parser.add_argument("--unit", choices=TICKS, default="ms", help="the unit of times (ms)")
-    parser.add_argument(
-        "--capacity", type=number(1, 65536), default=256, metavar="N", help="packets that each ring holds (256)"
-    )
 
 
 def main(given: Sequence[str]) -> None:
     options = parser()
     words = options.parse_args(given)
-    if words.flows and not words.arrivals:
-        options.error("--flows goes with --arrivals")
+    check_flows(options, words)
     convert(words)

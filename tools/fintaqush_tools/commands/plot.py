@@ -86,7 +86,6 @@ def placed(points: Iterable[Point]) -> list[Point]:
 
 
 def limited_of(rows: Sequence[Line], device: int) -> list[Line]:
-    """Returns the rows that have a limit of a device."""
     return [row for row in rows if row["device"] == device and row["limit"] is not None]
 
 

@@ -80,23 +80,14 @@ def program_filter(named: str) -> tuple[str, list[int]]:
 
 def most_memory() -> int:
     """Returns how many MB each processor's buffer may have: together at most half of the free memory."""
-    free = next(
-        (
-            int(line.split()[1]) // 1024
-            for line in observed.lines_in_proc("meminfo")
-            if line.startswith("MemAvailable:")
-        ),
-        0,
-    )
-    return free // 2 // (os.cpu_count() or 1)
+    free = [int(line.split()[1]) for line in observed.lines_in_proc("meminfo") if line.startswith("MemAvailable:")]
+    return sum(free) // 1024 // 2 // (os.cpu_count() or 1)
 
 
 def check_memory(megabytes: int) -> None:
     if megabytes > most_memory():
-        raise Refusal(
-            f"--buffer {megabytes}: {os.cpu_count()} processors with so many MB each take more than half of the free memory; "
-            f"at most {most_memory()}"
-        )
+        why = f"{os.cpu_count()} processors with so many MB each take more than half of the free memory"
+        raise Refusal(f"--buffer {megabytes}: {why}; at most {most_memory()}")
 
 
 def advice_on_buffer(words: Words, took: float, most: int) -> str:
@@ -106,11 +97,9 @@ def advice_on_buffer(words: Words, took: float, most: int) -> str:
     if needed <= most:
         return f"record again with --buffer {needed}"
     fits = int(most * took / words.buffer)
-    return (
-        f"{words.seconds} s would need --buffer {needed}, and this machine has memory for {most}: "
-        + (f"record for {fits} s with --buffer {most}, or" if fits else "record")
-        + " fewer processors (--processors), or less traffic"
-    )
+    why = f"{words.seconds} s would need --buffer {needed}, and this machine has memory for {most}"
+    what = f"record for {fits} s with --buffer {most}, or" if fits else "record"
+    return f"{why}: {what} fewer processors (--processors), or less traffic"
 
 
 def is_drained(pipe: int, file: IO[bytes]) -> bool:
@@ -144,20 +133,12 @@ def wait(instance: Instance, words: Words, drain: Callable[[], bool]) -> bool:
 class Body:
     """The trace's text in a file, and what is in it: `pairs` are the ends of veth pairs, each sender with its receiver."""
 
-    sent: Counter[str]
-    received: Counter[tuple[str, bool]]
-
     def __init__(self, path: str, stamps: Stamps, pairs: Sequence[tuple[str, str]]) -> None:
         self.path, self.stamps, self.lines, self.read = path, stamps, 0, 0
-        self.instances, self.sent, self.received = Instances(pairs), Counter(), Counter()
-        self.looks = {
-            b"napi_poll": self.look_at_poll,
-            b"net_dev_start_xmit": self.look_at_start,
-            b"net_dev_xmit": self.look_at_sent,
-            b"napi_gro_receive_entry": self.look_at_taken,
-            b"napi_gro_frags_entry": self.look_at_taken,
-            b"netif_receive_skb": self.look_at_stacked,
-        }
+        self.instances, self.sent, self.received = Instances(pairs), Counter[str](), Counter[tuple[str, bool]]()
+        self.looks = {b"napi_poll": self.look_at_poll, b"net_dev_start_xmit": self.look_at_start}
+        self.looks |= {b"net_dev_xmit": self.look_at_sent, b"netif_receive_skb": self.look_at_stacked}
+        self.looks |= dict.fromkeys((b"napi_gro_receive_entry", b"napi_gro_frags_entry"), self.look_at_taken)
 
     def scan(self) -> None:
         """Looks at all lines."""
@@ -239,22 +220,13 @@ def recorded(
                 pass
         lost = sum(each for _, each in instance.statistics())
         if lost:
-            raise Refusal(
-                f"the kernel lost {lost} events, so the recording isn't written: record for a shorter time, or with a larger "
-                "--buffer"
-            )
+            how = "record for a shorter time, or with a larger --buffer"
+            raise Refusal(f"the kernel lost {lost} events, so the recording isn't written: {how}")
     body = Body(words.scratch, Stamps(clock, instance.marks), list(zip(words.sender, words.device)))
     body.scan()
     words.took = took if is_full else None
-    head = {
-        "clock": clock,
-        **began,
-        "seconds": f"{took:.6f}",
-        "recorder.seconds": f"{spent:.6f}",
-        "events": " ".join(events),
-        "missing": " ".join(missing),
-        "lost": lost,
-    }
+    head: dict[str, Any] = {"clock": clock, **began, "seconds": f"{took:.6f}", "recorder.seconds": f"{spent:.6f}"}
+    head |= {"events": " ".join(events), "missing": " ".join(missing), "lost": lost}
     return head, {key: f"{value} {after.get(key, value)}" for key, value in before.items()}, body
 
 
@@ -265,33 +237,19 @@ def polled_of(words: Words, body: Body) -> list[str]:
 
 
 def head_of(
-    words: Words,
-    head: Mapping[str, Any],
-    settings: Mapping[str, str],
-    counts: Mapping[str, str],
-    body: Body,
-    pids: Sequence[int],
+    words: Words, head: Mapping[str, Any], others: Mapping[str, str], body: Body, pids: Sequence[int]
 ) -> list[str]:
-    """Returns the lines before the trace."""
-    told = {
-        **head,
-        "buffer": words.buffer,
-        "lines": body.lines,
-        "device": " ".join(words.device),
-        "netns": words.netns or "",
-        "sender": " ".join(words.sender),
-        "pair": " ".join(map(":".join, zip(words.sender, words.device)))
-        if len(words.sender) == len(words.device)
-        else "",
-        "polled": " ".join(polled_of(words, body)),
-        "program": words.program or "",
-        "program.pids": " ".join(map(str, pids)),
-    }
+    """Returns the lines before the trace; `others` are the settings and the counts."""
+    ends = zip(words.sender, words.device) if len(words.sender) == len(words.device) else ()
+    told = {**head, "buffer": words.buffer, "lines": body.lines, "device": " ".join(words.device)}
+    told |= {"netns": words.netns or "", "sender": " ".join(words.sender), "pair": " ".join(map(":".join, ends))}
+    told |= {"polled": " ".join(polled_of(words, body)), "program": words.program or ""}
+    told["program.pids"] = " ".join(map(str, pids))
     told |= {f"instance.{place}": each.text() for place, each in enumerate(body.napi, 1)}
     told |= {f"sent.{device}": count for device, count in sorted(body.sent.items())}
     told |= {f"received.{device}": taken_of(body, device) for device in words.device if taken_of(body, device)}
     told |= {f"program.{pid}.{key}": value for pid in pids[:64] for key, value in observed.of_task(pid)}
-    lines = [f"{key} {value}".rstrip() for key, value in {**told, **settings, **counts}.items() if str(value)]
+    lines = [f"{key} {value}".rstrip() for key, value in {**told, **others}.items() if str(value)]
     return ["fintaqush-recording 1", *lines, "trace"]
 
 
@@ -311,18 +269,14 @@ def find_senders(words: Words) -> list[str]:
 
 
 def sources_of(words: Words, settings: Mapping[str, str], program: str) -> Sources:
-    """Returns what to record of these devices with these settings."""
     if not words.sender:
         return Sources(program, words.device)
-    moved = [
-        name
-        for name in words.device
-        if settings.get(f"device.{name}.ethtool.feature.generic-receive-offload") == "off"
-        or any(
-            re.fullmatch(rf"device\.{re.escape(name)}\.rx-\d+\.rps_cpus", key) and value.strip("0,")
-            for key, value in settings.items()
-        )
-    ]
+    by_rps = {
+        key.rpartition(".rx-")[0] for key, value in settings.items() if key.endswith(".rps_cpus") and value.strip("0,")
+    }
+    without_gro = {key for key, value in settings.items() if value == "off"}
+    offload = "ethtool.feature.generic-receive-offload"
+    moved = [it for it in words.device if f"device.{it}" in by_rps or f"device.{it}.{offload}" in without_gro]
     senders = [sender for sender, name in zip(words.sender, words.device) if f"device.{name}.rx-1.rps_cpus" in settings]
     return Sources(program, (), moved, senders)
 
@@ -335,14 +289,13 @@ def told_end(words: Words, head: Mapping[str, Any], body: Body) -> str:
         f"{body.lines} events, by {float(head['recorder.seconds']):.1f} s of processor time",
         *(described(name, body.napi) for name in own),
     ]
+    named = ", ".join(words.device)
     if not own:
-        parts.append(f"no poll of {', '.join(words.device)}")
+        parts.append(f"no poll of {named}")
     if words.sender:
         parts.append(f"{sum(body.sent[name] for name in words.sender)} packets of {', '.join(words.sender)}")
     else:
-        parts.append(
-            f"{sum(taken_of(body, name) for name in words.device)} packets that {', '.join(words.device)} received"
-        )
+        parts.append(f"{sum(taken_of(body, name) for name in words.device)} packets that {named} received")
     return f"{shown(words.out)}: {'; '.join(parts)}"
 
 
@@ -351,10 +304,9 @@ def notes_on(words: Words, head: Mapping[str, Any], body: Body) -> Iterator[str]
     if head["missing"]:
         yield f"this kernel has no event {head['missing']}"
     if not words.sender and any(taken_of(body, name) for name in words.device):
-        yield (
-            "its arrivals are when polls took the packets, because no device that sends to it is known, as of a veth pair: waits in a card's ring "
-            "before the interrupt aren't in it"
-        )
+        why = "because no device that sends to it is known, as of a veth pair"
+        waits = "waits in a card's ring before the interrupt aren't in it"
+        yield f"its arrivals are when polls took the packets, {why}: {waits}"
     elif not words.sender:
         yield f"it has no arrivals: {', '.join(words.device)} received nothing"
     elif not any(body.sent[name] for name in words.sender):
@@ -382,7 +334,7 @@ def record(words: Words, tell: Callable[[str], None]) -> str:
     head, counts, body = recorded(words, mount_tracefs(), sources_of(words, settings, program), tell)
     pids = pids or (program_filter(words.program)[1] if words.program else [])
     with WholeFile(words.out) as new, open(new, "wb") as file:
-        text = "\n".join(head_of(words, head, settings, counts, body, pids))
+        text = "\n".join(head_of(words, head, {**settings, **counts}, body, pids))
         file.write(text.encode("utf-8", "replace") + b"\n")
         body.put(file)
     for note in notes_on(words, head, body):
@@ -393,10 +345,9 @@ def record(words: Words, tell: Callable[[str], None]) -> str:
 def check_whole(words: Words) -> None:
     """Fails if the recording ended early."""
     if words.took:
-        raise Refusal(
-            f"a buffer of {words.buffer} MB was nearly full after {words.took:.1f} of {words.seconds} s, so the recording ended early: "
-            + advice_on_buffer(words, words.took, most_memory())
-        )
+        what = f"a buffer of {words.buffer} MB was nearly full after {words.took:.1f} of {words.seconds} s"
+        how = advice_on_buffer(words, words.took, most_memory())
+        raise Refusal(f"{what}, so the recording ended early: {how}")
 
 
 def recorded_by(words: Words, tell: Callable[[str], None]) -> str:
@@ -413,30 +364,17 @@ def recorded_by(words: Words, tell: Callable[[str], None]) -> str:
 
 def parser() -> Parser:
     parser = parser_of(__doc__)
-    parser.add_argument(
-        "seconds", nargs="?", type=number(1, 3600), default=5, metavar="SECONDS", help="how long, 1 to 3600 (5)"
-    )
-    parser.add_argument(
-        "--device",
-        action="append",
-        required=True,
-        metavar="NAME",
-        help="a device that receives; may be given many times",
-    )
+    how = number(1, 3600)
+    parser.add_argument("seconds", nargs="?", type=how, default=5, metavar="SECONDS", help="how long, 1 to 3600 (5)")
+    parser.many("--device", "NAME", "a device that receives; may be given many times", required=True)
     parser.add_argument("--out", required=True, metavar="FILE", help="the file for the recording")
     parser.add_argument("--netns", metavar="NAME", help="the network namespace of the devices")
-    parser.add_argument(
-        "--sender",
-        action="append",
-        default=[],
-        metavar="NAME",
-        help="the other end of the veth pair, one for each device (found automatically if possible)",
-    )
+    what = "the other end of the veth pair, one for each device (found automatically if possible)"
+    parser.many("--sender", "NAME", what)
     parser.add_argument("--program", metavar="NAME|PID", help="the program that reads the packets")
     parser.add_argument("--processors", type=processors, metavar="LIST", help="record only these, as 2,3 or 0-3 (all)")
-    parser.add_argument(
-        "--buffer", type=number(1, 65536), default=32, metavar="MB", help="the buffer of each processor (32)"
-    )
+    what = "the buffer of each processor (32)"
+    parser.add_argument("--buffer", type=number(1, 65536), default=32, metavar="MB", help=what)
     return parser
 
 

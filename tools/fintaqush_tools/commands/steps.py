@@ -148,7 +148,6 @@ def label_of(row: Row, key: Key, unit: str = "ms") -> dict[str, str]:
 
 
 def page_data(sides: Sequence[Side], keys: Sequence[Key]) -> dict[str, Any]:
-    """Returns all data that the page shows."""
     rows = sides[0].rows
     labels = [{"at": str(keys[0][0] - 1), "text": "before the first row" if keys[0][0] == 1 else "before these rows"}]
     labels += [label_of(rows[key[0] - 1], key) for key in keys]

@@ -26,6 +26,7 @@ from fintaqush_tools.options import Parser, Words, add_out, number, pair, parser
 from fintaqush_tools.places import version
 from fintaqush_tools.progress import Progress
 from fintaqush_tools.trace import MOST_DEVICES, MOST_ROWS, TICKS, Row, trace_text, with_runs
+from fintaqush_tools.trace import add_delay, add_words, check_flows
 
 FLOWS = 16  # per device, if their number isn't given
 ACTIONS = ("tx", "done", "kthread", "disable", "threaded", "busy")
@@ -161,15 +162,12 @@ def parser() -> Parser:
 
 def add_output(parser: Parser) -> None:
     """Adds the options of what is written."""
-    parser.add_argument("--capacity", type=number(1, 65536), default=256, help="packets that each ring holds (256)")
-    what = "time from the first waiting packet to the softirq row, in --unit (1)"
-    parser.add_argument("--delay", type=number(0, 10**9), default=1, help=what)
-    parser.add_argument("--unit", choices=TICKS, default="ms", help="the unit of times (ms)")
+    add_words(parser)
+    add_delay(parser)
     parser.add_argument("--mix", type=mix_of, default={}, metavar="ACTION=N,..", help="other actions per 100 packets")
     what = "version of the trace (1); without N: print the tool's own"
     parser.add_argument("--version", nargs="?", type=number(1, 2), default=1, const=0, metavar="N", help=what)
-    parser.add_argument("--seed", type=number(0, 10**9), default=0, help="seed of the random numbers (0)")
-    parser.add_argument("--arrivals", action="store_true", help="write arrivals for napi_machine instead of a trace")
+    parser.number("--seed", 0, 10**9, 0, "seed of the random numbers (0)")
     what = f"with --arrivals: add a column with each packet's flow, of N per device, for several queues ({FLOWS})"
     how: dict[str, Any] = {"nargs": "?", "type": number(1, 10**9), "const": FLOWS, "metavar": "N"}
     parser.add_argument("--flows", help=what, **how)
@@ -184,8 +182,7 @@ def check_words(options: Parser, words: Words) -> None:
         options.error(f"--devices: a trace has at most {MOST_DEVICES}")
     if words.mix and words.arrivals:
         options.error("--mix: arrivals have packets alone")
-    if words.flows and not words.arrivals:
-        options.error("--flows goes with --arrivals")
+    check_flows(options, words)
 
 
 def main(given: Sequence[str], raises: bool = False) -> None:

@@ -37,6 +37,7 @@ import itertools
 import math
 import os
 import re
+import shlex
 import sys
 import tempfile
 import threading
@@ -45,10 +46,11 @@ from fractions import Fraction
 from pathlib import Path
 from typing import Any
 
-from fintaqush_tools import breaking, repeats, tables
+from fintaqush_tools import breaking, tables
 from fintaqush_tools.bands import DOUBT, with_costs
 from fintaqush_tools.combinations import Combinations, Key, Row
 from fintaqush_tools.combinations import add_words, check_words, choices, fault_of, sum_of, told_in
+from fintaqush_tools.commands import traffic
 from fintaqush_tools.errors import Refusal, unfinished, unlink
 from fintaqush_tools.files import WholeFile, check_regular, check_target
 from fintaqush_tools.machine import ARE, COSTS, OPTIONS, VALUES, WAITS, help_of, identifier, option_words, values_of
@@ -67,6 +69,15 @@ FAULT = re.compile(r"arrivals fault (?!10 )\d+ \w+ row \d+$")
 HEADER, TRACE = b"moment,device,bytes", b"moment,device,event"
 MOST_CURVES = len(COLORS)
 SHORT = {"p50": "used_p50", "p99": "used_p99", "p999": "used_p999"}  # names for --fail-if
+TAKEN = (
+    "--arrivals",
+    "--out",
+    "--seed",
+    "--help",
+    "-h",
+    "--version",
+    "--manual",
+)  # options of traffic that are set here
 making = threading.Lock()
 
 
@@ -118,7 +129,6 @@ def outcome(made: str, name: str, settings: Mapping[str, str]) -> tuple[int, str
 
 
 def breaks_at(made: str, key: Key, load: str, until: str) -> bool:
-    """Returns whether a combination breaks at a load."""
     settings = dict(zip(OPTIONS, key[3:]))
     name = rewrite(key[0], load, int(settings["queues"]) > 1)
     try:
@@ -195,20 +205,16 @@ def orders_that_change(
         if changed:
             one, other, side = changed[0]
             more = f", and so does that of {len(changed) - 1} more pairs" if len(changed) > 1 else ""
-            yield (
-                f"with costs {abs(side)} % {'lower' if side < 0 else 'higher'} the order by {what} changes: {name_of(one, varied)} and "
-                f"{name_of(other, varied)}{more}",
-                sorted({(keys.index(one) + 1, keys.index(other) + 1) for one, other, _ in changed}),
-                what,
-            )
+            costs = f"with costs {abs(side)} % {'lower' if side < 0 else 'higher'}"
+            both = f"{name_of(one, varied)} and {name_of(other, varied)}"
+            pairs = sorted({(keys.index(one) + 1, keys.index(other) + 1) for one, other, _ in changed})
+            yield f"{costs} the order by {what} changes: {both}{more}", pairs, what
 
 
 def changes(by_key: Mapping[Key, Row], one: Key, other: Key, side: int, of: Callable[[Row], int]) -> bool:
     """Returns whether, of two combinations, the other one is better with costs changed by that many percent."""
-    values = [
-        [of(by_key[key]) for key in (band_of(one, each), band_of(other, each)) if key in by_key]
-        for each in (100, 100 + side)
-    ]
+    keys = [[band_of(one, each), band_of(other, each)] for each in (100, 100 + side)]
+    values = [[of(by_key[key]) for key in both if key in by_key] for both in keys]
     return all(len(each) == 2 for each in values) and (values[0][0] - values[0][1]) * (values[1][0] - values[1][1]) < 0
 
 
@@ -217,10 +223,8 @@ def of_budgets(rows: Sequence[Row]) -> Iterator[str]:
     Returns a line that says so, or none."""
     budgets, told = {str(row["budget"]) for row in rows} - {"0"}, told_in(rows)
     if len(budgets) > 1 and told and all(int(row["queues_of_a_processor"]) <= 1 for row in told):
-        yield (
-            "in the model, with one queue on each processor, net.core.netdev_budget changes no latency and no drops, only how many runs are "
-            "squeezed"
-        )
+        no = "net.core.netdev_budget changes no latency and no drops, only how many runs are squeezed"
+        yield f"in the model, with one queue on each processor, {no}"
 
 
 def status_for(rows: Sequence[Row], conditions: Sequence[Condition]) -> int:
@@ -247,22 +251,22 @@ def columns_of(rows: Sequence[Row]) -> list[str]:
 
 
 def objects_of(rows: Sequence[Row]) -> Iterator[Row]:
-    """Yields an object for each row."""
     names = [name for name in (*KEY, "status", "fault", *columns_of(rows)) if name in rows[0]]
+    texts = ("arrivals", "sum")
     for row in rows:
-        yield {
-            identifier(name): row[name] if name in ("arrivals", "sum") else value_of(str(row[name])) for name in names
-        }
+        yield {identifier(it): row[it] if it in texts else value_of(str(row[it])) for it in names}
+
+
+def write_rows(columns: Sequence[str], rows: Sequence[Row]) -> None:
+    table = csv.DictWriter(sys.stdout, columns, extrasaction="ignore", lineterminator="\n")
+    table.writeheader()
+    table.writerows(rows)
 
 
 def print_rows(rows: Sequence[Row]) -> None:
     """Prints the rows as CSV."""
     faults = ["fault"] if any(row["fault"] for row in rows) else []
-    table = csv.DictWriter(
-        sys.stdout, [*varied_in(rows), *faults, *columns_of(rows)], extrasaction="ignore", lineterminator="\n"
-    )
-    table.writeheader()
-    table.writerows(rows)
+    write_rows([*varied_in(rows), *faults, *columns_of(rows)], rows)
 
 
 def answer(rows: Sequence[Row], every: Sequence[Row], keys: Sequence[Key], words: Words) -> None:
@@ -378,14 +382,12 @@ def draw(rows: Sequence[Row], words: Words) -> None:
 
 
 def load(text: str) -> str:
-    """Parses a load."""
     if not re.fullmatch(r"[0-9]{1,6}(\.[0-9]{1,6})?", text) or Fraction(text) == 0:
         raise wrong(text, "a load, as 0.5")
     return text
 
 
 def columns_told() -> str:
-    """Returns the descriptions of the result columns."""
     return "\nColumns of the results:\n\n" + "".join(f"    {name}: {ARE[name]}\n" for name in VALUES)
 
 
@@ -476,9 +478,7 @@ def print_breakings(found: Sequence[breaking.Breaking], words: Words, rate: floa
             named = name_of(each.key, varied)
             print(f"{named}: " * bool(named) + breaking.told(words.until, each, rate, percents))
     elif words.form == "csv":
-        table = csv.DictWriter(sys.stdout, [*varied, *lines[0][1]], extrasaction="ignore", lineterminator="\n")
-        table.writeheader()
-        table.writerows({**options, **line} for options, line in lines)
+        write_rows([*varied, *lines[0][1]], [{**options, **line} for options, line in lines])
     write_json(words.json, "what-if", (object_of_breaking(words, *each) for each in lines))
 
 
@@ -506,17 +506,53 @@ def until_it_breaks(made: str, words: Words) -> None:
     print_breakings(found, words, rate, percents)
 
 
+def made_traffic(words: str, seeds: int) -> list[str]:
+    """Returns the names of files with arrivals by these options of fintaqush traffic, for seeds from 1 on. They are removed when the tool ends."""
+    try:
+        options = shlex.split(words)
+    except ValueError as error:
+        raise Refusal(f"--traffic: {error}") from None
+    if own := [word for word in options if word.partition("=")[0] in TAKEN]:
+        raise Refusal(f"--traffic: {shown(own[0])} isn't for this: --arrivals, --seed and --out are set here")
+    names = []
+    for seed in range(1, seeds + 1):
+        handle, name = tempfile.mkstemp(suffix=".csv")
+        os.close(handle)
+        unfinished.add(name)
+        try:
+            traffic.main([*options, "--arrivals", "--seed", str(seed), "--out", name], raises=True)
+        except Refusal as error:
+            raise Refusal(f"--traffic: {error}") from None
+        names.append(name)
+    return names
+
+
+def numeric(text: object) -> float:
+    return float(str(text)) if "." in str(text) else int(str(text))
+
+
+def spread(rows: Sequence[dict[str, Any]], settings: Iterable[str], values: Iterable[str]) -> dict[str, Any]:
+    """Combines rows with the same settings into one: for each value the median (of an even number the lower one), the minimum and the maximum."""
+    row = {name: rows[0][name] for name in settings}
+    row["status"] = max(int(each["status"]) for each in rows)
+    row["fault"] = next((each["fault"] for each in rows if each["fault"]), "")
+    for name in values:
+        of = sorted((each[name] for each in rows), key=numeric)
+        row.update({name: of[(len(of) - 1) // 2], f"{name}_least": of[0], f"{name}_most": of[-1]})
+    return row
+
+
 def all_rows(made: str, words: Words) -> tuple[list[Key], list[Row]]:
     """Returns the requested rows and those of the band, with their keys; for generated traffic the spread over the seeds."""
     if not words.traffic:
         keys, band = keys_of(words, words.arrivals)
         return keys, TABLE.make(made, words, list(dict.fromkeys([*keys, *band])))
-    of = [keys_of(words, name) for name in repeats.made(words.traffic, words.seeds or 5)]
+    of = [keys_of(words, name) for name in made_traffic(words.traffic, words.seeds or 5)]
     every = [list(dict.fromkeys([*keys, *band])) for keys, band in of]
     rows = TABLE.make(made, words, [key for keys in every for key in keys])
     told, count = {"arrivals": f"traffic {words.traffic}", "sum": f"{len(of)} seeds"}, len(every[0])
-    spread = [{**repeats.spread(rows[place::count], VARIED, VALUES), **told} for place in range(count)]
-    return [(told["arrivals"], told["sum"], *key[2:]) for key in of[0][0]], spread
+    spreads = [{**spread(rows[place::count], VARIED, VALUES), **told} for place in range(count)]
+    return [(told["arrivals"], told["sum"], *key[2:]) for key in of[0][0]], spreads
 
 
 def check_arrivals(words: Words) -> None:
@@ -526,14 +562,11 @@ def check_arrivals(words: Words) -> None:
         raise Refusal(f"{shown(words.arrivals)}: {reason}")
     with open(words.arrivals, "rb") as file:
         if file.readline(1000).startswith(TRACE):
-            raise Refusal(
-                f"{shown(words.arrivals)}: a trace, whose runs are given; arrivals are made by --arrivals of from-pcap, from-ftrace or traffic"
-            )
+            made = "arrivals are made by --arrivals of from-pcap, from-ftrace or traffic"
+            raise Refusal(f"{shown(words.arrivals)}: a trace, whose runs are given; {made}")
     if any(int(each) > 1 for each in words.queues) and not has_flows(words.arrivals):
-        raise Refusal(
-            f"{shown(words.arrivals)}: there is no column flow, which --queues above 1 needs: moment,device,bytes,flow, as from-pcap, from-ftrace and "
-            "traffic write it by --flows"
-        )
+        how = "moment,device,bytes,flow, as from-pcap, from-ftrace and traffic write it by --flows"
+        raise Refusal(f"{shown(words.arrivals)}: there is no column flow, which --queues above 1 needs: {how}")
 
 
 def main(given: Sequence[str]) -> int:
