@@ -81,22 +81,6 @@ fn start(control: &mut Controller, threaded: bool) -> u32
     repeat(control, &EnableAttempt { threaded })
 }
 
-fn switch_in(at: &mut Object, on: bool, threaded: bool) -> u32
-    ensures makes { ControlDoesIn (ControlSteps on threaded) at.old result at.new }
-    ensures switched { result ≡ OK → IsControllerWith (λ c. IsSwitched on c.state) at.new }
-{
-    match at {
-        Object::Controller(control) => {
-            if on {
-                start(control, threaded)
-            } else {
-                stop(control)
-            }
-        }
-        _ => status::BAD_HANDLE,
-    }
-}
-
 /// Makes one step of a driver's open (`on`: `napi_enable`) or stop (`napi_disable`), whose attempts are repeated while another
 /// thread interferes. Returns OK: the instance is enabled, or it is off, as it may have been before; BUSY: a disable is pending,
 /// and the instance's owner has to complete it before the next step; NOT_ALLOWED to open an instance that isn't off; CHANGED
@@ -110,7 +94,16 @@ pub extern "C" fn fq_control_step(handle: &mut FqHandle, on: bool, threaded: boo
     if !handle.is_set() {
         return status::BAD_HANDLE;
     }
-    switch_in(handle.held.as_mut(), on, threaded)
+    match handle.held.as_mut() {
+        Object::Controller(control) => {
+            if on {
+                start(control, threaded)
+            } else {
+                stop(control)
+            }
+        }
+        _ => status::BAD_HANDLE,
+    }
 }
 
 fn has_seat(control: &Object, seat: &Object) -> u32

@@ -91,16 +91,6 @@ pub extern "C" fn fq_run_begin(handle: &mut FqHandle, budget: u32, weight: u32, 
     }
 }
 
-fn next_in(at: &mut Object, id: &mut u32) -> u32
-    ensures makes { ListMakesIn (IsNext id.old id.new) at.old result at.new }
-    ensures none { result ≢ OK → id.new ≡ id.old }
-{
-    match at {
-        Object::List(list) => list.next(id),
-        _ => status::BAD_HANDLE,
-    }
-}
-
 /// Sets `id` to the number to poll next, and returns OK; returns DONE if the run is over (`PollingRun::next`).
 #[unsafe(no_mangle)]
 pub extern "C" fn fq_run_next(handle: &mut FqHandle, id: &mut u32) -> u32
@@ -110,14 +100,8 @@ pub extern "C" fn fq_run_next(handle: &mut FqHandle, id: &mut u32) -> u32
     if !handle.is_set() {
         return status::BAD_HANDLE;
     }
-    next_in(handle.held.as_mut(), id)
-}
-
-fn polled_in(at: &mut Object, work: u32, next: u32) -> u32
-    ensures { ListMakesIn (IsPolledCall work next) at.old result at.new }
-{
-    match at {
-        Object::List(list) => list.polled(work, next),
+    match handle.held.as_mut() {
+        Object::List(list) => list.next(id),
         _ => status::BAD_HANDLE,
     }
 }
@@ -131,7 +115,10 @@ pub extern "C" fn fq_run_polled(handle: &mut FqHandle, work: u32, next: u32) -> 
     if !handle.is_set() {
         return status::BAD_HANDLE;
     }
-    polled_in(handle.held.as_mut(), work, next)
+    match handle.held.as_mut() {
+        Object::List(list) => list.polled(work, next),
+        _ => status::BAD_HANDLE,
+    }
 }
 
 fn end_in(at: &mut Object, report: &mut FqRunReport) -> u32
