@@ -1,7 +1,7 @@
 //! The calls of the controller of a shared instance.
 ghost use Rattle.std.specs.Prelude.{◌≡◌, ◌≢◌, true, false};
 ghost use Rattle.c_handles.specs.Freeing.{is_control_off};
-ghost use Rattle.c_handles.specs.Handles.{ControlDoes, ControlDoesIn, ControlMakes, IsControllerWith, LeadsToController};
+ghost use Rattle.c_handles.specs.Handles.{ControlDoes, ControlMakes, LeadsToController};
 ghost use Rattle.c_handles.specs.SeatCalls.{ControlEnables, ControlMarks, ControlTakes};
 ghost use Rattle.c_handles.specs.Status.{OK, BAD_HANDLE};
 ghost use Rattle.napi_c.specs.Rules.{ControlSteps, IsSwitched, ControlStops};

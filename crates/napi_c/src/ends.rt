@@ -7,7 +7,7 @@ ghost use Rattle.c_handles.specs.declared.body.Ring.{Ring};
 ghost use Rattle.c_handles.specs.declared.body.Object.TheVariants as variant;
 ghost use Rattle.c_handles.specs.declared.input.RingInput.{RingInput};
 ghost use Rattle.c_handles.specs.Inputs.{shown_of};
-ghost use Rattle.c_handles.specs.Rings.{LeadsTo, HasInput, LeadsToItsInput, CountsAre, ring_counts_in};
+ghost use Rattle.c_handles.specs.Rings.{LeadsTo, LeadsToItsInput, CountsAre, ring_counts_in};
 ghost use Rattle.c_handles.specs.Status.{OK, NOT_ALLOWED, BAD_HANDLE, IN_USE, OUT_OF_MEMORY};
 ghost use Rattle.napi_c.specs.Counts.{counts_for_c, totalled};
 ghost use Rattle.napi_c.specs.Objects.{has_counts, has_input, is_ring, LeadsToOther};

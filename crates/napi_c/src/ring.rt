@@ -70,24 +70,8 @@ pub extern "C" fn fq_ring_put(handle: &mut FqHandle, number: u64, bytes: u32) ->
     if !handle.is_set() {
         return status::BAD_HANDLE;
     }
-    put_into(handle.held.as_mut(), Packet { number, bytes })
-}
-
-fn put_into(body: &mut Object, packet: Packet) -> u32
-    ensures ok { (r : Ring) → body.old ≡ variant.Ring r → result ≡ OK
-        → IsRingWith (IsAfterPut r (packet ∷ [])) body.new }
-    ensures first { (i : RingInput) → HasInput i body.old
-        → length (put_list i.end) < capacity_of i.end → result ≡ OK }
-    ensures input { (i : RingInput) → body.old ≡ variant.In i → result ≡ OK
-        → IsInputWith (IsAfterInput i (packet ∷ [])) body.new }
-    ensures full { (r : Ring) → body.old ≡ variant.Ring r → result ≢ OK → (result ≡ FULL)
-        × IsRingWith (IsAfterPut r []) body.new }
-    ensures input_full { (i : RingInput) → body.old ≡ variant.In i → result ≢ OK
-        → (result ≡ FULL) × IsInputWith (IsAfterInput i []) body.new }
-    ensures other { has_input body.old ≡ false
-        → (result ≡ BAD_HANDLE) × (body.new ≡ body.old) }
-{
-    match body {
+    let packet = Packet { number, bytes };
+    match handle.held.as_mut() {
         Object::Ring(ring) => ring.input.put(packet),
         Object::In(input) => input.put(packet),
         _ => status::BAD_HANDLE,
@@ -116,22 +100,7 @@ pub extern "C" fn fq_ring_put_all(
     if !handle.is_set() {
         return status::BAD_HANDLE;
     }
-    put_all_into(handle.held.as_mut(), packets, count)
-}
-
-fn put_all_into(body: &mut Object, packets: &[Packet], count: &mut usize) -> u32
-    requires none { count.old ≡ 0 }
-    ensures put { (r : Ring) → body.old ≡ variant.Ring r
-        → IsRingWith (IsAfterPut r (take count.new packets.now)) body.new }
-    ensures input { (i : RingInput) → body.old ≡ variant.In i
-        → IsInputWith (IsAfterInput i (take count.new packets.now)) body.new }
-    ensures first { (i : RingInput) → HasInput i body.old
-        → min (length packets.now) (capacity_of i.end - length (put_list i.end)) ≤ count.new }
-    ensures count { count.new ≤ length packets.now }
-    ensures status { result ≡ burst_in body.old count.new packets.now }
-    ensures kept { result ≡ BAD_HANDLE → (body.new ≡ body.old) × (count.new ≡ 0) }
-{
-    *count = match body {
+    *count = match handle.held.as_mut() {
         Object::Ring(ring) => ring.input.put_all(packets),
         Object::In(input) => input.put_all(packets),
         _ => return status::BAD_HANDLE,

@@ -11,7 +11,7 @@ ghost use Rattle.c_handles.specs.SeatCalls.{CallerBusyTakes, CallerBusyStops, Ca
 ghost use Rattle.c_handles.specs.Endings.{EndsByReply, LeadsToSeat};
 ghost use Rattle.c_handles.specs.declared.seat.CallerObject.{CallerObject};
 ghost use Rattle.c_handles.specs.declared.body.Object.TheVariants as variant;
-ghost use Rattle.c_handles.specs.Handles.{SeatMakes, SeatGives, SeatGivesIn, SeatShows, SeatShowsIn};
+ghost use Rattle.c_handles.specs.Handles.{SeatMakes, SeatGives, SeatShows};
 ghost use Rattle.napi_c.specs.Objects.{is_polling_seat, is_seat, LeadsToKind, LeadsToOther};
 
 use c_handles::{FqAnswers, FqHandle, Object, kind_of, status};

@@ -1,9 +1,8 @@
 //! A driver's watchdog over a transmit ring, for C.
 ghost use Rattle.std.specs.Prelude.{◌≡◌, ◌≢◌, false};
 ghost use Rattle.tx_ring.specs.Queue.{TransmitQueue, tx_state};
-ghost use Rattle.tx_ring.specs.Ring.{ShowsQueue};
 ghost use Rattle.c_handles.specs.Status.{OK, BAD_HANDLE};
-ghost use Rattle.c_handles.specs.Transmits.{IsTxWith, TxShows};
+ghost use Rattle.c_handles.specs.Transmits.{TxShows};
 ghost use Rattle.napi_c.specs.Objects.{is_tx, LeadsToOther};
 ghost use Rattle.napi_c.specs.Watch.{after_check, is_stuck};
 
