@@ -106,15 +106,6 @@ pub extern "C" fn fq_control_step(handle: &mut FqHandle, on: bool, threaded: boo
     }
 }
 
-fn has_seat(control: &Object, seat: &Object) -> u32
-    ensures { result ≢ OK → result ≡ BAD_HANDLE }
-{
-    match (control, seat) {
-        (Object::Controller(control), Object::Seat(seat)) if control.has(seat) => status::OK,
-        _ => status::BAD_HANDLE,
-    }
-}
-
 /// Returns OK if the seat belongs to the controller's instance, otherwise BAD_HANDLE.
 #[unsafe(no_mangle)]
 pub extern "C" fn fq_control_has(handle: &mut FqHandle, seat: &mut FqHandle) -> u32
@@ -123,5 +114,8 @@ pub extern "C" fn fq_control_has(handle: &mut FqHandle, seat: &mut FqHandle) -> 
     if !handle.is_set() || !seat.is_set() {
         return status::BAD_HANDLE;
     }
-    has_seat(handle.held.as_mut(), seat.held.as_mut())
+    match (handle.held.as_mut(), seat.held.as_mut()) {
+        (Object::Controller(control), Object::Seat(seat)) if control.has(seat) => status::OK,
+        _ => status::BAD_HANDLE,
+    }
 }
