@@ -1,8 +1,8 @@
 -- Each device has a transmit side: what preserves this.
 use Rattle.std.proofs.Common.{◌≡◌, ◌∙◌, ℕ, zero, suc, ◌<◌, Option, Some, None, [], ◌∷◌, length, slice_set, ap, refl, sym, arith}
 use Rattle.std.specs.Prelude.{is_some}
-use Rattle.device_bench.specs.{Transmits.Transmits, Transmit.TransmitView, Bench.{BenchDevices, HaveSides, all_settled, attached}}
-use Rattle.device_places.specs.Places.{DeviceTable, at, changed, changed_from}
+use Rattle.device_bench.specs.{Transmits.Transmits, Bench.{BenchDevices, HaveSides, all_settled, attached}}
+use Rattle.device_places.specs.Places.{DeviceTable, at}
 
 module _ {A : Type 0} where
   -- if an entry is replaced by a value, a number has one as before
@@ -11,13 +11,6 @@ module _ {A : Type 0} where
   some-set (x ∷ xs) zero zero o e = e
   some-set (x ∷ xs) (suc n) (suc m) o e = some-set xs n m o e
   some-set xs n m o e = refl
-
-  some-changed : (f : A → A) (xs : DeviceTable A) (n m : ℕ) → is_some (at m (changed f n xs)) ≡ is_some (at m xs)
-  some-changed f xs n m = by (at n xs) refl
-    where
-      by : (o : Option A) → at n xs ≡ o → is_some (at m (changed_from f n o xs)) ≡ is_some (at m xs)
-      by None e = refl
-      by (Some a) e = some-set xs n m (Some (f a)) (sym (ap is_some e))
 
   -- an entry is replaced by what it contains
   pub set-back : (xs : DeviceTable A) (n : ℕ) (o : Option A) → n < length xs → at n xs ≡ o → slice_set xs n o ≡ xs
@@ -38,11 +31,6 @@ module _ {A : Type 0} where
   sides-attached (None ∷ xs) (Some t ∷ all) long same = cc (same 0)
   sides-attached (Some d ∷ xs) (None ∷ all) long same = cc (same 0)
   sides-attached xs all long same = absurd (omega (arith, long))
-
--- a transmit side is changed
-pub sides-sent : {A : Type 0} → (f : TransmitView → TransmitView) (xs : DeviceTable A) (all : Transmits) (n : ℕ) → HaveSides xs all
-    → HaveSides xs (changed f n all)
-sides-sent f xs all n same m = some-changed f all n m ∙ same m
 
 some-settled : (xs : BenchDevices) (m : ℕ) → is_some (at m (all_settled xs)) ≡ is_some (at m xs)
 some-settled (None ∷ xs) zero = refl

@@ -13,7 +13,7 @@ module _ {S Kit End : Type 0} {g : Ghosts S Kit End} where
 
   -- the bench's transmit sides represent these, one for each of its devices
   pub record ShowsTransmits (bench : DeviceBench S Kit End g) (all : Transmits) : Type 0 where
-    pub sides : ShowsSides bench.transmits all
+    pub sides : ShowsSides bench.transmits.items all
     pub each : HaveSides (devices_of bench) all
 
   -- how many of its devices wait on the poll list

@@ -1,7 +1,7 @@
 -- The transmit sides of a bench's devices, as the program stores them.
 use Rattle.std.specs.Prelude.{◌≡◌, ℕ, Option, Some, None, length}
-use Rattle.device_bench.specs.{Transmits.Transmits, Transmit.{ShowsTransmit, TransmitView}, declared.sides.TransmitSides.TransmitSides}
-use Rattle.{device_bench.specs.declared.transmit.Transmit.Transmit, device_places.specs.Places.at}
+use Rattle.device_bench.specs.{Transmits.Transmits, Transmit.{ShowsTransmit, TransmitView}, declared.transmit.Transmit.Transmit}
+use Rattle.device_places.specs.Places.{DeviceTable, at}
 
 -- the stored transmit side, if there is one, represents this one
 abbrev pub ShowsAt : Option Transmit → Option TransmitView → Type 0
@@ -11,6 +11,6 @@ ShowsAt None (Some t) = ⊥
 ShowsAt (Some kept) None = ⊥
 
 -- the stored transmit sides represent these
-pub record ShowsSides (sides : TransmitSides) (all : Transmits) : Type 0 where
+pub record ShowsSides (sides : DeviceTable Transmit) (all : Transmits) : Type 0 where
   pub places : length all ≡ 17
-  pub each : (number : ℕ) → ShowsAt (at number sides.of.items) (at number all)
+  pub each : (number : ℕ) → ShowsAt (at number sides) (at number all)

@@ -1,15 +1,14 @@
 //! The devices of a replay, by their numbers.
 
-ghost use Rattle.std.specs.Prelude.{◌≡◌, None, Some, false, is_some};
+ghost use Rattle.std.specs.Prelude.{◌≡◌, None, Some, false, is_some, length};
 ghost use Rattle.device_bench.specs.Kept.{IsKept};
 
 use crate::counts::DeviceCounts;
 use crate::device::{BenchDevice, PolledBytes};
 use crate::receive_side::ReceiveSide;
 use crate::serial_receive::SerialReceive;
-use crate::sides::TransmitSides;
 use crate::table::{DeviceTable, empty_table};
-use crate::transmit::Transmit;
+use crate::transmit::{Transmit, TxCounts};
 use device_places::TABLE_LEN;
 use napi_model::Kind;
 use poll_runs::{
@@ -27,10 +26,12 @@ use std::mem;
 pub struct DeviceBench<S: ReceiveSide> {
     kit: S::Kit,
     devices: DeviceTable<BenchDevice<S>>,
-    transmits: TransmitSides,
+    // The transmit side of each device; a number without a device has none.
+    transmits: DeviceTable<Transmit>,
     // Whether a disable may be pending on some device.
     unsettled: bool,
     ghost kept: { IsKept unsettled devices.items },
+    ghost sides: { length transmits.items ≡ 17 },
 }
 
 /// The devices of one thread.
@@ -80,7 +81,7 @@ impl<S: ReceiveSide> DeviceBench<S> {
         ensures devices { IfOk result (λ bench. devices_of bench ≡ empty) }
         ensures transmits { IfOk result (λ bench. ShowsTransmits bench empty) }
     {
-        let transmits = TransmitSides::new(alloc)?;
+        let transmits = empty_table(alloc)?;
         Ok(DeviceBench {
             kit,
             devices: empty_table(alloc)?,
@@ -166,7 +167,9 @@ impl<S: ReceiveSide> DeviceBench<S> {
     {
         let transmit = Transmit::open(alloc, capacity, moment)?;
         self.keep(alloc, device, capacity)?;
-        self.transmits.attach(device, transmit);
+        if self.transmits[device as usize].is_none() {
+            self.transmits[device as usize] = Some(transmit);
+        }
         Ok(())
     }
 
@@ -177,7 +180,11 @@ impl<S: ReceiveSide> DeviceBench<S> {
             (changed (after_tx bytes) device) self.old self.new }
         ensures waiting { waiting_of self.new ≡ waiting_of self.old }
     {
-        self.transmits.send(device, bytes);
+        if device < TABLE_LEN {
+            if let Some(transmit) = &mut self.transmits[device as usize] {
+                transmit.send(bytes);
+            }
+        }
     }
 
     /// Completes this many packets, or counts the completion as denied if the ring holds fewer (`netdev_tx_completed_queue`).
@@ -187,7 +194,11 @@ impl<S: ReceiveSide> DeviceBench<S> {
             (changed (after_finish count moment) device) self.old self.new }
         ensures waiting { waiting_of self.new ≡ waiting_of self.old }
     {
-        self.transmits.finish(device, count, moment);
+        if device < TABLE_LEN {
+            if let Some(transmit) = &mut self.transmits[device as usize] {
+                transmit.finish(count, moment);
+            }
+        }
     }
 
     /// Marks a disable on a device that is enabled (`napi_disable`). The disable takes effect later, in `settle`.
@@ -285,7 +296,10 @@ impl<S: ReceiveSide> DeviceBench<S> {
         let Some(Some(opened)) = self.devices.get(device as usize) else {
             unreachable!();
         };
-        opened.counts(self.transmits.counts(device))
+        match self.transmits.get(device as usize) {
+            Some(Some(transmit)) => opened.counts(transmit.counts()),
+            _ => opened.counts(TxCounts::NONE),
+        }
     }
 
     /// Returns whether an attached device had a tx or done row; otherwise the report omits its transmit side.
@@ -293,7 +307,10 @@ impl<S: ReceiveSide> DeviceBench<S> {
         ensures { (all : Transmits) → ShowsTransmits self.now all
             → result ≡ is_used (at device all) }
     {
-        self.transmits.is_used(device)
+        match self.transmits.get(device as usize) {
+            Some(Some(transmit)) => transmit.is_used(),
+            _ => false,
+        }
     }
 
     /// Ends the receive side of each device, which may wait. It doesn't allocate. It may be called in any state, even after an

@@ -9,7 +9,6 @@ mod counts;
 mod device;
 mod receive_side;
 mod serial_receive;
-mod sides;
 mod table;
 mod transmit;
 

@@ -1,7 +1,7 @@
 //! The calls of the controller of a shared instance.
 ghost use Rattle.std.specs.Prelude.{◌≡◌, ◌≢◌, true, false};
 ghost use Rattle.c_handles.specs.Freeing.{is_control_off};
-ghost use Rattle.c_handles.specs.Handles.{ControlDoes, ControlDoesIn, ControlMakes, IsControllerWith, LeadsToController};
+ghost use Rattle.c_handles.specs.Handles.{ControlDoes, ControlMakes, LeadsToController};
 ghost use Rattle.c_handles.specs.SeatCalls.{ControlEnables, ControlMarks, ControlTakes};
 ghost use Rattle.c_handles.specs.Status.{OK, BAD_HANDLE};
 ghost use Rattle.napi_c.specs.Rules.{ControlSteps, IsSwitched, ControlStops};
@@ -81,22 +81,6 @@ fn start(control: &mut Controller, threaded: bool) -> u32
     repeat(control, &EnableAttempt { threaded })
 }
 
-fn switch_in(at: &mut Object, on: bool, threaded: bool) -> u32
-    ensures makes { ControlDoesIn (ControlSteps on threaded) at.old result at.new }
-    ensures switched { result ≡ OK → IsControllerWith (λ c. IsSwitched on c.state) at.new }
-{
-    match at {
-        Object::Controller(control) => {
-            if on {
-                start(control, threaded)
-            } else {
-                stop(control)
-            }
-        }
-        _ => status::BAD_HANDLE,
-    }
-}
-
 /// Makes one step of a driver's open (`on`: `napi_enable`) or stop (`napi_disable`), whose attempts are repeated while another
 /// thread interferes. Returns OK: the instance is enabled, or it is off, as it may have been before; BUSY: a disable is pending,
 /// and the instance's owner has to complete it before the next step; NOT_ALLOWED to open an instance that isn't off; CHANGED
@@ -110,14 +94,14 @@ pub extern "C" fn fq_control_step(handle: &mut FqHandle, on: bool, threaded: boo
     if !handle.is_set() {
         return status::BAD_HANDLE;
     }
-    switch_in(handle.held.as_mut(), on, threaded)
-}
-
-fn has_seat(control: &Object, seat: &Object) -> u32
-    ensures { result ≢ OK → result ≡ BAD_HANDLE }
-{
-    match (control, seat) {
-        (Object::Controller(control), Object::Seat(seat)) if control.has(seat) => status::OK,
+    match handle.held.as_mut() {
+        Object::Controller(control) => {
+            if on {
+                start(control, threaded)
+            } else {
+                stop(control)
+            }
+        }
         _ => status::BAD_HANDLE,
     }
 }
@@ -130,5 +114,8 @@ pub extern "C" fn fq_control_has(handle: &mut FqHandle, seat: &mut FqHandle) -> 
     if !handle.is_set() || !seat.is_set() {
         return status::BAD_HANDLE;
     }
-    has_seat(handle.held.as_mut(), seat.held.as_mut())
+    match (handle.held.as_mut(), seat.held.as_mut()) {
+        (Object::Controller(control), Object::Seat(seat)) if control.has(seat) => status::OK,
+        _ => status::BAD_HANDLE,
+    }
 }

@@ -70,15 +70,6 @@ pub extern "C" fn fq_driver_new_salted(
     }
 }
 
-fn open_in(at: &mut Object, device: u32) -> u32
-    ensures { DriverMakesIn (IsDriverOpen device) at.old result at.new }
-{
-    match at {
-        Object::Driver(driver) => drive::open(driver, device),
-        _ => status::BAD_HANDLE,
-    }
-}
-
 /// Opens a device, like `Driver::open`.
 #[unsafe(no_mangle)]
 pub extern "C" fn fq_driver_open(handle: &mut FqHandle, device: u32) -> u32
@@ -87,14 +78,8 @@ pub extern "C" fn fq_driver_open(handle: &mut FqHandle, device: u32) -> u32
     if !handle.is_set() {
         return status::BAD_HANDLE;
     }
-    open_in(handle.held.as_mut(), device)
-}
-
-fn stop_in(at: &mut Object, device: u32) -> u32
-    ensures { DriverMakesIn (IsDriverStop device) at.old result at.new }
-{
-    match at {
-        Object::Driver(driver) => drive::stop(driver, device),
+    match handle.held.as_mut() {
+        Object::Driver(driver) => drive::open(driver, device),
         _ => status::BAD_HANDLE,
     }
 }
@@ -107,14 +92,8 @@ pub extern "C" fn fq_driver_stop(handle: &mut FqHandle, device: u32) -> u32
     if !handle.is_set() {
         return status::BAD_HANDLE;
     }
-    stop_in(handle.held.as_mut(), device)
-}
-
-fn interrupt_in(at: &mut Object, device: u32) -> u32
-    ensures { DriverMakesIn (IsDriverInterrupt device) at.old result at.new }
-{
-    match at {
-        Object::Driver(driver) => drive::interrupt(driver, device),
+    match handle.held.as_mut() {
+        Object::Driver(driver) => drive::stop(driver, device),
         _ => status::BAD_HANDLE,
     }
 }
@@ -127,7 +106,10 @@ pub extern "C" fn fq_driver_interrupt(handle: &mut FqHandle, device: u32) -> u32
     if !handle.is_set() {
         return status::BAD_HANDLE;
     }
-    interrupt_in(handle.held.as_mut(), device)
+    match handle.held.as_mut() {
+        Object::Driver(driver) => drive::interrupt(driver, device),
+        _ => status::BAD_HANDLE,
+    }
 }
 
 fn next_in(at: &mut Object, todo: &mut FqTodo) -> u32
@@ -179,16 +161,6 @@ pub extern "C" fn fq_driver_done(handle: &mut FqHandle, todo: &FqTodo) -> u32
     done_in(handle.held.as_mut(), todo)
 }
 
-fn step_in(at: &mut Object, todo: &mut FqTodo) -> u32
-    ensures makes { DriverMakesIn (IsDriverStep todo.old todo.new) at.old result at.new }
-    ensures none { result ≡ BAD_HANDLE → todo.new ≡ failed_in todo.old.size BAD_HANDLE }
-{
-    match at {
-        Object::Driver(driver) => drive::step(driver, todo),
-        _ => todo.fail(status::BAD_HANDLE),
-    }
-}
-
 /// Reports that an action was done, unless its number is 0, and sets `todo` to the next action, like `Driver::step`.
 #[unsafe(no_mangle)]
 pub extern "C" fn fq_driver_step_sized(handle: &mut FqHandle, todo: &mut FqTodo) -> u32
@@ -204,16 +176,9 @@ pub extern "C" fn fq_driver_step_sized(handle: &mut FqHandle, todo: &mut FqTodo)
     if !handle.is_set() {
         return todo.fail(status::BAD_HANDLE);
     }
-    step_in(handle.held.as_mut(), todo)
-}
-
-fn show_in(at: &Object, device: u32, shown: &mut FqDeviceShown) -> u32
-    ensures makes { DriverMakesIn (IsDriverShow shown.old shown.new device) at.now result at.now }
-    ensures none { result ≢ OK → shown.new ≡ shown.old }
-{
-    match at {
-        Object::Driver(driver) => drive::show(driver, device, shown),
-        _ => status::BAD_HANDLE,
+    match handle.held.as_mut() {
+        Object::Driver(driver) => drive::step(driver, todo),
+        _ => todo.fail(status::BAD_HANDLE),
     }
 }
 
@@ -235,5 +200,8 @@ pub extern "C" fn fq_driver_show(
     if !handle.is_set() {
         return status::BAD_HANDLE;
     }
-    show_in(handle.held.as_mut(), device, shown)
+    match handle.held.as_mut() {
+        Object::Driver(driver) => drive::show(driver, device, shown),
+        _ => status::BAD_HANDLE,
+    }
 }

@@ -7,7 +7,7 @@ ghost use Rattle.c_handles.specs.declared.body.Ring.{Ring};
 ghost use Rattle.c_handles.specs.declared.body.Object.TheVariants as variant;
 ghost use Rattle.c_handles.specs.declared.input.RingInput.{RingInput};
 ghost use Rattle.c_handles.specs.Inputs.{shown_of};
-ghost use Rattle.c_handles.specs.Rings.{LeadsTo, HasInput, LeadsToItsInput, CountsAre, ring_counts_in};
+ghost use Rattle.c_handles.specs.Rings.{LeadsTo, LeadsToItsInput, CountsAre, ring_counts_in};
 ghost use Rattle.c_handles.specs.Status.{OK, NOT_ALLOWED, BAD_HANDLE, IN_USE, OUT_OF_MEMORY};
 ghost use Rattle.napi_c.specs.Counts.{counts_for_c, totalled};
 ghost use Rattle.napi_c.specs.Objects.{has_counts, has_input, is_ring, LeadsToOther};
@@ -119,20 +119,6 @@ pub extern "C" fn fq_count(handle: &mut FqHandle, counts: &mut FqCounts) -> u32
     status::OK
 }
 
-fn shown_in(at: &Object, shown: &mut FqRingShown) -> u32
-    ensures shown { (i : RingInput) → HasInput i at.now → (result ≡ OK)
-        × (shown.new ≡ shown_of i.end) }
-    ensures other { has_input at.now ≡ false → result ≡ BAD_HANDLE }
-    ensures kept { result ≢ OK → (shown.new ≡ shown.old) × (result ≡ BAD_HANDLE) }
-{
-    match at {
-        Object::Ring(ring) => *shown = ring.input.shown(),
-        Object::In(input) => *shown = input.shown(),
-        _ => return status::BAD_HANDLE,
-    }
-    status::OK
-}
-
 /// Sets the state of a ring's input: its capacity, and how many packets were put. Allowed for a ring, and for the input of one.
 #[unsafe(no_mangle)]
 pub extern "C" fn fq_ring_show(handle: &mut FqHandle, shown: &mut FqRingShown) -> u32
@@ -145,5 +131,10 @@ pub extern "C" fn fq_ring_show(handle: &mut FqHandle, shown: &mut FqRingShown) -
     if !handle.is_set() {
         return status::BAD_HANDLE;
     }
-    shown_in(handle.held.as_mut(), shown)
+    match handle.held.as_mut() {
+        Object::Ring(ring) => *shown = ring.input.shown(),
+        Object::In(input) => *shown = input.shown(),
+        _ => return status::BAD_HANDLE,
+    }
+    status::OK
 }

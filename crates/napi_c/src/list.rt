@@ -30,15 +30,6 @@ pub extern "C" fn fq_list_new(alloc: Global, handle: &mut FqHandle) -> u32
     }
 }
 
-fn push_in(at: &mut Object, id: u32) -> u32
-    ensures { ListMakesIn (IsPush id) at.old result at.new }
-{
-    match at {
-        Object::List(list) => list.push(id),
-        _ => status::BAD_HANDLE,
-    }
-}
-
 /// Appends a number to the list: returns OK; IN_USE if the list or its run has it already; FULL if they hold 64.
 #[unsafe(no_mangle)]
 pub extern "C" fn fq_list_push(handle: &mut FqHandle, id: u32) -> u32
@@ -47,14 +38,8 @@ pub extern "C" fn fq_list_push(handle: &mut FqHandle, id: u32) -> u32
     if !handle.is_set() {
         return status::BAD_HANDLE;
     }
-    push_in(handle.held.as_mut(), id)
-}
-
-fn remove_in(at: &mut Object, id: u32) -> u32
-    ensures { ListMakesIn (IsRemoveCall id) at.old result at.new }
-{
-    match at {
-        Object::List(list) => list.remove(id),
+    match handle.held.as_mut() {
+        Object::List(list) => list.push(id),
         _ => status::BAD_HANDLE,
     }
 }
@@ -68,18 +53,8 @@ pub extern "C" fn fq_list_remove(handle: &mut FqHandle, id: u32) -> u32
     if !handle.is_set() {
         return status::BAD_HANDLE;
     }
-    remove_in(handle.held.as_mut(), id)
-}
-
-fn len_in(at: &Object, len: &mut u32) -> u32
-    ensures makes { ListMakesIn (IsLength len.old len.new) at.now result at.now }
-    ensures none { result ≢ OK → len.new ≡ len.old }
-{
-    match at {
-        Object::List(list) => {
-            *len = list.len() as u32;
-            status::OK
-        }
+    match handle.held.as_mut() {
+        Object::List(list) => list.remove(id),
         _ => status::BAD_HANDLE,
     }
 }
@@ -93,14 +68,11 @@ pub extern "C" fn fq_list_len(handle: &mut FqHandle, len: &mut u32) -> u32
     if !handle.is_set() {
         return status::BAD_HANDLE;
     }
-    len_in(handle.held.as_mut(), len)
-}
-
-fn begin_in(at: &mut Object, budget: u32, weight: u32, window: u32) -> u32
-    ensures { ListMakesIn (IsBeginCall budget weight window) at.old result at.new }
-{
-    match at {
-        Object::List(list) => list.begin(budget, weight, window),
+    match handle.held.as_mut() {
+        Object::List(list) => {
+            *len = list.len() as u32;
+            status::OK
+        }
         _ => status::BAD_HANDLE,
     }
 }
@@ -113,15 +85,8 @@ pub extern "C" fn fq_run_begin(handle: &mut FqHandle, budget: u32, weight: u32, 
     if !handle.is_set() {
         return status::BAD_HANDLE;
     }
-    begin_in(handle.held.as_mut(), budget, weight, window)
-}
-
-fn next_in(at: &mut Object, id: &mut u32) -> u32
-    ensures makes { ListMakesIn (IsNext id.old id.new) at.old result at.new }
-    ensures none { result ≢ OK → id.new ≡ id.old }
-{
-    match at {
-        Object::List(list) => list.next(id),
+    match handle.held.as_mut() {
+        Object::List(list) => list.begin(budget, weight, window),
         _ => status::BAD_HANDLE,
     }
 }
@@ -135,14 +100,8 @@ pub extern "C" fn fq_run_next(handle: &mut FqHandle, id: &mut u32) -> u32
     if !handle.is_set() {
         return status::BAD_HANDLE;
     }
-    next_in(handle.held.as_mut(), id)
-}
-
-fn polled_in(at: &mut Object, work: u32, next: u32) -> u32
-    ensures { ListMakesIn (IsPolledCall work next) at.old result at.new }
-{
-    match at {
-        Object::List(list) => list.polled(work, next),
+    match handle.held.as_mut() {
+        Object::List(list) => list.next(id),
         _ => status::BAD_HANDLE,
     }
 }
@@ -156,7 +115,10 @@ pub extern "C" fn fq_run_polled(handle: &mut FqHandle, work: u32, next: u32) -> 
     if !handle.is_set() {
         return status::BAD_HANDLE;
     }
-    polled_in(handle.held.as_mut(), work, next)
+    match handle.held.as_mut() {
+        Object::List(list) => list.polled(work, next),
+        _ => status::BAD_HANDLE,
+    }
 }
 
 fn end_in(at: &mut Object, report: &mut FqRunReport) -> u32

@@ -1,5 +1,5 @@
 //! Receive rings for C, with both ends in one handle.
-ghost use Rattle.std.specs.Prelude.{◌≡◌, ◌≢◌, ◌<◌, ◌≤◌, ◌-◌, ◌⊎◌, ◌↔◌, [], ◌∷◌, length, take, min, true, false, Some, IsNone, IsSome};
+ghost use Rattle.std.specs.Prelude.{◌≡◌, ◌≢◌, ◌<◌, ◌≤◌, ◌-◌, ◌⊎◌, ◌↔◌, [], ◌∷◌, length, take, min, Some, IsNone, IsSome};
 ghost use Rattle.rx_ring.specs.ReceiveRing.{most_rx_places};
 ghost use Rattle.rx_ring.specs.Ends.{put_list, capacity_of, GivesNext};
 ghost use Rattle.rx_ring.specs.declared.ends.RxCtx.{RxCtx};
@@ -7,7 +7,7 @@ ghost use Rattle.c_handles.specs.declared.body.Ring.{Ring};
 ghost use Rattle.c_handles.specs.declared.input.RingInput.{RingInput};
 ghost use Rattle.c_handles.specs.declared.body.Object.TheVariants as variant;
 ghost use Rattle.c_handles.specs.Status.{OK, FULL, BAD_HANDLE, IN_USE, OUT_OF_MEMORY, BAD_CAPACITY, BAD_WEIGHT, NO_ROOM};
-ghost use Rattle.c_handles.specs.Rings.{CountsAre, HasInput, LeadsTo, LeadsToItsInput, LeadsToRing, IsRingWith, IsInputWith, LeadsToInput, IsCtxWith, LeadsToCtx, IsNewRing, IsAfterPut, IsAfterInput, IsAfterPoll, burst_in, burst_status};
+ghost use Rattle.c_handles.specs.Rings.{CountsAre, LeadsTo, LeadsToItsInput, LeadsToRing, LeadsToInput, LeadsToCtx, IsNewRing, IsAfterPut, IsAfterInput, IsAfterPoll, burst_status};
 ghost use Rattle.napi_c.specs.Counts.{no_polls};
 ghost use Rattle.napi_c.specs.Objects.{has_input, has_poll_end, LeadsToKind, LeadsToOther};
 
@@ -70,24 +70,8 @@ pub extern "C" fn fq_ring_put(handle: &mut FqHandle, number: u64, bytes: u32) ->
     if !handle.is_set() {
         return status::BAD_HANDLE;
     }
-    put_into(handle.held.as_mut(), Packet { number, bytes })
-}
-
-fn put_into(body: &mut Object, packet: Packet) -> u32
-    ensures ok { (r : Ring) → body.old ≡ variant.Ring r → result ≡ OK
-        → IsRingWith (IsAfterPut r (packet ∷ [])) body.new }
-    ensures first { (i : RingInput) → HasInput i body.old
-        → length (put_list i.end) < capacity_of i.end → result ≡ OK }
-    ensures input { (i : RingInput) → body.old ≡ variant.In i → result ≡ OK
-        → IsInputWith (IsAfterInput i (packet ∷ [])) body.new }
-    ensures full { (r : Ring) → body.old ≡ variant.Ring r → result ≢ OK → (result ≡ FULL)
-        × IsRingWith (IsAfterPut r []) body.new }
-    ensures input_full { (i : RingInput) → body.old ≡ variant.In i → result ≢ OK
-        → (result ≡ FULL) × IsInputWith (IsAfterInput i []) body.new }
-    ensures other { has_input body.old ≡ false
-        → (result ≡ BAD_HANDLE) × (body.new ≡ body.old) }
-{
-    match body {
+    let packet = Packet { number, bytes };
+    match handle.held.as_mut() {
         Object::Ring(ring) => ring.input.put(packet),
         Object::In(input) => input.put(packet),
         _ => status::BAD_HANDLE,
@@ -116,22 +100,7 @@ pub extern "C" fn fq_ring_put_all(
     if !handle.is_set() {
         return status::BAD_HANDLE;
     }
-    put_all_into(handle.held.as_mut(), packets, count)
-}
-
-fn put_all_into(body: &mut Object, packets: &[Packet], count: &mut usize) -> u32
-    requires none { count.old ≡ 0 }
-    ensures put { (r : Ring) → body.old ≡ variant.Ring r
-        → IsRingWith (IsAfterPut r (take count.new packets.now)) body.new }
-    ensures input { (i : RingInput) → body.old ≡ variant.In i
-        → IsInputWith (IsAfterInput i (take count.new packets.now)) body.new }
-    ensures first { (i : RingInput) → HasInput i body.old
-        → min (length packets.now) (capacity_of i.end - length (put_list i.end)) ≤ count.new }
-    ensures count { count.new ≤ length packets.now }
-    ensures status { result ≡ burst_in body.old count.new packets.now }
-    ensures kept { result ≡ BAD_HANDLE → (body.new ≡ body.old) × (count.new ≡ 0) }
-{
-    *count = match body {
+    *count = match handle.held.as_mut() {
         Object::Ring(ring) => ring.input.put_all(packets),
         Object::In(input) => input.put_all(packets),
         _ => return status::BAD_HANDLE,
@@ -177,24 +146,7 @@ pub extern "C" fn fq_ring_poll(
     if !handle.is_set() {
         return status::BAD_HANDLE;
     }
-    poll_into(handle.held.as_mut(), weight, out, count)
-}
-
-fn poll_into(body: &mut Object, weight: usize, out: &mut [Packet], count: &mut usize) -> u32
-    requires weight { (1 ≤ weight) × (weight ≤ 64) }
-    requires room { weight ≤ length out.old }
-    requires none { count.old ≡ 0 }
-    ensures ok { (r : Ring) → body.old ≡ variant.Ring r → result ≡ OK
-        → IsRingWith (IsAfterPoll weight r (take count.new out.new)) body.new }
-    ensures context { (c : RxCtx) → body.old ≡ variant.Ctx c → result ≡ OK
-        → IsCtxWith (λ d. GivesNext weight c d (take count.new out.new)) body.new }
-    ensures there { has_poll_end body.old ≡ true → result ≡ OK }
-    ensures other { has_poll_end body.old ≡ false → result ≡ BAD_HANDLE }
-    ensures work { (count.new ≤ weight) × (count.new ≤ length out.new) }
-    ensures only { result ≢ OK → (result ≡ BAD_HANDLE) × (body.new ≡ body.old)
-        × (count.new ≡ 0) × (out.new ≡ out.old) }
-{
-    *count = match body {
+    *count = match handle.held.as_mut() {
         Object::Ring(ring) => ring.ctx.poll_into(weight, out),
         Object::Ctx(ctx) => ctx.poll_into(weight, out),
         _ => return status::BAD_HANDLE,

@@ -58,21 +58,6 @@ fn queue_granted(seat: &mut CallerObject) -> u32
     next
 }
 
-fn hand_in(at: &mut Object, next: &mut u32) -> u32
-    ensures makes { SeatDoesIn (SeatQueues next.new) at.old result at.new }
-    ensures none { result ≢ OK → next.new ≡ NEXT_GONE }
-{
-    *next = GONE;
-    let Object::Seat(seat) = at else {
-        return status::BAD_HANDLE;
-    };
-    if !matches!(seat.state, CallerState::Granted(_)) {
-        return status::NOT_ALLOWED;
-    }
-    *next = queue_granted(seat);
-    status::OK
-}
-
 /// Queues a granted instance (`____napi_schedule`): for its thread if THREADED is set, on the list otherwise. Sets `next` to
 /// which (`enum fq_next`). Returns OK; NOT_ALLOWED if the caller wasn't granted the instance.
 #[unsafe(no_mangle)]
@@ -80,11 +65,18 @@ pub extern "C" fn fq_seat_hand_again(handle: &mut FqHandle, next: &mut u32) -> u
     ensures makes { SeatDoes (SeatQueues next.new) handle.old result handle.new }
     ensures none { result ≢ OK → next.new ≡ NEXT_GONE }
 {
+    *next = GONE;
     if !handle.is_set() {
-        *next = GONE;
         return status::BAD_HANDLE;
     }
-    hand_in(handle.held.as_mut(), next)
+    let Object::Seat(seat) = handle.held.as_mut() else {
+        return status::BAD_HANDLE;
+    };
+    if !matches!(seat.state, CallerState::Granted(_)) {
+        return status::NOT_ALLOWED;
+    }
+    *next = queue_granted(seat);
+    status::OK
 }
 
 // CompleteAttempt the poll, and queues the instance again if a request was missed.

@@ -11,28 +11,12 @@ ghost use Rattle.c_handles.specs.SeatCalls.{CallerBusyTakes, CallerBusyStops, Ca
 ghost use Rattle.c_handles.specs.Endings.{EndsByReply, LeadsToSeat};
 ghost use Rattle.c_handles.specs.declared.seat.CallerObject.{CallerObject};
 ghost use Rattle.c_handles.specs.declared.body.Object.TheVariants as variant;
-ghost use Rattle.c_handles.specs.Handles.{SeatMakes, SeatGives, SeatGivesIn, SeatShows, SeatShowsIn};
+ghost use Rattle.c_handles.specs.Handles.{SeatMakes, SeatGives, SeatShows};
 ghost use Rattle.napi_c.specs.Objects.{is_polling_seat, is_seat, LeadsToKind, LeadsToOther};
 
 use c_handles::{FqAnswers, FqHandle, Object, kind_of, status};
 use napi_model::encode;
 use rx_ring::{MAX_WEIGHT, Packet};
-
-fn look_in(at: &mut Object, word: &mut u64) -> u32
-    ensures shows { SeatShowsIn word.old word.new at.old result at.new }
-    ensures none { result ≢ OK → word.new ≡ word.old }
-{
-    match at {
-        Object::Seat(seat) => match seat.look() {
-            Some(seen) => {
-                *word = encode(seen);
-                status::OK
-            }
-            None => status::NOT_ALLOWED,
-        },
-        _ => status::BAD_HANDLE,
-    }
-}
 
 /// Sets `word` to the state word, a sum of bits. Allowed in every state of the caller.
 #[unsafe(no_mangle)]
@@ -43,7 +27,16 @@ pub extern "C" fn fq_seat_look(handle: &mut FqHandle, word: &mut u64) -> u32
     if !handle.is_set() {
         return status::BAD_HANDLE;
     }
-    look_in(handle.held.as_mut(), word)
+    match handle.held.as_mut() {
+        Object::Seat(seat) => match seat.look() {
+            Some(seen) => {
+                *word = encode(seen);
+                status::OK
+            }
+            None => status::NOT_ALLOWED,
+        },
+        _ => status::BAD_HANDLE,
+    }
 }
 
 /// Like `Caller::try_schedule`: returns GRANTED, MISSED, DISABLED or CHANGED; NOT_ALLOWED if the caller owns the instance.
@@ -175,22 +168,6 @@ pub extern "C" fn fq_seat_set_threaded(handle: &mut FqHandle, threaded: bool) ->
     }
 }
 
-fn poll_in(at: &mut Object, weight: usize, out: &mut [Packet], count: &mut usize) -> u32
-    requires weight { (1 ≤ weight) × (weight ≤ 64) }
-    requires room { weight ≤ length out.old }
-    requires none { count.old ≡ 0 }
-    ensures polls { SeatGivesIn weight (take count.new out.new) at.old result at.new }
-    ensures there { is_polling_seat at.old ≡ true → result ≡ OK }
-    ensures other { is_seat at.old ≡ false → result ≡ BAD_HANDLE }
-    ensures most { (count.new ≤ weight) × (count.new ≤ length out.new) }
-    ensures kept { result ≢ OK → (count.new ≡ 0) × (out.new ≡ out.old) × (at.new ≡ at.old) }
-{
-    match at {
-        Object::Seat(seat) => seat.poll(weight, out, count),
-        _ => status::BAD_HANDLE,
-    }
-}
-
 /// Like `Polling::poll`, into an array: sets `count`; the packets are the first `count` elements. Returns OK; BAD_WEIGHT if the
 /// weight isn't 1 to 64; NO_ROOM if the array is shorter than the weight; NOT_ALLOWED if the caller doesn't poll. After an
 /// error nothing was polled.
@@ -223,7 +200,10 @@ pub extern "C" fn fq_seat_poll(
     if !handle.is_set() {
         return status::BAD_HANDLE;
     }
-    poll_in(handle.held.as_mut(), weight, out, count)
+    match handle.held.as_mut() {
+        Object::Seat(seat) => seat.poll(weight, out, count),
+        _ => status::BAD_HANDLE,
+    }
 }
 
 fn answers_in(at: &Object, answers: &mut FqAnswers) -> u32

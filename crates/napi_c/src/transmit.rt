@@ -84,18 +84,7 @@ pub extern "C" fn fq_tx_send(handle: &mut FqHandle, bytes: u32) -> u32
     if !handle.is_set() {
         return status::BAD_HANDLE;
     }
-    send_in(handle.held.as_mut(), bytes)
-}
-
-fn send_in(body: &mut Object, bytes: u32) -> u32
-    ensures ok { (t : TransmitQueue) → IsTxWith (λ r. ShowsQueue r t) body.old → result ≡ OK
-        → IsTxWith (λ r. ShowsQueue r (after_send t bytes)) body.new }
-    ensures status { (t : TransmitQueue) → IsTxWith (λ r. ShowsQueue r t) body.old
-        → result ≡ tx_status (send_fault t bytes) }
-    ensures other { is_tx body.old ≡ false → result ≡ BAD_HANDLE }
-    ensures kept { result ≢ OK → body.new ≡ body.old }
-{
-    match body {
+    match handle.held.as_mut() {
         Object::Tx(ring) => match ring.send(bytes) {
             Ok(()) => status::OK,
             Err(fault) => status_of(fault),
@@ -117,18 +106,7 @@ pub extern "C" fn fq_tx_done(handle: &mut FqHandle, count: u32, now: u64) -> u32
     if !handle.is_set() {
         return status::BAD_HANDLE;
     }
-    done_in(handle.held.as_mut(), count, now)
-}
-
-fn done_in(body: &mut Object, count: u32, now: u64) -> u32
-    ensures ok { (t : TransmitQueue) → IsTxWith (λ r. ShowsQueue r t) body.old → result ≡ OK
-        → IsTxWith (λ r. ShowsQueue r (after_done t count now)) body.new }
-    ensures status { (t : TransmitQueue) → IsTxWith (λ r. ShowsQueue r t) body.old
-        → result ≡ tx_status (done_fault t count) }
-    ensures other { is_tx body.old ≡ false → result ≡ BAD_HANDLE }
-    ensures kept { result ≢ OK → body.new ≡ body.old }
-{
-    match body {
+    match handle.held.as_mut() {
         Object::Tx(ring) => match ring.done(count, now) {
             Ok(()) => status::OK,
             Err(fault) => status_of(fault),

@@ -1,9 +1,8 @@
 //! A driver's watchdog over a transmit ring, for C.
 ghost use Rattle.std.specs.Prelude.{◌≡◌, ◌≢◌, false};
 ghost use Rattle.tx_ring.specs.Queue.{TransmitQueue, tx_state};
-ghost use Rattle.tx_ring.specs.Ring.{ShowsQueue};
 ghost use Rattle.c_handles.specs.Status.{OK, BAD_HANDLE};
-ghost use Rattle.c_handles.specs.Transmits.{IsTxWith, TxShows};
+ghost use Rattle.c_handles.specs.Transmits.{TxShows};
 ghost use Rattle.napi_c.specs.Objects.{is_tx, LeadsToOther};
 ghost use Rattle.napi_c.specs.Watch.{after_check, is_stuck};
 
@@ -61,25 +60,7 @@ pub extern "C" fn fq_tx_watch(
     if !handle.is_set() {
         return status::BAD_HANDLE;
     }
-    watch_in(handle.held.as_mut(), watchdog, limit, now, stuck)
-}
-
-fn watch_in(
-    body: &Object,
-    watchdog: &mut FqTxWatchdog,
-    limit: u64,
-    now: u64,
-    stuck: &mut bool,
-) -> u32
-    requires { stuck.old ≡ false }
-    ensures checked { (t : TransmitQueue) → IsTxWith (λ r. ShowsQueue r t) body.now
-        → (result ≡ OK) × (watchdog.new ≡ after_check watchdog.old (tx_state t) now)
-        × (stuck.new ≡ is_stuck watchdog.old (tx_state t) limit now) }
-    ensures other { is_tx body.now ≡ false → result ≡ BAD_HANDLE }
-    ensures kept { result ≢ OK → (watchdog.new ≡ watchdog.old) × (stuck.new ≡ false)
-        × (result ≡ BAD_HANDLE) }
-{
-    match body {
+    match handle.held.as_mut() {
         Object::Tx(ring) => {
             *stuck = watchdog.check(ring.state(), limit, now);
             status::OK

@@ -4,19 +4,19 @@ use Rattle.std.proofs.lemmas.Slice.Zip.{all_zipped_more}
 use Rattle.std.proofs.Common.{◌≡◌, ◌∙◌, ℕ, ◌+◌, ◌-◌, ◌<◌, ◌≤◌, ap, sym, subst, Bool, true, false, Some, None, List, [], ◌∷◌, ◌++◌}
 use Rattle.std.proofs.{Common.{length, slice_index_or, take, get_or, refl, arith, flat_map}, Math.Nat.min-eq_left}
 use Rattle.std.specs.List.{All, AllZip, find, range_with_len}
-use Rattle.std.specs.{Prelude.{◌==◌, Result, IfOk, OnOk, vec_items, filter, map, nat_lt, option_map, sum_by}, Global.Vec}
+use Rattle.std.specs.{Prelude.{◌==◌, filter, map, nat_lt, option_map, sum_by}}
 use Rattle.poll_engine.specs.{Runs.HasRun, declared.station.Station.Station, declared.station.Finished.Finished, Refusals.IsRefused}
-use Rattle.poll_engine.specs.{declared.fault.WorkFault.WorkFault, Finishes.IsFinished, Courses.{ArePolled, limits_of}}
+use Rattle.poll_engine.specs.{declared.fault.WorkFault.WorkFault, Finishes.IsFinished}
 use Rattle.device_rows.proofs.Accepted.{accepted-at}
 use Rattle.device_rows.specs.{Row.value_fits, Trace.AcceptedAfter, declared.row.Row.Row, declared.event.RowEvent.RowEvent}
 use Rattle.rx_ring.specs.ReceiveRing.{capped}
 use Rattle.replay.proofs.{Rows.{filter-long, find-among, find-here, find-more, range-more}, ScriptFacts.{acts-made, arrivals-are}}
 use Rattle.replay.specs.Script.{has_thread, is_act_of, is_open, is_rx, opening_of, openings_of, rx_of, script_of}
 use Rattle.replay.specs.ScriptShown.{Script, acts, script_after, answer}
-use Rattle.replay.specs.ThreadsReport.{arrived, bytes, threads_device_lines, is_opened, opened_devices}
-use Rattle.replay.specs.ThreadsStations.{AreRunBy, IsStationEnd, IsStationOf, end_lines, is_small, polled_of, small_fault}
+use Rattle.replay.specs.ThreadsReport.{arrived, bytes, threads_device_lines, is_opened}
+use Rattle.replay.specs.ThreadsStations.{IsStationEnd, IsStationOf, end_lines, is_small, polled_of, small_fault}
 use Rattle.replay.specs.ThreadsAnswer.{IsPolledDevice, IsReportedAs, IsThreadsOutside, overflows}
-use Rattle.text_io.specs.{declared.settings.ReplaySettings.ReplaySettings, declared.fault.ReplayFault.ReplayFault}
+use Rattle.text_io.specs.{declared.fault.ReplayFault.ReplayFault}
 use Rattle.text_io.specs.declared.fault.ReplayFault.TheVariants.{OutputFailed, RingTooSmall}
 use Rattle.poll_engine.specs.declared.fault.WorkFault.TheVariants as work
 
@@ -172,27 +172,6 @@ ends-of answers rows (d ∷ ds) (s ∷ ss) (e ∷ es) accepted few of enough fin
 -- no station's ring is too small
 pub none-small : (stations : List (Station Script)) → small_fault stations ≡ None → find is_small stations ≡ None
 none-small stations h = grind (arith, common_steps)
-
--- the result of the whole run has the properties of each station's result
-pub ends-if-ok : (answers : ℕ → ℕ → Bool → Type 0) (rows : List Row) (stations : List (Station Script))
-    (answered : Result (Vec (Finished Script)) ReplayFault)
-    → AcceptedAfter [] rows → length rows ≤ 100000
-    → AllZip (IsStationOf rows) (opened_devices rows) stations → small_fault stations ≡ None
-    → IfOk answered (λ all. AllZip (IsFinished acts answer script_after answers) stations (vec_items all))
-    → IfOk answered (λ all. AllZip (IsStationEnd rows) (opened_devices rows) (vec_items all))
-ends-if-ok answers rows stations answered accepted few of none ends = grind (arith, common_steps, ends-of, none-small)
-
-pub run-if-ok : (R : Type 0) (asked : ℕ → Type 0) (settings : ReplaySettings) (rows : List Row) (stations : List (Station Script))
-    (answered : Result (Vec (Finished Script)) ReplayFault)
-    → AllZip (IsStationOf rows) (opened_devices rows) stations
-    → IfOk answered
-    (λ all. ArePolled R asked (limits_of settings.budget settings.weight settings.window) acts answer script_after settings.pollers stations
-    (vec_items all))
-    → IfOk answered (λ all. AreRunBy R asked settings rows (vec_items all))
-run-if-ok R asked settings rows stations answered of polled = grind (arith, common_steps)
-
-pub rings-if-ok : {P A E : Type 0} → (answered : Result A E) → P → OnOk answered P
-rings-if-ok answered p = grind (arith, common_steps)
 
 -- an error of the run is reported as one that isn't in the trace
 pub told-outside : (may_shut : Type 0) (fault : WorkFault) (told : ReplayFault) → (fault ≡ work.GateShut → may_shut)

@@ -1,19 +1,15 @@
 //! The stations of a trace, and their run.
 
-ghost use Rattle.std.specs.Prelude.{◌≡◌, ◌≢◌, ◌≤◌, ◌⊎◌, ◌+◌, ◌++◌, ◌∷◌, ℕ, [], List, None, Some, filter, IfErr, IfOk, IsSome, IsTrue, OnOk, length, vec_items};
+ghost use Rattle.std.specs.Prelude.{◌≡◌, ◌≢◌, ◌≤◌, ◌⊎◌, ◌+◌, ◌++◌, ◌∷◌, ℕ, [], List, None, Some, filter, IfErr, IfOk, OnOk, length, vec_items};
 ghost use Rattle.std.specs.List.{All, AllZip};
 ghost use Rattle.std.specs.Borrow.{Bor};
 ghost use Rattle.device_places.specs.Range.{IsWithin};
 ghost use Rattle.device_rows.specs.Trace.{AcceptedAfter};
 ghost use Rattle.device_rows.specs.declared.row.Row.{Row};
 ghost use Rattle.poll_engine.specs.Asks.{IsAsked};
-ghost use Rattle.poll_engine.specs.Courses.{ArePolled, limits_of};
-ghost use Rattle.poll_engine.specs.Finishes.{IsFinished};
-ghost use Rattle.poll_engine.specs.Numbers.{have_distinct_numbers};
 ghost use Rattle.poll_engine.specs.Opens.{IsStation};
 ghost use Rattle.replay.specs.ThreadsAnswer.{IsThreadsOutside, IsReportedAs, ring_fault};
-ghost use Rattle.replay.specs.Script.{opening_of, rx_of, script_of};
-ghost use Rattle.replay.specs.ScriptShown.{acts, script_after, answer};
+ghost use Rattle.replay.specs.Script.{opening_of, script_of};
 ghost use Rattle.replay.specs.ThreadsStations.{AreRunBy, IsStationEnd, IsStationOf, is_small, small_fault};
 ghost use Rattle.text_io.specs.declared.fault.ReplayFault.TheVariants.{OutputFailed};
 ghost use Rattle.replay.specs.ThreadsReport.{is_opened, opened_devices};
@@ -129,46 +125,6 @@ fn work_fault(fault: WorkFault) -> ReplayFault
     }
 }
 
-// Returns the settings' budget, weight and window.
-fn limits_of(settings: &ReplaySettings) -> (u32, u32, u32)
-    ensures { result ≡ (settings.now.budget, settings.now.weight, settings.now.window) }
-{
-    (settings.budget, settings.weight, settings.window)
-}
-
-// Runs the stations with the limits of the settings.
-fn run_stations<P, G>(
-    rt: &P,
-    alloc: Global,
-    stations: Vec<Station<ScriptDevice>>,
-    settings: &ReplaySettings,
-    gate: &G,
-) -> Result<Vec<Finished<ScriptDevice>>, ReplayFault>
-where
-    P: Threads + Wait + Sync,
-    G: Gate + Sync,
-    requires stations { All IsStation (vec_items stations) }
-    requires numbers { IsTrue (have_distinct_numbers (vec_items stations)) }
-    ensures ends { IfOk result
-        (λ all. AllZip (IsFinished acts answer script_after (G.answers gate.now))
-        (vec_items stations)
-        (vec_items all)) }
-    ensures polled { IfOk result
-        (λ all. ArePolled (Bor P) (IsAsked G.answers gate.now)
-        (limits_of settings.now.budget settings.now.weight settings.now.window) acts answer
-        script_after
-        settings.now.pollers (vec_items stations) (vec_items all)) }
-    ensures fault { IfErr result (λ fault. IsThreadsOutside G.may_shut fault) }
-    ensures unwritten { IfErr result (λ fault. fault ≢ OutputFailed) }
-{
-    let (budget, weight, window) = limits_of(settings);
-    let pollers = settings.pollers;
-    match run_workers(rt, alloc, stations, pollers, budget, weight, window, gate) {
-        Ok(finished) => Ok(finished),
-        Err(fault) => Err(work_fault(fault)),
-    }
-}
-
 /// Runs the devices that the rows open, by increasing number.
 pub(crate) fn run_rows<P, G>(
     rt: &P,
@@ -193,8 +149,17 @@ where
     ensures unwritten { IfErr result (λ fault. fault ≢ OutputFailed) }
 {
     let stations = stations_of(alloc, rows)?;
-    match ring_fault(&stations) {
-        Some(fault) => Err(fault),
-        None => run_stations(rt, alloc, stations, settings, gate),
+    if let Some(fault) = ring_fault(&stations) {
+        return Err(fault);
+    }
+    let ReplaySettings {
+        pollers,
+        budget,
+        weight,
+        window,
+    } = *settings;
+    match run_workers(rt, alloc, stations, pollers, budget, weight, window, gate) {
+        Ok(finished) => Ok(finished),
+        Err(fault) => Err(work_fault(fault)),
     }
 }

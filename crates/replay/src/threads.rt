@@ -1,17 +1,16 @@
 //! A whole run with threads: from the bytes of a trace to the bytes of a report.
 
-ghost use Rattle.std.specs.Prelude.{◌≡◌, ◌≢◌, ◌⊎◌, ◌≤◌, [], ℕ, List, Ok, Err, Some, IfErr, IfOk, OnOk, length, map, vec_items};
+ghost use Rattle.std.specs.Prelude.{◌≡◌, [], ℕ, List, Ok, Err, Some, IfErr, IfOk, OnOk, map, vec_items};
 ghost use Rattle.std.specs.Borrow.{Bor};
-ghost use Rattle.std.specs.Io.KnownBytes.{Appends, Keeps};
 ghost use Rattle.std.specs.List.{AllZip};
-ghost use Rattle.device_rows.specs.Trace.{AcceptedAfter, records_of, trace_of};
+ghost use Rattle.device_rows.specs.Trace.{records_of, trace_of};
 ghost use Rattle.device_rows.specs.declared.row.Row.{Row};
 ghost use Rattle.poll_engine.specs.Asks.{IsAsked};
-ghost use Rattle.replay.specs.ThreadsAnswer.{IsPolledDevice, IsRunBy, IsThreadsOutside, RanBy, threads_result, threads_of};
+ghost use Rattle.replay.specs.ThreadsAnswer.{IsPolledDevice, IsThreadsOutside, RanBy, threads_of};
 ghost use Rattle.replay.specs.ThreadsStations.{polled_of};
 ghost use Rattle.text_io.specs.declared.fault.ReplayFault.TheVariants.{OutputFailed};
 ghost use Rattle.replay.specs.ThreadsReport.{opened_devices};
-ghost use Rattle.text_io.specs.Written.{AppendsPart, IsFaultBy, LeavesText, Writes};
+ghost use Rattle.text_io.specs.Written.{IsFaultBy, LeavesText, Writes};
 
 use crate::polled::Polled;
 use crate::report::report_of;
@@ -38,44 +37,6 @@ fn all_polled(alloc: Global, ends: &[Finished<ScriptDevice>]) -> Result<Vec<Poll
         })?;
     }
     Ok(all)
-}
-
-// Runs the rows, and writes their whole report at the end.
-fn write_report<P, W, G>(
-    rt: &P,
-    alloc: Global,
-    rows: &[Row],
-    writer: &mut W,
-    settings: &ReplaySettings,
-    gate: &G,
-) -> Result<Vec<Polled>, ReplayFault>
-where
-    P: Threads + Wait + Sync,
-    W: Write,
-    G: Gate + Sync,
-    requires accepted { AcceptedAfter [] rows.now }
-    requires count { length rows.now ≤ 100000 }
-    ensures written { OnOk result
-        ((text : List ℕ) × (threads_result (Ok rows.now) ≡ Ok text)
-        × Appends (W.contents writer.old) (W.contents writer.new) text) }
-    ensures polled { IfOk result
-        (λ all. AllZip (IsPolledDevice rows.now) (opened_devices rows.now) (vec_items all)) }
-    ensures run { IfOk result
-        (λ all. IsRunBy (Bor P) (IsAsked G.answers gate.now) settings.now rows.now
-        (vec_items all)) }
-    ensures fault { IfErr result
-        (λ fault. IsThreadsOutside G.may_shut fault ⊎ (threads_result (Ok rows.now) ≡ Err fault)) }
-    ensures cut { IfErr result (λ fault. fault ≡ OutputFailed
-        → (text : List ℕ) × (threads_result (Ok rows.now) ≡ Ok text)
-        × AppendsPart (W.contents writer.old) (W.contents writer.new) text) }
-    ensures untouched { IfErr result
-        (λ fault. fault ≢ OutputFailed → Keeps (W.contents writer.old) (W.contents writer.new)) }
-{
-    let ends = run_rows(rt, alloc, rows, settings, gate)?;
-    let text = report_of(alloc, ends.as_slice())?;
-    let polled = all_polled(alloc, ends.as_slice())?;
-    write_text(writer, text.as_bytes())?;
-    Ok(polled)
 }
 
 /// Replays a trace with threads, and writes its report. An interrupt worker for each device makes the device's acts in order.
@@ -122,5 +83,9 @@ where
         (R.remaining reader) (W.contents writer.old) (W.contents writer.new)) }
 {
     let trace = read_trace(alloc, reader)?;
-    write_report(rt, alloc, trace.rows(), writer, settings, gate)
+    let ends = run_rows(rt, alloc, trace.rows(), settings, gate)?;
+    let text = report_of(alloc, ends.as_slice())?;
+    let polled = all_polled(alloc, ends.as_slice())?;
+    write_text(writer, text.as_bytes())?;
+    Ok(polled)
 }

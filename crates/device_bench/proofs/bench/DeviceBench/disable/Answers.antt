@@ -4,15 +4,13 @@ use Rattle.device_bench.proofs.{BenchFacts.{kept-set, here-at, sound-at}, Device
 use Rattle.device_places.proofs.PlaceFacts.{below-some}
 use Rattle.device_bench.proofs.bench.DeviceBench.disable.Goals as goal
 
-pub invariant_of-self : goal.invariant_of-self
-invariant_of-self g c =
+pub invariant_of-self-clause-kept : goal.invariant_of-self-clause-kept
+invariant_of-self-clause-kept g c =
     let here = here-at c.args.device c.args.self.now.kept (omega arith) c.index_mut.ensures.value c.in-Some.is in
     let keeps = disable-keeps c.in-Some.device (sound-at c.args.device c.args.self.now.kept here) in
-    record {
-      kept = kept-set c.args.self.now.unsettled true c.args.self.now.devices.items c.args.device c.disable.new.self c.args.self.now.kept
-          (below-some c.args.self.now.devices.items c.args.device c.in-Some.device here) (ap is_sound c.disable.ensures ∙ keeps.sound)
-          (λ off. cc off) (λ off. cc off);
-    }
+    kept-set c.args.self.now.unsettled true c.args.self.now.devices.items c.args.device c.disable.new.self c.args.self.now.kept
+    (below-some c.args.self.now.devices.items c.args.device c.in-Some.device here) (ap is_sound c.disable.ensures ∙ keeps.sound)
+    (λ off. cc off) (λ off. cc off)
 
 pub returns-in-Some-clause-waiting : goal.returns-in-Some-clause-waiting
 returns-in-Some-clause-waiting g c =

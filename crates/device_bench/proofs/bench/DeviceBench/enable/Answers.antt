@@ -3,11 +3,11 @@ use Rattle.device_bench.specs.{DeviceView.DeviceView, Waiting.waits_on_list}
 use Rattle.device_bench.proofs.{BenchFacts.{kept-changed, here-at, sound-at}, DeviceFacts.enable-keeps, Waiting.waiting-same}
 use Rattle.device_bench.proofs.bench.DeviceBench.enable.Goals as goal
 
-pub invariant_of-self : goal.invariant_of-self
-invariant_of-self g c =
+pub invariant_of-self-clause-kept : goal.invariant_of-self-clause-kept
+invariant_of-self-clause-kept g c =
     let here = here-at c.args.device c.args.self.now.kept (omega arith) c.index_mut.ensures.value c.in-Some.is in
     let keeps = enable-keeps c.in-Some.device (sound-at c.args.device c.args.self.now.kept here) in
-    record { kept = kept-changed c.args.device c.args.self.now.kept here c.enable.ensures keeps.sound keeps.pending }
+    kept-changed c.args.device c.args.self.now.kept here c.enable.ensures keeps.sound keeps.pending
 
 pub returns-in-Some-clause-waiting : goal.returns-in-Some-clause-waiting
 returns-in-Some-clause-waiting g c =

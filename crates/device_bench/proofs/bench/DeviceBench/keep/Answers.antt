@@ -3,11 +3,11 @@ use Rattle.{device_places.specs.Places.at, device_places.proofs.PlaceFacts.{at-i
 use Rattle.{device_bench.proofs.{BenchFacts.kept-opened, Waiting.waiting-added}, device_bench.specs.DeviceView.DeviceView}
 use Rattle.device_bench.proofs.bench.DeviceBench.keep.Goals as goal
 
-pub invariant_of-self : goal.invariant_of-self
-invariant_of-self g c =
+pub invariant_of-self-clause-kept : goal.invariant_of-self-clause-kept
+invariant_of-self-clause-kept g c =
     let below : c.args.device < length c.args.self.now.devices.items = omega (arith, c.args.self.now.kept.places, c.requires.device.1) in
     let is = c.fill.ensures ∙ ap (λ (d : DeviceView). Some d) (c.new-opened.ensures c.args.capacity c.in_ok-open.ensures) in
-    record { kept = rw is (kept-opened _ _ c.args.device c.args.capacity c.args.self.now.kept below) }
+    rw is (kept-opened _ _ c.args.device c.args.capacity c.args.self.now.kept below)
 
 pub returns-clause-devices : goal.returns-clause-devices
 returns-clause-devices g c =

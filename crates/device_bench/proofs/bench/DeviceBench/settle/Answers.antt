@@ -36,16 +36,14 @@ pub returns-clause-devices : goal.returns-clause-devices
 returns-clause-devices g c = c.loop-device.invariant.devices
     ∙ settled-all c.loop-device.device _ (omega (arith, c.args.self.now.kept.places, c.loop-device-test.false))
 
-pub invariant_of-self : goal.invariant_of-self
-invariant_of-self g c = record {
-  kept = record {
-    places = c.loop-device.self.kept.places;
-    sound = c.loop-device.self.kept.sound;
-    few = c.loop-device.self.kept.few;
-    settled =
-        λ off. beyond c.loop-device.device c.loop-device.self.devices.items
-        (omega (arith, c.loop-device.self.kept.places, c.loop-device-test.false)) (c.loop-device.invariant.pending off);
-  };
+pub invariant_of-self-clause-kept : goal.invariant_of-self-clause-kept
+invariant_of-self-clause-kept g c = record {
+  places = c.loop-device.self.kept.places;
+  sound = c.loop-device.self.kept.sound;
+  few = c.loop-device.self.kept.few;
+  settled =
+      λ off. beyond c.loop-device.device c.loop-device.self.devices.items
+      (omega (arith, c.loop-device.self.kept.places, c.loop-device-test.false)) (c.loop-device.invariant.pending off);
 }
 
 pub returns-clause-waiting : goal.returns-clause-waiting

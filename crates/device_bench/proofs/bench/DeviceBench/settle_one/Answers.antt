@@ -4,14 +4,12 @@ use Rattle.device_bench.proofs.{BenchFacts.{pending-off, here-at, sound-at}, Dev
 use Rattle.device_places.proofs.PlaceFacts.{below-some}
 use Rattle.device_bench.proofs.bench.DeviceBench.settle_one.Goals as goal
 
-pub invariant_of-self : goal.invariant_of-self
-invariant_of-self g c =
+pub invariant_of-self-clause-kept : goal.invariant_of-self-clause-kept
+invariant_of-self-clause-kept g c =
     let here = here-at c.args.device c.args.self.now.kept (omega arith) c.index_mut.ensures.value c.in-Some.is in
     let keeps = settle-keeps c.in-Some.device (sound-at c.args.device c.args.self.now.kept here) in
-    record {
-      kept = kept-set c.args.self.now.unsettled c.args.self.now.unsettled c.args.self.now.devices.items c.args.device c.settle.new.self
-          c.args.self.now.kept (below-some c.args.self.now.devices.items c.args.device c.in-Some.device here)
-          (ap is_sound c.settle.ensures.device ∙ keeps.sound) (λ off. off) (λ off.
-          let was = pending-off c.args.device c.args.self.now.kept here off in
-          ap is_pending (c.settle.ensures.device ∙ settled-same _ was) ∙ was);
-    }
+    kept-set c.args.self.now.unsettled c.args.self.now.unsettled c.args.self.now.devices.items c.args.device c.settle.new.self
+    c.args.self.now.kept (below-some c.args.self.now.devices.items c.args.device c.in-Some.device here)
+    (ap is_sound c.settle.ensures.device ∙ keeps.sound) (λ off. off) (λ off.
+    let was = pending-off c.args.device c.args.self.now.kept here off in
+    ap is_pending (c.settle.ensures.device ∙ settled-same _ was) ∙ was)

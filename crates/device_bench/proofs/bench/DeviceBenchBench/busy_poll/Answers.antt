@@ -3,12 +3,12 @@ use Rattle.device_bench.proofs.{BenchFacts.sound-at, DeviceFacts.busy-keeps, Sid
 use Rattle.device_bench.proofs.InstanceFacts.{polled-busily}
 use Rattle.device_bench.proofs.bench.DeviceBenchBench.busy_poll.Goals as goal
 
-pub invariant_of-self : goal.invariant_of-self
-invariant_of-self g c =
+pub invariant_of-self-clause-kept : goal.invariant_of-self-clause-kept
+invariant_of-self-clause-kept g c =
     let here = here-at c.args.id c.args.self.now.kept (omega arith) c.index_mut.ensures.value c.in-Some.is in
     let is = polled-busily c.args.rounds c.args.weight c.in-Some.device _ _ c.poll_busy_of.ensures.does.1 in
     let keeps = busy-keeps c.args.weight c.args.rounds c.in-Some.device (sound-at c.args.id c.args.self.now.kept here) in
-    record { kept = kept-changed c.args.id c.args.self.now.kept here is.1 keeps.sound keeps.pending }
+    kept-changed c.args.id c.args.self.now.kept here is.1 keeps.sound keeps.pending
 
 pub returns-in-Some : goal.returns-in-Some
 returns-in-Some g c =

@@ -3,12 +3,12 @@ use Rattle.device_bench.proofs.{BenchFacts.sound-at, DeviceFacts.once-keeps, Ins
 use Rattle.device_bench.proofs.Waiting.{waiting-less}
 use Rattle.device_bench.proofs.bench.DeviceBenchBench.poll_once.Goals as goal
 
-pub invariant_of-self : goal.invariant_of-self
-invariant_of-self g c =
+pub invariant_of-self-clause-kept : goal.invariant_of-self-clause-kept
+invariant_of-self-clause-kept g c =
     let here = here-at c.args.id c.args.self.now.kept (omega arith) c.index_mut.ensures.value c.in-Some.is in
     let is = polled-once c.args.weight c.in-Some.device _ _ c.poll_once_of.ensures.does.1 in
     let keeps = once-keeps c.args.weight c.in-Some.device (sound-at c.args.id c.args.self.now.kept here) in
-    record { kept = kept-changed c.args.id c.args.self.now.kept here is.1 keeps.sound keeps.pending }
+    kept-changed c.args.id c.args.self.now.kept here is.1 keeps.sound keeps.pending
 
 pub returns-in-Some-clause-leads : goal.returns-in-Some-clause-leads
 returns-in-Some-clause-leads g c =

@@ -6,12 +6,12 @@ use Rattle.{device_bench.proofs.Waiting.waiting-more, device_places.proofs.Place
 use Rattle.device_bench.proofs.InstanceFacts.{polled-by-thread}
 use Rattle.device_bench.proofs.bench.DeviceBenchBench.poll_thread.Goals as goal
 
-pub invariant_of-self : goal.invariant_of-self
-invariant_of-self g c =
+pub invariant_of-self-clause-kept : goal.invariant_of-self-clause-kept
+invariant_of-self-clause-kept g c =
     let here = here-at c.args.id c.args.self.now.kept (omega arith) c.index_mut.ensures.value c.in-Some.is in
     let is = polled-by-thread c.args.most c.args.weight c.in-Some.device _ _ c.poll_thread_of.ensures.does.2 in
     let keeps = thread-keeps c.args.most c.args.weight c.in-Some.device c.requires.most.0 (sound-at c.args.id c.args.self.now.kept here) in
-    record { kept = kept-changed c.args.id c.args.self.now.kept here is.1 keeps.sound keeps.pending }
+    kept-changed c.args.id c.args.self.now.kept here is.1 keeps.sound keeps.pending
 
 pub returns-in-Some : goal.returns-in-Some
 returns-in-Some g c =

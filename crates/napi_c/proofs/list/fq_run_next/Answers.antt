@@ -1,6 +1,6 @@
 use mathlib.Core.Path.{subst}
 use Rattle.c_handles.specs.{Runs.IsNext, declared.lister.ListObject.ListObject}
-use Rattle.napi_c.proofs.list.next_in.Goals as goal
+use Rattle.napi_c.proofs.list.fq_run_next.Goals as goal
 
 pub returns-in-List-clause-makes : goal.returns-in-List-clause-makes
 returns-in-List-clause-makes c =
@@ -14,5 +14,5 @@ returns-in-List-clause-makes c =
       refused = said.refused;
       kept = said.kept;
     } in
-    rw c.in-List.is
+    rw (c.as_mut.ensures.value, c.in-List.is)
     (subst (λ (l : ListObject). IsNext c.args.id.now c.next.new.id l c.next.result c.next.new.self) c.deref_mut.ensures.value made)

@@ -1,6 +1,6 @@
 use mathlib.Core.Path.{subst}
 use Rattle.c_handles.specs.{Runs.IsPolledCall, declared.lister.ListObject.ListObject}
-use Rattle.napi_c.proofs.list.polled_in.Goals as goal
+use Rattle.napi_c.proofs.list.fq_run_polled.Goals as goal
 
 pub returns-in-List : goal.returns-in-List
 returns-in-List c =
@@ -12,5 +12,5 @@ returns-in-List c =
       settings = said.settings;
       kept = said.kept;
     } in
-    rw c.in-List.is
+    rw (c.as_mut.ensures.value, c.in-List.is)
     (subst (λ (l : ListObject). IsPolledCall c.args.work c.args.next l c.polled.result c.polled.new.self) c.deref_mut.ensures.value made)
