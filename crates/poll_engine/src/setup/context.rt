@@ -2,7 +2,7 @@
 
 ghost use Rattle.std.specs.Prelude.{◌≡◌, ◌++◌, ◌∷◌, [], true, None, IfSome};
 ghost use Rattle.poll_engine.specs.Refusals.{IsRefused};
-ghost use Rattle.poll_engine.specs.Stops.{IsStop};
+ghost use Rattle.poll_engine.specs.Stops.{IsStop, WasGoing};
 ghost use Rattle.poll_engine.specs.Trails.{questions};
 
 use crate::fault::WorkFault;
@@ -90,9 +90,10 @@ impl<R, G: Gate> RunContext<R, G> {
         self.refused.load(Ordering::SeqCst) != 0
     }
 
-    /// Returns the reason if no further acts are made.
-    pub fn stop(&self) -> Option<WorkFault>
-        ensures { IfSome result (IsStop G.may_shut) }
+    /// Returns the reason if no further acts are made. The calling thread passes its state at this time.
+    pub fn stop<A>(&self, at: &A) -> Option<WorkFault>
+        ensures why { IfSome result (IsStop G.may_shut) }
+        ensures going { result ≡ None → WasGoing self.now at.now }
     {
         if self.is_refused() {
             return Some(WorkFault::SpawnFailed);
