@@ -25,6 +25,7 @@ module _ {R : Type 0} where
     pub paced : first.limits ≡ limits
     pub over : first.list ≡ list
     pub from : vec_items first.bench.seats ≡ before
+    -- its waker
     pub own : Waker
     pub turns : IsServed own TurnsByRun first last
     pub to : vec_items last.bench.seats ≡ after
@@ -42,6 +43,7 @@ module _ (R : Type 0) where
     pub waker : IsSome first.seat.value.thread
     pub over : first.list ≡ list
     pub from : first.seat.value.caller ≡ Some before
+    -- its waker
     pub own : Waker
     pub turns : IsServed own TurnsAlone first last
     pub to : last.seat.value.caller ≡ Some after

@@ -54,7 +54,7 @@ pub struct RunContext<R, G: Gate> {
     pub limits: PollLimits,
     // The thread of a poller could not be started. This is set before any worker begins.
     pub(crate) unpolled: AtomicIn<SpawnFailure>,
-    // A thread could not be started.
+    // The thread of a worker could not be started.
     pub(crate) refused: AtomicIn<SpawnFailure>,
     // The gate has returned false.
     shut: AtomicIn<Shut<G>>,
@@ -87,7 +87,7 @@ impl<R, G: Gate> RunContext<R, G> {
     pub fn is_refused(&self) -> bool
         ensures { result ≡ true → IsRefused }
     {
-        self.refused.load(Ordering::SeqCst) != 0
+        self.is_unpolled() || self.refused.load(Ordering::SeqCst) != 0
     }
 
     /// Returns the reason if no further acts are made. The calling thread passes its state at this time.
