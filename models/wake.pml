@@ -6,7 +6,7 @@
    Left out, so that the states are few: a waiting call that tries again is one step (waiting.pml has these loops); the window of a list
    is 1; a ring has room for all packets; memory is sequentially consistent; memory is never refused.
    FAULT plants one: 1 a thread that isn't woken, 2 a wake before its push, 3 a waker that is never closed, 4 a hand-on without a
-   wake, 5 a refused start that isn't passed on, 6 a poller that never started is waited for: a deadlock, 7 a completion that drops
+   wake, 5 a refused start that workers don't see, 6 a poller that never started is waited for: a deadlock, 7 a completion that drops
    MISSED, 8 an enable that doesn't restore THREADED, 9 a thread whose queue is closed before its instance is disabled, 10 a push
    before its hand-over, 11 pollers that are waited for before their queues are closed: a deadlock. */
 #ifndef WORKERS
@@ -115,7 +115,7 @@ proctype Worker(byte number) {
     turn_on(number);                                                            /* poll_engine/worker run */
     do
     :: act < (number == 0 -> ACTS : OTHER_ACTS) ->                              /* poll_engine/worker make_acts */
-       if :: refused || stopped -> break :: else fi;                            /* poll_engine/setup/context stop */
+       if :: unpolled && FAULT != 5 || refused || stopped -> break :: else fi;  /* poll_engine/setup/context stop */
        if :: true :: stopped = true; break fi;                                  /* poll_engine/worker stop_before */
        if
        :: ring[number] = ring[number] + 1;                                      /* poll_engine/worker make_act */
@@ -236,7 +236,7 @@ ended:
 
 /* ---- the run: a start that is refused sets its flag first, and then the task is run where it was begun */
 
-init {
+init {                                                                          /* poll_engine/driving drive */
     byte number; bool was_parked;
     d_step { number = 0; do :: number < WORKERS -> sched[number] = true; npsvc[number] = true; number++ :: else -> break od; number = 0 };  /* poll_engine/setup/opening open_all */
     do
@@ -252,7 +252,6 @@ init {
        number++
     :: else -> break
     od;
-    if :: unpolled && FAULT != 5 -> refused = true :: else fi;                  /* poll_engine/driving drive */
     number = 0;
     do
     :: number < WORKERS ->                                                      /* poll_engine/tasks spawn_all */

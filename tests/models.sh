@@ -135,7 +135,7 @@ a-thread-that-isnt-woken wake.pml -DACTS=2,-DFAULT=1 refused polled
 a-wake-before-its-push wake.pml -DACTS=2,-DFAULT=2 refused polled
 a-thread-that-is-never-told wake.pml -DACTS=2,-DFAULT=3 refused ends
 a-hand-on-without-a-wake wake.pml -DACTS=3,-DFAULT=4 refused polled
-a-refused-start-not-passed-on wake.pml -DACTS=2,-DFAULT=5 refused ends
+a-refused-start-not-seen wake.pml -DACTS=2,-DFAULT=5 refused ends
 a-refused-poller-that-is-waited-for wake.pml -DACTS=2,-DFAULT=6 refused safe=end.state
 a-completion-that-drops-missed wake.pml -DACTS=3,-DFAULT=7 refused safe=asked
 an-enable-without-threaded wake.pml -DACTS=4,-DFAULT=8 refused safe=setting

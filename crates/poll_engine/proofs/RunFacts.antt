@@ -93,6 +93,8 @@ module _ {R D G : Type 0} {acts : D → ℕ} {answer : D → ℕ → Act} {after
         calls_are = ap (λ p. own_list p) as_worker;
         controls_are = ap (λ p. own_list p) as_control;
         ended = subst (λ (r : RxIn). IsEnded end.closed (put_list r) end.totals) taken.rx ended.ended;
+        few = subst (λ n. end.totals.left ≤ n) (ap (λ (r : RxIn). capacity_of r) taken.rx ∙ done.ring.1
+            ∙ ap (λ (r : RxIn). capacity_of r) made.rx ∙ opened.places) ended.few;
       }
 
   pushes_of : Pushes lists pollers station.number end.closed.worker.value
@@ -447,7 +449,7 @@ module _ {R D G : Type 0} (may_shut : Type 0) (answers : G → ℕ → ℕ → B
   thread_with : (placed : DropBomb R Placed) (done : InterruptWorker R D G) (before after : OwnThread R G) → IsBackAt placed done
       → IsThreadAt placed before → IsPolled has_no_thread TurnsAlone may_shut answers before after → IsThreadWith done after
   thread_with placed done before after back at p = seat_with placed done before.served.seat after.served.seat back at.seat
-      (served_alone before.served after.served p.kept)
+      (served_alone before.waker.now before.served after.served p.kept)
 
   pub all_threads_with : (placed : List (DropBomb R Placed)) (workers : List (InterruptWorker R D G)) (sides threads : List (OwnThread R G))
       → AllZip IsBackAt placed workers → AllZip IsThreadAt placed sides
@@ -474,7 +476,8 @@ module _ {R D G : Type 0} (may_shut : Type 0) (answers : G → ℕ → ℕ → B
       let by : ℕ → Bool = λ m. is_own k (length wakers) m in
       let own : List (DropBomb R PollHandle) = own_seats (length wakers) k sat in
       let ends = vec_items after.served.bench.seats in
-      let same : AreSameSeats own ends = subst (λ l. AreSameSeats l ends) p.seats_are (served_keeps before.served after.served did.kept) in
+      let same : AreSameSeats own ends =
+      subst (λ l. AreSameSeats l ends) p.seats_are (served_keeps before.waker.now before.served after.served did.kept) in
       let Beside : InterruptWorker R D G → DropBomb R PollHandle → Type 0 = λ w s. (place : DropBomb R Placed) × IsBackAt place w
       × IsSeatAt place s in
       let both : AllZip Beside workers sat = zip_both _ _ _ _ _ (zip_flip _ _ _ back) at in
@@ -497,6 +500,7 @@ module _ {R D G : Type 0} (may_shut : Type 0) (answers : G → ℕ → ℕ → B
             paced = p.paced;
             over = refl;
             from = p.seats_are;
+            own = before.waker.now;
             turns = did.turned whole refl;
             to = refl;
           };
@@ -545,6 +549,7 @@ module _ {R D G : Type 0} (may_shut : Type 0) (answers : G → ℕ → ℕ → B
           waker = has;
           over = refl;
           from = for.seat.caller_is;
+          own = side.waker.now;
           turns = p.turned whole busy;
           to = is;
         },

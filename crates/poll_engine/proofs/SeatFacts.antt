@@ -7,7 +7,7 @@ use Rattle.napi_calls.specs.declared.kept.DropBomb.{DropBomb}
 use Rattle.poll_engine.specs.{SeatKeeping.{AreSameSeats, IsSameSeat}, declared.handle.PollHandle.PollHandle}
 use Rattle.poll_engine.specs.{declared.list_poller.HandleBench.HandleBench, declared.list_poller.ListPoller.ListPoller}
 use Rattle.poll_engine.specs.{declared.thread_poller.ThreadPoller.ThreadPoller, HandleBenches.{IsNowhere, IsPolledAt, PollsSeat}}
-use Rattle.poll_engine.specs.{Serving.IsServed, Turns.{TurnsAlone, TurnsByRun}}
+use Rattle.poll_engine.specs.{Serving.IsServed, Turns.{TurnsAlone, TurnsByRun}, declared.setup.signals.Waker.Waker}
 
 -- ---- what each step preserves is preserved over all steps
 
@@ -20,10 +20,10 @@ module _ {A S : Type 0} (of : S → A) (Same : A → A → Type 0) (stays : (x :
       joins (of before) (of c.0) (of after) (keeps before e c.0 c.1) (chain_keeps leads keeps es c.0 after c.2)
 
   -- a poller that took no turn, or took its turns
-  turns_keep : (turns : S → Bool → S → Type 0) → ((x : S) (found : Bool) (y : S) → turns x found y → Same (of x) (of y))
-      → (before after : S) → (after ≡ before) ⊎ IsServed turns before after → Same (of before) (of after)
-  turns_keep turns keeps before after (inl same) = subst (λ (x : S). Same (of before) (of x)) (sym same) (stays (of before))
-  turns_keep turns keeps before after (inr s) =
+  turns_keep : (waker : Waker) (turns : S → Bool → S → Type 0) → ((x : S) (found : Bool) (y : S) → turns x found y → Same (of x) (of y))
+      → (before after : S) → (after ≡ before) ⊎ IsServed waker turns before after → Same (of before) (of after)
+  turns_keep waker turns keeps before after (inl same) = subst (λ (x : S). Same (of before) (of x)) (sym same) (stays (of before))
+  turns_keep waker turns keeps before after (inr s) =
       joins (of before) (of s.last) (of after) (chain_keeps turns keeps s.found before s.last s.earlier) (keeps s.last false after s.empty)
 
 -- ---- a handle, and all handles of a poller
@@ -81,14 +81,15 @@ run_keeps {R} weight polls before after c =
     (position (λ (seat : DropBomb R PollHandle). seat.value.number == p.id) (vec_items x.seats)) weight p.once x y h)
     polls before after c
 
-pub served_keeps : {R : Type 0} (before after : ListPoller R) → (after ≡ before) ⊎ IsServed TurnsByRun before after
+pub served_keeps : {R : Type 0} (waker : Waker) (before after : ListPoller R) → (after ≡ before) ⊎ IsServed waker TurnsByRun before after
     → AreSameSeats (vec_items before.bench.seats) (vec_items after.bench.seats)
-served_keeps {R} before after s =
-    turns_keep (λ (p : ListPoller R). vec_items p.bench.seats) AreSameSeats seats_stay seats_join TurnsByRun
+served_keeps {R} waker before after s =
+    turns_keep (λ (p : ListPoller R). vec_items p.bench.seats) AreSameSeats seats_stay seats_join waker TurnsByRun
     (λ x found y t. run_keeps x.limits.weight t.run.polls x.bench y.bench t.run.seats) before after s
 
 -- the turns of an instance's own thread preserve its handle
-pub served_alone : {R : Type 0} (before after : ThreadPoller R) → (after ≡ before) ⊎ IsServed TurnsAlone before after
+pub served_alone : {R : Type 0} (waker : Waker) (before after : ThreadPoller R) → (after ≡ before) ⊎ IsServed waker TurnsAlone before after
     → IsSameSeat before.seat.value after.seat.value
-served_alone {R} before after s =
-    turns_keep (λ (p : ThreadPoller R). p.seat.value) IsSameSeat seat_stays seat_joins TurnsAlone (λ x found y t. t.same) before after s
+served_alone {R} waker before after s =
+    turns_keep (λ (p : ThreadPoller R). p.seat.value) IsSameSeat seat_stays seat_joins waker TurnsAlone (λ x found y t. t.same)
+    before after s

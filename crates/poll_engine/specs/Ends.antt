@@ -1,6 +1,6 @@
 -- The end of a station's run.
-use Rattle.std.specs.Prelude.{◌≡◌, ◌+◌, ◌<◌, ◌^◌, length}
-use Rattle.{rx_ring.specs.{Ends.put_list, ReceiveRing.{bytes_of, capped}}, napi_calls.specs.declared.kept.DropBomb.DropBomb}
+use Rattle.std.specs.Prelude.{◌≡◌, ◌+◌, ◌<◌, ◌≤◌, ◌^◌, length}
+use Rattle.{rx_ring.specs.{Ends.{capacity_of, put_list}, ReceiveRing.{bytes_of, capped}}, napi_calls.specs.declared.kept.DropBomb.DropBomb}
 use Rattle.poll_engine.specs.{declared.setup.opening.Loose.Loose, declared.station.Finished.Finished, Closings.IsCallersOf, Runs.IsEnded}
 
 module _ {D : Type 0} where
@@ -12,6 +12,8 @@ module _ {D : Type 0} where
     pub put : end.totals.put ≡ capped (length (put_list loose.rx))
     pub bytes : end.totals.bytes ≡ capped (bytes_of (put_list loose.rx))
     pub sum : length (put_list loose.rx) < 2 ^ 64 → end.totals.put ≡ end.totals.polled + end.totals.left
+    -- the ring holds at most its capacity
+    pub few : end.totals.left ≤ capacity_of loose.rx
     pub of : IsCallersOf loose.handles loose.poller loose.thread end.closed
     pub ended : IsEnded end.closed (put_list loose.rx) end.totals
 

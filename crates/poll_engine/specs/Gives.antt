@@ -2,7 +2,8 @@
 use Rattle.poll_engine.specs.{declared.shared.SharedList.SharedList, Asks.IsAsked, Stops.IsStop, Trails.questions}
 use Rattle.poll_engine.specs.{declared.setup.context.PollLimits.PollLimits, declared.list_in.ListIn.ListIn, declared.poller.Poller.Poller}
 use Rattle.poll_engine.specs.{declared.handle.PollHandle.PollHandle, declared.list_poller.ListPoller.ListPoller}
-use Rattle.poll_engine.specs.{declared.thread_poller.ThreadPoller.ThreadPoller, Turns.{TurnsAlone, TurnsByRun}, Serving.IsServed}
+use Rattle.poll_engine.specs.{declared.setup.signals.Waker.Waker, declared.thread_poller.ThreadPoller.ThreadPoller}
+use Rattle.poll_engine.specs.{Turns.{TurnsAlone, TurnsByRun}, Serving.IsServed}
 use Rattle.napi_calls.specs.{declared.kept.DropBomb.DropBomb, declared.types.Caller.Caller}
 use Rattle.std.specs.Prelude.{◌≡◌, ◌⊎◌, ℕ, ◌+◌, ◌++◌, ◌∷◌, [], Bool, true, false, List, Some, None, IfSome, IsSome, vec_items}
 
@@ -24,7 +25,9 @@ module _ {R : Type 0} where
     pub paced : first.limits ≡ limits
     pub over : first.list ≡ list
     pub from : vec_items first.bench.seats ≡ before
-    pub turns : IsServed TurnsByRun first last
+    -- its waker
+    pub own : Waker
+    pub turns : IsServed own TurnsByRun first last
     pub to : vec_items last.bench.seats ≡ after
 
 module _ (R : Type 0) where
@@ -40,7 +43,9 @@ module _ (R : Type 0) where
     pub waker : IsSome first.seat.value.thread
     pub over : first.list ≡ list
     pub from : first.seat.value.caller ≡ Some before
-    pub turns : IsServed TurnsAlone first last
+    -- its waker
+    pub own : Waker
+    pub turns : IsServed own TurnsAlone first last
     pub to : last.seat.value.caller ≡ Some after
 
 -- `idle` says whether there is nothing to poll, `turns` is the relation of one turn, and `may_shut` holds for a gate that may
@@ -55,6 +60,6 @@ module _ {R G S : Type 0} (idle : S → Bool) (turns : S → Bool → S → Type
     pub once : after.stop ≡ None → idle before.served ≡ false
         → questions after.asked ≡ questions before.asked ++ (before.name, 0, before.served) ∷ []
     pub never : idle before.served ≡ true → questions after.asked ≡ questions before.asked
-    pub turned : after.stop ≡ None → idle before.served ≡ false → IsServed turns before.served after.served
-    pub kept : (after.served ≡ before.served) ⊎ IsServed turns before.served after.served
+    pub turned : after.stop ≡ None → idle before.served ≡ false → IsServed before.waker.now turns before.served after.served
+    pub kept : (after.served ≡ before.served) ⊎ IsServed before.waker.now turns before.served after.served
     pub none : idle before.served ≡ true → after.served ≡ before.served

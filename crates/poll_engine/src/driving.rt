@@ -13,7 +13,6 @@ use crate::setup::trail::{Signal, Trail};
 use crate::tasks::{Spawned, Task, join_all, spawn_all};
 use std::alloc::{AllocError, Global};
 use std::sync::Wait;
-use std::sync::atomic::Ordering;
 use std::thread;
 use std::thread::Threads;
 
@@ -115,9 +114,6 @@ where
                 &context.unpolled,
                 &mut tasks.polling,
             );
-            if context.is_unpolled() {
-                context.refused.store(1, Ordering::SeqCst);
-            }
             spawn_all(
                 scope,
                 &mut tasks.workers,

@@ -31,10 +31,10 @@ pub(crate) trait Serves {
 // Takes turns as long as they find something to poll. A turn that finds nothing is the last one if the waker was closed before
 // that turn: everything is queued before the close.
 fn serve<R: Wait, S: Serves>(rt: &R, waker: &Waker, wait: &IdleWait, served: &mut S)
-    ensures { IsServed S.turns served.old served.new }
+    ensures { IsServed waker.now S.turns served.old served.new }
 {
     for _ in rt.forever() {
-        let is_last = waker.is_closed();
+        let is_last = waker.is_closed(served);
         if served.turn() {
             wait.reset();
         } else if is_last {

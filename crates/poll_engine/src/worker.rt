@@ -9,7 +9,7 @@ ghost use Rattle.poll_engine.specs.Hands.{Lists, ThreadWakes};
 ghost use Rattle.poll_engine.specs.Questions.{all_questions};
 ghost use Rattle.poll_engine.specs.Handles.{AreAtRest, AreHandlesOf, AreSameHandles, pass_of};
 ghost use Rattle.poll_engine.specs.Asks.{WasLet};
-ghost use Rattle.poll_engine.specs.Stops.{IsStop};
+ghost use Rattle.poll_engine.specs.Stops.{IsStop, WasGoing};
 ghost use Rattle.poll_engine.specs.Trails.{questions};
 
 use crate::acts::{Act, Device};
@@ -216,12 +216,13 @@ impl<'p, 'n, R: Wait> InterruptHandler<'p, 'n, R> {
         device: &D,
         asked: &mut Trail<Asked<D>>,
     ) -> Option<WorkFault>
+        ensures going { result ≡ None → WasGoing context.now device.now }
         ensures open { result ≡ None → G.answers context.now.gate self.now.number k true }
         ensures why { IfSome result (IsStop G.may_shut) }
         ensures asked { result ≡ None → questions asked.new
             ≡ questions asked.old ++ (self.now.number, k, device.now) ∷ [] }
     {
-        match context.stop() {
+        match context.stop(device) {
             Some(stop) => Some(stop),
             None => context.ask(self.number, k, device, asked),
         }

@@ -2,7 +2,7 @@
 
 ghost use Rattle.std.specs.Prelude.{◌≡◌, ◌++◌, ◌∷◌, [], true, None, IfSome};
 ghost use Rattle.poll_engine.specs.Refusals.{IsRefused};
-ghost use Rattle.poll_engine.specs.Stops.{IsStop};
+ghost use Rattle.poll_engine.specs.Stops.{IsStop, WasGoing};
 ghost use Rattle.poll_engine.specs.Trails.{questions};
 
 use crate::fault::WorkFault;
@@ -54,7 +54,7 @@ pub struct RunContext<R, G: Gate> {
     pub limits: PollLimits,
     // The thread of a poller could not be started. This is set before any worker begins.
     pub(crate) unpolled: AtomicIn<SpawnFailure>,
-    // A thread could not be started.
+    // The thread of a worker could not be started.
     pub(crate) refused: AtomicIn<SpawnFailure>,
     // The gate has returned false.
     shut: AtomicIn<Shut<G>>,
@@ -87,12 +87,13 @@ impl<R, G: Gate> RunContext<R, G> {
     pub fn is_refused(&self) -> bool
         ensures { result ≡ true → IsRefused }
     {
-        self.refused.load(Ordering::SeqCst) != 0
+        self.is_unpolled() || self.refused.load(Ordering::SeqCst) != 0
     }
 
-    /// Returns the reason if no further acts are made.
-    pub fn stop(&self) -> Option<WorkFault>
-        ensures { IfSome result (IsStop G.may_shut) }
+    /// Returns the reason if no further acts are made. The calling thread passes its state at this time.
+    pub fn stop<A>(&self, at: &A) -> Option<WorkFault>
+        ensures why { IfSome result (IsStop G.may_shut) }
+        ensures going { result ≡ None → WasGoing self.now at.now }
     {
         if self.is_refused() {
             return Some(WorkFault::SpawnFailed);

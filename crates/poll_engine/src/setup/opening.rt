@@ -15,7 +15,7 @@ use crate::setup::trail::{Asked, Trail};
 use crate::station::{Closed, Finished, Station};
 use crate::worker::{ControllerState, WorkerHandles};
 use napi_calls::{Caller, DropBomb, Napi, NewBack};
-use rx_ring::{RxCtx, RxIn, finish, ring};
+use rx_ring::{RxCtx, RxIn, beside, finish, ring};
 use std::alloc::{AllocError, Global};
 use std::snapshot::Snapshot;
 use std::sync::Wait;
@@ -174,7 +174,7 @@ fn end<D: Drop>(placed: Placed, loose: Loose<D>) -> Finished<D>
     let Loose {
         number,
         device,
-        rx,
+        mut rx,
         handles,
         poller,
         thread,
@@ -182,7 +182,9 @@ fn end<D: Drop>(placed: Placed, loose: Loose<D>) -> Finished<D>
         wait: _,
         asked,
     } = loose;
-    let (closed, ctx) = placed.close(handles, poller, thread);
+    let (closed, mut ctx) = placed.close(handles, poller, thread);
+    // Only where the ends meet it is known that the ring holds at most its capacity.
+    beside(&mut rx, &mut ctx);
     let totals = finish(rx, ctx);
     Finished {
         number,

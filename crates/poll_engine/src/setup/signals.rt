@@ -2,7 +2,7 @@
 
 ghost use Rattle.std.specs.Prelude.{◌≡◌, ◌++◌, ◌∷◌, [], true, false, IfOk};
 ghost use Rattle.poll_engine.specs.Trails.{signals};
-ghost use Rattle.poll_engine.specs.Wakers.{Wakes};
+ghost use Rattle.poll_engine.specs.Wakers.{SawClosed, Wakes};
 
 use crate::setup::trail::{Signal, Trail};
 use crossbeam_utils::Backoff;
@@ -10,13 +10,23 @@ use crossbeam_utils::sync::{Parker, Unparker};
 use std::alloc::{AllocError, Global};
 use std::snapshot::Snapshot;
 use std::sync::Wait;
-use std::sync::atomic::{AtomicBool, Ordering};
+use std::sync::atomic::{AtomicIn, Ordering, Rule};
+
+// The invariant of a waker's flag: it is 0 unless the queue was closed.
+struct Closing;
+
+impl Rule for Closing {
+    ghost use Rattle.std.specs.Prelude.{◌≡◌, ◌⊎◌};
+    ghost use Rattle.poll_engine.specs.Wakers.{IsQueueClosed};
+
+    ghost invariant = { λ n. (n ≡ 0) ⊎ IsQueueClosed };
+}
 
 /// Wakes a poller, and closes its queue: after that nothing more is queued for it.
 #[derive(Drop)]
 pub struct Waker {
     unparker: Unparker,
-    closed: AtomicBool,
+    closed: AtomicIn<Closing>,
 }
 
 impl Waker {
@@ -26,7 +36,7 @@ impl Waker {
     {
         let parker = Parker::new(alloc)?;
         let unparker = parker.unparker().clone()?;
-        let closed = AtomicBool::new(false);
+        let closed = AtomicIn::new(0);
         let wait = IdleWait {
             parker,
             backoff: Backoff::new(),
@@ -57,13 +67,15 @@ impl Waker {
             closes: true,
             at: Snapshot::of(at),
         });
-        self.closed.store(true, Ordering::SeqCst);
+        self.closed.store(1, Ordering::SeqCst);
         self.unparker.unpark();
     }
 
-    /// Returns whether the queue was closed.
-    pub fn is_closed(&self) -> bool {
-        self.closed.load(Ordering::SeqCst)
+    /// Returns whether the queue was closed. The calling thread passes its state at this time.
+    pub fn is_closed<A>(&self, at: &A) -> bool
+        ensures { result ≡ true → SawClosed self.now at.now }
+    {
+        self.closed.load(Ordering::SeqCst) != 0
     }
 }
 
