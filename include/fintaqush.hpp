@@ -25,7 +25,7 @@ namespace fintaqush {
 using Status = fq_status;
 using Kind = fq_kind;
 using Packets = std::array<fq_packet, 64>;
-using TxState = fq_tx_shown;
+using TxState = fq_tx_state;
 using TxWatchdog = fq_tx_watchdog;
 using Counts = fq_counts;
 using Totals = fq_totals;
@@ -796,7 +796,6 @@ public:
     // Returns the state of a device and the counts of its polls; nullopt if there is no such device.
     [[nodiscard]] std::optional<DeviceShown> shown(std::uint32_t device) const {
         DeviceShown shown{};
-        shown.size = sizeof shown;
         if (fq_driver_show(at_.raw(), device, &shown) != FQ_OK) return std::nullopt;
         return shown;
     }
@@ -830,8 +829,7 @@ template <class Ran, class Call, class Refusal>
 
 template <class Call>
 [[nodiscard]] std::variant<std::string, NoReport> replayed(std::string_view trace, Call call) {
-    const fq_replayed none = FQ_REPLAYED_INIT;
-    return written(trace, none, call, [](std::uint32_t said, const fq_replayed &ran) { return NoReport{said, ran.fault, ran.row}; });
+    return written(trace, fq_replayed{}, call, [](std::uint32_t said, const fq_replayed &ran) { return NoReport{said, ran.fault, ran.row}; });
 }
 } // namespace detail
 
@@ -850,7 +848,6 @@ template <class Call>
 // The settings of the machine, at first the defaults of napi_machine.
 struct MachineSettings : fq_machine_settings {
     MachineSettings() noexcept : fq_machine_settings{} {
-        size = sizeof(fq_machine_settings);
         detail::made(fq_machine_default(this));
     }
 };
@@ -865,10 +862,8 @@ struct MachineFault {
 
 // Runs the machine on arrivals (napi_machine), and returns its report.
 [[nodiscard]] inline std::variant<std::string, MachineFault> machine(std::string_view arrivals, const fq_machine_settings &settings = MachineSettings()) {
-    fq_machine_ran none{};
-    none.size = sizeof none;
     return detail::written(
-        arrivals, none, [&](auto... to) { return fq_machine(&settings, to...); },
+        arrivals, fq_machine_ran{}, [&](auto... to) { return fq_machine(&settings, to...); },
         [](std::uint32_t said, const fq_machine_ran &ran) { return MachineFault{said, ran.setting, ran.fault, ran.row, ran.message}; });
 }
 

@@ -144,6 +144,10 @@ echo '21 corners, each answered as it has to be' > "$scratch/cornered"
 check 'corners.c compiles' compile gcc "$top/tests/c/corners.c" "$scratch/corners" -O2 "$wraps"
 check 'answers at corners' compared "$scratch/cornered" "$scratch/corners"
 
+echo '17 calls, each of its own size only' > "$scratch/sized"
+check 'sizes.c compiles' compile gcc "$top/tests/c/sizes.c" "$scratch/sizes" -O2
+check 'structs of other sizes are rejected' compared "$scratch/sized" "$scratch/sizes"
+
 check 'bursts in C++ compile' compile g++ "$top/tests/c/bursts.cpp" "$scratch/bursts" -O2
 check 'bursts in C++' "$scratch/bursts"
 
@@ -363,6 +367,8 @@ sanitized() {
     check "$name: random calls of drivers" compared "$scratch/drove" "$scratch/sanitized"
     check "$name: corners.c compiles" compile gcc "$top/tests/c/corners.c" "$scratch/sanitized" -O1 -g "$flag" -fno-sanitize-recover=all "$wraps"
     check "$name: answers at corners" compared "$scratch/cornered" "$scratch/sanitized"
+    check "$name: sizes.c compiles" compile gcc "$top/tests/c/sizes.c" "$scratch/sanitized" -O1 -g "$flag" -fno-sanitize-recover=all
+    check "$name: structs of other sizes are rejected" compared "$scratch/sized" "$scratch/sanitized"
     check "$name: types.cpp compiles" compile g++ "$top/tests/c/types.cpp" "$scratch/sanitized" -O1 -g "$flag" -fno-sanitize-recover=all "$wraps"
     check "$name: the types of C++" compared "$scratch/typed" "$scratch/sanitized"
     check "$name: orders.c compiles" compile gcc "$top/tests/c/orders.c" "$scratch/sanitized" -O1 -g "$flag" -fno-sanitize-recover=all

@@ -155,7 +155,7 @@ static inline bool run(void) {
 
 /* Makes a step to open or stop a device; returns whether that is done. A stop that has begun is finished first. */
 static inline bool step(struct device *device, bool on) {
-    struct fq_device_shown shown = {.size = sizeof shown};
+    struct fq_device_shown shown;
     const uint32_t said = on ? fq_driver_open(&driver, device->id) : fq_driver_stop(&driver, device->id);
     if (said != FQ_NOT_DUE) must("step", said, FQ_OK);
     must("show", fq_driver_show(&driver, device->id, &shown), FQ_OK);
@@ -219,7 +219,7 @@ static inline void open_device(struct device *device, uint32_t frames, uint32_t 
 
 /* Prints the device's counts, in two lines. */
 static inline void close_device(struct device *device) {
-    struct fq_tx_shown shown;
+    struct fq_tx_state shown;
     must("state", fq_tx_state(&device->limit, &shown), FQ_OK);
     printf("interrupts %lu granted %lu missed %lu disabled %lu | packets %lu polls %lu full %lu runs %lu squeezed %lu\n", device->interrupts,
         device->granted, device->missed, device->disabled, device->packets, device->polls, device->full, runs, squeezed);

@@ -166,7 +166,7 @@ static bool run(void) {
 static bool control(bool on) {
     bool there = true;
     for (uint32_t i = 0; i < QUEUES; i++) {
-        struct fq_device_shown shown = {.size = sizeof shown};
+        struct fq_device_shown shown;
         const uint32_t said = on ? fq_driver_open(&driver, i) : fq_driver_stop(&driver, i);
         if (said != FQ_NOT_DUE) must("control", said, FQ_OK);
         must("show", fq_driver_show(&driver, i, &shown), FQ_OK);
@@ -177,7 +177,7 @@ static bool control(bool on) {
 
 /* Prints a line for each queue, and one for all. While packets flow, the counts are approximate. */
 static void print(void) {
-    struct fq_tx_shown state;
+    struct fq_tx_state state;
     must("state", fq_tx_state(&tx, &state), FQ_OK);
     for (int i = 0; i < QUEUES; i++) {
         const struct side *side = &sides[i];

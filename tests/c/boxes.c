@@ -215,7 +215,7 @@ static void instances(void) {
 static void replayed(const char *trace, size_t room, uint32_t budget, uint32_t wanted) {
     static uint8_t report[4096];
     const struct fq_settings settings = {sizeof settings, budget, 64, 1024};
-    struct fq_replayed what = FQ_REPLAYED_INIT;
+    struct fq_replayed what;
     want(fq_replay(&settings, (const uint8_t *)trace, strlen(trace), report, room, &what) == wanted, "a replay");
     nothing_is_left("of a replay");
 }
@@ -232,8 +232,8 @@ static void replays(void) {
 
 static void machined(const char *arrivals, size_t room, uint32_t processors, uint32_t wanted) {
     static uint8_t report[4096];
-    struct fq_machine_settings settings = {.size = sizeof settings};
-    struct fq_machine_ran ran = {.size = sizeof ran};
+    struct fq_machine_settings settings;
+    struct fq_machine_ran ran;
     want(fq_machine_default(&settings) == FQ_OK, "the default settings");
     settings.processors = processors, settings.threaded = 1;
     want(fq_machine(&settings, (const uint8_t *)arrivals, strlen(arrivals), report, room, &ran) == wanted, "a machine");

@@ -298,7 +298,7 @@ static void refusals_of_a_replay(void) {
     static const char good[] = "moment,device,event,value\n0,1,open,4\n";
     static const uint8_t bad[] = "?";
     uint8_t report[1];
-    struct fq_replayed told = FQ_REPLAYED_INIT;
+    struct fq_replayed told;
     struct fq_settings settings = {sizeof settings, 0, 0, 0};
     want(fq_replay(&settings, bad, 1, report, 0, &told) == FQ_BAD_WEIGHT, "a weight is looked at first");
     settings.weight = 64;
@@ -320,7 +320,7 @@ static void runs_that_the_kernel_would_add(void) {
         const char *wanted;
     } rows[] = {{FQ_UNTIL_EMPTY, ROWS RUN RUN RUN RUN LAST}, {0, given}, {1, ROWS RUN RUN LAST LAST}, {3, ROWS RUN RUN RUN RUN LAST}};
     struct fq_settings settings = {sizeof settings, 1, 1, 1024};
-    struct fq_replayed told = FQ_REPLAYED_INIT;
+    struct fq_replayed told;
     uint8_t out[512];
     for (size_t i = 0; i < sizeof rows / sizeof rows[0]; i++) {
         want(fq_raise(&settings, rows[i].restarts, (const uint8_t *)given, sizeof given - 1, out, sizeof out, &told) == FQ_OK, "runs are added");
@@ -336,9 +336,9 @@ static void runs_that_the_kernel_would_add(void) {
 /* For a count of 0 the pointer of an array may be null, in each call that has one. */
 static void arrays_of_nothing(void) {
     const struct fq_settings settings = FQ_DEFAULT_SETTINGS;
-    struct fq_machine_settings machine = {.size = sizeof machine};
-    struct fq_machine_ran ran = {.size = sizeof ran};
-    struct fq_replayed replayed = FQ_REPLAYED_INIT;
+    struct fq_machine_settings machine;
+    struct fq_machine_ran ran;
+    struct fq_replayed replayed;
     struct fq_ring ring = FQ_NONE;
     size_t count = 9;
     want(fq_version(NULL, 0) == strlen(FQ_VERSION) && fq_status_text(FQ_OK, NULL, 0) == 5, "texts");

@@ -131,7 +131,7 @@ static size_t unused(const unsigned *users, size_t size) {
 }
 
 static struct object object_of(enum what what) {
-    struct object o = {what, NULL, NULL, NULL, NULL, 0, {0, 0, 0, 0, 0, 0, 0}};
+    struct object o = {what, NULL, NULL, NULL, NULL, 0, {0, 0, 0, 0, 0, 0, 0, 0}};
     return o;
 }
 
@@ -252,7 +252,7 @@ static void split(void) {
 static void finish(void) {
     if (below(8)) return;
     const uint32_t i = one_of(RING, RING);
-    struct fq_totals totals = {1, 2, 3, 4};
+    struct fq_totals totals = {0, 1, 2, 3, 4};
     const struct ring *r = objects[i].ring;
     const bool is_whole = objects[i].what == RING;
     want("finish", fq_ring_finish(&handles[i].ring, &totals), is_whole ? FQ_OK : FQ_BAD_HANDLE);
@@ -263,7 +263,7 @@ static void finish(void) {
 
 static void show_ring(void) {
     const uint32_t i = one_of(RING, INPUT);
-    struct fq_ring_shown shown = {7, 8};
+    struct fq_ring_shown shown = {0, 7, 8};
     const bool has = takes_puts(&objects[i]);
     want("show of a ring", fq_ring_show(&handles[i].ring, &shown), has ? FQ_OK : FQ_BAD_HANDLE);
     if (has) hold("what it shows", shown.put == objects[i].ring->put && shown.capacity == objects[i].ring->places);
@@ -376,26 +376,31 @@ static struct ring *counted_ring(const struct object *o) {
     return o->shared->ring != NULL ? o->shared->ring : &none;
 }
 
+/* Whether two structs are the same after their sizes, which the model doesn't set. */
+static bool same_after_size(const void *one, const void *other, size_t size) {
+    return memcmp((const char *)one + sizeof size, (const char *)other + sizeof size, size - sizeof size) == 0;
+}
+
 static void counts(void) {
     const uint32_t i = one_of((enum what)below(CONTROL + 1), SEAT);
-    struct fq_counts counts = {1, 2, 3};
+    struct fq_counts counts = {0, 1, 2, 3};
     const struct ring *r = counted_ring(&objects[i]);
     const uint32_t wanted = r != NULL ? FQ_OK : objects[i].what == NOTHING ? FQ_BAD_HANDLE : FQ_NOT_ALLOWED;
     want("count", fq_count(&handles[i].handle, &counts), wanted);
     if (wanted != FQ_OK) hold("counts that stay", counts.polls == 1 && counts.packets == 2 && counts.bytes == 3);
-    else if (r->places != 0) hold("the counts", memcmp(&counts, &r->counts, sizeof counts) == 0);
+    else if (r->places != 0) hold("the counts", same_after_size(&counts, &r->counts, sizeof counts));
 }
 
 static void look(void) {
     const uint32_t i = random_seat();
     const struct object *o = &objects[i];
     uint64_t word = 77;
-    struct fq_answers answers = {9, 9, 9, 9, 9, 9, 9};
+    struct fq_answers answers = {0, 9, 9, 9, 9, 9, 9, 9};
     const uint32_t wanted = o->what == SEAT ? FQ_OK : FQ_BAD_HANDLE;
     want("look", fq_seat_look(&handles[i].seat, &word), wanted);
     hold("the word", word == (wanted == FQ_OK ? model_word(napi_of(o)) : 77));
     want("count of a seat", fq_seat_count(&handles[i].seat, &answers), wanted);
-    if (wanted == FQ_OK) hold("how often it was answered what", memcmp(&answers, &o->answers, sizeof answers) == 0);
+    if (wanted == FQ_OK) hold("how often it was answered what", same_after_size(&answers, &o->answers, sizeof answers));
     else hold("answers that stay", answers.granted == 9 && answers.changed == 9);
 }
 
@@ -621,7 +626,7 @@ static void done(void) {
 
 static void show_sender(void) {
     const uint32_t i = one_of(SENDER, SENDER);
-    struct fq_tx_shown shown = {1, 2, 3, 4, true};
+    struct fq_tx_state shown = {0, 1, 2, 3, 4, true};
     const struct sender *s = objects[i].sender;
     want("state", fq_tx_state(&handles[i].tx, &shown), s != NULL ? FQ_OK : FQ_BAD_HANDLE);
     if (s == NULL) hold("a state that stays", shown.queued == 1 && shown.completed == 2 && shown.limit == 3 && shown.avail == 4 && shown.stopped);

@@ -93,7 +93,7 @@ static void take_none(void) {
     struct fq_packet packets[2] = {{1, 60}, {2, 60}};
     struct fq_counts counts;
     struct fq_run_report report;
-    struct fq_tx_shown state;
+    struct fq_tx_state state;
     uint32_t next, id;
     uint64_t word;
     size_t count;
@@ -123,7 +123,7 @@ static void take_none(void) {
     good = good && fq_tx_send(&tx, 60) == FQ_OK && fq_tx_done(&tx, 1, 1) == FQ_OK && fq_tx_state(&tx, &state) == FQ_OK;
     good = good && fq_tx_watch(&tx, &watchdog, 0, 2, &stuck) == FQ_OK && !stuck;
     struct fq_todo todo = FQ_TODO_INIT;
-    struct fq_device_shown shown = {sizeof shown, 0, false, false, 0, 0};
+    struct fq_device_shown shown;
     for (uint32_t i = 0; i < 64; i++) good = good && fq_driver_open(&driver, i) == FQ_OK;
     for (int i = 0; good && i < 5000; i++) {
         good = fq_driver_next(&driver, &todo) == FQ_OK && fq_driver_show(&driver, todo.device, &shown) == FQ_OK;
@@ -144,7 +144,7 @@ static void take_none(void) {
 static const char trace[] = "moment,device,event,value\n0,1,open,4\n0,2,open,4\n1,1,rx,100\n1,2,rx,60\n2,0,softirq,0\n3,1,tx,9\n";
 enum { ROOM = 4096, GUARD = 0xA5 };
 static uint8_t report[ROOM], wanted[ROOM];
-static struct fq_replayed replayed = FQ_REPLAYED_INIT;
+static struct fq_replayed replayed;
 
 static uint32_t make_replay(void) {
     const struct fq_settings settings = FQ_DEFAULT_SETTINGS;
@@ -160,8 +160,8 @@ static const char arrivals[] = "moment,device,bytes\n0,1,60\n10,2,60\n10,1,1500\
 static uint8_t wanted_of_machine[ROOM];
 
 static uint32_t make_machine(void) {
-    struct fq_machine_settings settings = {.size = sizeof settings};
-    struct fq_machine_ran ran = {.size = sizeof ran};
+    struct fq_machine_settings settings;
+    struct fq_machine_ran ran;
     want(fq_machine_default(&settings) == FQ_OK, "the default settings", refused_take);
     settings.processors = 2, settings.threaded = 1, settings.apart = 1;
     memset(report, GUARD, ROOM);
@@ -178,7 +178,7 @@ static size_t raised_length;
 
 static uint32_t make_raised(void) {
     const struct fq_settings settings = {sizeof settings, 1, 1, 1024};
-    struct fq_replayed raised = FQ_REPLAYED_INIT;
+    struct fq_replayed raised;
     char text[1024];
     int len = snprintf(text, sizeof text, "%s", raised_head);
     for (int i = 0; i < 50; i++) len += snprintf(text + len, sizeof text - (size_t)len, "%s", raised_row);

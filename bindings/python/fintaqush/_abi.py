@@ -8,7 +8,7 @@ from typing import Any
 
 u8, u16, u32, u64, i64 = ctypes.c_uint8, ctypes.c_uint16, ctypes.c_uint32, ctypes.c_uint64, ctypes.c_int64
 size, boolean, text, pointer = ctypes.c_size_t, ctypes.c_bool, ctypes.c_char_p, ctypes.POINTER
-VERSION = "1.1.0"
+VERSION = "2.0.0"
 MESSAGE_ROOM = 96
 UNTIL_EMPTY = 4294967295
 FAULTS = {
@@ -177,19 +177,26 @@ class Packet(ctypes.Structure):
 
 
 class Counts(ctypes.Structure):
-    _fields_ = [("polls", u64), ("packets", u64), ("bytes", u64)]
+    _fields_ = [("size", size), ("polls", u64), ("packets", u64), ("bytes", u64)]
 
 
 class Totals(ctypes.Structure):
-    _fields_ = [("put", u64), ("polled", u64), ("left", u64), ("bytes", u64)]
+    _fields_ = [("size", size), ("put", u64), ("polled", u64), ("left", u64), ("bytes", u64)]
 
 
 class RingShown(ctypes.Structure):
-    _fields_ = [("put", u64), ("capacity", size)]
+    _fields_ = [("size", size), ("put", u64), ("capacity", size)]
 
 
-class TxShown(ctypes.Structure):
-    _fields_ = [("queued", u32), ("completed", u32), ("limit", u32), ("avail", i64), ("stopped", boolean)]
+class TxState(ctypes.Structure):
+    _fields_ = [
+        ("size", size),
+        ("queued", u32),
+        ("completed", u32),
+        ("limit", u32),
+        ("avail", i64),
+        ("stopped", boolean),
+    ]
 
 
 class TxWatchdog(ctypes.Structure):
@@ -198,6 +205,7 @@ class TxWatchdog(ctypes.Structure):
 
 class Answers(ctypes.Structure):
     _fields_ = [
+        ("size", size),
         ("granted", u64),
         ("missed", u64),
         ("disabled", u64),
@@ -209,7 +217,7 @@ class Answers(ctypes.Structure):
 
 
 class RunReport(ctypes.Structure):
-    _fields_ = [("polls", u32), ("work", u32), ("squeezed", boolean)]
+    _fields_ = [("size", size), ("polls", u32), ("work", u32), ("squeezed", boolean)]
 
 
 class Todo(ctypes.Structure):
@@ -220,8 +228,8 @@ class Todo(ctypes.Structure):
         ("device", u32),
         ("most", u32),
         ("packets", u32),
-        ("run", RunReport),
         ("status", u32),
+        ("run", RunReport),
     ]
 
 
@@ -285,21 +293,7 @@ class MachineRan(ctypes.Structure):
 
 
 # The structs whose size the library returns, by their numbers.
-SIZES: dict[type[ctypes.Structure], int] = {
-    Handle: 0,
-    Dql: 1,
-    Napi: 2,
-    Packet: 3,
-    Counts: 4,
-    Totals: 5,
-    RingShown: 6,
-    TxShown: 7,
-    Answers: 8,
-    RunReport: 9,
-    Todo: 10,
-    DeviceShown: 11,
-    TxWatchdog: 12,
-}
+SIZES: dict[type[ctypes.Structure], int] = {Handle: 0, Dql: 1, Napi: 2, Packet: 3, TxWatchdog: 4}
 
 # The calls, by their names without fq_: the type of the result, and those of the arguments.
 CALLS: dict[str, tuple[Any, dict[str, Any]]] = {
@@ -341,14 +335,14 @@ CALLS: dict[str, tuple[Any, dict[str, Any]]] = {
         Status,
         {"ring": pointer(Ring), "weight": size, "out": pointer(Packet), "len": size, "count": pointer(size)},
     ),
-    "count": (Status, {"handle": pointer(Handle), "counts": pointer(Counts)}),
-    "ring_show": (Status, {"ring": pointer(Ring), "shown": pointer(RingShown)}),
+    "count_sized": (Status, {"handle": pointer(Handle), "counts": pointer(Counts)}),
+    "ring_show_sized": (Status, {"ring": pointer(Ring), "shown": pointer(RingShown)}),
     "ring_split": (Status, {"ring": pointer(Ring), "out": pointer(Ring)}),
-    "ring_finish": (Status, {"ring": pointer(Ring), "totals": pointer(Totals)}),
+    "ring_finish_sized": (Status, {"ring": pointer(Ring), "totals": pointer(Totals)}),
     "tx_new": (Status, {"tx": pointer(Tx), "capacity": size, "min": u32, "max": u32, "hold_ms": u64, "now_ms": u64}),
     "tx_send": (Status, {"tx": pointer(Tx), "bytes": u32}),
     "tx_done": (Status, {"tx": pointer(Tx), "count": u32, "now_ms": u64}),
-    "tx_state": (Status, {"tx": pointer(Tx), "state": pointer(TxShown)}),
+    "tx_state_sized": (Status, {"tx": pointer(Tx), "state": pointer(TxState)}),
     "tx_watch": (
         Status,
         {"tx": pointer(Tx), "watchdog": pointer(TxWatchdog), "limit_ms": u64, "now_ms": u64, "stuck": pointer(boolean)},
@@ -370,7 +364,7 @@ CALLS: dict[str, tuple[Any, dict[str, Any]]] = {
     "seat_complete_done": (Status, {"seat": pointer(Seat)}),
     "seat_busy_stop": (Status, {"seat": pointer(Seat)}),
     "seat_look": (Status, {"seat": pointer(Seat), "word": pointer(u64)}),
-    "seat_count": (Status, {"seat": pointer(Seat), "answers": pointer(Answers)}),
+    "seat_count_sized": (Status, {"seat": pointer(Seat), "answers": pointer(Answers)}),
     "seat_hand_again": (Status, {"seat": pointer(Seat), "next": pointer(u32)}),
     "seat_end": (Status, {"seat": pointer(Seat), "full": boolean, "next": pointer(u32)}),
     "control_enable": (Status, {"control": pointer(Control), "threaded": boolean}),
@@ -385,7 +379,7 @@ CALLS: dict[str, tuple[Any, dict[str, Any]]] = {
     "run_begin": (Status, {"list": pointer(List), "budget": u32, "weight": u32, "window": u32}),
     "run_next": (Status, {"list": pointer(List), "id": pointer(u32)}),
     "run_polled": (Status, {"list": pointer(List), "work": u32, "next": u32}),
-    "run_end": (Status, {"list": pointer(List), "report": pointer(RunReport)}),
+    "run_end_sized": (Status, {"list": pointer(List), "report": pointer(RunReport)}),
     "driver_new_salted": (
         Status,
         {"driver": pointer(Driver), "devices": u32, "budget": u32, "weight": u32, "window": u32, "salt": u16},
@@ -394,10 +388,10 @@ CALLS: dict[str, tuple[Any, dict[str, Any]]] = {
     "driver_stop": (Status, {"driver": pointer(Driver), "device": u32}),
     "driver_interrupt": (Status, {"driver": pointer(Driver), "device": u32}),
     "driver_next_sized": (Status, {"driver": pointer(Driver), "todo": pointer(Todo)}),
-    "driver_step_sized": (Status, {"driver": pointer(Driver), "todo": pointer(Todo)}),
     "driver_done": (Status, {"driver": pointer(Driver), "todo": pointer(Todo)}),
-    "driver_show": (Status, {"driver": pointer(Driver), "device": u32, "shown": pointer(DeviceShown)}),
-    "replay": (
+    "driver_step_sized": (Status, {"driver": pointer(Driver), "todo": pointer(Todo)}),
+    "driver_show_sized": (Status, {"driver": pointer(Driver), "device": u32, "shown": pointer(DeviceShown)}),
+    "replay_sized": (
         Status,
         {
             "settings": pointer(Settings),
@@ -408,7 +402,7 @@ CALLS: dict[str, tuple[Any, dict[str, Any]]] = {
             "replayed": pointer(Replayed),
         },
     ),
-    "raise_": (
+    "raise_sized": (
         Status,
         {
             "settings": pointer(Settings),
@@ -420,8 +414,8 @@ CALLS: dict[str, tuple[Any, dict[str, Any]]] = {
             "replayed": pointer(Replayed),
         },
     ),
-    "machine_default": (Status, {"settings": pointer(MachineSettings)}),
-    "machine": (
+    "machine_default_sized": (Status, {"settings": pointer(MachineSettings)}),
+    "machine_sized": (
         Status,
         {
             "settings": pointer(MachineSettings),

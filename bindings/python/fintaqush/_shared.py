@@ -45,9 +45,7 @@ class Input(_Part):
     @property
     def count(self) -> int:
         """The number of packets that were put so far."""
-        shown = abi.RingShown()
-        c.ring_show(self._at, shown)
-        return int(shown.put)
+        return int(c.shown(lambda put, capacity: put, abi.RingShown, c.ring_show_sized, self._at))
 
 
 class Caller(_Part):
@@ -120,16 +118,12 @@ class Caller(_Part):
     @property
     def counts(self) -> Counts:
         """The counts of the ring's polls so far, for a caller that polls."""
-        counts = abi.Counts()
-        c.count(self._at.handle, counts)
-        return Counts(counts.polls, counts.packets, counts.bytes)
+        return c.shown(Counts, abi.Counts, c.count_sized, self._at.handle)
 
     @property
     def answers(self) -> Answers:
         """How often its calls returned each result."""
-        answers = abi.Answers()
-        c.seat_count(self._at, answers)
-        return Answers(*(getattr(answers, name) for name in Answers._fields))
+        return c.shown(Answers, abi.Answers, c.seat_count_sized, self._at)
 
 
 class Control(_Part):

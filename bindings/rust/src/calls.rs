@@ -183,14 +183,14 @@ pub(crate) fn ring_poll(
     unsafe { fq_ring_poll(ring, weight, out.as_mut_ptr(), out.len(), count) }
 }
 
-pub(crate) fn count(handle: &fq_handle, counts: &mut fq_counts) -> u32 {
+pub(crate) fn count_sized(handle: &fq_handle, counts: &mut fq_counts) -> u32 {
     // SAFETY: each reference and each slice leads to whole objects, to which no other argument leads.
-    unsafe { fq_count(handle, counts) }
+    unsafe { fq_count_sized(handle, counts) }
 }
 
-pub(crate) fn ring_show(ring: &fq_ring, shown: &mut fq_ring_shown) -> u32 {
+pub(crate) fn ring_show_sized(ring: &fq_ring, shown: &mut fq_ring_shown) -> u32 {
     // SAFETY: each reference and each slice leads to whole objects, to which no other argument leads.
-    unsafe { fq_ring_show(ring, shown) }
+    unsafe { fq_ring_show_sized(ring, shown) }
 }
 
 pub(crate) fn ring_split(ring: &mut fq_ring, out: &mut fq_ring) -> u32 {
@@ -198,9 +198,9 @@ pub(crate) fn ring_split(ring: &mut fq_ring, out: &mut fq_ring) -> u32 {
     unsafe { fq_ring_split(ring, out) }
 }
 
-pub(crate) fn ring_finish(ring: &mut fq_ring, totals: &mut fq_totals) -> u32 {
+pub(crate) fn ring_finish_sized(ring: &mut fq_ring, totals: &mut fq_totals) -> u32 {
     // SAFETY: each reference and each slice leads to whole objects, to which no other argument leads.
-    unsafe { fq_ring_finish(ring, totals) }
+    unsafe { fq_ring_finish_sized(ring, totals) }
 }
 
 pub(crate) fn tx_new(
@@ -225,9 +225,9 @@ pub(crate) fn tx_done(tx: &mut fq_tx, count: u32, now_ms: u64) -> u32 {
     unsafe { fq_tx_done(tx, count, now_ms) }
 }
 
-pub(crate) fn tx_state(tx: &fq_tx, state: &mut fq_tx_shown) -> u32 {
+pub(crate) fn tx_state_sized(tx: &fq_tx, state: &mut fq_tx_state) -> u32 {
     // SAFETY: each reference and each slice leads to whole objects, to which no other argument leads.
-    unsafe { fq_tx_state(tx, state) }
+    unsafe { fq_tx_state_sized(tx, state) }
 }
 
 pub(crate) fn tx_watch(
@@ -320,9 +320,9 @@ pub(crate) fn seat_look(seat: &mut fq_seat, word: &mut u64) -> u32 {
     unsafe { fq_seat_look(seat, word) }
 }
 
-pub(crate) fn seat_count(seat: &fq_seat, answers: &mut fq_answers) -> u32 {
+pub(crate) fn seat_count_sized(seat: &fq_seat, answers: &mut fq_answers) -> u32 {
     // SAFETY: each reference and each slice leads to whole objects, to which no other argument leads.
-    unsafe { fq_seat_count(seat, answers) }
+    unsafe { fq_seat_count_sized(seat, answers) }
 }
 
 pub(crate) fn seat_hand_again(seat: &mut fq_seat, next: &mut u32) -> u32 {
@@ -395,9 +395,9 @@ pub(crate) fn run_polled(list: &mut fq_list, work: u32, next: u32) -> u32 {
     unsafe { fq_run_polled(list, work, next) }
 }
 
-pub(crate) fn run_end(list: &mut fq_list, report: &mut fq_run_report) -> u32 {
+pub(crate) fn run_end_sized(list: &mut fq_list, report: &mut fq_run_report) -> u32 {
     // SAFETY: each reference and each slice leads to whole objects, to which no other argument leads.
-    unsafe { fq_run_end(list, report) }
+    unsafe { fq_run_end_sized(list, report) }
 }
 
 pub(crate) fn driver_new_salted(
@@ -432,22 +432,26 @@ pub(crate) fn driver_next_sized(driver: &mut fq_driver, todo: &mut fq_todo) -> u
     unsafe { fq_driver_next_sized(driver, todo) }
 }
 
-pub(crate) fn driver_step_sized(driver: &mut fq_driver, todo: &mut fq_todo) -> u32 {
-    // SAFETY: each reference and each slice leads to whole objects, to which no other argument leads.
-    unsafe { fq_driver_step_sized(driver, todo) }
-}
-
 pub(crate) fn driver_done(driver: &mut fq_driver, todo: &fq_todo) -> u32 {
     // SAFETY: each reference and each slice leads to whole objects, to which no other argument leads.
     unsafe { fq_driver_done(driver, todo) }
 }
 
-pub(crate) fn driver_show(driver: &fq_driver, device: u32, shown: &mut fq_device_shown) -> u32 {
+pub(crate) fn driver_step_sized(driver: &mut fq_driver, todo: &mut fq_todo) -> u32 {
     // SAFETY: each reference and each slice leads to whole objects, to which no other argument leads.
-    unsafe { fq_driver_show(driver, device, shown) }
+    unsafe { fq_driver_step_sized(driver, todo) }
 }
 
-pub(crate) fn replay(
+pub(crate) fn driver_show_sized(
+    driver: &fq_driver,
+    device: u32,
+    shown: &mut fq_device_shown,
+) -> u32 {
+    // SAFETY: each reference and each slice leads to whole objects, to which no other argument leads.
+    unsafe { fq_driver_show_sized(driver, device, shown) }
+}
+
+pub(crate) fn replay_sized(
     settings: &fq_settings,
     trace: &[u8],
     report: &mut [u8],
@@ -455,7 +459,7 @@ pub(crate) fn replay(
 ) -> u32 {
     // SAFETY: each reference and each slice leads to whole objects, to which no other argument leads.
     unsafe {
-        fq_replay(
+        fq_replay_sized(
             settings,
             trace.as_ptr(),
             trace.len(),
@@ -466,7 +470,7 @@ pub(crate) fn replay(
     }
 }
 
-pub(crate) fn raise(
+pub(crate) fn raise_sized(
     settings: &fq_settings,
     restarts: u32,
     trace: &[u8],
@@ -475,7 +479,7 @@ pub(crate) fn raise(
 ) -> u32 {
     // SAFETY: each reference and each slice leads to whole objects, to which no other argument leads.
     unsafe {
-        fq_raise(
+        fq_raise_sized(
             settings,
             restarts,
             trace.as_ptr(),
@@ -487,12 +491,12 @@ pub(crate) fn raise(
     }
 }
 
-pub(crate) fn machine_default(settings: &mut fq_machine_settings) -> u32 {
+pub(crate) fn machine_default_sized(settings: &mut fq_machine_settings) -> u32 {
     // SAFETY: each reference and each slice leads to whole objects, to which no other argument leads.
-    unsafe { fq_machine_default(settings) }
+    unsafe { fq_machine_default_sized(settings) }
 }
 
-pub(crate) fn machine(
+pub(crate) fn machine_sized(
     settings: &fq_machine_settings,
     arrivals: &[u8],
     report: &mut [u8],
@@ -500,7 +504,7 @@ pub(crate) fn machine(
 ) -> u32 {
     // SAFETY: each reference and each slice leads to whole objects, to which no other argument leads.
     unsafe {
-        fq_machine(
+        fq_machine_sized(
             settings,
             arrivals.as_ptr(),
             arrivals.len(),

@@ -123,3 +123,11 @@ pub(crate) fn unexpected(call: &str, status: u32) -> ! {
         sys::fq_status_name(status)
     )
 }
+
+// Returns what a call sets, which returns FQ_OK and nothing else.
+pub(crate) fn set_by<T>(call: &str, mut to: T, make: impl FnOnce(&mut T) -> u32) -> T {
+    match make(&mut to) {
+        sys::FQ_OK => to,
+        said => unexpected(call, said),
+    }
+}

@@ -21,18 +21,18 @@ fn write(text: &[u8], to: &mut [u8]) -> usize
 #[unsafe(no_mangle)]
 pub extern "C" fn fq_version(to: &mut [u8]) -> usize
     ensures length { result ≡ 5 }
-    ensures written { to.new ≡ written (codes "1.1.0") to.old }
+    ensures written { to.new ≡ written (codes "2.0.0") to.old }
     ensures kept { length to.new ≤ result → to.new ≡ to.old }
 {
-    write(b"1.1.0", to)
+    write(b"2.0.0", to)
 }
 
 /// Returns the library's version as a number, as FQ_VERSION_NUMBER of the header.
 #[unsafe(no_mangle)]
 pub extern "C" fn fq_version_number() -> u32
-    ensures { result ≡ 10100 }
+    ensures { result ≡ 20000 }
 {
-    10100
+    20000
 }
 
 /// Writes the name of a status in the same way; "?" for an unknown number.

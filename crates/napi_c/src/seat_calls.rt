@@ -1,10 +1,10 @@
 //! The calls of the callers of a shared instance (`fq_seat_..`). Each makes one attempt, and returns CHANGED if another thread
 //! interfered.
-ghost use Rattle.std.specs.Prelude.{◌≡◌, ◌≢◌, ◌<◌, ◌≤◌, ◌⊎◌, true, false, length, take, Some, None};
+ghost use Rattle.std.specs.Prelude.{◌≡◌, ◌≢◌, ◌<◌, ◌≤◌, ◌⊎◌, ◌↔◌, true, false, length, take, Some, None};
 ghost use Rattle.napi_model.specs.declared.state.Kind.{Kind};
 ghost use Rattle.napi_model.specs.declared.event.Done.TheVariants as done;
 ghost use Rattle.c_handles.specs.Kinds.{kind_in};
-ghost use Rattle.c_handles.specs.Status.{OK, RELEASED, AGAIN, BAD_KIND, BAD_HANDLE, BAD_WEIGHT, NO_ROOM};
+ghost use Rattle.c_handles.specs.Status.{OK, RELEASED, AGAIN, BAD_KIND, BAD_HANDLE, BAD_SIZE, BAD_WEIGHT, NO_ROOM};
 ghost use Rattle.c_handles.specs.SeatCalls.{RestsWith, GrantedWith};
 ghost use Rattle.c_handles.specs.SeatCalls.{CallerSchedules, CallerHands, CallerTakes, CallerRequeues, CallerCompletes};
 ghost use Rattle.c_handles.specs.SeatCalls.{CallerBusyTakes, CallerBusyStops, CallerSetsThreaded};
@@ -17,6 +17,7 @@ ghost use Rattle.napi_c.specs.Objects.{is_polling_seat, is_seat, LeadsToKind, Le
 use c_handles::{FqAnswers, FqHandle, Object, kind_of, status};
 use napi_model::encode;
 use rx_ring::{MAX_WEIGHT, Packet};
+use std::mem::size_of;
 
 fn look_in(at: &mut Object, word: &mut u64) -> u32
     ensures shows { SeatShowsIn word.old word.new at.old result at.new }
@@ -228,13 +229,14 @@ pub extern "C" fn fq_seat_poll(
 
 fn answers_in(at: &Object, answers: &mut FqAnswers) -> u32
     ensures shown { (s : CallerObject) → at.now ≡ variant.Seat s → (result ≡ OK)
-        × (answers.new ≡ s.answers) }
+        × (answers.new ≡ record s.answers { size = 64 }) }
     ensures other { is_seat at.now ≡ false → result ≡ BAD_HANDLE }
     ensures kept { result ≢ OK → (answers.new ≡ answers.old) × (result ≡ BAD_HANDLE) }
 {
     match at {
         Object::Seat(seat) => {
             *answers = seat.answers;
+            answers.size = size_of::<FqAnswers>();
             status::OK
         }
         _ => status::BAD_HANDLE,
@@ -243,14 +245,20 @@ fn answers_in(at: &Object, answers: &mut FqAnswers) -> u32
 
 /// Sets `answers` to the counts of the results of a caller's calls.
 #[unsafe(no_mangle)]
-pub extern "C" fn fq_seat_count(handle: &mut FqHandle, answers: &mut FqAnswers) -> u32
+pub extern "C" fn fq_seat_count_sized(handle: &mut FqHandle, answers: &mut FqAnswers) -> u32
     ensures shown { (s : CallerObject) → handle.old.held.body ≡ Some (variant.Seat s)
-        → (result ≡ OK)
-        × (answers.new ≡ s.answers) }
-    ensures other { LeadsToOther is_seat handle.old → result ≡ BAD_HANDLE }
-    ensures kept { result ≢ OK → (answers.new ≡ answers.old) × (result ≡ BAD_HANDLE) }
+        → answers.old.size ≡ 64 → (result ≡ OK)
+        × (answers.new ≡ record s.answers { size = 64 }) }
+    ensures other { LeadsToOther is_seat handle.old → answers.old.size ≡ 64
+        → result ≡ BAD_HANDLE }
+    ensures size { (result ≡ BAD_SIZE) ↔ (answers.old.size ≢ 64) }
+    ensures kept { result ≢ OK → (answers.new ≡ answers.old)
+        × (result ≢ BAD_SIZE → result ≡ BAD_HANDLE) }
     ensures same { handle.new.held.body ≡ handle.old.held.body }
 {
+    if answers.size != size_of::<FqAnswers>() {
+        return status::BAD_SIZE;
+    }
     if !handle.is_set() {
         return status::BAD_HANDLE;
     }
