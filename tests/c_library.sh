@@ -324,11 +324,11 @@ for name, (least, most, _) in machine.OPTIONS.items(): print(name, least, most)'
     [ "$number" = 23 ]
 }
 
-{ echo 'moment,device,bytes' && awk 'BEGIN { for (i = 0; i < 20000; i++) print i * 900, i % 7 + 1, i % 1400 + 60 }' OFS=, ; } > "$scratch/arrivals.csv"
-{ echo 'moment,device,bytes,flow' && awk 'BEGIN { for (i = 0; i < 5000; i++) print i * 700, 1, 60, i % 11 }' OFS=, ; } > "$scratch/flows.csv"
-printf 'moment,device,bytes\n5,1,60\n4,1,60\n' > "$scratch/falls.csv"
-printf 'moment,device,bytes\n5,65,60\n' > "$scratch/far.csv"
-printf 'moment,device,bytes\n' > "$scratch/none.csv"
+{ echo 'ns,device,bytes' && awk 'BEGIN { for (i = 0; i < 20000; i++) print i * 900, i % 7 + 1, i % 1400 + 60 }' OFS=, ; } > "$scratch/arrivals.csv"
+{ echo 'ns,device,bytes,flow' && awk 'BEGIN { for (i = 0; i < 5000; i++) print i * 700, 1, 60, i % 11 }' OFS=, ; } > "$scratch/flows.csv"
+printf 'ns,device,bytes\n5,1,60\n4,1,60\n' > "$scratch/falls.csv"
+printf 'ns,device,bytes\n5,65,60\n' > "$scratch/far.csv"
+printf 'ns,device,bytes\n' > "$scratch/none.csv"
 if "$top/scripts/build.sh" napi_machine > "$scratch/log" 2>&1; then
     check 'the machine compiles' compile gcc "$top/tests/c/machine.c" "$scratch/machine" -O2
     for arrivals in "$scratch"/{arrivals,falls,far,none}.csv "$top/crates/napi_machine/stdin" /dev/null; do

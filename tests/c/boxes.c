@@ -241,12 +241,12 @@ static void machined(const char *arrivals, size_t room, uint32_t processors, uin
 }
 
 static void machines(void) {
-    const char *const good = "moment,device,bytes\n0,1,60\n10,2,60\n10,1,1500\n900000,65,60\n";
+    const char *const good = "ns,device,bytes\n0,1,60\n10,2,60\n10,1,1500\n900000,65,60\n";
     machined(good, 4096, 2, FQ_OK);
     machined(good, 10, 2, FQ_NO_ROOM);
     machined(good, 4096, 1, FQ_BAD_ARRIVALS);
     machined(good, 4096, 65, FQ_BAD_SETTING);
-    machined("moment,device,bytes\n5,1,60\n4,1,60\n", 4096, 2, FQ_BAD_ARRIVALS);
+    machined("ns,device,bytes\n5,1,60\n4,1,60\n", 4096, 2, FQ_BAD_ARRIVALS);
     machined("", 4096, 2, FQ_BAD_ARRIVALS);
 }
 

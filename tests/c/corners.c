@@ -349,7 +349,7 @@ static void arrays_of_nothing(void) {
     want(fq_abandon(&ring.handle) == FQ_OK, "the ring's end");
     want(fq_replay(&settings, NULL, 0, NULL, 0, &replayed) == FQ_BAD_TRACE && replayed.fault == FQ_FAULT_BAD_HEADER, "a replay");
     want(fq_raise(&settings, 9, NULL, 0, NULL, 0, &replayed) == FQ_BAD_TRACE && replayed.fault == FQ_FAULT_BAD_HEADER, "a raise");
-    static const uint8_t trace[] = "moment,device,event,value\n", arrivals[] = "moment,device,bytes\n";
+    static const uint8_t trace[] = "moment,device,event,value\n", arrivals[] = "ns,device,bytes\n";
     want(fq_replay(&settings, trace, sizeof trace - 1, NULL, 0, &replayed) == FQ_NO_ROOM && replayed.length > 0, "a report");
     want(fq_machine_default(&machine) == FQ_OK, "settings");
     want(fq_machine(&machine, NULL, 0, NULL, 0, &ran) == FQ_BAD_ARRIVALS && ran.fault == 1, "a machine");

@@ -156,7 +156,7 @@ static uint32_t make_replay(void) {
 }
 static bool replay_works(void) { return memcmp(report, wanted, ROOM) == 0; }
 
-static const char arrivals[] = "moment,device,bytes\n0,1,60\n10,2,60\n10,1,1500\n900000,65,60\n";
+static const char arrivals[] = "ns,device,bytes\n0,1,60\n10,2,60\n10,1,1500\n900000,65,60\n";
 static uint8_t wanted_of_machine[ROOM];
 
 static uint32_t make_machine(void) {

@@ -30,7 +30,7 @@ static union at of_size(size_t size) {
 /* The objects and arrays of the calls. */
 static union any ring = {{false, NULL}}, tx = {{false, NULL}}, seat[2] = {{{false, NULL}}, {{false, NULL}}}, list = {{false, NULL}},
                  driver = {{false, NULL}}, none = {{false, NULL}};
-static const uint8_t trace[] = "moment,device,event,value\n", arrivals[] = "moment,device,bytes\n";
+static const uint8_t trace[] = "moment,device,event,value\n", arrivals[] = "ns,device,bytes\n";
 static uint8_t report[4096];
 static uint64_t due;
 

@@ -344,9 +344,9 @@ static void steps_of_drivers() {
 static void machines() {
     MachineSettings settings;
     want(settings.size == sizeof(fq_machine_settings) && settings.weight == 64 && settings.ring == 256, "the default settings");
-    const auto report = machine("moment,device,bytes\n1000,1,60\n", settings);
+    const auto report = machine("ns,device,bytes\n1000,1,60\n", settings);
     want(std::get<std::string>(report).rfind("device 1 arrived 1 dropped 0 polled 1 ", 0) == 0, "a report");
-    const auto fault = std::get<MachineFault>(machine("moment,device,bytes\n5,1,60\n4,1,60\n"));
+    const auto fault = std::get<MachineFault>(machine("ns,device,bytes\n5,1,60\n4,1,60\n"));
     want(fault.status == FQ_BAD_ARRIVALS && fault.fault == 8 && fault.row == 2 && fault.message == "arrivals fault 8 Falls row 2", "a fault");
     settings.weight = 65;
     const auto heavy = std::get<MachineFault>(machine("", settings));

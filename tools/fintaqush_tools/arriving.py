@@ -23,9 +23,9 @@ RECEIVED = re.compile(r"dev=(\S+) .*\blen=(\d{1,10})")
 LINK_HEADER = 14  # bytes of the Ethernet header, which is removed before a packet is received
 MOST_PACKET = 65535  # bytes
 HOW = {
-    BY_POLL: "a packet's moment is when the poll that took it began, or the interrupt that asked for this poll (napi_gro_receive_entry): its arrival "
+    BY_POLL: "a packet's time is when the poll that took it began, or the interrupt that asked for this poll (napi_gro_receive_entry): its arrival "
     "and a longer wait in the ring aren't recorded, nor is a packet that the card dropped",
-    BY_STACK: "a packet's moment is when the poll that took it began, or the interrupt that asked for this poll (netif_receive_skb): GRO may have merged "
+    BY_STACK: "a packet's time is when the poll that took it began, or the interrupt that asked for this poll (netif_receive_skb): GRO may have merged "
     "several packets to one, and what the card dropped isn't recorded",
 }
 

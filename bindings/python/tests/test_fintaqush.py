@@ -502,13 +502,13 @@ class TestMachine(Refusals):
         self.assertEqual([one.number for one in apart], [0, 1])
         self.assertEqual([one.application.wakes for one in apart], [2, 1])
         rows = "".join(f"{30000 * i},1,60\n" for i in range(2000))
-        arrivals = f"moment,device,bytes\n{rows}".encode()
+        arrivals = f"ns,device,bytes\n{rows}".encode()
         one_by_one, together = machine(arrivals), machine(arrivals, rx_nsecs=50000)
         self.assertGreater(one_by_one.processors[0].interrupts, together.processors[0].interrupts)
 
     def test_faults(self):
         for arrivals, number, row, line in ((b"", 1, 0, "arrivals fault 1 BadHeader row 0"),
-                                            (b"moment,device,bytes\n5,1,60\n4,1,60\n", 8, 2, "arrivals fault 8 Falls row 2")):
+                                            (b"ns,device,bytes\n5,1,60\n4,1,60\n", 8, 2, "arrivals fault 8 Falls row 2")):
             with self.assertRaises(ArrivalsFault) as raised:
                 machine(arrivals)
             fault = raised.exception

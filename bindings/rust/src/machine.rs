@@ -58,7 +58,7 @@ impl Error for MachineFault {}
 /// use fintaqush::{machine, MachineFault, MachineSettings};
 ///
 /// let settings = MachineSettings { rx_nsecs: 50_000, ..MachineSettings::default() };
-/// let report = machine(b"moment,device,bytes\n1000,1,60\n", &settings).unwrap();
+/// let report = machine(b"ns,device,bytes\n1000,1,60\n", &settings).unwrap();
 /// assert!(report.starts_with(b"device 1 arrived 1 dropped 0 polled 1 "));
 ///
 /// let refused = machine(b"", &settings).unwrap_err();

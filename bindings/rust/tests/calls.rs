@@ -1019,7 +1019,7 @@ fn the_machine_reports_what_its_program_does() {
         report,
         include_bytes!("../../../crates/napi_machine/stdout")
     );
-    let falls = machine(b"moment,device,bytes\n5,1,60\n4,1,60\n", &settings).unwrap_err();
+    let falls = machine(b"ns,device,bytes\n5,1,60\n4,1,60\n", &settings).unwrap_err();
     let message = "arrivals fault 8 Falls row 2".to_string();
     assert_eq!(falls.to_string(), message);
     assert_eq!(
@@ -1052,7 +1052,7 @@ fn the_machine_reports_what_its_program_does() {
     let many: String = (0..4000)
         .map(|i| format!("{i},{},60\n", i % 64 + 1))
         .collect();
-    let many = format!("moment,device,bytes\n{many}");
+    let many = format!("ns,device,bytes\n{many}");
     assert!(machine(many.as_bytes(), &settings).unwrap().len() > 4096);
 }
 
