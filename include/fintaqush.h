@@ -5,13 +5,13 @@
  * The other calls return a value, the length of a text, a struct or nothing, as their comments say. A call that isn't allowed in the
  * object's state returns FQ_NOT_ALLOWED and changes nothing.
  *
- * What the caller must ensure, because nothing here can check it:
+ * What the program must ensure, because nothing here can check it:
  * - A pointer points to a whole object of its type, or to as many as its count says. None is null, except that of an array whose count
  *   is 0. No two arguments of one call point to the same memory.
  * - Calls on one object don't overlap, not even two that only read, which take a pointer to const. An object may move from thread to
- *   thread if a lock, a thread's start or join, or a sequentially consistent atomic orders the calls. The ring's input, each seat and the
+ *   thread if a lock, a thread's start or join, or a sequentially consistent atomic orders the calls. The ring's input, each caller and the
  *   controller of one shared instance are separate objects, which may be used at the same time, each by one thread.
- * - A handle (struct fq_ring, fq_tx, fq_seat, fq_control, fq_list, fq_driver) or fq_dql isn't copied, and only calls write its fields. An
+ * - A handle (struct fq_ring, fq_tx, fq_caller, fq_control, fq_list, fq_driver) or fq_dql isn't copied, and only calls write its fields. An
  *   unset handle is all zero.
  * - No call is made from a signal handler, or from the forked child of a process with threads.
  *
@@ -21,7 +21,7 @@
  * size, smaller or larger, a call returns FQ_BAD_SIZE: this check is its first, it writes nothing, and nothing changes. No call writes
  * beyond `size`, or changes it. After another error a struct is unchanged, unless the call's comment says otherwise.
  *
- * No call blocks, sleeps, locks or starts a thread. fq_seat_schedule_prep, fq_seat_complete_done, fq_seat_end and fq_control_step, and
+ * No call blocks, sleeps, locks or starts a thread. fq_caller_schedule_prep, fq_caller_complete_done, fq_caller_end and fq_control_step, and
  * the inline functions over them, repeat an attempt while other threads change the instance: some thread always makes progress. Every
  * call returns: after 2^64 attempts, which take centuries, these return FQ_CHANGED, and do nothing more. fq_ring_new, fq_ring_split,
  * fq_tx_new, fq_list_new, fq_driver_new, fq_shared_new, fq_shared_bare, fq_replay, fq_raise and fq_machine allocate memory, after they have
@@ -119,7 +119,7 @@ enum fq_status FQ_NUMBER {
     FQ_BAD_WEIGHT = 114,       /* a weight is 1 to 64 packets */
     FQ_NO_ROOM = 115,          /* the array is too short */
     FQ_BAD_BUDGET = 116,       /* budget and window are 1 to 65535 */
-    FQ_BAD_COUNT = 117,        /* a shared instance has 2 to 8 seats, a driver 1 to 64 devices */
+    FQ_BAD_COUNT = 117,        /* a shared instance has 2 to 8 callers, a driver 1 to 64 devices */
     FQ_BAD_NEXT = 118,         /* how a poll ended is 0 to 4 (enum fq_next) */
     FQ_BAD_WORK = 119,         /* a poll is reported with more packets than the weight */
     FQ_BAD_TRACE = 120,        /* replay, raise: the bytes are not a trace, or a row of it can't be processed */
@@ -200,7 +200,7 @@ enum fq_next FQ_NUMBER {
 #define FQ_BIT_QUEUED (UINT64_C(1) << 32) /* on a poll list, and not taken yet */
 #define FQ_BIT_TO_THREAD (UINT64_C(1) << 33) /* queued for its thread, and not taken yet */
 
-/* ---- dql: byte queue limits (lib/dynamic_queue_limits.c). They are in the caller's memory. Times are milliseconds of the caller's
+/* ---- dql: byte queue limits (lib/dynamic_queue_limits.c). They are in the program's memory. Times are milliseconds of the program's
  * clock. */
 
 /* A byte queue limit. It isn't copied, and only calls write its fields. */
@@ -236,7 +236,7 @@ FQ_NONNULL static inline int64_t fq_dql_avail_here(const struct fq_dql *dql) {
     return (int64_t)dql->private_a[3] - (int64_t)fq_dql_in_flight_here(dql);
 }
 
-/* ---- napi: an instance of one thread (struct napi_struct). It is in the caller's memory. A caller is a number; the controller's is set
+/* ---- napi: an instance of one thread (struct napi_struct). It is in the program's memory. A caller is a number; the controller's is set
  * when the instance is made. Any bytes of the struct represent a state, the same one in all calls. */
 
 /* An instance of one thread. Each flag is set unless its byte is 0. */
@@ -255,7 +255,7 @@ struct fq_napi {
 
 /* Returns a new instance (netif_napi_add), which is disabled. */
 struct fq_napi fq_napi_new(uint32_t controller);
-/* Like fq_napi_new, in the caller's struct. */
+/* Like fq_napi_new, in the program's struct. */
 FQ_NONNULL void fq_napi_init(struct fq_napi *napi, uint32_t controller);
 /* Requests a poll (napi_schedule_prep). Returns FQ_GRANTED; FQ_MISSED; FQ_DISABLED. */
 FQ_CHECKED enum fq_status fq_napi_schedule(struct fq_napi *napi, uint32_t who);
@@ -300,7 +300,7 @@ struct fq_handle {
 /* The handles, with a type for each kind of object. The calls on an object of any kind take its member: `fq_free(&ring.handle)`. */
 struct fq_ring { struct fq_handle handle; };    /* a receive ring, or its input or its poll end */
 struct fq_tx { struct fq_handle handle; };      /* a transmit ring */
-struct fq_seat { struct fq_handle handle; };    /* a caller of a shared instance */
+struct fq_caller { struct fq_handle handle; };  /* a caller of a shared instance */
 struct fq_control { struct fq_handle handle; }; /* the controller of a shared instance */
 struct fq_list { struct fq_handle handle; };    /* a poll list, and the run over it */
 struct fq_driver { struct fq_handle handle; };  /* a driver */
@@ -308,10 +308,11 @@ struct fq_driver { struct fq_handle handle; };  /* a driver */
 /* An unset handle: it refers to no object. */
 #define FQ_NONE {{false, NULL}}
 
-/* Frees the object of a handle, which is unset after that. AN OBJECT IN USE IS NOT FREED: for a seat that isn't at rest, a controller that
+/* Frees the object of a handle, which is unset after that. AN OBJECT IN USE IS NOT FREED: for a caller that isn't at rest, a controller that
  * isn't off, and a list in a run it returns FQ_NOT_ALLOWED, and the handle still has its object, which leaks unless a later call frees it.
- * Rings, transmit rings and drivers are freed in any state; packets in a ring are lost, so poll them before. Returns FQ_OK; FQ_BAD_HANDLE;
- * FQ_NOT_ALLOWED. */
+ * The others are freed in any state: a ring with packets, which are lost, so poll them before; one end of a ring that was split, or the
+ * input of an instance's ring, whose other end stays; a transmit ring with packets; a list with numbers; a driver with open devices. Returns
+ * FQ_OK; FQ_BAD_HANDLE; FQ_NOT_ALLOWED. */
 FQ_CHECKED enum fq_status fq_free(struct fq_handle *handle);
 /* Frees the object of a handle in any state, so nothing leaks. Returns FQ_OK; FQ_BAD_HANDLE. An instance whose poller was abandoned is never polled again.
  * The status may be ignored. */
@@ -323,7 +324,7 @@ FQ_CHECKED enum fq_status fq_move(struct fq_handle *FQ_RESTRICT from, struct fq_
 
 /* A packet. */
 struct fq_packet {
-    uint64_t number; /* a number that the caller chooses: an index, a pointer */
+    uint64_t number; /* a number that the program chooses: an index, a pointer */
     uint32_t bytes;  /* its size in bytes */
 };
 
@@ -358,7 +359,7 @@ struct fq_totals {
 };
 
 /* Sets *counts to the counts of a ring's polls. The handle has to own the poll end: it is a ring, or the poll end of one that was split;
- * a seat that polls; the controller of a disabled instance. Returns FQ_OK; FQ_BAD_HANDLE; FQ_NOT_ALLOWED for any other. */
+ * a caller that polls; the controller of a disabled instance. Returns FQ_OK; FQ_BAD_HANDLE; FQ_NOT_ALLOWED for any other. */
 FQ_CHECKED enum fq_status fq_count_sized(const struct fq_handle *FQ_RESTRICT handle, struct fq_counts *FQ_RESTRICT counts);
 FQ_CHECKED static inline enum fq_status fq_count(const struct fq_handle *FQ_RESTRICT handle, struct fq_counts *FQ_RESTRICT counts) {
     counts->size = sizeof *counts;
@@ -391,10 +392,10 @@ FQ_CHECKED static inline enum fq_status fq_ring_finish(struct fq_ring *FQ_RESTRI
 }
 
 /* ---- tx: transmit rings under a byte queue limit (netdev_tx_sent_queue, netdev_tx_completed_queue). The ring keeps the sizes of the
- * packets that were sent and aren't completed, in order; the packets themselves stay with the caller. Times are milliseconds. */
+ * packets that were sent and aren't completed, in order; the packets themselves stay with the program. Times are milliseconds. */
 
 /* The state of a transmit ring. */
-struct fq_tx_state {
+struct fq_tx_shown {
     size_t size;        /* the size of this struct */
     uint32_t queued;    /* the bytes of all packets ever sent, modulo 2^32 */
     uint32_t completed; /* the bytes of all packets ever completed, modulo 2^32: queued - completed are in flight */
@@ -414,8 +415,8 @@ FQ_CHECKED enum fq_status fq_tx_send(struct fq_tx *tx, uint32_t bytes);
  * if the limit has room again. Returns FQ_OK; FQ_MORE_THAN_SENT, and nothing is completed; FQ_BAD_HANDLE. */
 FQ_CHECKED enum fq_status fq_tx_done(struct fq_tx *tx, uint32_t count, uint64_t now_ms);
 /* Sets *state to the state of the ring. Returns FQ_OK; FQ_BAD_HANDLE. */
-FQ_CHECKED enum fq_status fq_tx_state_sized(const struct fq_tx *FQ_RESTRICT tx, struct fq_tx_state *FQ_RESTRICT state);
-FQ_CHECKED static inline enum fq_status fq_tx_state(const struct fq_tx *FQ_RESTRICT tx, struct fq_tx_state *FQ_RESTRICT state) {
+FQ_CHECKED enum fq_status fq_tx_state_sized(const struct fq_tx *FQ_RESTRICT tx, struct fq_tx_shown *FQ_RESTRICT state);
+FQ_CHECKED static inline enum fq_status fq_tx_state(const struct fq_tx *FQ_RESTRICT tx, struct fq_tx_shown *FQ_RESTRICT state) {
     state->size = sizeof *state;
     return fq_tx_state_sized(tx, state);
 }
@@ -434,37 +435,37 @@ FQ_CHECKED enum fq_status fq_tx_watch(const struct fq_tx *FQ_RESTRICT tx, struct
 
 /* ---- shared: instances that threads share. */
 
-/* Makes an instance over the ring's poll end, with its controller and an array of `count` (2 to 8) seats, one for each caller. It is
- * disabled. After it, `ring` is only the ring's input. Returns FQ_OK; FQ_IN_USE; FQ_BAD_COUNT; FQ_BAD_HANDLE; FQ_OUT_OF_MEMORY. */
-FQ_CHECKED_AT(1, 2) enum fq_status fq_shared_new(struct fq_ring *FQ_RESTRICT ring, struct fq_control *FQ_RESTRICT control, struct fq_seat *FQ_RESTRICT seats, size_t count);
+/* Makes an instance over the ring's poll end, with its controller and an array of `count` (2 to 8) callers. It is disabled. After
+ * it, `ring` is only the ring's input. Returns FQ_OK; FQ_IN_USE; FQ_BAD_COUNT; FQ_BAD_HANDLE; FQ_OUT_OF_MEMORY. */
+FQ_CHECKED_AT(1, 2) enum fq_status fq_shared_new(struct fq_ring *FQ_RESTRICT ring, struct fq_control *FQ_RESTRICT control, struct fq_caller *FQ_RESTRICT callers, size_t count);
 
-/* Makes an instance without a ring, for a card that the caller polls itself; fq_seat_poll returns no packets. Otherwise like
+/* Makes an instance without a ring, for a card that the program polls itself; fq_caller_poll returns no packets. Otherwise like
  * fq_shared_new. Returns FQ_OK; FQ_IN_USE; FQ_BAD_COUNT; FQ_OUT_OF_MEMORY. */
-FQ_CHECKED_AT(1) enum fq_status fq_shared_bare(struct fq_control *FQ_RESTRICT control, struct fq_seat *FQ_RESTRICT seats, size_t count);
+FQ_CHECKED_AT(1) enum fq_status fq_shared_bare(struct fq_control *FQ_RESTRICT control, struct fq_caller *FQ_RESTRICT callers, size_t count);
 
-/* The calls of a seat, which is one caller of the instance. Each makes one attempt, after checks for FQ_BAD_KIND, FQ_BAD_WEIGHT,
- * FQ_NO_ROOM and FQ_BAD_HANDLE; fq_seat_schedule_prep and fq_seat_complete_done repeat it while another thread changes the instance. A
- * seat at rest, which owns nothing, may request a poll (napi_schedule_prep), take the instance from the list or as its thread, take it to
+/* The calls of a caller of a shared instance. Each makes one attempt, after checks for FQ_BAD_KIND, FQ_BAD_WEIGHT,
+ * FQ_NO_ROOM and FQ_BAD_HANDLE; fq_caller_schedule_prep and fq_caller_complete_done repeat it while another thread changes the instance. A
+ * caller at rest, which owns nothing, may request a poll (napi_schedule_prep), take the instance from the list or as its thread, take it to
  * busy poll it (napi_busy_loop), and set whether polls are queued for its thread (dev_set_threaded). */
-FQ_CHECKED enum fq_status fq_seat_schedule(struct fq_seat *seat);      /* FQ_GRANTED, FQ_MISSED, FQ_DISABLED, FQ_CHANGED */
-FQ_CHECKED enum fq_status fq_seat_schedule_prep(struct fq_seat *seat); /* FQ_GRANTED, FQ_MISSED, FQ_DISABLED */
-FQ_CHECKED enum fq_status fq_seat_take(struct fq_seat *seat, uint32_t kind); /* FQ_TAKEN, FQ_NOT_THERE */
-FQ_CHECKED enum fq_status fq_seat_busy_take(struct fq_seat *seat); /* FQ_TAKEN, FQ_BUSY, FQ_CHANGED */
-FQ_CHECKED enum fq_status fq_seat_set_threaded(struct fq_seat *seat, bool threaded); /* FQ_OK */
-/* A seat that was granted the instance has to queue it (____napi_schedule). */
-FQ_CHECKED enum fq_status fq_seat_hand(struct fq_seat *seat, uint32_t kind); /* FQ_OK */
-/* A seat that polls may poll the ring, like fq_ring_poll, and then requeues the instance or completes (napi_complete_done). */
-FQ_CHECKED_AT(1, 5) enum fq_status fq_seat_poll(struct fq_seat *FQ_RESTRICT seat, size_t weight, struct fq_packet *FQ_RESTRICT out, size_t len, size_t *FQ_RESTRICT count);
-FQ_CHECKED enum fq_status fq_seat_requeue(struct fq_seat *seat);       /* FQ_OK: it is on the list again */
-FQ_CHECKED enum fq_status fq_seat_complete(struct fq_seat *seat);      /* FQ_RELEASED, FQ_AGAIN, FQ_CHANGED; FQ_HELD for a busy poller */
-FQ_CHECKED enum fq_status fq_seat_complete_done(struct fq_seat *seat); /* FQ_RELEASED, FQ_AGAIN; FQ_HELD for a busy poller */
-/* A seat that busy polls may poll and complete, and stops (busy_poll_stop): it then polls once more. */
-FQ_CHECKED enum fq_status fq_seat_busy_stop(struct fq_seat *seat); /* FQ_OK, FQ_CHANGED */
+FQ_CHECKED enum fq_status fq_caller_schedule(struct fq_caller *caller);      /* FQ_GRANTED, FQ_MISSED, FQ_DISABLED, FQ_CHANGED */
+FQ_CHECKED enum fq_status fq_caller_schedule_prep(struct fq_caller *caller); /* FQ_GRANTED, FQ_MISSED, FQ_DISABLED */
+FQ_CHECKED enum fq_status fq_caller_take(struct fq_caller *caller, uint32_t kind); /* FQ_TAKEN, FQ_NOT_THERE */
+FQ_CHECKED enum fq_status fq_caller_busy_take(struct fq_caller *caller); /* FQ_TAKEN, FQ_BUSY, FQ_CHANGED */
+FQ_CHECKED enum fq_status fq_caller_set_threaded(struct fq_caller *caller, bool threaded); /* FQ_OK */
+/* A caller that was granted the instance has to queue it (____napi_schedule). */
+FQ_CHECKED enum fq_status fq_caller_hand(struct fq_caller *caller, uint32_t kind); /* FQ_OK */
+/* A caller that polls may poll the ring, like fq_ring_poll, and then requeues the instance or completes (napi_complete_done). */
+FQ_CHECKED_AT(1, 5) enum fq_status fq_caller_poll(struct fq_caller *FQ_RESTRICT caller, size_t weight, struct fq_packet *FQ_RESTRICT out, size_t len, size_t *FQ_RESTRICT count);
+FQ_CHECKED enum fq_status fq_caller_requeue(struct fq_caller *caller);       /* FQ_OK: it is on the list again */
+FQ_CHECKED enum fq_status fq_caller_complete(struct fq_caller *caller);      /* FQ_RELEASED, FQ_AGAIN, FQ_CHANGED; FQ_HELD for a busy poller */
+FQ_CHECKED enum fq_status fq_caller_complete_done(struct fq_caller *caller); /* FQ_RELEASED, FQ_AGAIN; FQ_HELD for a busy poller */
+/* A caller that busy polls may poll and complete, and stops (busy_poll_stop): it then polls once more. */
+FQ_CHECKED enum fq_status fq_caller_busy_stop(struct fq_caller *caller); /* FQ_OK, FQ_CHANGED */
 
-/* Sets *word to the state word, a sum of FQ_BIT_.., in any state of the seat. Returns FQ_OK; FQ_BAD_HANDLE. */
-FQ_CHECKED enum fq_status fq_seat_look(struct fq_seat *FQ_RESTRICT seat, uint64_t *FQ_RESTRICT word);
+/* Sets *word to the state word, a sum of FQ_BIT_.., in any state of the caller. Returns FQ_OK; FQ_BAD_HANDLE. */
+FQ_CHECKED enum fq_status fq_caller_look(struct fq_caller *FQ_RESTRICT caller, uint64_t *FQ_RESTRICT word);
 
-/* How often a seat's calls returned each result. Each count saturates at its maximum. */
+/* How often a caller's calls returned each result. Each count saturates at its maximum. */
 struct fq_answers {
     size_t size;       /* the size of this struct */
     uint64_t granted;  /* requests that were granted */
@@ -476,11 +477,11 @@ struct fq_answers {
     uint64_t changed;  /* attempts of any call that failed because another thread changed the instance */
 };
 
-/* Sets *answers to how often the seat's calls returned each result since it was made. Returns FQ_OK; FQ_BAD_HANDLE. */
-FQ_CHECKED enum fq_status fq_seat_count_sized(const struct fq_seat *FQ_RESTRICT seat, struct fq_answers *FQ_RESTRICT answers);
-FQ_CHECKED static inline enum fq_status fq_seat_count(const struct fq_seat *FQ_RESTRICT seat, struct fq_answers *FQ_RESTRICT answers) {
+/* Sets *answers to how often the caller's calls returned each result since it was made. Returns FQ_OK; FQ_BAD_HANDLE. */
+FQ_CHECKED enum fq_status fq_caller_count_sized(const struct fq_caller *FQ_RESTRICT caller, struct fq_answers *FQ_RESTRICT answers);
+FQ_CHECKED static inline enum fq_status fq_caller_count(const struct fq_caller *FQ_RESTRICT caller, struct fq_answers *FQ_RESTRICT answers) {
     answers->size = sizeof *answers;
-    return fq_seat_count_sized(seat, answers);
+    return fq_caller_count_sized(caller, answers);
 }
 
 /* The callbacks of a driver for its card. Each is called with `at`. A callback that a call doesn't use may be null. */
@@ -494,92 +495,92 @@ struct fq_card {
 
 /* Queues a granted instance as the kernel does (____napi_schedule): for its thread if FQ_BIT_THREADED is set. Sets *next to
  * FQ_NEXT_AGAIN or FQ_NEXT_AGAIN_THREAD. Returns FQ_OK; FQ_BAD_HANDLE; FQ_NOT_ALLOWED. *next is FQ_NEXT_GONE unless it returns FQ_OK. */
-FQ_CHECKED enum fq_status fq_seat_hand_again(struct fq_seat *FQ_RESTRICT seat, uint32_t *FQ_RESTRICT next);
+FQ_CHECKED enum fq_status fq_caller_hand_again(struct fq_caller *FQ_RESTRICT caller, uint32_t *FQ_RESTRICT next);
 
-/* Handles an interrupt: requests a poll (fq_seat_schedule_prep); if granted, masks the card and queues the instance, in the kernel's
+/* Handles an interrupt: requests a poll (fq_caller_schedule_prep); if granted, masks the card and queues the instance, in the kernel's
  * order: if the card were masked after that, it would stay masked whenever the poller is faster. `kind` follows FQ_BIT_THREADED, which
- * fq_seat_request reads itself. Returns FQ_BAD_KIND; FQ_GRANTED, and the instance is queued; FQ_MISSED; FQ_DISABLED; FQ_BAD_HANDLE;
+ * fq_caller_request reads itself. Returns FQ_BAD_KIND; FQ_GRANTED, and the instance is queued; FQ_MISSED; FQ_DISABLED; FQ_BAD_HANDLE;
  * FQ_NOT_ALLOWED. */
-FQ_CHECKED static inline enum fq_status fq_seat_interrupt_masked(struct fq_seat *seat, uint32_t kind, const struct fq_card *card) {
+FQ_CHECKED static inline enum fq_status fq_caller_interrupt_masked(struct fq_caller *caller, uint32_t kind, const struct fq_card *card) {
     if (kind > FQ_THREAD) return FQ_BAD_KIND;
-    const enum fq_status said = fq_seat_schedule_prep(seat);
+    const enum fq_status said = fq_caller_schedule_prep(caller);
     if (said != FQ_GRANTED) return said;
     if (card->mask != NULL) card->mask(card->at);
-    const enum fq_status handed = fq_seat_hand(seat, kind);
+    const enum fq_status handed = fq_caller_hand(caller, kind);
     return handed == FQ_OK ? said : handed;
 }
 
-/* Like fq_seat_interrupt_masked, for a card that is masked already, or is never masked. */
-FQ_CHECKED static inline enum fq_status fq_seat_interrupt(struct fq_seat *seat, uint32_t kind) {
+/* Like fq_caller_interrupt_masked, for a card that is masked already, or is never masked. */
+FQ_CHECKED static inline enum fq_status fq_caller_interrupt(struct fq_caller *caller, uint32_t kind) {
     const struct fq_card none = {NULL, NULL, NULL, NULL, NULL};
-    return fq_seat_interrupt_masked(seat, kind, &none);
+    return fq_caller_interrupt_masked(caller, kind, &none);
 }
 
-/* Requests a poll (napi_schedule), from an interrupt, a timer or a driver's open. Like fq_seat_interrupt_masked, but reads the kind from
+/* Requests a poll (napi_schedule), from an interrupt, a timer or a driver's open. Like fq_caller_interrupt_masked, but reads the kind from
  * the state word. Sets *next to where the instance is queued: after FQ_NEXT_AGAIN list the number, after FQ_NEXT_AGAIN_THREAD wake the
  * thread; FQ_NEXT_GONE unless it returns FQ_GRANTED. Returns FQ_GRANTED; FQ_MISSED; FQ_DISABLED; FQ_BAD_HANDLE; FQ_NOT_ALLOWED. */
-FQ_CHECKED static inline enum fq_status fq_seat_request(struct fq_seat *FQ_RESTRICT seat, const struct fq_card *FQ_RESTRICT card, uint32_t *FQ_RESTRICT next) {
+FQ_CHECKED static inline enum fq_status fq_caller_request(struct fq_caller *FQ_RESTRICT caller, const struct fq_card *FQ_RESTRICT card, uint32_t *FQ_RESTRICT next) {
     *next = FQ_NEXT_GONE;
-    const enum fq_status said = fq_seat_schedule_prep(seat);
+    const enum fq_status said = fq_caller_schedule_prep(caller);
     if (said != FQ_GRANTED) return said;
     if (card->mask != NULL) card->mask(card->at);
-    const enum fq_status handed = fq_seat_hand_again(seat, next);
+    const enum fq_status handed = fq_caller_hand_again(caller, next);
     return handed == FQ_OK ? said : handed;
 }
 
 /* Ends a poll as the kernel does (__napi_poll). `full` says that it returned its whole weight. After a full poll, if no disable is
- * pending, a seat that took the instance from the list puts it on the list again, and one that took it as its thread polls again, at
- * once (FQ_HELD). After any other poll the instance is completed (fq_seat_complete_done), and queued again if a request was missed
- * (fq_seat_hand_again). Sets *next to how the poll ended, for fq_run_polled: FQ_NEXT_GONE, FQ_NEXT_AGAIN, FQ_NEXT_AGAIN_THREAD,
+ * pending, a caller that took the instance from the list puts it on the list again, and one that took it as its thread polls again, at
+ * once (FQ_HELD). After any other poll the instance is completed (fq_caller_complete_done), and queued again if a request was missed
+ * (fq_caller_hand_again). Sets *next to how the poll ended, for fq_run_polled: FQ_NEXT_GONE, FQ_NEXT_AGAIN, FQ_NEXT_AGAIN_THREAD,
  * FQ_NEXT_REPOLL. After FQ_NEXT_AGAIN and FQ_NEXT_REPOLL the number still has to be listed, after FQ_NEXT_AGAIN_THREAD the thread still
- * has to be woken; that may follow a poll from the list too. Returns FQ_OK; FQ_HELD: the seat keeps polling, as a busy poller does;
- * FQ_NOT_ALLOWED if it doesn't poll; FQ_BAD_HANDLE. *next is FQ_NEXT_GONE unless it returns FQ_OK. A seat polls as the thread while
- * FQ_BIT_SCHED_THREADED is set, which fq_seat_requeue doesn't clear. */
-FQ_CHECKED enum fq_status fq_seat_end(struct fq_seat *FQ_RESTRICT seat, bool full, uint32_t *FQ_RESTRICT next);
+ * has to be woken; that may follow a poll from the list too. Returns FQ_OK; FQ_HELD: the caller keeps polling, as a busy poller does;
+ * FQ_NOT_ALLOWED if it doesn't poll; FQ_BAD_HANDLE. *next is FQ_NEXT_GONE unless it returns FQ_OK. A caller polls as the thread while
+ * FQ_BIT_SCHED_THREADED is set, which fq_caller_requeue doesn't clear. */
+FQ_CHECKED enum fq_status fq_caller_end(struct fq_caller *FQ_RESTRICT caller, bool full, uint32_t *FQ_RESTRICT next);
 
 #if defined(__GNUC__)
-/* Ends a poll of a card whose queue can be checked by `look`. Like fq_seat_end; and if the instance was released, unmasks the card, and
+/* Ends a poll of a card whose queue can be checked by `look`. Like fq_caller_end; and if the instance was released, unmasks the card, and
  * looks after a memory fence. If there is something to poll, it requests a poll itself, masks the card and queues the instance. Without
  * this look an edge-triggered interrupt would be lost. If FQ_BIT_THREADED was set meanwhile, the instance is queued for its thread: wake
- * it after FQ_NEXT_AGAIN_THREAD. Returns what fq_seat_end returns. */
-FQ_CHECKED static inline enum fq_status fq_seat_end_watched(struct fq_seat *FQ_RESTRICT seat, bool full, const struct fq_card *FQ_RESTRICT card, uint32_t *FQ_RESTRICT next) {
-    enum fq_status said = fq_seat_end(seat, full, next);
+ * it after FQ_NEXT_AGAIN_THREAD. Returns what fq_caller_end returns. */
+FQ_CHECKED static inline enum fq_status fq_caller_end_watched(struct fq_caller *FQ_RESTRICT caller, bool full, const struct fq_card *FQ_RESTRICT card, uint32_t *FQ_RESTRICT next) {
+    enum fq_status said = fq_caller_end(caller, full, next);
     if (said != FQ_OK || *next != FQ_NEXT_GONE) return said;
     card->unmask(card->at);
     __sync_synchronize();
     if (!card->look(card->at)) return FQ_OK;
-    said = fq_seat_request(seat, card, next); /* FQ_MISSED: another caller has requested a poll; FQ_DISABLED: a disable is pending */
+    said = fq_caller_request(caller, card, next); /* FQ_MISSED: another caller has requested a poll; FQ_DISABLED: a disable is pending */
     return said == FQ_GRANTED || said == FQ_MISSED || said == FQ_DISABLED ? FQ_OK : said;
 }
 #endif
 
 /* Ends a poll of a card whose queue can't be checked. *work is the number of packets polled so far. If it is below `weight`, unmasks the
- * card while the seat still polls, polls the rest of the weight, adds that to *work, and ends like fq_seat_end, full or not. A request
+ * card while the caller still polls, polls the rest of the weight, adds that to *work, and ends like fq_caller_end, full or not. A request
  * that comes meanwhile is missed, so that one more poll follows; for that poll, and if this one was full, the card is masked. Returns
- * FQ_BAD_WEIGHT if the weight isn't 1 to 64, and nothing is done; otherwise what fq_seat_end returns. */
-FQ_CHECKED static inline enum fq_status fq_seat_end_unmasked(struct fq_seat *FQ_RESTRICT seat, const struct fq_card *FQ_RESTRICT card, size_t weight, size_t *FQ_RESTRICT work, uint32_t *FQ_RESTRICT next) {
-    struct fq_counts counts; /* only for its status: FQ_OK if the seat polls */
+ * FQ_BAD_WEIGHT if the weight isn't 1 to 64, and nothing is done; otherwise what fq_caller_end returns. */
+FQ_CHECKED static inline enum fq_status fq_caller_end_unmasked(struct fq_caller *FQ_RESTRICT caller, const struct fq_card *FQ_RESTRICT card, size_t weight, size_t *FQ_RESTRICT work, uint32_t *FQ_RESTRICT next) {
+    struct fq_counts counts; /* only for its status: FQ_OK if the caller polls */
     uint64_t word;
     *next = FQ_NEXT_GONE;
     if (weight < 1 || weight > 64) return FQ_BAD_WEIGHT;
-    enum fq_status said = fq_seat_look(seat, &word);
-    if (said == FQ_OK && word & FQ_BIT_IN_BUSY_POLL) return fq_seat_end(seat, false, next);
-    if (said == FQ_OK) said = fq_count(&seat->handle, &counts);
+    enum fq_status said = fq_caller_look(caller, &word);
+    if (said == FQ_OK && word & FQ_BIT_IN_BUSY_POLL) return fq_caller_end(caller, false, next);
+    if (said == FQ_OK) said = fq_count(&caller->handle, &counts);
     if (said != FQ_OK) return said;
     if (*work < weight) {
         card->unmask(card->at);
         *work += card->poll(card->at, weight - *work);
         if (*work >= weight) card->mask(card->at);
     }
-    if (*work >= weight) return fq_seat_end(seat, true, next);
-    said = fq_seat_complete_done(seat);
+    if (*work >= weight) return fq_caller_end(caller, true, next);
+    said = fq_caller_complete_done(caller);
     if (said != FQ_AGAIN) return said == FQ_RELEASED ? FQ_OK : said;
     card->mask(card->at);
-    return fq_seat_hand_again(seat, next);
+    return fq_caller_hand_again(caller, next);
 }
 
 /* The calls of the controller. If the instance is off: enable (napi_enable). If it is on: mark. If it is marked: try to take, until that
- * returns FQ_TAKEN, and the instance is off again (napi_disable). Request a poll once after each enable, by a seat (fq_seat_request), or
+ * returns FQ_TAKEN, and the instance is off again (napi_disable). Request a poll once after each enable, by a caller (fq_caller_request), or
  * enable by fq_control_open, which does so: an earlier request was missed and isn't polled, and a masked card with a full ring would wait
  * forever. */
 FQ_CHECKED enum fq_status fq_control_enable(struct fq_control *control, bool threaded); /* FQ_OK, FQ_CHANGED */
@@ -592,22 +593,22 @@ FQ_CHECKED enum fq_status fq_control_try_take(struct fq_control *control);      
  * to open one that isn't off; FQ_BAD_HANDLE. */
 FQ_CHECKED enum fq_status fq_control_step(struct fq_control *control, bool on, bool threaded);
 
-/* Returns FQ_OK if the seat belongs to the controller's instance, otherwise FQ_BAD_HANDLE. */
-FQ_CHECKED enum fq_status fq_control_has(const struct fq_control *FQ_RESTRICT control, const struct fq_seat *FQ_RESTRICT seat);
+/* Returns FQ_OK if the caller belongs to the controller's instance, otherwise FQ_BAD_HANDLE. */
+FQ_CHECKED enum fq_status fq_control_has(const struct fq_control *FQ_RESTRICT control, const struct fq_caller *FQ_RESTRICT caller);
 
-/* Opens a driver's instance: enables it, and requests a poll once by a seat at rest (as virtnet_napi_enable does), so that what came
- * while it was off is polled. Returns, and sets *next, like fq_seat_request: FQ_GRANTED, and the number has to be listed or the thread
- * woken; FQ_MISSED: another seat has requested a poll meanwhile; FQ_NOT_ALLOWED, and nothing is done, if the controller isn't off;
- * FQ_NOT_ALLOWED also if the seat isn't at rest: then the instance is enabled, and a poll still has to be requested; FQ_BAD_HANDLE, and
- * nothing is done, also if the seat is another instance's. It never returns FQ_DISABLED, which a seat gets while its instance is being disabled. */
-FQ_CHECKED static inline enum fq_status fq_control_open(struct fq_control *FQ_RESTRICT control, bool threaded, struct fq_seat *FQ_RESTRICT seat, const struct fq_card *FQ_RESTRICT card, uint32_t *FQ_RESTRICT next) {
+/* Opens a driver's instance: enables it, and requests a poll once by a caller at rest (as virtnet_napi_enable does), so that what came
+ * while it was off is polled. Returns, and sets *next, like fq_caller_request: FQ_GRANTED, and the number has to be listed or the thread
+ * woken; FQ_MISSED: another caller has requested a poll meanwhile; FQ_NOT_ALLOWED, and nothing is done, if the controller isn't off;
+ * FQ_NOT_ALLOWED also if the caller isn't at rest: then the instance is enabled, and a poll still has to be requested; FQ_BAD_HANDLE, and
+ * nothing is done, also if the caller is another instance's. It never returns FQ_DISABLED, which a caller gets while its instance is being disabled. */
+FQ_CHECKED static inline enum fq_status fq_control_open(struct fq_control *FQ_RESTRICT control, bool threaded, struct fq_caller *FQ_RESTRICT caller, const struct fq_card *FQ_RESTRICT card, uint32_t *FQ_RESTRICT next) {
     *next = FQ_NEXT_GONE;
-    enum fq_status said = fq_control_has(control, seat);
+    enum fq_status said = fq_control_has(control, caller);
     if (said == FQ_OK) said = fq_control_step(control, true, threaded);
-    return said == FQ_OK ? fq_seat_request(seat, card, next) : said;
+    return said == FQ_OK ? fq_caller_request(caller, card, next) : said;
 }
 
-/* ---- run: poll lists and polling runs (net_rx_action). The caller drives a run: fq_run_begin; while fq_run_next returns FQ_OK, poll that
+/* ---- run: poll lists and polling runs (net_rx_action). The program drives a run: fq_run_begin; while fq_run_next returns FQ_OK, poll that
  * device and report the poll by fq_run_polled; fq_run_end. Each call on a list checks for FQ_BAD_HANDLE first. */
 
 /* The report of a polling run. */
@@ -675,7 +676,7 @@ FQ_CHECKED static inline enum fq_status fq_run_end(struct fq_list *FQ_RESTRICT l
  * Any order of calls is safe: what isn't due returns FQ_NOT_DUE and changes nothing. It says to sleep only if each device is closed, or
  * its card was unmasked, was looked at after that and had no packets, and nothing is on the poll list. So no packet waits unseen if the
  * card interrupts for each packet that arrives while it is unmasked, even if it forgets those that arrive while it is masked (edges).
- * Packets stay with the caller: they are in the card until a fetch takes them.
+ * Packets stay with the program: they are in the card until a fetch takes them.
  *
  * Only one thread uses a driver at a time. If interrupts come on another thread, raise a bit in a struct fq_word there, and report each
  * bit that the driver's thread takes from it. */
@@ -700,7 +701,7 @@ struct fq_todo {
     enum fq_what what;        /* what has to be done */
     uint32_t device;          /* the device; 0 if the action is at none */
     uint32_t most;            /* the packets that a fetch may take, the driver's weight; 0 for anything else */
-    uint32_t packets;         /* set by the caller after a look and a fetch; before that 1 for a look, so that packets aren't forgotten, else 0 */
+    uint32_t packets;         /* set by the program after a look and a fetch; before that 1 for a look, so that packets aren't forgotten, else 0 */
     enum fq_status status;    /* the error after FQ_TODO_FAILED, otherwise FQ_OK */
     struct fq_run_report run; /* the report of the run that ended; its numbers are 0 for anything else */
 };
@@ -740,11 +741,11 @@ FQ_CHECKED static inline enum fq_status fq_driver_next(struct fq_driver *FQ_REST
     return fq_driver_next_sized(driver, todo);
 }
 
-/* Reports that the action in *todo was done, with todo->packets; only todo->size, todo->number and todo->packets are read. Call it before the next
- * call of fq_driver_next, or not at all: an action that isn't reported is returned again. Returns FQ_OK; FQ_BAD_HANDLE; FQ_NOT_DUE: the
- * driver doesn't wait for this report any more, because of an interrupt, an open, a stop or an earlier report, or it is another
- * driver's, and fq_driver_next says what is due instead; FQ_BAD_WORK if a fetch took more than `most`. Nothing changes unless it returns
- * FQ_OK. */
+/* Reports that the action in *todo was done, with todo->packets; only its size, number and packets are read. Call it before the next call
+ * of fq_driver_next, or not at all: an action that isn't reported is returned again. Returns FQ_OK; FQ_BAD_SIZE if *todo wasn't set by
+ * fq_driver_next or fq_driver_step; FQ_BAD_HANDLE; FQ_NOT_DUE: the driver doesn't wait for this report any more, because of an interrupt,
+ * an open, a stop or an earlier report, or it is another driver's, and fq_driver_next says what is due instead; FQ_BAD_WORK if a fetch
+ * took more than `most`. Nothing changes unless it returns FQ_OK. */
 FQ_CHECKED enum fq_status fq_driver_done(struct fq_driver *FQ_RESTRICT driver, const struct fq_todo *FQ_RESTRICT todo);
 
 /* Reports the action in *todo, unless its number is 0, and sets *todo to what has to be done now: fq_driver_done and then fq_driver_next
@@ -825,10 +826,10 @@ struct fq_replayed {
 };
 
 /* Replays a trace of `len` bytes, and writes its report to an array of `room` bytes. Returns FQ_BAD_SIZE if settings->size is wrong;
- * FQ_BAD_WEIGHT, FQ_BAD_BUDGET for the settings; FQ_OUT_OF_MEMORY; FQ_BAD_TRACE, and replayed->fault and replayed->row say why; FQ_NO_ROOM, and replayed->length is the room
- * that the report needs; FQ_OK, and the first replayed->length bytes of the array are the report, with no terminating 0. All other bytes
- * of the array are unchanged, and all of them unless it returns FQ_OK. An instance's thread polls at most 131072 times at a time, which no
- * trace of 100000 rows reaches. */
+ * FQ_BAD_WEIGHT, FQ_BAD_BUDGET for the settings; FQ_OUT_OF_MEMORY; FQ_BAD_TRACE, and replayed->fault and replayed->row say why;
+ * FQ_NO_ROOM, and replayed->length is the room that the report needs; FQ_OK, and the first replayed->length bytes of the array are the
+ * report, with no terminating 0. All other bytes of the array are unchanged, and all of them unless it returns FQ_OK. An instance's thread
+ * polls at most 131072 times at a time, which no trace of 100000 rows reaches. */
 FQ_CHECKED_AT(1, 6) enum fq_status fq_replay_sized(const struct fq_settings *FQ_RESTRICT settings, const uint8_t *FQ_RESTRICT trace, size_t len, uint8_t *FQ_RESTRICT report, size_t room, struct fq_replayed *FQ_RESTRICT replayed);
 FQ_CHECKED_AT(1, 6) static inline enum fq_status fq_replay(const struct fq_settings *FQ_RESTRICT settings, const uint8_t *FQ_RESTRICT trace, size_t len, uint8_t *FQ_RESTRICT report, size_t room, struct fq_replayed *FQ_RESTRICT replayed) {
     replayed->size = sizeof *replayed;

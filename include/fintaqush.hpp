@@ -25,7 +25,7 @@ namespace fintaqush {
 using Status = fq_status;
 using Kind = fq_kind;
 using Packets = std::array<fq_packet, 64>;
-using TxState = fq_tx_state;
+using TxState = fq_tx_shown;
 using TxWatchdog = fq_tx_watchdog;
 using Counts = fq_counts;
 using Totals = fq_totals;
@@ -212,7 +212,7 @@ private:
     fq_napi raw_;
 };
 
-// The result of a request, which is queued if it was granted (fq_seat_request): FQ_GRANTED, FQ_MISSED or FQ_DISABLED. After FQ_GRANTED,
+// The result of a request, which is queued if it was granted (fq_caller_request): FQ_GRANTED, FQ_MISSED or FQ_DISABLED. After FQ_GRANTED,
 // next is FQ_NEXT_AGAIN, and the number has to be listed, or FQ_NEXT_AGAIN_THREAD, and the thread has to be woken.
 struct [[nodiscard]] Requested {
     Status status;
@@ -246,20 +246,20 @@ public:
     // Returns the state word, a sum of FQ_BIT_..
     [[nodiscard]] std::uint64_t word() {
         std::uint64_t word = 0;
-        made(fq_seat_look(at_.raw(), &word));
+        made(fq_caller_look(at_.raw(), &word));
         return word;
     }
 
     // Returns how often its calls returned each result since the instance was made.
     [[nodiscard]] Answers answers() const {
         Answers answers{};
-        made(fq_seat_count(at_.raw(), &answers));
+        made(fq_caller_count(at_.raw(), &answers));
         return answers;
     }
 
 protected:
-    explicit AnyCaller(Handle<fq_seat> &&at) noexcept : at_(std::move(at)) {}
-    Handle<fq_seat> at_;
+    explicit AnyCaller(Handle<fq_caller> &&at) noexcept : at_(std::move(at)) {}
+    Handle<fq_caller> at_;
 };
 
 // A caller that polls, or busy polls.
@@ -268,7 +268,7 @@ public:
     // Removes the ring's next packets, at most the weight, and writes them to out; returns how many.
     [[nodiscard]] std::size_t poll(Packets &out, Weight weight = Weight()) {
         std::size_t count = 0;
-        made(fq_seat_poll(at_.raw(), weight.get(), out.data(), out.size(), &count));
+        made(fq_caller_poll(at_.raw(), weight.get(), out.data(), out.size(), &count));
         return count;
     }
     // Returns the counts of the ring's polls.
@@ -287,21 +287,21 @@ public:
     // Takes an idle instance to busy poll it (napi_busy_loop).
     [[nodiscard]] TookBusy busy() && noexcept;
     // Handles an interrupt: schedules, and queues the instance if granted. Returns FQ_GRANTED, FQ_MISSED or FQ_DISABLED.
-    [[nodiscard]] Status interrupt(Kind kind) { return Status(fq_seat_interrupt(at_.raw(), kind)); }
+    [[nodiscard]] Status interrupt(Kind kind) { return Status(fq_caller_interrupt(at_.raw(), kind)); }
     // Like interrupt, with card.mask() after the grant and before the instance is queued.
     template <class Card>
     [[nodiscard]] Status interrupt(Kind kind, Card &card) {
         const fq_card calls = {&card, detail::mask<Card>, nullptr, nullptr, nullptr};
-        return Status(fq_seat_interrupt_masked(at_.raw(), kind, &calls));
+        return Status(fq_caller_interrupt_masked(at_.raw(), kind, &calls));
     }
     // Like interrupt with a card, but reads the kind from the state word: for an interrupt, a timer, a driver's open
-    // (fq_seat_request).
+    // (fq_caller_request).
     template <class Card>
     Requested request(Card &card) { return request_by({&card, detail::mask<Card>, nullptr, nullptr, nullptr}); }
     // Like request with a card, for a card that is masked already, or is never masked.
     Requested request() { return request_by({nullptr, nullptr, nullptr, nullptr, nullptr}); }
     // Sets whether polls are queued for the instance's own thread (dev_set_threaded).
-    void set_threaded(bool threaded) { detail::made(fq_seat_set_threaded(at_.raw(), threaded)); }
+    void set_threaded(bool threaded) { detail::made(fq_caller_set_threaded(at_.raw(), threaded)); }
 
 private:
     friend class Granted;
@@ -313,7 +313,7 @@ private:
     using AnyCaller::AnyCaller;
     Requested request_by(const fq_card &calls) {
         std::uint32_t next = FQ_NEXT_GONE;
-        const Status said = fq_seat_request(at_.raw(), &calls, &next);
+        const Status said = fq_caller_request(at_.raw(), &calls, &next);
         return {said, fq_next(next)};
     }
 };
@@ -322,7 +322,7 @@ private:
 class [[nodiscard]] Granted : public detail::AnyCaller {
 public:
     [[nodiscard]] Caller hand(Kind kind) && noexcept {
-        detail::made(fq_seat_hand(at_.raw(), kind));
+        detail::made(fq_caller_hand(at_.raw(), kind));
         return Caller(std::move(at_));
     }
 
@@ -336,21 +336,21 @@ private:
 class [[nodiscard]] Polling : public detail::Poller {
 public:
     [[nodiscard]] Caller requeue() && noexcept {
-        detail::made(fq_seat_requeue(at_.raw()));
+        detail::made(fq_caller_requeue(at_.raw()));
         return Caller(std::move(at_));
     }
-    // Ends the poll as the kernel does (fq_seat_end); full says that it returned its whole weight.
+    // Ends the poll as the kernel does (fq_caller_end); full says that it returned its whole weight.
     [[nodiscard]] End end(bool full) && noexcept;
-    // Like end, for a card whose queue can be checked (fq_seat_end_watched): calls card.unmask(), look() and mask(), which
+    // Like end, for a card whose queue can be checked (fq_caller_end_watched): calls card.unmask(), look() and mask(), which
     // don't throw. The instance may be queued for its thread: wake it after FQ_NEXT_AGAIN_THREAD.
     template <class Card>
     [[nodiscard]] End end_watched(bool full, Card &card) && noexcept;
-    // Like end, for a card whose queue can't be checked (fq_seat_end_unmasked), after work packets were polled: calls
+    // Like end, for a card whose queue can't be checked (fq_caller_end_unmasked), after work packets were polled: calls
     // card.unmask(), poll(most) and mask().
     template <class Card>
     [[nodiscard]] End end_unmasked(Card &card, Weight weight, std::size_t &work) && noexcept;
     [[nodiscard]] Completed complete() && noexcept {
-        if (fq_seat_complete_done(at_.raw()) == FQ_AGAIN) return Completed(Granted(std::move(at_)));
+        if (fq_caller_complete_done(at_.raw()) == FQ_AGAIN) return Completed(Granted(std::move(at_)));
         return Completed(Caller(std::move(at_)));
     }
 
@@ -365,10 +365,10 @@ private:
 class [[nodiscard]] Busy : public detail::Poller {
 public:
     // Completes a poll below its weight (napi_complete_done), and keeps busy polling.
-    void complete_held() { detail::made(fq_seat_complete(at_.raw())); }
+    void complete_held() { detail::made(fq_caller_complete(at_.raw())); }
     // Stops busy polling (busy_poll_stop): one poll has to follow.
     [[nodiscard]] Polling stop() && noexcept {
-        while (fq_seat_busy_stop(at_.raw()) == FQ_CHANGED) {
+        while (fq_caller_busy_stop(at_.raw()) == FQ_CHANGED) {
         }
         return Polling(std::move(at_));
     }
@@ -389,19 +389,19 @@ struct [[nodiscard]] Ended {
 };
 
 inline Scheduled Caller::schedule() && noexcept {
-    const Status said = fq_seat_schedule_prep(at_.raw());
+    const Status said = fq_caller_schedule_prep(at_.raw());
     if (said == FQ_GRANTED) return {said, Granted(std::move(at_))};
     return {said, Caller(std::move(at_))};
 }
 
 inline Took Caller::take(Kind kind) && noexcept {
-    if (fq_seat_take(at_.raw(), kind) == FQ_TAKEN) return Took(Polling(std::move(at_)));
+    if (fq_caller_take(at_.raw(), kind) == FQ_TAKEN) return Took(Polling(std::move(at_)));
     return Took(Caller(std::move(at_)));
 }
 
 inline TookBusy Caller::busy() && noexcept {
     std::uint32_t said;
-    do said = fq_seat_busy_take(at_.raw());
+    do said = fq_caller_busy_take(at_.raw());
     while (said == FQ_CHANGED);
     if (said == FQ_TAKEN) return TookBusy(Busy(std::move(at_)));
     return TookBusy(Caller(std::move(at_)));
@@ -414,7 +414,7 @@ inline End Polling::ended(std::uint32_t said, std::uint32_t next) noexcept {
 
 inline End Polling::end(bool full) && noexcept {
     std::uint32_t next;
-    const std::uint32_t said = fq_seat_end(at_.raw(), full, &next);
+    const std::uint32_t said = fq_caller_end(at_.raw(), full, &next);
     return ended(said, next);
 }
 
@@ -422,7 +422,7 @@ template <class Card>
 End Polling::end_watched(bool full, Card &card) && noexcept {
     const fq_card calls = {&card, detail::mask<Card>, detail::unmask<Card>, detail::look<Card>, nullptr};
     std::uint32_t next;
-    const std::uint32_t said = fq_seat_end_watched(at_.raw(), full, &calls, &next);
+    const std::uint32_t said = fq_caller_end_watched(at_.raw(), full, &calls, &next);
     return ended(said, next);
 }
 
@@ -430,7 +430,7 @@ template <class Card>
 End Polling::end_unmasked(Card &card, Weight weight, std::size_t &work) && noexcept {
     const fq_card calls = {&card, detail::mask<Card>, detail::unmask<Card>, nullptr, detail::poll<Card>};
     std::uint32_t next;
-    const std::uint32_t said = fq_seat_end_unmasked(at_.raw(), &calls, weight.get(), &work, &next);
+    const std::uint32_t said = fq_caller_end_unmasked(at_.raw(), &calls, weight.get(), &work, &next);
     return ended(said, next);
 }
 
@@ -608,9 +608,9 @@ std::optional<std::vector<Caller>> callers(std::size_t count, Make make, ToCalle
     if (count < 2 || count > 8) return std::nullopt;
     std::vector<Caller> made;
     made.reserve(count);
-    fq_seat seats[8] = {};
-    const std::uint32_t said = make(seats);
-    for (std::size_t i = 0; i < count; i++) made.push_back(to_caller(Handle<fq_seat>(seats[i])));
+    fq_caller callers[8] = {};
+    const std::uint32_t said = make(callers);
+    for (std::size_t i = 0; i < count; i++) made.push_back(to_caller(Handle<fq_caller>(callers[i])));
     if (said != FQ_OK) return std::nullopt;
     return made;
 }
@@ -629,8 +629,8 @@ struct [[nodiscard]] Shared {
         Handle<fq_control> control;
         if (fq_ring_new(ring.raw(), capacity) != FQ_OK) return std::nullopt;
         auto made = detail::callers(
-            callers, [&](fq_seat *seats) { return fq_shared_new(ring.raw(), control.raw(), seats, callers); },
-            [](Handle<fq_seat> &&seat) { return Caller(std::move(seat)); });
+            callers, [&](fq_caller *at) { return fq_shared_new(ring.raw(), control.raw(), at, callers); },
+            [](Handle<fq_caller> &&caller) { return Caller(std::move(caller)); });
         if (!made) return std::nullopt;
         return Shared{Input(std::move(ring)), Control<Off>(std::move(control)), std::move(*made)};
     }
@@ -645,8 +645,8 @@ struct [[nodiscard]] Bare {
     [[nodiscard]] static std::optional<Bare> make(std::size_t callers) {
         Handle<fq_control> control;
         auto made = detail::callers(
-            callers, [&](fq_seat *seats) { return fq_shared_bare(control.raw(), seats, callers); },
-            [](Handle<fq_seat> &&seat) { return Caller(std::move(seat)); });
+            callers, [&](fq_caller *at) { return fq_shared_bare(control.raw(), at, callers); },
+            [](Handle<fq_caller> &&caller) { return Caller(std::move(caller)); });
         if (!made) return std::nullopt;
         return Bare{Control<Off>(std::move(control)), std::move(*made)};
     }

@@ -263,7 +263,7 @@ PLANTED_IN_HEADER = [
     ("fq_dql_limit(const struct fq_dql *dql);", "fq_dql_limit(struct fq_dql *dql);", "fq_dql_limit"),
     ("fq_list_len(const struct fq_list *", "fq_list_len(const struct fq_ring *", "fq_list_len"),
     ("fq_ring_show_sized(const struct", "fq_ring_show_sized(struct", "fq_ring_show_sized"),
-    ("fq_seat_look(struct", "fq_seat_look(const struct", "fq_seat_look"),
+    ("fq_caller_look(struct", "fq_caller_look(const struct", "fq_caller_look"),
     ("fq_shared_bare(struct fq_control *", "fq_shared_bare(struct fq_handle *", "fq_shared_bare"),
     ("struct fq_tx { struct fq_handle handle; }", "struct fq_tx { struct fq_handle handle; int more; }", "fq_tx"),
     ("uint64_t private_b;\n    uint32_t private_c[2];", "uint32_t private_c[2];\n    uint64_t private_b;", "fq_dql"),

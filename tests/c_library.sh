@@ -153,7 +153,7 @@ check 'bursts in C++' "$scratch/bursts"
 
 # ---- a model card
 
-points=-Wl$(printf ',--wrap=fq_seat_%s' schedule schedule_prep hand hand_again take requeue complete complete_done end)
+points=-Wl$(printf ',--wrap=fq_caller_%s' schedule schedule_prep hand hand_again take requeue complete complete_done end)
 echo 'the card hangs without a look, by a late mask and by an enable without a request, and never else' > "$scratch/hung"
 check 'the model card compiles' compile gcc "$top/tests/c/card.c" "$scratch/card" -O2 "$points"
 check 'the model card' compared "$scratch/hung" "$scratch/card"
@@ -409,10 +409,10 @@ fi
 cat > "$scratch/tells.c" << 'END'
 #include <fintaqush.h>
 int main(void) {
-    struct fq_seat seat = FQ_NONE;
+    struct fq_caller caller = FQ_NONE;
     struct fq_list list = FQ_NONE;
     uint32_t next;
-    if (fq_seat_end(&seat, true, &next) == FQ_NOT_ALLOWED) return 1;
+    if (fq_caller_end(&caller, true, &next) == FQ_NOT_ALLOWED) return 1;
     return fq_run_polled(&list, 64, next) == FQ_BAD_HANDLE ? 0 : 2;
 }
 END

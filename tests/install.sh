@@ -41,7 +41,7 @@ exports_calls_alone() {
 
 # What came with 2.0 stays there: a program that was linked then asks for it by that version.
 stays_in_its_version() {
-    [ "$(grep -c '@@FINTAQUSH_2\.0$' "$scratch/exported")" -ge 65 ] && grep -q '^fq_seat_poll@@FINTAQUSH_2\.0$' "$scratch/exported"
+    [ "$(grep -c '@@FINTAQUSH_2\.0$' "$scratch/exported")" -ge 65 ] && grep -q '^fq_caller_poll@@FINTAQUSH_2\.0$' "$scratch/exported"
 }
 
 # by_a_prefix_with_spaces: pkg-config prints it so that a shell can read it.
@@ -316,7 +316,7 @@ if has dpkg-deb 'the Debian packages'; then
     check 'packages' "$top/scripts/package.sh" "$scratch"
     check 'the library by itself' has_files "libfintaqush$major" "usr/lib/[^/]*-linux-gnu/libfintaqush.so.$version"
     check 'what programs are built with' has_files libfintaqush-dev 'usr/include/fintaqush.h' 'usr/lib/[^/]*-linux-gnu/libfintaqush.a' \
-        'usr/lib/[^/]*-linux-gnu/pkgconfig/fintaqush.pc' 'usr/share/man/man3/fq_seat_end.3.gz' 'usr/share/doc/libfintaqush-dev/GUIDE.md' \
+        'usr/lib/[^/]*-linux-gnu/pkgconfig/fintaqush.pc' 'usr/share/man/man3/fq_caller_end.3.gz' 'usr/share/doc/libfintaqush-dev/GUIDE.md' \
         'usr/share/doc/libfintaqush-dev/examples/c/edge.c' 'usr/share/man/man3/fq_machine.3.gz' 'usr/share/man/man3/fq_driver_next.3.gz'
     if has lintian 'the packages by the rules of Debian'; then
         # but for the licence, which isn't chosen yet

@@ -8,7 +8,7 @@ enum { PLACES = 4, FRAME = 1500, MAX = 1879048192 };
 
 int main(void) {
     struct fq_tx tx = FQ_NONE;
-    struct fq_tx_state state;
+    struct fq_tx_shown state;
     if (fq_tx_new(&tx, PLACES, 0, MAX, 1000, 0) != FQ_OK) return 1;
     for (uint64_t now = 6; now <= 24; now += 6) {
         uint32_t frames = 0, said;

@@ -219,7 +219,7 @@ static inline void open_device(struct device *device, uint32_t frames, uint32_t 
 
 /* Prints the device's counts, in two lines. */
 static inline void close_device(struct device *device) {
-    struct fq_tx_state shown;
+    struct fq_tx_shown shown;
     must("state", fq_tx_state(&device->limit, &shown), FQ_OK);
     printf("interrupts %lu granted %lu missed %lu disabled %lu | packets %lu polls %lu full %lu runs %lu squeezed %lu\n", device->interrupts,
         device->granted, device->missed, device->disabled, device->packets, device->polls, device->full, runs, squeezed);

@@ -177,7 +177,7 @@ static bool control(bool on) {
 
 /* Prints a line for each queue, and one for all. While packets flow, the counts are approximate. */
 static void print(void) {
-    struct fq_tx_state state;
+    struct fq_tx_shown state;
     must("state", fq_tx_state(&tx, &state), FQ_OK);
     for (int i = 0; i < QUEUES; i++) {
         const struct side *side = &sides[i];

@@ -28,7 +28,7 @@ static union at of_size(size_t size) {
 }
 
 /* The objects and arrays of the calls. */
-static union any ring = {{false, NULL}}, tx = {{false, NULL}}, seat[2] = {{{false, NULL}}, {{false, NULL}}}, list = {{false, NULL}},
+static union any ring = {{false, NULL}}, tx = {{false, NULL}}, caller[2] = {{{false, NULL}}, {{false, NULL}}}, list = {{false, NULL}},
                  driver = {{false, NULL}}, none = {{false, NULL}};
 static const uint8_t trace[] = "moment,device,event,value\n", arrivals[] = "ns,device,bytes\n";
 static uint8_t report[4096];
@@ -37,8 +37,8 @@ static uint64_t due;
 static enum fq_status count(union any *of, union at *at) { return fq_count_sized(&of->handle, (struct fq_counts *)at); }
 static enum fq_status show_ring(union any *of, union at *at) { return fq_ring_show_sized(&of->ring, (struct fq_ring_shown *)at); }
 static enum fq_status finish(union any *of, union at *at) { return fq_ring_finish_sized(&of->ring, (struct fq_totals *)at); }
-static enum fq_status show_tx(union any *of, union at *at) { return fq_tx_show_sized(&of->tx, (struct fq_tx_shown *)at); }
-static enum fq_status count_seat(union any *of, union at *at) { return fq_seat_count_sized(&of->seat, (struct fq_answers *)at); }
+static enum fq_status show_tx(union any *of, union at *at) { return fq_tx_state_sized(&of->tx, (struct fq_tx_shown *)at); }
+static enum fq_status count_seat(union any *of, union at *at) { return fq_caller_count_sized(&of->caller, (struct fq_answers *)at); }
 static enum fq_status end_run(union any *of, union at *at) { return fq_run_end_sized(&of->list, (struct fq_run_report *)at); }
 static enum fq_status show_device(union any *of, union at *at) { return fq_driver_show_sized(&of->driver, 0, (struct fq_device_shown *)at); }
 static enum fq_status next(union any *of, union at *at) { return fq_driver_next_sized(&of->driver, &at->todo); }
@@ -90,7 +90,7 @@ static const struct call {
     enum fq_status (*call)(union any *of, union at *at);
     enum fq_status right; /* what it returns for the right size */
 } calls[] = {CALL(count, &ring, fq_counts, FQ_OK), CALL(show_ring, &ring, fq_ring_shown, FQ_OK), CALL(finish, &ring, fq_totals, FQ_OK),
-    CALL(show_tx, &tx, fq_tx_shown, FQ_OK), CALL(count_seat, &seat[0], fq_answers, FQ_OK), CALL(end_run, &list, fq_run_report, FQ_OK),
+    CALL(show_tx, &tx, fq_tx_shown, FQ_OK), CALL(count_seat, &caller[0], fq_answers, FQ_OK), CALL(end_run, &list, fq_run_report, FQ_OK),
     CALL(show_device, &driver, fq_device_shown, FQ_OK), CALL(next, &driver, fq_todo, FQ_OK), CALL(done, &driver, fq_todo, FQ_OK),
     CALL(step, &driver, fq_todo, FQ_NOT_DUE), CALL(replay, &none, fq_replayed, FQ_OK), CALL(raise_runs, &none, fq_replayed, FQ_OK),
     CALL(machine, &none, fq_machine_ran, FQ_OK), CALL(machine_default, &none, fq_machine_settings, FQ_OK),
@@ -100,14 +100,14 @@ static const struct call {
 
 static void objects(void) {
     struct fq_control control = FQ_NONE;
-    struct fq_seat seats[2] = {FQ_NONE, FQ_NONE};
+    struct fq_caller callers[2] = {FQ_NONE, FQ_NONE};
     struct fq_todo todo;
     uint32_t id;
     bool made = fq_ring_new(&ring.ring, 4) == FQ_OK && fq_tx_new(&tx.tx, 4, 0, 1000, 1, 0) == FQ_OK && fq_list_new(&list.list) == FQ_OK;
-    made = made && fq_shared_bare(&control, seats, 2) == FQ_OK && fq_move(&seats[0].handle, &seat[0].handle) == FQ_OK;
+    made = made && fq_shared_bare(&control, callers, 2) == FQ_OK && fq_move(&callers[0].handle, &caller[0].handle) == FQ_OK;
     made = made && fq_run_begin(&list.list, 300, 64, 1024) == FQ_OK && fq_run_next(&list.list, &id) == FQ_DONE;
     made = made && fq_driver_new(&driver.driver, 1, 300, 64, 1024) == FQ_OK && fq_driver_open(&driver.driver, 0) == FQ_OK;
-    made = made && fq_driver_next(&driver.driver, &todo) == FQ_OK && fq_abandon(&control.handle) == FQ_OK && fq_abandon(&seats[1].handle) == FQ_OK;
+    made = made && fq_driver_next(&driver.driver, &todo) == FQ_OK && fq_abandon(&control.handle) == FQ_OK && fq_abandon(&callers[1].handle) == FQ_OK;
     want(made, "the objects", 0);
     due = todo.number;
 }
@@ -132,7 +132,7 @@ int main(void) {
         want(call->call(call->of, &at) == call->right && at.size == call->size, call->name, call->size);
         for (size_t i = call->size; i < ROOM; i++) want(at.bytes[i] == GUARD, call->name, i);
     }
-    fq_abandon(&tx.handle), fq_abandon(&seat[0].handle), fq_abandon(&list.handle), fq_abandon(&driver.handle);
+    fq_abandon(&tx.handle), fq_abandon(&caller[0].handle), fq_abandon(&list.handle), fq_abandon(&driver.handle);
     printf("%zu calls, each of its own size only\n", sizeof calls / sizeof *calls);
     return 0;
 }

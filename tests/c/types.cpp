@@ -59,7 +59,7 @@ static_assert(Weight::of<1>().get() == 1 && Weight().get() == 64 && !Weight::mak
 // The structs whose names are also names of functions.
 [[maybe_unused]] static void names() {
     fq_counts counts{};
-    fq_tx_state state{};
+    fq_tx_shown state{};
     static_cast<void>(counts), static_cast<void>(state);
 }
 

@@ -156,7 +156,7 @@ class Tx(ctypes.Structure):
     _fields_ = [("handle", Handle)]
 
 
-class Seat(ctypes.Structure):
+class Caller(ctypes.Structure):
     _fields_ = [("handle", Handle)]
 
 
@@ -188,7 +188,7 @@ class RingShown(ctypes.Structure):
     _fields_ = [("size", size), ("put", u64), ("capacity", size)]
 
 
-class TxState(ctypes.Structure):
+class TxShown(ctypes.Structure):
     _fields_ = [
         ("size", size),
         ("queued", u32),
@@ -342,36 +342,39 @@ CALLS: dict[str, tuple[Any, dict[str, Any]]] = {
     "tx_new": (Status, {"tx": pointer(Tx), "capacity": size, "min": u32, "max": u32, "hold_ms": u64, "now_ms": u64}),
     "tx_send": (Status, {"tx": pointer(Tx), "bytes": u32}),
     "tx_done": (Status, {"tx": pointer(Tx), "count": u32, "now_ms": u64}),
-    "tx_state_sized": (Status, {"tx": pointer(Tx), "state": pointer(TxState)}),
+    "tx_state_sized": (Status, {"tx": pointer(Tx), "state": pointer(TxShown)}),
     "tx_watch": (
         Status,
         {"tx": pointer(Tx), "watchdog": pointer(TxWatchdog), "limit_ms": u64, "now_ms": u64, "stuck": pointer(boolean)},
     ),
-    "shared_new": (Status, {"ring": pointer(Ring), "control": pointer(Control), "seats": pointer(Seat), "count": size}),
-    "shared_bare": (Status, {"control": pointer(Control), "seats": pointer(Seat), "count": size}),
-    "seat_schedule": (Status, {"seat": pointer(Seat)}),
-    "seat_schedule_prep": (Status, {"seat": pointer(Seat)}),
-    "seat_take": (Status, {"seat": pointer(Seat), "kind": u32}),
-    "seat_busy_take": (Status, {"seat": pointer(Seat)}),
-    "seat_set_threaded": (Status, {"seat": pointer(Seat), "threaded": boolean}),
-    "seat_hand": (Status, {"seat": pointer(Seat), "kind": u32}),
-    "seat_poll": (
+    "shared_new": (
         Status,
-        {"seat": pointer(Seat), "weight": size, "out": pointer(Packet), "len": size, "count": pointer(size)},
+        {"ring": pointer(Ring), "control": pointer(Control), "callers": pointer(Caller), "count": size},
     ),
-    "seat_requeue": (Status, {"seat": pointer(Seat)}),
-    "seat_complete": (Status, {"seat": pointer(Seat)}),
-    "seat_complete_done": (Status, {"seat": pointer(Seat)}),
-    "seat_busy_stop": (Status, {"seat": pointer(Seat)}),
-    "seat_look": (Status, {"seat": pointer(Seat), "word": pointer(u64)}),
-    "seat_count_sized": (Status, {"seat": pointer(Seat), "answers": pointer(Answers)}),
-    "seat_hand_again": (Status, {"seat": pointer(Seat), "next": pointer(u32)}),
-    "seat_end": (Status, {"seat": pointer(Seat), "full": boolean, "next": pointer(u32)}),
+    "shared_bare": (Status, {"control": pointer(Control), "callers": pointer(Caller), "count": size}),
+    "caller_schedule": (Status, {"caller": pointer(Caller)}),
+    "caller_schedule_prep": (Status, {"caller": pointer(Caller)}),
+    "caller_take": (Status, {"caller": pointer(Caller), "kind": u32}),
+    "caller_busy_take": (Status, {"caller": pointer(Caller)}),
+    "caller_set_threaded": (Status, {"caller": pointer(Caller), "threaded": boolean}),
+    "caller_hand": (Status, {"caller": pointer(Caller), "kind": u32}),
+    "caller_poll": (
+        Status,
+        {"caller": pointer(Caller), "weight": size, "out": pointer(Packet), "len": size, "count": pointer(size)},
+    ),
+    "caller_requeue": (Status, {"caller": pointer(Caller)}),
+    "caller_complete": (Status, {"caller": pointer(Caller)}),
+    "caller_complete_done": (Status, {"caller": pointer(Caller)}),
+    "caller_busy_stop": (Status, {"caller": pointer(Caller)}),
+    "caller_look": (Status, {"caller": pointer(Caller), "word": pointer(u64)}),
+    "caller_count_sized": (Status, {"caller": pointer(Caller), "answers": pointer(Answers)}),
+    "caller_hand_again": (Status, {"caller": pointer(Caller), "next": pointer(u32)}),
+    "caller_end": (Status, {"caller": pointer(Caller), "full": boolean, "next": pointer(u32)}),
     "control_enable": (Status, {"control": pointer(Control), "threaded": boolean}),
     "control_mark": (Status, {"control": pointer(Control)}),
     "control_try_take": (Status, {"control": pointer(Control)}),
     "control_step": (Status, {"control": pointer(Control), "on": boolean, "threaded": boolean}),
-    "control_has": (Status, {"control": pointer(Control), "seat": pointer(Seat)}),
+    "control_has": (Status, {"control": pointer(Control), "caller": pointer(Caller)}),
     "list_new": (Status, {"list": pointer(List)}),
     "list_push": (Status, {"list": pointer(List), "id": u32}),
     "list_remove": (Status, {"list": pointer(List), "id": u32}),

@@ -213,7 +213,7 @@ class TxRing(_Owned):
     @property
     def state(self) -> TxState:
         """The state of the ring."""
-        return c.shown(TxState, abi.TxState, c.tx_state_sized, self._at)
+        return c.shown(TxState, abi.TxShown, c.tx_state_sized, self._at)
 
 
 class List(_Owned):

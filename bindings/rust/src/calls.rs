@@ -225,7 +225,7 @@ pub(crate) fn tx_done(tx: &mut fq_tx, count: u32, now_ms: u64) -> u32 {
     unsafe { fq_tx_done(tx, count, now_ms) }
 }
 
-pub(crate) fn tx_state_sized(tx: &fq_tx, state: &mut fq_tx_state) -> u32 {
+pub(crate) fn tx_state_sized(tx: &fq_tx, state: &mut fq_tx_shown) -> u32 {
     // SAFETY: each reference and each slice leads to whole objects, to which no other argument leads.
     unsafe { fq_tx_state_sized(tx, state) }
 }
@@ -244,95 +244,95 @@ pub(crate) fn tx_watch(
 pub(crate) fn shared_new(
     ring: &mut fq_ring,
     control: &mut fq_control,
-    seats: &mut [fq_seat],
+    callers: &mut [fq_caller],
 ) -> u32 {
     // SAFETY: each reference and each slice leads to whole objects, to which no other argument leads.
-    unsafe { fq_shared_new(ring, control, seats.as_mut_ptr(), seats.len()) }
+    unsafe { fq_shared_new(ring, control, callers.as_mut_ptr(), callers.len()) }
 }
 
-pub(crate) fn shared_bare(control: &mut fq_control, seats: &mut [fq_seat]) -> u32 {
+pub(crate) fn shared_bare(control: &mut fq_control, callers: &mut [fq_caller]) -> u32 {
     // SAFETY: each reference and each slice leads to whole objects, to which no other argument leads.
-    unsafe { fq_shared_bare(control, seats.as_mut_ptr(), seats.len()) }
+    unsafe { fq_shared_bare(control, callers.as_mut_ptr(), callers.len()) }
 }
 
-pub(crate) fn seat_schedule(seat: &mut fq_seat) -> u32 {
+pub(crate) fn caller_schedule(caller: &mut fq_caller) -> u32 {
     // SAFETY: each reference and each slice leads to whole objects, to which no other argument leads.
-    unsafe { fq_seat_schedule(seat) }
+    unsafe { fq_caller_schedule(caller) }
 }
 
-pub(crate) fn seat_schedule_prep(seat: &mut fq_seat) -> u32 {
+pub(crate) fn caller_schedule_prep(caller: &mut fq_caller) -> u32 {
     // SAFETY: each reference and each slice leads to whole objects, to which no other argument leads.
-    unsafe { fq_seat_schedule_prep(seat) }
+    unsafe { fq_caller_schedule_prep(caller) }
 }
 
-pub(crate) fn seat_take(seat: &mut fq_seat, kind: u32) -> u32 {
+pub(crate) fn caller_take(caller: &mut fq_caller, kind: u32) -> u32 {
     // SAFETY: each reference and each slice leads to whole objects, to which no other argument leads.
-    unsafe { fq_seat_take(seat, kind) }
+    unsafe { fq_caller_take(caller, kind) }
 }
 
-pub(crate) fn seat_busy_take(seat: &mut fq_seat) -> u32 {
+pub(crate) fn caller_busy_take(caller: &mut fq_caller) -> u32 {
     // SAFETY: each reference and each slice leads to whole objects, to which no other argument leads.
-    unsafe { fq_seat_busy_take(seat) }
+    unsafe { fq_caller_busy_take(caller) }
 }
 
-pub(crate) fn seat_set_threaded(seat: &mut fq_seat, threaded: bool) -> u32 {
+pub(crate) fn caller_set_threaded(caller: &mut fq_caller, threaded: bool) -> u32 {
     // SAFETY: each reference and each slice leads to whole objects, to which no other argument leads.
-    unsafe { fq_seat_set_threaded(seat, threaded) }
+    unsafe { fq_caller_set_threaded(caller, threaded) }
 }
 
-pub(crate) fn seat_hand(seat: &mut fq_seat, kind: u32) -> u32 {
+pub(crate) fn caller_hand(caller: &mut fq_caller, kind: u32) -> u32 {
     // SAFETY: each reference and each slice leads to whole objects, to which no other argument leads.
-    unsafe { fq_seat_hand(seat, kind) }
+    unsafe { fq_caller_hand(caller, kind) }
 }
 
-pub(crate) fn seat_poll(
-    seat: &mut fq_seat,
+pub(crate) fn caller_poll(
+    caller: &mut fq_caller,
     weight: usize,
     out: &mut [fq_packet],
     count: &mut usize,
 ) -> u32 {
     // SAFETY: each reference and each slice leads to whole objects, to which no other argument leads.
-    unsafe { fq_seat_poll(seat, weight, out.as_mut_ptr(), out.len(), count) }
+    unsafe { fq_caller_poll(caller, weight, out.as_mut_ptr(), out.len(), count) }
 }
 
-pub(crate) fn seat_requeue(seat: &mut fq_seat) -> u32 {
+pub(crate) fn caller_requeue(caller: &mut fq_caller) -> u32 {
     // SAFETY: each reference and each slice leads to whole objects, to which no other argument leads.
-    unsafe { fq_seat_requeue(seat) }
+    unsafe { fq_caller_requeue(caller) }
 }
 
-pub(crate) fn seat_complete(seat: &mut fq_seat) -> u32 {
+pub(crate) fn caller_complete(caller: &mut fq_caller) -> u32 {
     // SAFETY: each reference and each slice leads to whole objects, to which no other argument leads.
-    unsafe { fq_seat_complete(seat) }
+    unsafe { fq_caller_complete(caller) }
 }
 
-pub(crate) fn seat_complete_done(seat: &mut fq_seat) -> u32 {
+pub(crate) fn caller_complete_done(caller: &mut fq_caller) -> u32 {
     // SAFETY: each reference and each slice leads to whole objects, to which no other argument leads.
-    unsafe { fq_seat_complete_done(seat) }
+    unsafe { fq_caller_complete_done(caller) }
 }
 
-pub(crate) fn seat_busy_stop(seat: &mut fq_seat) -> u32 {
+pub(crate) fn caller_busy_stop(caller: &mut fq_caller) -> u32 {
     // SAFETY: each reference and each slice leads to whole objects, to which no other argument leads.
-    unsafe { fq_seat_busy_stop(seat) }
+    unsafe { fq_caller_busy_stop(caller) }
 }
 
-pub(crate) fn seat_look(seat: &mut fq_seat, word: &mut u64) -> u32 {
+pub(crate) fn caller_look(caller: &mut fq_caller, word: &mut u64) -> u32 {
     // SAFETY: each reference and each slice leads to whole objects, to which no other argument leads.
-    unsafe { fq_seat_look(seat, word) }
+    unsafe { fq_caller_look(caller, word) }
 }
 
-pub(crate) fn seat_count_sized(seat: &fq_seat, answers: &mut fq_answers) -> u32 {
+pub(crate) fn caller_count_sized(caller: &fq_caller, answers: &mut fq_answers) -> u32 {
     // SAFETY: each reference and each slice leads to whole objects, to which no other argument leads.
-    unsafe { fq_seat_count_sized(seat, answers) }
+    unsafe { fq_caller_count_sized(caller, answers) }
 }
 
-pub(crate) fn seat_hand_again(seat: &mut fq_seat, next: &mut u32) -> u32 {
+pub(crate) fn caller_hand_again(caller: &mut fq_caller, next: &mut u32) -> u32 {
     // SAFETY: each reference and each slice leads to whole objects, to which no other argument leads.
-    unsafe { fq_seat_hand_again(seat, next) }
+    unsafe { fq_caller_hand_again(caller, next) }
 }
 
-pub(crate) fn seat_end(seat: &mut fq_seat, full: bool, next: &mut u32) -> u32 {
+pub(crate) fn caller_end(caller: &mut fq_caller, full: bool, next: &mut u32) -> u32 {
     // SAFETY: each reference and each slice leads to whole objects, to which no other argument leads.
-    unsafe { fq_seat_end(seat, full, next) }
+    unsafe { fq_caller_end(caller, full, next) }
 }
 
 pub(crate) fn control_enable(control: &mut fq_control, threaded: bool) -> u32 {
@@ -355,9 +355,9 @@ pub(crate) fn control_step(control: &mut fq_control, on: bool, threaded: bool) -
     unsafe { fq_control_step(control, on, threaded) }
 }
 
-pub(crate) fn control_has(control: &fq_control, seat: &fq_seat) -> u32 {
+pub(crate) fn control_has(control: &fq_control, caller: &fq_caller) -> u32 {
     // SAFETY: each reference and each slice leads to whole objects, to which no other argument leads.
-    unsafe { fq_control_has(control, seat) }
+    unsafe { fq_control_has(control, caller) }
 }
 
 pub(crate) fn list_new(list: &mut fq_list) -> u32 {

@@ -31,7 +31,7 @@ macro_rules! objects {
         }
     )*};
 }
-objects! { fq_ring fq_tx fq_seat fq_control fq_list fq_driver }
+objects! { fq_ring fq_tx fq_caller fq_control fq_list fq_driver }
 
 // Owns an object of the library; its drop abandons the object.
 #[derive(Debug)]
@@ -42,16 +42,18 @@ pub(crate) struct Handle<O: Object>(pub(crate) O);
 // thread's start and join do.
 unsafe impl<O: Object> Send for Handle<O> {}
 
-impl Handle<sys::fq_seat> {
+impl Handle<sys::fq_caller> {
     // Reads the state word, for a caller.
     pub(crate) fn look(&mut self) -> u64 {
-        set_by("seat_look", 0, |word| calls::seat_look(self.raw(), word))
+        set_by("caller_look", 0, |word| {
+            calls::caller_look(self.raw(), word)
+        })
     }
 
     // The counts of the results of a caller's calls.
     pub(crate) fn answers(&self) -> Answers {
-        set_by("seat_count", Answers::INIT, |answers| {
-            calls::seat_count_sized(&self.0, answers)
+        set_by("caller_count", Answers::INIT, |answers| {
+            calls::caller_count_sized(&self.0, answers)
         })
     }
 }

@@ -65,7 +65,7 @@ pub const FQ_BAD_WEIGHT: u32 = 114;
 pub const FQ_NO_ROOM: u32 = 115;
 /// Budget and window are 1 to 65535.
 pub const FQ_BAD_BUDGET: u32 = 116;
-/// A shared instance has 2 to 8 seats, a driver 1 to 64 devices.
+/// A shared instance has 2 to 8 callers, a driver 1 to 64 devices.
 pub const FQ_BAD_COUNT: u32 = 117;
 /// How a poll ended is 0 to 4 (enum `fq_next`).
 pub const FQ_BAD_NEXT: u32 = 118;
@@ -244,7 +244,7 @@ pub struct fq_tx {
 /// `fq_free(&ring.handle)`. A caller of a shared instance.
 #[repr(C)]
 #[derive(Debug)]
-pub struct fq_seat {
+pub struct fq_caller {
     pub(crate) handle: fq_handle,
 }
 
@@ -276,7 +276,7 @@ pub struct fq_driver {
 #[repr(C)]
 #[derive(Clone, Copy, Debug, Default, PartialEq, Eq)]
 pub struct fq_packet {
-    /// A number that the caller chooses: an index, a pointer.
+    /// A number that the program chooses: an index, a pointer.
     pub number: u64,
     /// Its size in bytes.
     pub bytes: u32,
@@ -357,7 +357,7 @@ impl fq_ring_shown {
 /// The state of a transmit ring.
 #[repr(C)]
 #[derive(Clone, Copy, Debug, PartialEq, Eq)]
-pub struct fq_tx_state {
+pub struct fq_tx_shown {
     /// The size of this struct.
     pub size: usize,
     /// The bytes of all packets ever sent, modulo 2^32.
@@ -372,10 +372,10 @@ pub struct fq_tx_state {
     pub stopped: bool,
 }
 
-impl fq_tx_state {
+impl fq_tx_shown {
     /// Its size, and zeros.
-    pub const INIT: fq_tx_state = fq_tx_state {
-        size: std::mem::size_of::<fq_tx_state>(),
+    pub const INIT: fq_tx_shown = fq_tx_shown {
+        size: std::mem::size_of::<fq_tx_shown>(),
         queued: 0,
         completed: 0,
         limit: 0,
@@ -393,7 +393,7 @@ pub struct fq_tx_watchdog {
     pub(crate) private_since: u64,
 }
 
-/// How often a seat's calls returned each result. Each count saturates at its maximum.
+/// How often a caller's calls returned each result. Each count saturates at its maximum.
 #[repr(C)]
 #[derive(Clone, Copy, Debug, PartialEq, Eq)]
 pub struct fq_answers {
@@ -467,7 +467,7 @@ pub struct fq_todo {
     pub device: u32,
     /// The packets that a fetch may take, the driver's weight; 0 for anything else.
     pub most: u32,
-    /// Set by the caller after a look and a fetch; before that 1 for a look, so that packets aren't forgotten, else
+    /// Set by the program after a look and a fetch; before that 1 for a look, so that packets aren't forgotten, else
     /// 0.
     pub packets: u32,
     /// The error after `FQ_TODO_FAILED`, otherwise `FQ_OK`.

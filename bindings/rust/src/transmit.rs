@@ -6,7 +6,7 @@ use crate::sys;
 
 /// The state of a transmit ring: bytes queued and completed (modulo 2^32), the limit, the bytes that may still be sent, and
 /// whether the queue is stopped.
-pub use crate::sys::fq_tx_state as TxState;
+pub use crate::sys::fq_tx_shown as TxState;
 /// What a timer keeps for a transmit ring that it watches; `TxWatchdog::default()` at first.
 pub use crate::sys::fq_tx_watchdog as TxWatchdog;
 

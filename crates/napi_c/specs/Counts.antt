@@ -3,7 +3,7 @@ use Rattle.rx_ring.specs.declared.packet.RxCounts.{RxCounts}
 use Rattle.rx_ring.specs.declared.packet.Totals.{Totals}
 use Rattle.napi_c.specs.declared.counts.FqCounts.{FqCounts}
 use Rattle.napi_c.specs.declared.counts.FqTotals.{FqTotals}
-use Rattle.napi_c.specs.declared.counts.FqTxState.{FqTxState}
+use Rattle.napi_c.specs.declared.counts.FqTxShown.{FqTxShown}
 use Rattle.tx_ring.specs.declared.event.TxState.{TxState}
 
 abbrev pub counts_for_c : RxCounts → FqCounts
@@ -16,8 +16,8 @@ no_polls = record { polls = 0; packets = 0; bytes = 0 }
 abbrev pub totalled : Totals → FqTotals
 totalled t = record { size = 40; put = t.put; polled = t.polled; left = t.left; bytes = t.bytes }
 
-abbrev pub tx_state_of : TxState → FqTxState
-tx_state_of s = record {
+abbrev pub tx_shown_of : TxState → FqTxShown
+tx_shown_of s = record {
   size = 40;
   queued = s.queued;
   completed = s.completed;

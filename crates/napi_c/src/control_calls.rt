@@ -122,7 +122,7 @@ fn has_seat(control: &Object, seat: &Object) -> u32
     }
 }
 
-/// Returns OK if the seat belongs to the controller's instance, otherwise BAD_HANDLE.
+/// Returns OK if the caller belongs to the controller's instance, otherwise BAD_HANDLE.
 #[unsafe(no_mangle)]
 pub extern "C" fn fq_control_has(handle: &mut FqHandle, seat: &mut FqHandle) -> u32
     ensures { result ≢ OK → result ≡ BAD_HANDLE }

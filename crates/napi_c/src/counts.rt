@@ -1,6 +1,6 @@
 //! Counts and states of rings, as structs for C.
 ghost use Rattle.std.specs.Prelude.{◌≡◌};
-ghost use Rattle.napi_c.specs.Counts.{counts_for_c, totalled, tx_state_of};
+ghost use Rattle.napi_c.specs.Counts.{counts_for_c, totalled, tx_shown_of};
 
 use rx_ring::{RxCounts, Totals};
 use std::mem::size_of;
@@ -65,10 +65,10 @@ impl FqTotals {
     }
 }
 
-/// The state of a transmit ring: `struct fq_tx_state`.
+/// The state of a transmit ring: `struct fq_tx_shown`.
 #[repr(C)]
 #[derive(Clone, Copy)]
-pub struct FqTxState {
+pub struct FqTxShown {
     /// The size of this struct in bytes.
     pub size: usize,
     /// The bytes of all packets ever sent, modulo 2^32.
@@ -83,13 +83,13 @@ pub struct FqTxState {
     pub stopped: bool,
 }
 
-impl FqTxState {
+impl FqTxShown {
     /// Returns the same state as a struct for C.
-    pub(crate) fn of(state: TxState) -> FqTxState
-        ensures { result ≡ tx_state_of state }
+    pub(crate) fn of(state: TxState) -> FqTxShown
+        ensures { result ≡ tx_shown_of state }
     {
-        FqTxState {
-            size: size_of::<FqTxState>(),
+        FqTxShown {
+            size: size_of::<FqTxShown>(),
             queued: state.queued,
             completed: state.completed,
             limit: state.limit,

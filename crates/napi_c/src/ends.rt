@@ -106,7 +106,7 @@ fn counts_of(at: &Object) -> Option<RxCounts>
     }
 }
 
-/// Sets the counts of a ring's polls. Allowed for an object that has the ring's poll end: a ring, a caller (`fq_seat_..`) that
+/// Sets the counts of a ring's polls. Allowed for an object that has the ring's poll end: a ring, a caller (`fq_caller_..`) that
 /// polls, the controller of a disabled instance.
 #[unsafe(no_mangle)]
 pub extern "C" fn fq_count_sized(handle: &mut FqHandle, counts: &mut FqCounts) -> u32

@@ -163,7 +163,7 @@ fn refusal_message(status: u32) -> &'static [u8]
         114 => b"a weight is 1 to 64 packets",
         115 => b"the array is too short",
         116 => b"budget and window are 1 to 65535",
-        117 => b"a shared instance has 2 to 8 seats, a driver 1 to 64 devices",
+        117 => b"a shared instance has 2 to 8 callers, a driver 1 to 64 devices",
         118 => b"how a poll ended is 0 to 4 (enum fq_next)",
         119 => b"a poll is reported with more packets than the weight",
         120 => b"the bytes are not a trace, or a row of it can't be processed",

@@ -42,7 +42,7 @@ extern "C" {
     pub fn fq_dql_in_flight(dql: *const fq_dql) -> u32;
     /// Returns a new instance (`netif_napi_add`), which is disabled.
     pub fn fq_napi_new(controller: u32) -> fq_napi;
-    /// Like `fq_napi_new`, in the caller's struct.
+    /// Like `fq_napi_new`, in the program's struct.
     pub fn fq_napi_init(napi: *mut fq_napi, controller: u32);
     /// Requests a poll (`napi_schedule_prep`). Returns `FQ_GRANTED`; `FQ_MISSED`; `FQ_DISABLED`.
     pub fn fq_napi_schedule(napi: *mut fq_napi, who: u32) -> u32;
@@ -92,10 +92,12 @@ extern "C" {
     pub fn fq_napi_enable(napi: *mut fq_napi, who: u32, threaded: bool) -> u32;
     /// Returns the state word, a sum of `FQ_BIT_..`
     pub fn fq_napi_word(napi: *const fq_napi) -> u64;
-    /// Frees the object of a handle, which is unset after that. AN OBJECT IN USE IS NOT FREED: for a seat that isn't
-    /// at rest, a controller that isn't off, and a list in a run it returns `FQ_NOT_ALLOWED`, and the handle still
-    /// has its object, which leaks unless a later call frees it. Rings, transmit rings and drivers are freed in any
-    /// state; packets in a ring are lost, so poll them before. Returns `FQ_OK`; `FQ_BAD_HANDLE`; `FQ_NOT_ALLOWED`.
+    /// Frees the object of a handle, which is unset after that. AN OBJECT IN USE IS NOT FREED: for a caller that
+    /// isn't at rest, a controller that isn't off, and a list in a run it returns `FQ_NOT_ALLOWED`, and the handle
+    /// still has its object, which leaks unless a later call frees it. The others are freed in any state: a ring with
+    /// packets, which are lost, so poll them before; one end of a ring that was split, or the input of an instance's
+    /// ring, whose other end stays; a transmit ring with packets; a list with numbers; a driver with open devices.
+    /// Returns `FQ_OK`; `FQ_BAD_HANDLE`; `FQ_NOT_ALLOWED`.
     pub fn fq_free(handle: *mut fq_handle) -> u32;
     /// Frees the object of a handle in any state, so nothing leaks. Returns `FQ_OK`; `FQ_BAD_HANDLE`. An instance
     /// whose poller was abandoned is never polled again. The status may be ignored.
@@ -129,7 +131,7 @@ extern "C" {
         count: *mut usize,
     ) -> u32;
     /// Sets `*counts` to the counts of a ring's polls. The handle has to own the poll end: it is a ring, or the poll
-    /// end of one that was split; a seat that polls; the controller of a disabled instance. Returns `FQ_OK`;
+    /// end of one that was split; a caller that polls; the controller of a disabled instance. Returns `FQ_OK`;
     /// `FQ_BAD_HANDLE`; `FQ_NOT_ALLOWED` for any other.
     pub fn fq_count_sized(handle: *const fq_handle, counts: *mut fq_counts) -> u32;
     /// Sets `*shown` to the state of a ring, or of its input. Returns `FQ_OK`; `FQ_BAD_HANDLE`.
@@ -161,7 +163,7 @@ extern "C" {
     /// completed; `FQ_BAD_HANDLE`.
     pub fn fq_tx_done(tx: *mut fq_tx, count: u32, now_ms: u64) -> u32;
     /// Sets `*state` to the state of the ring. Returns `FQ_OK`; `FQ_BAD_HANDLE`.
-    pub fn fq_tx_state_sized(tx: *const fq_tx, state: *mut fq_tx_state) -> u32;
+    pub fn fq_tx_state_sized(tx: *const fq_tx, state: *mut fq_tx_shown) -> u32;
     /// Checks a ring at each tick of that timer. Sets `*stuck` to whether the ring has been stopped, with no byte
     /// completed, for `limit_ms` since the first check that found it so; if the clock went back to before that check,
     /// 0 ms have passed. Returns `FQ_OK`; `FQ_BAD_HANDLE`, and `*stuck` is false.
@@ -172,112 +174,112 @@ extern "C" {
         now_ms: u64,
         stuck: *mut bool,
     ) -> u32;
-    /// Makes an instance over the ring's poll end, with its controller and an array of `count` (2 to 8) seats, one
-    /// for each caller. It is disabled. After it, `ring` is only the ring's input. Returns `FQ_OK`; `FQ_IN_USE`;
-    /// `FQ_BAD_COUNT`; `FQ_BAD_HANDLE`; `FQ_OUT_OF_MEMORY`.
+    /// Makes an instance over the ring's poll end, with its controller and an array of `count` (2 to 8) callers. It
+    /// is disabled. After it, `ring` is only the ring's input. Returns `FQ_OK`; `FQ_IN_USE`; `FQ_BAD_COUNT`;
+    /// `FQ_BAD_HANDLE`; `FQ_OUT_OF_MEMORY`.
     pub fn fq_shared_new(
         ring: *mut fq_ring,
         control: *mut fq_control,
-        seats: *mut fq_seat,
+        callers: *mut fq_caller,
         count: usize,
     ) -> u32;
-    /// Makes an instance without a ring, for a card that the caller polls itself; `fq_seat_poll` returns no packets.
-    /// Otherwise like `fq_shared_new`. Returns `FQ_OK`; `FQ_IN_USE`; `FQ_BAD_COUNT`; `FQ_OUT_OF_MEMORY`.
-    pub fn fq_shared_bare(control: *mut fq_control, seats: *mut fq_seat, count: usize) -> u32;
-    /// The calls of a seat, which is one caller of the instance. Each makes one attempt, after checks for
-    /// `FQ_BAD_KIND`, `FQ_BAD_WEIGHT`, `FQ_NO_ROOM` and `FQ_BAD_HANDLE`; `fq_seat_schedule_prep` and
-    /// `fq_seat_complete_done` repeat it while another thread changes the instance. A seat at rest, which owns
-    /// nothing, may request a poll (`napi_schedule_prep`), take the instance from the list or as its thread, take it
-    /// to busy poll it (`napi_busy_loop`), and set whether polls are queued for its thread (`dev_set_threaded`).
-    /// `FQ_GRANTED`, `FQ_MISSED`, `FQ_DISABLED`, `FQ_CHANGED`.
-    pub fn fq_seat_schedule(seat: *mut fq_seat) -> u32;
-    /// The calls of a seat, which is one caller of the instance. Each makes one attempt, after checks for
-    /// `FQ_BAD_KIND`, `FQ_BAD_WEIGHT`, `FQ_NO_ROOM` and `FQ_BAD_HANDLE`; `fq_seat_schedule_prep` and
-    /// `fq_seat_complete_done` repeat it while another thread changes the instance. A seat at rest, which owns
-    /// nothing, may request a poll (`napi_schedule_prep`), take the instance from the list or as its thread, take it
-    /// to busy poll it (`napi_busy_loop`), and set whether polls are queued for its thread (`dev_set_threaded`).
-    /// `FQ_GRANTED`, `FQ_MISSED`, `FQ_DISABLED`.
-    pub fn fq_seat_schedule_prep(seat: *mut fq_seat) -> u32;
-    /// The calls of a seat, which is one caller of the instance. Each makes one attempt, after checks for
-    /// `FQ_BAD_KIND`, `FQ_BAD_WEIGHT`, `FQ_NO_ROOM` and `FQ_BAD_HANDLE`; `fq_seat_schedule_prep` and
-    /// `fq_seat_complete_done` repeat it while another thread changes the instance. A seat at rest, which owns
-    /// nothing, may request a poll (`napi_schedule_prep`), take the instance from the list or as its thread, take it
-    /// to busy poll it (`napi_busy_loop`), and set whether polls are queued for its thread (`dev_set_threaded`).
-    /// `FQ_TAKEN`, `FQ_NOT_THERE`.
-    pub fn fq_seat_take(seat: *mut fq_seat, kind: u32) -> u32;
-    /// The calls of a seat, which is one caller of the instance. Each makes one attempt, after checks for
-    /// `FQ_BAD_KIND`, `FQ_BAD_WEIGHT`, `FQ_NO_ROOM` and `FQ_BAD_HANDLE`; `fq_seat_schedule_prep` and
-    /// `fq_seat_complete_done` repeat it while another thread changes the instance. A seat at rest, which owns
-    /// nothing, may request a poll (`napi_schedule_prep`), take the instance from the list or as its thread, take it
-    /// to busy poll it (`napi_busy_loop`), and set whether polls are queued for its thread (`dev_set_threaded`).
-    /// `FQ_TAKEN`, `FQ_BUSY`, `FQ_CHANGED`.
-    pub fn fq_seat_busy_take(seat: *mut fq_seat) -> u32;
-    /// The calls of a seat, which is one caller of the instance. Each makes one attempt, after checks for
-    /// `FQ_BAD_KIND`, `FQ_BAD_WEIGHT`, `FQ_NO_ROOM` and `FQ_BAD_HANDLE`; `fq_seat_schedule_prep` and
-    /// `fq_seat_complete_done` repeat it while another thread changes the instance. A seat at rest, which owns
-    /// nothing, may request a poll (`napi_schedule_prep`), take the instance from the list or as its thread, take it
-    /// to busy poll it (`napi_busy_loop`), and set whether polls are queued for its thread (`dev_set_threaded`).
-    /// `FQ_OK`.
-    pub fn fq_seat_set_threaded(seat: *mut fq_seat, threaded: bool) -> u32;
-    /// A seat that was granted the instance has to queue it (`____napi_schedule`). `FQ_OK`.
-    pub fn fq_seat_hand(seat: *mut fq_seat, kind: u32) -> u32;
-    /// A seat that polls may poll the ring, like `fq_ring_poll`, and then requeues the instance or completes
+    /// Makes an instance without a ring, for a card that the program polls itself; `fq_caller_poll` returns no
+    /// packets. Otherwise like `fq_shared_new`. Returns `FQ_OK`; `FQ_IN_USE`; `FQ_BAD_COUNT`; `FQ_OUT_OF_MEMORY`.
+    pub fn fq_shared_bare(control: *mut fq_control, callers: *mut fq_caller, count: usize) -> u32;
+    /// The calls of a caller of a shared instance. Each makes one attempt, after checks for `FQ_BAD_KIND`,
+    /// `FQ_BAD_WEIGHT`, `FQ_NO_ROOM` and `FQ_BAD_HANDLE`; `fq_caller_schedule_prep` and `fq_caller_complete_done`
+    /// repeat it while another thread changes the instance. A caller at rest, which owns nothing, may request a poll
+    /// (`napi_schedule_prep`), take the instance from the list or as its thread, take it to busy poll it
+    /// (`napi_busy_loop`), and set whether polls are queued for its thread (`dev_set_threaded`). `FQ_GRANTED`,
+    /// `FQ_MISSED`, `FQ_DISABLED`, `FQ_CHANGED`.
+    pub fn fq_caller_schedule(caller: *mut fq_caller) -> u32;
+    /// The calls of a caller of a shared instance. Each makes one attempt, after checks for `FQ_BAD_KIND`,
+    /// `FQ_BAD_WEIGHT`, `FQ_NO_ROOM` and `FQ_BAD_HANDLE`; `fq_caller_schedule_prep` and `fq_caller_complete_done`
+    /// repeat it while another thread changes the instance. A caller at rest, which owns nothing, may request a poll
+    /// (`napi_schedule_prep`), take the instance from the list or as its thread, take it to busy poll it
+    /// (`napi_busy_loop`), and set whether polls are queued for its thread (`dev_set_threaded`). `FQ_GRANTED`,
+    /// `FQ_MISSED`, `FQ_DISABLED`.
+    pub fn fq_caller_schedule_prep(caller: *mut fq_caller) -> u32;
+    /// The calls of a caller of a shared instance. Each makes one attempt, after checks for `FQ_BAD_KIND`,
+    /// `FQ_BAD_WEIGHT`, `FQ_NO_ROOM` and `FQ_BAD_HANDLE`; `fq_caller_schedule_prep` and `fq_caller_complete_done`
+    /// repeat it while another thread changes the instance. A caller at rest, which owns nothing, may request a poll
+    /// (`napi_schedule_prep`), take the instance from the list or as its thread, take it to busy poll it
+    /// (`napi_busy_loop`), and set whether polls are queued for its thread (`dev_set_threaded`). `FQ_TAKEN`,
+    /// `FQ_NOT_THERE`.
+    pub fn fq_caller_take(caller: *mut fq_caller, kind: u32) -> u32;
+    /// The calls of a caller of a shared instance. Each makes one attempt, after checks for `FQ_BAD_KIND`,
+    /// `FQ_BAD_WEIGHT`, `FQ_NO_ROOM` and `FQ_BAD_HANDLE`; `fq_caller_schedule_prep` and `fq_caller_complete_done`
+    /// repeat it while another thread changes the instance. A caller at rest, which owns nothing, may request a poll
+    /// (`napi_schedule_prep`), take the instance from the list or as its thread, take it to busy poll it
+    /// (`napi_busy_loop`), and set whether polls are queued for its thread (`dev_set_threaded`). `FQ_TAKEN`,
+    /// `FQ_BUSY`, `FQ_CHANGED`.
+    pub fn fq_caller_busy_take(caller: *mut fq_caller) -> u32;
+    /// The calls of a caller of a shared instance. Each makes one attempt, after checks for `FQ_BAD_KIND`,
+    /// `FQ_BAD_WEIGHT`, `FQ_NO_ROOM` and `FQ_BAD_HANDLE`; `fq_caller_schedule_prep` and `fq_caller_complete_done`
+    /// repeat it while another thread changes the instance. A caller at rest, which owns nothing, may request a poll
+    /// (`napi_schedule_prep`), take the instance from the list or as its thread, take it to busy poll it
+    /// (`napi_busy_loop`), and set whether polls are queued for its thread (`dev_set_threaded`). `FQ_OK`.
+    pub fn fq_caller_set_threaded(caller: *mut fq_caller, threaded: bool) -> u32;
+    /// A caller that was granted the instance has to queue it (`____napi_schedule`). `FQ_OK`.
+    pub fn fq_caller_hand(caller: *mut fq_caller, kind: u32) -> u32;
+    /// A caller that polls may poll the ring, like `fq_ring_poll`, and then requeues the instance or completes
     /// (`napi_complete_done`).
-    pub fn fq_seat_poll(
-        seat: *mut fq_seat,
+    pub fn fq_caller_poll(
+        caller: *mut fq_caller,
         weight: usize,
         out: *mut fq_packet,
         len: usize,
         count: *mut usize,
     ) -> u32;
-    /// A seat that polls may poll the ring, like `fq_ring_poll`, and then requeues the instance or completes
+    /// A caller that polls may poll the ring, like `fq_ring_poll`, and then requeues the instance or completes
     /// (`napi_complete_done`). `FQ_OK`: it is on the list again.
-    pub fn fq_seat_requeue(seat: *mut fq_seat) -> u32;
-    /// A seat that polls may poll the ring, like `fq_ring_poll`, and then requeues the instance or completes
+    pub fn fq_caller_requeue(caller: *mut fq_caller) -> u32;
+    /// A caller that polls may poll the ring, like `fq_ring_poll`, and then requeues the instance or completes
     /// (`napi_complete_done`). `FQ_RELEASED`, `FQ_AGAIN`, `FQ_CHANGED`; `FQ_HELD` for a busy poller.
-    pub fn fq_seat_complete(seat: *mut fq_seat) -> u32;
-    /// A seat that polls may poll the ring, like `fq_ring_poll`, and then requeues the instance or completes
+    pub fn fq_caller_complete(caller: *mut fq_caller) -> u32;
+    /// A caller that polls may poll the ring, like `fq_ring_poll`, and then requeues the instance or completes
     /// (`napi_complete_done`). `FQ_RELEASED`, `FQ_AGAIN`; `FQ_HELD` for a busy poller.
-    pub fn fq_seat_complete_done(seat: *mut fq_seat) -> u32;
-    /// A seat that busy polls may poll and complete, and stops (`busy_poll_stop`): it then polls once more. `FQ_OK`,
-    /// `FQ_CHANGED`.
-    pub fn fq_seat_busy_stop(seat: *mut fq_seat) -> u32;
-    /// Sets `*word` to the state word, a sum of `FQ_BIT_..`, in any state of the seat. Returns `FQ_OK`;
+    pub fn fq_caller_complete_done(caller: *mut fq_caller) -> u32;
+    /// A caller that busy polls may poll and complete, and stops (`busy_poll_stop`): it then polls once more.
+    /// `FQ_OK`, `FQ_CHANGED`.
+    pub fn fq_caller_busy_stop(caller: *mut fq_caller) -> u32;
+    /// Sets `*word` to the state word, a sum of `FQ_BIT_..`, in any state of the caller. Returns `FQ_OK`;
     /// `FQ_BAD_HANDLE`.
-    pub fn fq_seat_look(seat: *mut fq_seat, word: *mut u64) -> u32;
-    /// Sets `*answers` to how often the seat's calls returned each result since it was made. Returns `FQ_OK`;
+    pub fn fq_caller_look(caller: *mut fq_caller, word: *mut u64) -> u32;
+    /// Sets `*answers` to how often the caller's calls returned each result since it was made. Returns `FQ_OK`;
     /// `FQ_BAD_HANDLE`.
-    pub fn fq_seat_count_sized(seat: *const fq_seat, answers: *mut fq_answers) -> u32;
+    pub fn fq_caller_count_sized(caller: *const fq_caller, answers: *mut fq_answers) -> u32;
     /// Queues a granted instance as the kernel does (`____napi_schedule`): for its thread if `FQ_BIT_THREADED` is
     /// set. Sets `*next` to `FQ_NEXT_AGAIN` or `FQ_NEXT_AGAIN_THREAD`. Returns `FQ_OK`; `FQ_BAD_HANDLE`;
     /// `FQ_NOT_ALLOWED`. `*next` is `FQ_NEXT_GONE` unless it returns `FQ_OK`.
-    pub fn fq_seat_hand_again(seat: *mut fq_seat, next: *mut u32) -> u32;
+    pub fn fq_caller_hand_again(caller: *mut fq_caller, next: *mut u32) -> u32;
     /// Ends a poll as the kernel does (`__napi_poll`). `full` says that it returned its whole weight. After a full
-    /// poll, if no disable is pending, a seat that took the instance from the list puts it on the list again, and one
-    /// that took it as its thread polls again, at once (`FQ_HELD`). After any other poll the instance is completed
-    /// (`fq_seat_complete_done`), and queued again if a request was missed (`fq_seat_hand_again`). Sets `*next` to
-    /// how the poll ended, for `fq_run_polled`: `FQ_NEXT_GONE`, `FQ_NEXT_AGAIN`, `FQ_NEXT_AGAIN_THREAD`,
+    /// poll, if no disable is pending, a caller that took the instance from the list puts it on the list again, and
+    /// one that took it as its thread polls again, at once (`FQ_HELD`). After any other poll the instance is
+    /// completed (`fq_caller_complete_done`), and queued again if a request was missed (`fq_caller_hand_again`). Sets
+    /// `*next` to how the poll ended, for `fq_run_polled`: `FQ_NEXT_GONE`, `FQ_NEXT_AGAIN`, `FQ_NEXT_AGAIN_THREAD`,
     /// `FQ_NEXT_REPOLL`. After `FQ_NEXT_AGAIN` and `FQ_NEXT_REPOLL` the number still has to be listed, after
     /// `FQ_NEXT_AGAIN_THREAD` the thread still has to be woken; that may follow a poll from the list too. Returns
-    /// `FQ_OK`; `FQ_HELD`: the seat keeps polling, as a busy poller does; `FQ_NOT_ALLOWED` if it doesn't poll;
-    /// `FQ_BAD_HANDLE`. `*next` is `FQ_NEXT_GONE` unless it returns `FQ_OK`. A seat polls as the thread while
-    /// `FQ_BIT_SCHED_THREADED` is set, which `fq_seat_requeue` doesn't clear.
-    pub fn fq_seat_end(seat: *mut fq_seat, full: bool, next: *mut u32) -> u32;
+    /// `FQ_OK`; `FQ_HELD`: the caller keeps polling, as a busy poller does; `FQ_NOT_ALLOWED` if it doesn't poll;
+    /// `FQ_BAD_HANDLE`. `*next` is `FQ_NEXT_GONE` unless it returns `FQ_OK`. A caller polls as the thread while
+    /// `FQ_BIT_SCHED_THREADED` is set, which `fq_caller_requeue` doesn't clear.
+    pub fn fq_caller_end(caller: *mut fq_caller, full: bool, next: *mut u32) -> u32;
     /// The calls of the controller. If the instance is off: enable (`napi_enable`). If it is on: mark. If it is
     /// marked: try to take, until that returns `FQ_TAKEN`, and the instance is off again (`napi_disable`). Request a
-    /// poll once after each enable, by a seat (`fq_seat_request`), or enable by `fq_control_open`, which does so: an
-    /// earlier request was missed and isn't polled, and a masked card with a full ring would wait forever. `FQ_OK`,
-    /// `FQ_CHANGED`.
+    /// poll once after each enable, by a caller (`fq_caller_request`), or enable by `fq_control_open`, which does so:
+    /// an earlier request was missed and isn't polled, and a masked card with a full ring would wait forever.
+    /// `FQ_OK`, `FQ_CHANGED`.
     pub fn fq_control_enable(control: *mut fq_control, threaded: bool) -> u32;
     /// The calls of the controller. If the instance is off: enable (`napi_enable`). If it is on: mark. If it is
     /// marked: try to take, until that returns `FQ_TAKEN`, and the instance is off again (`napi_disable`). Request a
-    /// poll once after each enable, by a seat (`fq_seat_request`), or enable by `fq_control_open`, which does so: an
-    /// earlier request was missed and isn't polled, and a masked card with a full ring would wait forever. `FQ_OK`.
+    /// poll once after each enable, by a caller (`fq_caller_request`), or enable by `fq_control_open`, which does so:
+    /// an earlier request was missed and isn't polled, and a masked card with a full ring would wait forever.
+    /// `FQ_OK`.
     pub fn fq_control_mark(control: *mut fq_control) -> u32;
     /// The calls of the controller. If the instance is off: enable (`napi_enable`). If it is on: mark. If it is
     /// marked: try to take, until that returns `FQ_TAKEN`, and the instance is off again (`napi_disable`). Request a
-    /// poll once after each enable, by a seat (`fq_seat_request`), or enable by `fq_control_open`, which does so: an
-    /// earlier request was missed and isn't polled, and a masked card with a full ring would wait forever.
+    /// poll once after each enable, by a caller (`fq_caller_request`), or enable by `fq_control_open`, which does so:
+    /// an earlier request was missed and isn't polled, and a masked card with a full ring would wait forever.
     /// `FQ_TAKEN`, `FQ_BUSY`, `FQ_CHANGED`.
     pub fn fq_control_try_take(control: *mut fq_control) -> u32;
     /// Makes one step of a driver's open (`on`) or stop; repeat it between the driver's polls until it returns
@@ -286,8 +288,8 @@ extern "C" {
     /// pending, and the owner has to complete the instance before the next step; `FQ_NOT_ALLOWED` to open one that
     /// isn't off; `FQ_BAD_HANDLE`.
     pub fn fq_control_step(control: *mut fq_control, on: bool, threaded: bool) -> u32;
-    /// Returns `FQ_OK` if the seat belongs to the controller's instance, otherwise `FQ_BAD_HANDLE`.
-    pub fn fq_control_has(control: *const fq_control, seat: *const fq_seat) -> u32;
+    /// Returns `FQ_OK` if the caller belongs to the controller's instance, otherwise `FQ_BAD_HANDLE`.
+    pub fn fq_control_has(control: *const fq_control, caller: *const fq_caller) -> u32;
     /// Makes a poll list for up to 64 numbers of devices; for more devices use more lists, for example one for each
     /// processor. A number leaves the list when its poll ends with `FQ_NEXT_GONE`, or by `fq_list_remove`. Returns
     /// `FQ_OK`; `FQ_IN_USE`; `FQ_OUT_OF_MEMORY`.
@@ -345,12 +347,12 @@ extern "C" {
     /// Sets `*todo` to what has to be done now. It is the same action, with the same number, until that is reported
     /// or isn't due any more. Returns `FQ_OK`; `FQ_BAD_HANDLE`, and `*todo` is `FQ_TODO_FAILED`.
     pub fn fq_driver_next_sized(driver: *mut fq_driver, todo: *mut fq_todo) -> u32;
-    /// Reports that the action in `*todo` was done, with `todo->packets`; only `todo->size`, `todo->number` and
-    /// `todo->packets` are read. Call it before the next call of `fq_driver_next`, or not at all: an action that
-    /// isn't reported is returned again. Returns `FQ_OK`; `FQ_BAD_HANDLE`; `FQ_NOT_DUE`: the driver doesn't wait for
-    /// this report any more, because of an interrupt, an open, a stop or an earlier report, or it is another
-    /// driver's, and `fq_driver_next` says what is due instead; `FQ_BAD_WORK` if a fetch took more than `most`.
-    /// Nothing changes unless it returns `FQ_OK`.
+    /// Reports that the action in `*todo` was done, with `todo->packets`; only its size, number and packets are read.
+    /// Call it before the next call of `fq_driver_next`, or not at all: an action that isn't reported is returned
+    /// again. Returns `FQ_OK`; `FQ_BAD_SIZE` if `*todo` wasn't set by `fq_driver_next` or `fq_driver_step`;
+    /// `FQ_BAD_HANDLE`; `FQ_NOT_DUE`: the driver doesn't wait for this report any more, because of an interrupt, an
+    /// open, a stop or an earlier report, or it is another driver's, and `fq_driver_next` says what is due instead;
+    /// `FQ_BAD_WORK` if a fetch took more than `most`. Nothing changes unless it returns `FQ_OK`.
     pub fn fq_driver_done(driver: *mut fq_driver, todo: *const fq_todo) -> u32;
     /// Reports the action in `*todo`, unless its number is 0, and sets `*todo` to what has to be done now:
     /// `fq_driver_done` and then `fq_driver_next` in one call. Report interrupts that came meanwhile before it, so
