@@ -29,6 +29,7 @@ using TxState = fq_tx_shown;
 using TxWatchdog = fq_tx_watchdog;
 using Counts = fq_counts;
 using Totals = fq_totals;
+using RunReport = fq_run_report;
 using RingShown = fq_ring_shown;
 using Answers = fq_answers;
 
@@ -124,19 +125,19 @@ private:
     Raw raw_{};
 };
 
-// A byte queue limit. Times are milliseconds of the caller's clock.
-class [[nodiscard]] Limit {
+// A byte queue limit. Times are milliseconds of the program's clock.
+class [[nodiscard]] Dql {
 public:
     // Makes a limit in bytes (dql_init); returns nullopt if min is above max, or max is above 1879048192.
-    [[nodiscard]] static std::optional<Limit> make(std::uint32_t min, std::uint32_t max, std::uint64_t hold_ms, std::uint64_t now_ms) {
-        Limit made;
+    [[nodiscard]] static std::optional<Dql> make(std::uint32_t min, std::uint32_t max, std::uint64_t hold_ms, std::uint64_t now_ms) {
+        Dql made;
         if (fq_dql_init(&made.raw_, min, max, hold_ms, now_ms) != FQ_OK) return std::nullopt;
-        return std::optional<Limit>(std::move(made));
+        return std::optional<Dql>(std::move(made));
     }
-    Limit(Limit &&) = default;
-    Limit &operator=(Limit &&) = default;
-    Limit(const Limit &) = delete;
-    Limit &operator=(const Limit &) = delete;
+    Dql(Dql &&) = default;
+    Dql &operator=(Dql &&) = default;
+    Dql(const Dql &) = delete;
+    Dql &operator=(const Dql &) = delete;
 
     [[nodiscard]] Status queued(std::uint32_t count) { return Status(fq_dql_queued(&raw_, count)); }
     [[nodiscard]] Status completed(std::uint32_t count, std::uint64_t now_ms) {
@@ -148,7 +149,7 @@ public:
     [[nodiscard]] std::uint32_t in_flight() const { return fq_dql_in_flight_here(&raw_); }
 
 private:
-    Limit() = default;
+    Dql() = default;
     fq_dql raw_{};
 };
 
@@ -662,13 +663,13 @@ struct [[nodiscard]] Pushed {
 // The result of a run: FQ_OK, or the reason for which it ended early, and the report of what it did until then.
 struct [[nodiscard]] Ran {
     Status status;
-    fq_run_report report;
+    RunReport report;
     // Returns whether the run ended without an error.
     explicit operator bool() const noexcept { return status == FQ_OK; }
     [[nodiscard]] bool has_value() const noexcept { return status == FQ_OK; }
-    const fq_run_report &operator*() const noexcept { return report; }
-    const fq_run_report *operator->() const noexcept { return &report; }
-    operator std::optional<fq_run_report>() const noexcept { return status == FQ_OK ? std::optional(report) : std::nullopt; }
+    const RunReport &operator*() const noexcept { return report; }
+    const RunReport *operator->() const noexcept { return &report; }
+    operator std::optional<RunReport>() const noexcept { return status == FQ_OK ? std::optional(report) : std::nullopt; }
 };
 
 // A poll list of one thread. A number leaves it when its poll ends with FQ_NEXT_GONE, or by remove.
@@ -716,9 +717,9 @@ private:
     // A run in progress, which ends with its scope. A call fails, and changes nothing, if there is nothing left to end.
     struct Run {
         fq_list *at;
-        fq_run_report report;
+        RunReport report;
 
-        Run(fq_list *list, fq_run_report none) noexcept : at(list), report(none) {}
+        Run(fq_list *list, RunReport none) noexcept : at(list), report(none) {}
         Run(const Run &) = delete;
         Run &operator=(const Run &) = delete;
         // A poll whose result was rejected is still open: it is reported as FQ_NEXT_ABSENT.

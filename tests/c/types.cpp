@@ -48,7 +48,7 @@ static void want(bool holds, const char *what) {
 template <class... Types>
 constexpr bool moves = ((std::is_nothrow_move_constructible_v<Types> && std::is_nothrow_move_assignable_v<Types> &&
                          !std::is_copy_constructible_v<Types> && !std::is_copy_assignable_v<Types>) && ...);
-static_assert(moves<Limit, TxRing, Caller, Granted, Polling, Busy, Control<Off>, Control<On>, Control<Marked>, Input, Output, Ring, List>);
+static_assert(moves<Dql, TxRing, Caller, Granted, Polling, Busy, Control<Off>, Control<On>, Control<Marked>, Input, Output, Ring, List>);
 static_assert(!std::is_copy_constructible_v<Word> && !std::is_copy_assignable_v<Word> && !std::is_move_constructible_v<Word>);
 static_assert(moves<Shared, Bare, Scheduled, Ended, Took, TookBusy, Completed, End>);
 static_assert(noexcept(std::declval<Caller>().schedule()) && noexcept(std::declval<Caller>().take(FQ_LIST)) && noexcept(std::declval<Polling>().end(true)) &&

@@ -48,7 +48,7 @@ class _One:
         raise TypeError(f"a {type(self).__name__} isn't copied")
 
 
-class Limit(_One):
+class Dql(_One):
     """A byte queue limit between min and max, with the hold time hold_ms (`dql_init`). Times are milliseconds of a clock that you choose.
     Raises BAD_BOUNDS if min is above max, or max is above 1879048192."""
 
@@ -84,7 +84,7 @@ class Limit(_One):
         return int(c.dql_in_flight(self._dql))
 
 
-class Napi(_One):
+class SerialNapi(_One):
     """An instance of one thread (`struct napi_struct`), disabled at first. A caller is a number, 0 by default; the controller's number is
     an argument here. A call that isn't allowed in the state raises NOT_ALLOWED, and changes nothing."""
 
