@@ -45,7 +45,7 @@ class Input(_Part):
     @property
     def count(self) -> int:
         """The number of packets that were put so far."""
-        return int(c.shown(lambda put, capacity: put, abi.RingShown, c.ring_show_sized, self._at))
+        return c.shown(lambda put, capacity: int(put), abi.RingShown, c.ring_show_sized, self._at)
 
 
 class Caller(_Part):
