@@ -43,6 +43,13 @@ using Answers = fq_answers;
 namespace detail {
 // Discards the status of a call that always succeeds in the state that the type guarantees.
 inline void made(std::uint32_t) noexcept {}
+// Returns what such a call sets, call(&to).
+template <class To, class Call>
+[[nodiscard]] To set_by(Call call) noexcept {
+    To to{};
+    made(call(&to));
+    return to;
+}
 
 // The callbacks of fq_card, over a card's member functions, which don't throw.
 template <class Card>
@@ -116,9 +123,7 @@ public:
     [[nodiscard]] const Raw *raw() const noexcept { return &raw_; }
     // Returns the counts of a ring's polls, if the object has its poll end.
     [[nodiscard]] Counts counts() const noexcept {
-        Counts counts{};
-        detail::made(fq_count(&raw_.handle, &counts));
-        return counts;
+        return detail::set_by<Counts>([&](auto *to) { return fq_count(&raw_.handle, to); });
     }
 
 private:
@@ -167,15 +172,11 @@ public:
     [[nodiscard]] Status send(std::uint32_t bytes) { return Status(fq_tx_send(at_.raw(), bytes)); }
     [[nodiscard]] Status done(std::uint32_t count, std::uint64_t now_ms) { return Status(fq_tx_done(at_.raw(), count, now_ms)); }
     [[nodiscard]] TxState state() const {
-        TxState shown{};
-        detail::made(fq_tx_state(at_.raw(), &shown));
-        return shown;
+        return detail::set_by<TxState>([&](auto *to) { return fq_tx_state(at_.raw(), to); });
     }
     // Returns whether the ring has been stopped, with no byte completed, for limit_ms; call it at each tick of a timer (fq_tx_watch).
     [[nodiscard]] bool watch(TxWatchdog &watchdog, std::uint64_t limit_ms, std::uint64_t now_ms) const {
-        bool stuck = false;
-        detail::made(fq_tx_watch(at_.raw(), &watchdog, limit_ms, now_ms, &stuck));
-        return stuck;
+        return detail::set_by<bool>([&](auto *to) { return fq_tx_watch(at_.raw(), &watchdog, limit_ms, now_ms, to); });
     }
 
 private:
@@ -246,16 +247,12 @@ class AnyCaller {
 public:
     // Returns the state word, a sum of FQ_BIT_..
     [[nodiscard]] std::uint64_t word() {
-        std::uint64_t word = 0;
-        made(fq_caller_look(at_.raw(), &word));
-        return word;
+        return set_by<std::uint64_t>([&](auto *to) { return fq_caller_look(at_.raw(), to); });
     }
 
     // Returns how often its calls returned each result since the instance was made.
     [[nodiscard]] Answers answers() const {
-        Answers answers{};
-        made(fq_caller_count(at_.raw(), &answers));
-        return answers;
+        return set_by<Answers>([&](auto *to) { return fq_caller_count(at_.raw(), to); });
     }
 
 protected:
@@ -268,9 +265,7 @@ class Poller : public AnyCaller {
 public:
     // Removes the ring's next packets, at most the weight, and writes them to out; returns how many.
     [[nodiscard]] std::size_t poll(Packets &out, Weight weight = Weight()) {
-        std::size_t count = 0;
-        made(fq_caller_poll(at_.raw(), weight.get(), out.data(), out.size(), &count));
-        return count;
+        return set_by<std::size_t>([&](auto *to) { return fq_caller_poll(at_.raw(), weight.get(), out.data(), out.size(), to); });
     }
     // Returns the counts of the ring's polls.
     [[nodiscard]] Counts counts() const { return at_.counts(); }
@@ -537,9 +532,7 @@ public:
 
     // Returns the ring's capacity, and how many packets were put.
     [[nodiscard]] RingShown shown() const {
-        RingShown shown{};
-        detail::made(fq_ring_show(at_.raw(), &shown));
-        return shown;
+        return detail::set_by<RingShown>([&](auto *to) { return fq_ring_show(at_.raw(), to); });
     }
 
 private:
@@ -553,9 +546,7 @@ private:
 class [[nodiscard]] Output {
 public:
     [[nodiscard]] std::size_t poll(Packets &out, Weight weight = Weight()) {
-        std::size_t count = 0;
-        detail::made(fq_ring_poll(at_.raw(), weight.get(), out.data(), out.size(), &count));
-        return count;
+        return detail::set_by<std::size_t>([&](auto *to) { return fq_ring_poll(at_.raw(), weight.get(), out.data(), out.size(), to); });
     }
     [[nodiscard]] Counts counts() const { return at_.counts(); }
 
@@ -578,9 +569,7 @@ public:
     [[nodiscard]] bool put(std::uint64_t number, std::uint32_t bytes) { return input_.put(number, bytes); }
     [[nodiscard]] std::size_t put_all(const fq_packet *packets, std::size_t len) { return input_.put_all(packets, len); }
     [[nodiscard]] std::size_t poll(Packets &out, Weight weight = Weight()) {
-        std::size_t count = 0;
-        detail::made(fq_ring_poll(input_.at_.raw(), weight.get(), out.data(), out.size(), &count));
-        return count;
+        return detail::set_by<std::size_t>([&](auto *to) { return fq_ring_poll(input_.at_.raw(), weight.get(), out.data(), out.size(), to); });
     }
     [[nodiscard]] Counts counts() const { return input_.at_.counts(); }
     [[nodiscard]] RingShown shown() const { return input_.shown(); }
@@ -592,9 +581,7 @@ public:
     }
     // Frees the ring, and returns its totals.
     [[nodiscard]] Totals finish() && {
-        Totals totals{};
-        detail::made(fq_ring_finish(input_.at_.raw(), &totals));
-        return totals;
+        return detail::set_by<Totals>([&](auto *to) { return fq_ring_finish(input_.at_.raw(), to); });
     }
 
 private:
@@ -690,9 +677,7 @@ public:
     [[nodiscard]] Status remove(std::uint32_t id) { return fq_list_remove(at_.raw(), id); }
     // Returns how many numbers the list and its run hold.
     [[nodiscard]] std::uint32_t size() const {
-        std::uint32_t len = 0;
-        detail::made(fq_list_len(at_.raw(), &len));
-        return len;
+        return detail::set_by<std::uint32_t>([&](auto *to) { return fq_list_len(at_.raw(), to); });
     }
 
     // Makes a run (net_rx_action). poll(id, weight) returns the packets that it processed, and how the poll ended. Returns FQ_BAD_WEIGHT
