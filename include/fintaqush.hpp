@@ -1,7 +1,7 @@
 // Fintaqush for C++17: the calls of fintaqush.h with the state of a caller in its type, so that a call that the state doesn't allow
 // doesn't compile. Header only. Of the objects only a SerialNapi can be copied. Nothing throws except the standard containers if memory runs
 // out, and the callback of List::run.
-// What fintaqush.h requires of its caller holds here too. A destructor abandons its object (fq_abandon): an instance whose
+// What fintaqush.h requires of the program holds here too. A destructor abandons its object (fq_abandon): an instance whose
 // poller was destroyed is never polled again. A call on an object that was moved from returns what an unset handle gives: FQ_BAD_HANDLE,
 // nullopt, 0, or the object itself.
 #ifndef FINTAQUSH_HPP
