@@ -255,8 +255,6 @@ struct fq_napi {
 
 /* Returns a new instance (netif_napi_add), which is disabled. */
 struct fq_napi fq_napi_new(uint32_t controller);
-/* Like fq_napi_new, in the program's struct. */
-FQ_NONNULL void fq_napi_init(struct fq_napi *napi, uint32_t controller);
 /* Requests a poll (napi_schedule_prep). Returns FQ_GRANTED; FQ_MISSED; FQ_DISABLED. */
 FQ_CHECKED enum fq_status fq_napi_schedule(struct fq_napi *napi, uint32_t who);
 /* Queues a granted instance (____napi_schedule), or puts a polled one on the list again. Returns FQ_OK; FQ_BAD_KIND; FQ_NOT_ALLOWED,

@@ -802,8 +802,7 @@ static uint32_t step_of(struct fq_napi *n, struct model_napi *m, uint32_t who, u
 static void instance_call(void) {
     static struct fq_napi napi;
     const uint32_t afresh = below(call == 0 ? 1 : 40), who = below(4), which = below(11);
-    if (afresh == 0) fq_napi_init(&napi, below(4));
-    else if (afresh == 1) napi = fq_napi_new(below(4));
+    if (afresh < 2) napi = fq_napi_new(below(4));
     else if (afresh < 6)
         for (size_t k = 0; k < sizeof napi; k++) ((unsigned char *)&napi)[k] = (unsigned char)(k < 8 ? below(3) * below(256) : k % 4 ? 0 : below(4));
     if (afresh < 6 && below(2)) napi.place = (uint8_t)below(7);

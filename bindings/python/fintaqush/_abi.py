@@ -311,7 +311,6 @@ CALLS: dict[str, tuple[Any, dict[str, Any]]] = {
     "dql_avail": (i64, {"dql": pointer(Dql)}),
     "dql_in_flight": (u32, {"dql": pointer(Dql)}),
     "napi_new": (Napi, {"controller": u32}),
-    "napi_init": (None, {"napi": pointer(Napi), "controller": u32}),
     "napi_schedule": (Status, {"napi": pointer(Napi), "who": u32}),
     "napi_hand": (Status, {"napi": pointer(Napi), "who": u32, "kind": u32}),
     "napi_take": (Status, {"napi": pointer(Napi), "who": u32, "kind": u32}),

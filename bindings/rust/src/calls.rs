@@ -73,11 +73,6 @@ pub(crate) fn napi_new(controller: u32) -> fq_napi {
     unsafe { fq_napi_new(controller) }
 }
 
-pub(crate) fn napi_init(napi: &mut fq_napi, controller: u32) {
-    // SAFETY: each reference and each slice leads to whole objects, to which no other argument leads.
-    unsafe { fq_napi_init(napi, controller) }
-}
-
 pub(crate) fn napi_schedule(napi: &mut fq_napi, who: u32) -> u32 {
     // SAFETY: each reference and each slice leads to whole objects, to which no other argument leads.
     unsafe { fq_napi_schedule(napi, who) }

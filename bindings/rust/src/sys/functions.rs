@@ -42,8 +42,6 @@ extern "C" {
     pub fn fq_dql_in_flight(dql: *const fq_dql) -> u32;
     /// Returns a new instance (`netif_napi_add`), which is disabled.
     pub fn fq_napi_new(controller: u32) -> fq_napi;
-    /// Like `fq_napi_new`, in the program's struct.
-    pub fn fq_napi_init(napi: *mut fq_napi, controller: u32);
     /// Requests a poll (`napi_schedule_prep`). Returns `FQ_GRANTED`; `FQ_MISSED`; `FQ_DISABLED`.
     pub fn fq_napi_schedule(napi: *mut fq_napi, who: u32) -> u32;
     /// Queues a granted instance (`____napi_schedule`), or puts a polled one on the list again. Returns `FQ_OK`;
