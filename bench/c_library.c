@@ -3,7 +3,7 @@
  * complete on a shared instance, by one thread. driver: packets that come one by one, polled by what a driver says; driver64:
  * 64 at a time; step, step64: the same with fq_driver_step, which reports and asks at once. packets: puts, and polls of weight
  * 64; bursts: the same packets, put 64 at once. 1, 8, 32 or 64: packets, put and polled this many at once. beside: looks by two
- * threads at once, each by its own seat, whose handles are adjacent; apart: 128 bytes apart. */
+ * threads at once, each by its own caller, whose handles are adjacent; apart: 128 bytes apart. */
 #include <fintaqush.h>
 #include <inttypes.h>
 #include <pthread.h>
@@ -43,19 +43,19 @@ static bool limits(uint64_t pairs) {
 static bool turns(uint64_t count) {
     struct fq_ring ring = FQ_NONE;
     struct fq_control control = FQ_NONE;
-    struct fq_seat seats[2] = {FQ_NONE, FQ_NONE};
-    if (fq_ring_new(&ring, 64) != FQ_OK || fq_shared_new(&ring, &control, seats, 2) != FQ_OK) return false;
+    struct fq_caller callers[2] = {FQ_NONE, FQ_NONE};
+    if (fq_ring_new(&ring, 64) != FQ_OK || fq_shared_new(&ring, &control, callers, 2) != FQ_OK) return false;
     if (fq_control_enable(&control, false) != FQ_OK) return false;
     for (uint64_t i = 0; i < count; i++) {
-        if (fq_seat_schedule(&seats[0]) != FQ_GRANTED || fq_seat_hand(&seats[0], FQ_LIST) != FQ_OK) return false;
-        if (fq_seat_take(&seats[1], FQ_LIST) != FQ_TAKEN || fq_seat_complete(&seats[1]) != FQ_RELEASED) return false;
+        if (fq_caller_schedule(&callers[0]) != FQ_GRANTED || fq_caller_hand(&callers[0], FQ_LIST) != FQ_OK) return false;
+        if (fq_caller_take(&callers[1], FQ_LIST) != FQ_TAKEN || fq_caller_complete(&callers[1]) != FQ_RELEASED) return false;
     }
     printf("turns %" PRIu64 "\n", count);
     return true;
 }
 
 struct looker {
-    struct fq_seat *seat;
+    struct fq_caller *caller;
     uint64_t count;
     bool failed;
 };
@@ -66,24 +66,24 @@ static void *look(void *at) {
     bool failed = false;
     for (uint64_t i = 0; i < mine.count; i++) {
         uint64_t word;
-        failed |= fq_seat_look(mine.seat, &word) != FQ_OK || word != 0;
+        failed |= fq_caller_look(mine.caller, &word) != FQ_OK || word != 0;
     }
     looker->failed = failed;
     return NULL;
 }
 
-/* The second seat's handle is this many handles after the first one's. */
+/* The second caller's handle is this many handles after the first one's. */
 static bool looks(uint64_t count, size_t behind) {
     static struct {
-        _Alignas(128) struct fq_seat seats[16];
+        _Alignas(128) struct fq_caller callers[16];
     } places;
     struct fq_control control = FQ_NONE;
-    struct fq_seat seats[2] = {FQ_NONE, FQ_NONE};
-    struct looker lookers[2] = {{&places.seats[0], count, false}, {&places.seats[behind], count, false}};
+    struct fq_caller callers[2] = {FQ_NONE, FQ_NONE};
+    struct looker lookers[2] = {{&places.callers[0], count, false}, {&places.callers[behind], count, false}};
     pthread_t threads[2];
-    if (fq_shared_bare(&control, seats, 2) != FQ_OK || fq_control_enable(&control, false) != FQ_OK) return false;
+    if (fq_shared_bare(&control, callers, 2) != FQ_OK || fq_control_enable(&control, false) != FQ_OK) return false;
     for (int i = 0; i < 2; i++) {
-        if (fq_move(&seats[i].handle, &lookers[i].seat->handle) != FQ_OK || pthread_create(&threads[i], NULL, look, &lookers[i]) != 0) return false;
+        if (fq_move(&callers[i].handle, &lookers[i].caller->handle) != FQ_OK || pthread_create(&threads[i], NULL, look, &lookers[i]) != 0) return false;
     }
     for (int i = 0; i < 2; i++) pthread_join(threads[i], NULL);
     printf("looks %" PRIu64 "\n", count);
@@ -206,7 +206,7 @@ int main(int words, char **word) {
                       : strcmp(word[1], "step64") == 0 ? step(times, 64)
                       : strcmp(word[1], "turns") == 0 ? turns(times)
                       : burst != 0 && burst <= 64     ? ring(times, burst)
-                      : is_beside || is_apart         ? looks(times, is_beside ? 1 : 128 / sizeof(struct fq_seat))
+                      : is_beside || is_apart         ? looks(times, is_beside ? 1 : 128 / sizeof(struct fq_caller))
                                                       : packets(times, strcmp(word[1], "bursts") == 0 ? put_at_once : put_one_by_one);
     fprintf(stderr, "%" PRIu64 " ns\n", now(is_beside || is_apart) - start);
     return good ? 0 : 1;

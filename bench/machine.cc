@@ -7,6 +7,7 @@
 #include <cstdlib>
 #include <cstring>
 #include <memory>
+#include <string>
 #include <vector>
 
 static const uint64_t MOST = UINT64_MAX, LATEST = 1ull << 62;
@@ -650,9 +651,11 @@ static void read_row(const char *line, size_t length, unsigned long long row, ui
 
 static void read_arrivals(std::vector<Processor> &processors) {
     Lines lines;
-    const char *line = nullptr, *header = settings[QUEUES] > 1 ? "moment,device,bytes,flow" : "moment,device,bytes";
+    const char *line = nullptr;
     size_t length = 0;
-    if (!lines.next(line, length) || length != std::strlen(header) || std::memcmp(line, header, length))
+    const std::string fields_of = settings[QUEUES] > 1 ? ",device,bytes,flow" : ",device,bytes";
+    const auto is = [&](const std::string &header) { return std::string(line, length) == header; };
+    if (!lines.next(line, length) || (!is("ns" + fields_of) && !is("moment" + fields_of)))
         stop(2, "arrivals fault 1 %s row %llu\n", "BadHeader", 0);
     uint64_t before = 0, fields[4] = {};
     for (unsigned long long row = 1; lines.next(line, length); row++) {

@@ -17,7 +17,7 @@ g++ -std=c++17 -O2 -o "$scratch/plain" "$bench/machine.cc"
 # time. A burst is more than a poll's weight.
 arrivals() {
     awk -v packets="$1" -v flow="${2:-}" 'BEGIN {
-        print "moment,device,bytes" (flow == "" ? "" : ",flow")
+        print "ns,device,bytes" (flow == "" ? "" : ",flow")
         for (packet = 0; packet < packets; packet++) {
             row = sprintf("%.0f,%d,%d", int(packet / 100) * 625000 + packet % 100 * 500, 1 + int(packet / 100) % 4, 60 + packet * 37 % 1440)
             print row (flow == "" ? "" : "," packet * 7 % 1000)

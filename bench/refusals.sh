@@ -33,10 +33,10 @@ cc -O1 -shared -fPIC -o "$folder/refuse.so" "$top/bench/refuse.c" -ldl
 } > "$folder/trace.csv"
 
 # Arrivals for which it allocates for several devices on two processors, and more than one read.
-awk 'BEGIN { print "moment,device,bytes"; for (row = 0; row < 20000; row++) print row * 900 "," row % 5 + 1 ",100" }' > "$folder/arrivals.csv"
+awk 'BEGIN { print "ns,device,bytes"; for (row = 0; row < 20000; row++) print row * 900 "," row % 5 + 1 ",100" }' > "$folder/arrivals.csv"
 
 # The same in three flows of each device.
-awk 'BEGIN { print "moment,device,bytes,flow"; for (row = 0; row < 20000; row++) print row * 900 "," row % 5 + 1 ",100," row % 3 }' > "$folder/flows.csv"
+awk 'BEGIN { print "ns,device,bytes,flow"; for (row = 0; row < 20000; row++) print row * 900 "," row % 5 + 1 ",100," row % 3 }' > "$folder/flows.csv"
 
 # The input of a mode, its options, and what its errors name.
 set_mode() {

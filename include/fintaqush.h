@@ -5,19 +5,23 @@
  * The other calls return a value, the length of a text, a struct or nothing, as their comments say. A call that isn't allowed in the
  * object's state returns FQ_NOT_ALLOWED and changes nothing.
  *
- * What the caller must ensure, because nothing here can check it:
+ * What the program must ensure, because nothing here can check it:
  * - A pointer points to a whole object of its type, or to as many as its count says. None is null, except that of an array whose count
  *   is 0. No two arguments of one call point to the same memory.
  * - Calls on one object don't overlap, not even two that only read, which take a pointer to const. An object may move from thread to
- *   thread if a lock, a thread's start or join, or a sequentially consistent atomic orders the calls. The ring's input, each seat and the
+ *   thread if a lock, a thread's start or join, or a sequentially consistent atomic orders the calls. The ring's input, each caller and the
  *   controller of one shared instance are separate objects, which may be used at the same time, each by one thread.
- * - A struct that begins with `size`, which may grow, has its sizeof there. For a size that the library doesn't know, a call returns
- *   FQ_BAD_SIZE and changes nothing.
- * - A handle (struct fq_ring, fq_tx, fq_seat, fq_control, fq_list, fq_driver) or fq_dql isn't copied, and only calls write its fields. An
+ * - A handle (struct fq_ring, fq_tx, fq_caller, fq_control, fq_list, fq_driver) or fq_dql isn't copied, and only calls write its fields. An
  *   unset handle is all zero.
  * - No call is made from a signal handler, or from the forked child of a process with threads.
  *
- * No call blocks, sleeps, locks or starts a thread. fq_seat_schedule_prep, fq_seat_complete_done, fq_seat_end and fq_control_step, and
+ * A struct that begins with `size` may grow in a later version; no other struct does. The inline functions below set `size` to the struct's
+ * sizeof in this header; FQ_DEFAULT_SETTINGS and fq_machine_default set that of settings. Where fq_NAME sets it, bindings call the export
+ * fq_NAME_sized, and set it themselves. The library knows the sizes of its own header and of earlier ones, from 2.0.0 on. For any other
+ * size, smaller or larger, a call returns FQ_BAD_SIZE: this check is its first, it writes nothing, and nothing changes. No call writes
+ * beyond `size`, or changes it. After another error a struct is unchanged, unless the call's comment says otherwise.
+ *
+ * No call blocks, sleeps, locks or starts a thread. fq_caller_schedule_prep, fq_caller_complete_done, fq_caller_end and fq_control_step, and
  * the inline functions over them, repeat an attempt while other threads change the instance: some thread always makes progress. Every
  * call returns: after 2^64 attempts, which take centuries, these return FQ_CHANGED, and do nothing more. fq_ring_new, fq_ring_split,
  * fq_tx_new, fq_list_new, fq_driver_new, fq_shared_new, fq_shared_bare, fq_replay, fq_raise and fq_machine allocate memory, after they have
@@ -35,10 +39,10 @@
 #include <stddef.h>
 #include <stdint.h>
 
-#define FQ_VERSION "1.1.0"
-/* The same as numbers. For example, #if FQ_VERSION_NUMBER >= 10100 requires 1.1.0 or later. */
-#define FQ_VERSION_MAJOR 1
-#define FQ_VERSION_MINOR 1
+#define FQ_VERSION "2.0.0"
+/* The same as numbers. For example, #if FQ_VERSION_NUMBER >= 20000 requires 2.0.0 or later. */
+#define FQ_VERSION_MAJOR 2
+#define FQ_VERSION_MINOR 0
 #define FQ_VERSION_PATCH 0
 #define FQ_VERSION_NUMBER (FQ_VERSION_MAJOR * 10000 + FQ_VERSION_MINOR * 100 + FQ_VERSION_PATCH)
 
@@ -115,7 +119,7 @@ enum fq_status FQ_NUMBER {
     FQ_BAD_WEIGHT = 114,       /* a weight is 1 to 64 packets */
     FQ_NO_ROOM = 115,          /* the array is too short */
     FQ_BAD_BUDGET = 116,       /* budget and window are 1 to 65535 */
-    FQ_BAD_COUNT = 117,        /* a shared instance has 2 to 8 seats, a driver 1 to 64 devices */
+    FQ_BAD_COUNT = 117,        /* a shared instance has 2 to 8 callers, a driver 1 to 64 devices */
     FQ_BAD_NEXT = 118,         /* how a poll ended is 0 to 4 (enum fq_next) */
     FQ_BAD_WORK = 119,         /* a poll is reported with more packets than the weight */
     FQ_BAD_TRACE = 120,        /* replay, raise: the bytes are not a trace, or a row of it can't be processed */
@@ -134,15 +138,13 @@ size_t fq_status_text(uint32_t status, char *to, size_t room);
 size_t fq_status_message(uint32_t status, char *to, size_t room);
 size_t fq_fault_text(uint32_t fault, char *to, size_t room);
 
-/* Returns the library's version as a number, as FQ_VERSION_NUMBER is that of the header. Since 1.1. */
+/* Returns the library's version as a number, as FQ_VERSION_NUMBER is that of the header. */
 uint32_t fq_version_number(void);
 
-/* The structs that calls read and write, except those of fq_replay and those that begin with their size. fq_struct_size returns the size
- * of one in bytes, so that bindings can check theirs; 0 for an unknown number. */
+/* The structs that calls read and write and that never grow. fq_struct_size returns the size of one in bytes, so that bindings can check
+ * theirs; 0 for an unknown number. */
 enum fq_struct FQ_NUMBER {
-    FQ_STRUCT_HANDLE = 0, FQ_STRUCT_DQL = 1, FQ_STRUCT_NAPI = 2, FQ_STRUCT_PACKET = 3, FQ_STRUCT_COUNTS = 4, FQ_STRUCT_TOTALS = 5,
-    FQ_STRUCT_RING_SHOWN = 6, FQ_STRUCT_TX_SHOWN = 7, FQ_STRUCT_ANSWERS = 8, FQ_STRUCT_RUN_REPORT = 9, FQ_STRUCT_TODO = 10,
-    FQ_STRUCT_DEVICE_SHOWN = 11, FQ_STRUCT_TX_WATCHDOG = 12
+    FQ_STRUCT_HANDLE = 0, FQ_STRUCT_DQL = 1, FQ_STRUCT_NAPI = 2, FQ_STRUCT_PACKET = 3, FQ_STRUCT_TX_WATCHDOG = 4
 };
 size_t fq_struct_size(uint32_t which);
 
@@ -198,7 +200,7 @@ enum fq_next FQ_NUMBER {
 #define FQ_BIT_QUEUED (UINT64_C(1) << 32) /* on a poll list, and not taken yet */
 #define FQ_BIT_TO_THREAD (UINT64_C(1) << 33) /* queued for its thread, and not taken yet */
 
-/* ---- dql: byte queue limits (lib/dynamic_queue_limits.c). They are in the caller's memory. Times are milliseconds of the caller's
+/* ---- dql: byte queue limits (lib/dynamic_queue_limits.c). They are in the program's memory. Times are milliseconds of the program's
  * clock. */
 
 /* A byte queue limit. It isn't copied, and only calls write its fields. */
@@ -210,7 +212,7 @@ struct fq_dql {
 };
 
 /* Makes a new limit between `min` and `max` bytes, with the slack hold time `hold_ms` (dql_init). *dql has to be all 0 or a limit; it is
- * unchanged if the call returns FQ_BAD_BOUNDS. Returns FQ_OK; FQ_BAD_BOUNDS. Since 1.1. */
+ * unchanged if the call returns FQ_BAD_BOUNDS. Returns FQ_OK; FQ_BAD_BOUNDS. */
 FQ_CHECKED enum fq_status fq_dql_init(struct fq_dql *dql, uint32_t min, uint32_t max, uint64_t hold_ms, uint64_t now_ms);
 
 /* Adds an object of `count` bytes that was sent to the device (dql_queued). Returns FQ_OK; FQ_TOO_LARGE; FQ_TOO_MUCH_IN_FLIGHT. */
@@ -234,7 +236,7 @@ FQ_NONNULL static inline int64_t fq_dql_avail_here(const struct fq_dql *dql) {
     return (int64_t)dql->private_a[3] - (int64_t)fq_dql_in_flight_here(dql);
 }
 
-/* ---- napi: an instance of one thread (struct napi_struct). It is in the caller's memory. A caller is a number; the controller's is set
+/* ---- napi: an instance of one thread (struct napi_struct). It is in the program's memory. A caller is a number; the controller's is set
  * when the instance is made. Any bytes of the struct represent a state, the same one in all calls. */
 
 /* An instance of one thread. Each flag is set unless its byte is 0. */
@@ -253,8 +255,6 @@ struct fq_napi {
 
 /* Returns a new instance (netif_napi_add), which is disabled. */
 struct fq_napi fq_napi_new(uint32_t controller);
-/* Like fq_napi_new, in the caller's struct. */
-FQ_NONNULL void fq_napi_init(struct fq_napi *napi, uint32_t controller);
 /* Requests a poll (napi_schedule_prep). Returns FQ_GRANTED; FQ_MISSED; FQ_DISABLED. */
 FQ_CHECKED enum fq_status fq_napi_schedule(struct fq_napi *napi, uint32_t who);
 /* Queues a granted instance (____napi_schedule), or puts a polled one on the list again. Returns FQ_OK; FQ_BAD_KIND; FQ_NOT_ALLOWED,
@@ -298,7 +298,7 @@ struct fq_handle {
 /* The handles, with a type for each kind of object. The calls on an object of any kind take its member: `fq_free(&ring.handle)`. */
 struct fq_ring { struct fq_handle handle; };    /* a receive ring, or its input or its poll end */
 struct fq_tx { struct fq_handle handle; };      /* a transmit ring */
-struct fq_seat { struct fq_handle handle; };    /* a caller of a shared instance */
+struct fq_caller { struct fq_handle handle; };  /* a caller of a shared instance */
 struct fq_control { struct fq_handle handle; }; /* the controller of a shared instance */
 struct fq_list { struct fq_handle handle; };    /* a poll list, and the run over it */
 struct fq_driver { struct fq_handle handle; };  /* a driver */
@@ -306,10 +306,11 @@ struct fq_driver { struct fq_handle handle; };  /* a driver */
 /* An unset handle: it refers to no object. */
 #define FQ_NONE {{false, NULL}}
 
-/* Frees the object of a handle, which is unset after that. AN OBJECT IN USE IS NOT FREED: for a seat that isn't at rest, a controller that
+/* Frees the object of a handle, which is unset after that. AN OBJECT IN USE IS NOT FREED: for a caller that isn't at rest, a controller that
  * isn't off, and a list in a run it returns FQ_NOT_ALLOWED, and the handle still has its object, which leaks unless a later call frees it.
- * Rings, transmit rings and drivers are freed in any state; packets in a ring are lost, so poll them before. Returns FQ_OK; FQ_BAD_HANDLE;
- * FQ_NOT_ALLOWED. */
+ * The others are freed in any state: a ring with packets, which are lost, so poll them before; one end of a ring that was split, or the
+ * input of an instance's ring, whose other end stays; a transmit ring with packets; a list with numbers; a driver with open devices. Returns
+ * FQ_OK; FQ_BAD_HANDLE; FQ_NOT_ALLOWED. */
 FQ_CHECKED enum fq_status fq_free(struct fq_handle *handle);
 /* Frees the object of a handle in any state, so nothing leaks. Returns FQ_OK; FQ_BAD_HANDLE. An instance whose poller was abandoned is never polled again.
  * The status may be ignored. */
@@ -321,7 +322,7 @@ FQ_CHECKED enum fq_status fq_move(struct fq_handle *FQ_RESTRICT from, struct fq_
 
 /* A packet. */
 struct fq_packet {
-    uint64_t number; /* a number that the caller chooses: an index, a pointer */
+    uint64_t number; /* a number that the program chooses: an index, a pointer */
     uint32_t bytes;  /* its size in bytes */
 };
 
@@ -340,6 +341,7 @@ FQ_CHECKED_AT(1, 5) enum fq_status fq_ring_poll(struct fq_ring *FQ_RESTRICT ring
 
 /* The counts of a ring's polls, each of which saturates at its maximum. */
 struct fq_counts {
+    size_t size;      /* the size of this struct */
     uint64_t polls;   /* the polls */
     uint64_t packets; /* the packets that they returned */
     uint64_t bytes;   /* the bytes of these packets */
@@ -347,6 +349,7 @@ struct fq_counts {
 
 /* The counts of a whole ring, each of which saturates at its maximum. */
 struct fq_totals {
+    size_t size;     /* the size of this struct */
     uint64_t put;    /* the packets that were put */
     uint64_t polled; /* the packets that polls returned */
     uint64_t left;   /* the packets that were left in the ring */
@@ -354,30 +357,44 @@ struct fq_totals {
 };
 
 /* Sets *counts to the counts of a ring's polls. The handle has to own the poll end: it is a ring, or the poll end of one that was split;
- * a seat that polls; the controller of a disabled instance. Returns FQ_OK; FQ_BAD_HANDLE; FQ_NOT_ALLOWED for any other. *counts is
- * unchanged unless it returns FQ_OK. */
-FQ_CHECKED enum fq_status fq_count(const struct fq_handle *FQ_RESTRICT handle, struct fq_counts *FQ_RESTRICT counts);
+ * a caller that polls; the controller of a disabled instance. Returns FQ_OK; FQ_BAD_HANDLE; FQ_NOT_ALLOWED for any other. */
+FQ_CHECKED enum fq_status fq_count_sized(const struct fq_handle *FQ_RESTRICT handle, struct fq_counts *FQ_RESTRICT counts);
+FQ_CHECKED static inline enum fq_status fq_count(const struct fq_handle *FQ_RESTRICT handle, struct fq_counts *FQ_RESTRICT counts) {
+    counts->size = sizeof *counts;
+    return fq_count_sized(handle, counts);
+}
 
 /* The state of a ring, or of its input. */
 struct fq_ring_shown {
+    size_t size;     /* the size of this struct */
     uint64_t put;    /* the packets put so far, a count that saturates; minus the packets of fq_count, it is the number in the ring */
     size_t capacity; /* in packets */
 };
 
-/* Sets *shown to the state of a ring, or of its input. Returns FQ_OK; FQ_BAD_HANDLE, and *shown is unchanged. */
-FQ_CHECKED enum fq_status fq_ring_show(const struct fq_ring *FQ_RESTRICT ring, struct fq_ring_shown *FQ_RESTRICT shown);
+/* Sets *shown to the state of a ring, or of its input. Returns FQ_OK; FQ_BAD_HANDLE. */
+FQ_CHECKED enum fq_status fq_ring_show_sized(const struct fq_ring *FQ_RESTRICT ring, struct fq_ring_shown *FQ_RESTRICT shown);
+FQ_CHECKED static inline enum fq_status fq_ring_show(const struct fq_ring *FQ_RESTRICT ring, struct fq_ring_shown *FQ_RESTRICT shown) {
+    shown->size = sizeof *shown;
+    return fq_ring_show_sized(ring, shown);
+}
+
 /* Splits a ring without an instance for two threads: after it, `ring` is the ring's input, for puts, and `out` its poll end, for polls.
  * Each is freed separately. Returns FQ_OK; FQ_IN_USE; FQ_BAD_HANDLE; FQ_OUT_OF_MEMORY. */
 FQ_CHECKED enum fq_status fq_ring_split(struct fq_ring *FQ_RESTRICT ring, struct fq_ring *FQ_RESTRICT out);
 /* Frees a ring that was never split, and sets *totals to its totals; the handle is unset after that. Returns FQ_OK; FQ_BAD_HANDLE, and
  * nothing changes. */
-FQ_CHECKED enum fq_status fq_ring_finish(struct fq_ring *FQ_RESTRICT ring, struct fq_totals *FQ_RESTRICT totals);
+FQ_CHECKED enum fq_status fq_ring_finish_sized(struct fq_ring *FQ_RESTRICT ring, struct fq_totals *FQ_RESTRICT totals);
+FQ_CHECKED static inline enum fq_status fq_ring_finish(struct fq_ring *FQ_RESTRICT ring, struct fq_totals *FQ_RESTRICT totals) {
+    totals->size = sizeof *totals;
+    return fq_ring_finish_sized(ring, totals);
+}
 
 /* ---- tx: transmit rings under a byte queue limit (netdev_tx_sent_queue, netdev_tx_completed_queue). The ring keeps the sizes of the
- * packets that were sent and aren't completed, in order; the packets themselves stay with the caller. Times are milliseconds. */
+ * packets that were sent and aren't completed, in order; the packets themselves stay with the program. Times are milliseconds. */
 
 /* The state of a transmit ring. */
 struct fq_tx_shown {
+    size_t size;        /* the size of this struct */
     uint32_t queued;    /* the bytes of all packets ever sent, modulo 2^32 */
     uint32_t completed; /* the bytes of all packets ever completed, modulo 2^32: queued - completed are in flight */
     uint32_t limit;     /* the limit in bytes */
@@ -395,8 +412,12 @@ FQ_CHECKED enum fq_status fq_tx_send(struct fq_tx *tx, uint32_t bytes);
 /* Completes the `count` oldest packets (netdev_tx_completed_queue). If these have any bytes, the limit adapts, and the queue is started
  * if the limit has room again. Returns FQ_OK; FQ_MORE_THAN_SENT, and nothing is completed; FQ_BAD_HANDLE. */
 FQ_CHECKED enum fq_status fq_tx_done(struct fq_tx *tx, uint32_t count, uint64_t now_ms);
-/* Sets *state to the state of the ring. Returns FQ_OK; FQ_BAD_HANDLE, and *state is unchanged. */
-FQ_CHECKED enum fq_status fq_tx_state(const struct fq_tx *FQ_RESTRICT tx, struct fq_tx_shown *FQ_RESTRICT state);
+/* Sets *state to the state of the ring. Returns FQ_OK; FQ_BAD_HANDLE. */
+FQ_CHECKED enum fq_status fq_tx_state_sized(const struct fq_tx *FQ_RESTRICT tx, struct fq_tx_shown *FQ_RESTRICT state);
+FQ_CHECKED static inline enum fq_status fq_tx_state(const struct fq_tx *FQ_RESTRICT tx, struct fq_tx_shown *FQ_RESTRICT state) {
+    state->size = sizeof *state;
+    return fq_tx_state_sized(tx, state);
+}
 
 /* What a driver's watchdog timer keeps about a transmit ring (dev_watchdog): all 0 at first. */
 struct fq_tx_watchdog {
@@ -407,43 +428,44 @@ struct fq_tx_watchdog {
 
 /* Checks a ring at each tick of that timer. Sets *stuck to whether the ring has been stopped, with no byte completed, for `limit_ms`
  * since the first check that found it so; if the clock went back to before that check, 0 ms have passed. Returns FQ_OK; FQ_BAD_HANDLE,
- * and *stuck is false. Since 1.1. */
+ * and *stuck is false. */
 FQ_CHECKED enum fq_status fq_tx_watch(const struct fq_tx *FQ_RESTRICT tx, struct fq_tx_watchdog *FQ_RESTRICT watchdog, uint64_t limit_ms, uint64_t now_ms, bool *FQ_RESTRICT stuck);
 
 /* ---- shared: instances that threads share. */
 
-/* Makes an instance over the ring's poll end, with its controller and an array of `count` (2 to 8) seats, one for each caller. It is
- * disabled. After it, `ring` is only the ring's input. Returns FQ_OK; FQ_IN_USE; FQ_BAD_COUNT; FQ_BAD_HANDLE; FQ_OUT_OF_MEMORY. */
-FQ_CHECKED_AT(1, 2) enum fq_status fq_shared_new(struct fq_ring *FQ_RESTRICT ring, struct fq_control *FQ_RESTRICT control, struct fq_seat *FQ_RESTRICT seats, size_t count);
+/* Makes an instance over the ring's poll end, with its controller and an array of `count` (2 to 8) callers. It is disabled. After
+ * it, `ring` is only the ring's input. Returns FQ_OK; FQ_IN_USE; FQ_BAD_COUNT; FQ_BAD_HANDLE; FQ_OUT_OF_MEMORY. */
+FQ_CHECKED_AT(1, 2) enum fq_status fq_shared_new(struct fq_ring *FQ_RESTRICT ring, struct fq_control *FQ_RESTRICT control, struct fq_caller *FQ_RESTRICT callers, size_t count);
 
-/* Makes an instance without a ring, for a card that the caller polls itself; fq_seat_poll returns no packets. Otherwise like
+/* Makes an instance without a ring, for a card that the program polls itself; fq_caller_poll returns no packets. Otherwise like
  * fq_shared_new. Returns FQ_OK; FQ_IN_USE; FQ_BAD_COUNT; FQ_OUT_OF_MEMORY. */
-FQ_CHECKED_AT(1) enum fq_status fq_shared_bare(struct fq_control *FQ_RESTRICT control, struct fq_seat *FQ_RESTRICT seats, size_t count);
+FQ_CHECKED_AT(1) enum fq_status fq_shared_bare(struct fq_control *FQ_RESTRICT control, struct fq_caller *FQ_RESTRICT callers, size_t count);
 
-/* The calls of a seat, which is one caller of the instance. Each makes one attempt, after checks for FQ_BAD_KIND, FQ_BAD_WEIGHT,
- * FQ_NO_ROOM and FQ_BAD_HANDLE; fq_seat_schedule_prep and fq_seat_complete_done repeat it while another thread changes the instance. A
- * seat at rest, which owns nothing, may request a poll (napi_schedule_prep), take the instance from the list or as its thread, take it to
+/* The calls of a caller of a shared instance. Each makes one attempt, after checks for FQ_BAD_KIND, FQ_BAD_WEIGHT,
+ * FQ_NO_ROOM and FQ_BAD_HANDLE; fq_caller_schedule_prep and fq_caller_complete_done repeat it while another thread changes the instance. A
+ * caller at rest, which owns nothing, may request a poll (napi_schedule_prep), take the instance from the list or as its thread, take it to
  * busy poll it (napi_busy_loop), and set whether polls are queued for its thread (dev_set_threaded). */
-FQ_CHECKED enum fq_status fq_seat_schedule(struct fq_seat *seat);      /* FQ_GRANTED, FQ_MISSED, FQ_DISABLED, FQ_CHANGED */
-FQ_CHECKED enum fq_status fq_seat_schedule_prep(struct fq_seat *seat); /* FQ_GRANTED, FQ_MISSED, FQ_DISABLED, since 1.1 */
-FQ_CHECKED enum fq_status fq_seat_take(struct fq_seat *seat, uint32_t kind); /* FQ_TAKEN, FQ_NOT_THERE */
-FQ_CHECKED enum fq_status fq_seat_busy_take(struct fq_seat *seat); /* FQ_TAKEN, FQ_BUSY, FQ_CHANGED */
-FQ_CHECKED enum fq_status fq_seat_set_threaded(struct fq_seat *seat, bool threaded); /* FQ_OK */
-/* A seat that was granted the instance has to queue it (____napi_schedule). */
-FQ_CHECKED enum fq_status fq_seat_hand(struct fq_seat *seat, uint32_t kind); /* FQ_OK */
-/* A seat that polls may poll the ring, like fq_ring_poll, and then requeues the instance or completes (napi_complete_done). */
-FQ_CHECKED_AT(1, 5) enum fq_status fq_seat_poll(struct fq_seat *FQ_RESTRICT seat, size_t weight, struct fq_packet *FQ_RESTRICT out, size_t len, size_t *FQ_RESTRICT count);
-FQ_CHECKED enum fq_status fq_seat_requeue(struct fq_seat *seat);       /* FQ_OK: it is on the list again */
-FQ_CHECKED enum fq_status fq_seat_complete(struct fq_seat *seat);      /* FQ_RELEASED, FQ_AGAIN, FQ_CHANGED; FQ_HELD for a busy poller */
-FQ_CHECKED enum fq_status fq_seat_complete_done(struct fq_seat *seat); /* FQ_RELEASED, FQ_AGAIN; FQ_HELD for a busy poller, since 1.1 */
-/* A seat that busy polls may poll and complete, and stops (busy_poll_stop): it then polls once more. */
-FQ_CHECKED enum fq_status fq_seat_busy_stop(struct fq_seat *seat); /* FQ_OK, FQ_CHANGED */
+FQ_CHECKED enum fq_status fq_caller_schedule(struct fq_caller *caller);      /* FQ_GRANTED, FQ_MISSED, FQ_DISABLED, FQ_CHANGED */
+FQ_CHECKED enum fq_status fq_caller_schedule_prep(struct fq_caller *caller); /* FQ_GRANTED, FQ_MISSED, FQ_DISABLED */
+FQ_CHECKED enum fq_status fq_caller_take(struct fq_caller *caller, uint32_t kind); /* FQ_TAKEN, FQ_NOT_THERE */
+FQ_CHECKED enum fq_status fq_caller_busy_take(struct fq_caller *caller); /* FQ_TAKEN, FQ_BUSY, FQ_CHANGED */
+FQ_CHECKED enum fq_status fq_caller_set_threaded(struct fq_caller *caller, bool threaded); /* FQ_OK */
+/* A caller that was granted the instance has to queue it (____napi_schedule). */
+FQ_CHECKED enum fq_status fq_caller_hand(struct fq_caller *caller, uint32_t kind); /* FQ_OK */
+/* A caller that polls may poll the ring, like fq_ring_poll, and then requeues the instance or completes (napi_complete_done). */
+FQ_CHECKED_AT(1, 5) enum fq_status fq_caller_poll(struct fq_caller *FQ_RESTRICT caller, size_t weight, struct fq_packet *FQ_RESTRICT out, size_t len, size_t *FQ_RESTRICT count);
+FQ_CHECKED enum fq_status fq_caller_requeue(struct fq_caller *caller);       /* FQ_OK: it is on the list again */
+FQ_CHECKED enum fq_status fq_caller_complete(struct fq_caller *caller);      /* FQ_RELEASED, FQ_AGAIN, FQ_CHANGED; FQ_HELD for a busy poller */
+FQ_CHECKED enum fq_status fq_caller_complete_done(struct fq_caller *caller); /* FQ_RELEASED, FQ_AGAIN; FQ_HELD for a busy poller */
+/* A caller that busy polls may poll and complete, and stops (busy_poll_stop): it then polls once more. */
+FQ_CHECKED enum fq_status fq_caller_busy_stop(struct fq_caller *caller); /* FQ_OK, FQ_CHANGED */
 
-/* Sets *word to the state word, a sum of FQ_BIT_.., in any state of the seat. Returns FQ_OK; FQ_BAD_HANDLE. */
-FQ_CHECKED enum fq_status fq_seat_look(struct fq_seat *FQ_RESTRICT seat, uint64_t *FQ_RESTRICT word);
+/* Sets *word to the state word, a sum of FQ_BIT_.., in any state of the caller. Returns FQ_OK; FQ_BAD_HANDLE. */
+FQ_CHECKED enum fq_status fq_caller_look(struct fq_caller *FQ_RESTRICT caller, uint64_t *FQ_RESTRICT word);
 
-/* How often a seat's calls returned each result. Each count saturates at its maximum. */
+/* How often a caller's calls returned each result. Each count saturates at its maximum. */
 struct fq_answers {
+    size_t size;       /* the size of this struct */
     uint64_t granted;  /* requests that were granted */
     uint64_t missed;   /* requests that were missed */
     uint64_t disabled; /* requests while a disable was pending */
@@ -453,9 +475,12 @@ struct fq_answers {
     uint64_t changed;  /* attempts of any call that failed because another thread changed the instance */
 };
 
-/* Sets *answers to how often the seat's calls returned each result since it was made. Returns FQ_OK; FQ_BAD_HANDLE, and *answers is
- * unchanged. */
-FQ_CHECKED enum fq_status fq_seat_count(const struct fq_seat *FQ_RESTRICT seat, struct fq_answers *FQ_RESTRICT answers);
+/* Sets *answers to how often the caller's calls returned each result since it was made. Returns FQ_OK; FQ_BAD_HANDLE. */
+FQ_CHECKED enum fq_status fq_caller_count_sized(const struct fq_caller *FQ_RESTRICT caller, struct fq_answers *FQ_RESTRICT answers);
+FQ_CHECKED static inline enum fq_status fq_caller_count(const struct fq_caller *FQ_RESTRICT caller, struct fq_answers *FQ_RESTRICT answers) {
+    answers->size = sizeof *answers;
+    return fq_caller_count_sized(caller, answers);
+}
 
 /* The callbacks of a driver for its card. Each is called with `at`. A callback that a call doesn't use may be null. */
 struct fq_card {
@@ -467,94 +492,93 @@ struct fq_card {
 };
 
 /* Queues a granted instance as the kernel does (____napi_schedule): for its thread if FQ_BIT_THREADED is set. Sets *next to
- * FQ_NEXT_AGAIN or FQ_NEXT_AGAIN_THREAD. Returns FQ_OK; FQ_BAD_HANDLE; FQ_NOT_ALLOWED. *next is FQ_NEXT_GONE unless it returns FQ_OK.
- * Since 1.1. */
-FQ_CHECKED enum fq_status fq_seat_hand_again(struct fq_seat *FQ_RESTRICT seat, uint32_t *FQ_RESTRICT next);
+ * FQ_NEXT_AGAIN or FQ_NEXT_AGAIN_THREAD. Returns FQ_OK; FQ_BAD_HANDLE; FQ_NOT_ALLOWED. *next is FQ_NEXT_GONE unless it returns FQ_OK. */
+FQ_CHECKED enum fq_status fq_caller_hand_again(struct fq_caller *FQ_RESTRICT caller, uint32_t *FQ_RESTRICT next);
 
-/* Handles an interrupt: requests a poll (fq_seat_schedule_prep); if granted, masks the card and queues the instance, in the kernel's
+/* Handles an interrupt: requests a poll (fq_caller_schedule_prep); if granted, masks the card and queues the instance, in the kernel's
  * order: if the card were masked after that, it would stay masked whenever the poller is faster. `kind` follows FQ_BIT_THREADED, which
- * fq_seat_request reads itself. Returns FQ_BAD_KIND; FQ_GRANTED, and the instance is queued; FQ_MISSED; FQ_DISABLED; FQ_BAD_HANDLE;
+ * fq_caller_request reads itself. Returns FQ_BAD_KIND; FQ_GRANTED, and the instance is queued; FQ_MISSED; FQ_DISABLED; FQ_BAD_HANDLE;
  * FQ_NOT_ALLOWED. */
-FQ_CHECKED static inline enum fq_status fq_seat_interrupt_masked(struct fq_seat *seat, uint32_t kind, const struct fq_card *card) {
+FQ_CHECKED static inline enum fq_status fq_caller_interrupt_masked(struct fq_caller *caller, uint32_t kind, const struct fq_card *card) {
     if (kind > FQ_THREAD) return FQ_BAD_KIND;
-    const enum fq_status said = fq_seat_schedule_prep(seat);
+    const enum fq_status said = fq_caller_schedule_prep(caller);
     if (said != FQ_GRANTED) return said;
     if (card->mask != NULL) card->mask(card->at);
-    const enum fq_status handed = fq_seat_hand(seat, kind);
+    const enum fq_status handed = fq_caller_hand(caller, kind);
     return handed == FQ_OK ? said : handed;
 }
 
-/* Like fq_seat_interrupt_masked, for a card that is masked already, or is never masked. */
-FQ_CHECKED static inline enum fq_status fq_seat_interrupt(struct fq_seat *seat, uint32_t kind) {
+/* Like fq_caller_interrupt_masked, for a card that is masked already, or is never masked. */
+FQ_CHECKED static inline enum fq_status fq_caller_interrupt(struct fq_caller *caller, uint32_t kind) {
     const struct fq_card none = {NULL, NULL, NULL, NULL, NULL};
-    return fq_seat_interrupt_masked(seat, kind, &none);
+    return fq_caller_interrupt_masked(caller, kind, &none);
 }
 
-/* Requests a poll (napi_schedule), from an interrupt, a timer or a driver's open. Like fq_seat_interrupt_masked, but reads the kind from
+/* Requests a poll (napi_schedule), from an interrupt, a timer or a driver's open. Like fq_caller_interrupt_masked, but reads the kind from
  * the state word. Sets *next to where the instance is queued: after FQ_NEXT_AGAIN list the number, after FQ_NEXT_AGAIN_THREAD wake the
  * thread; FQ_NEXT_GONE unless it returns FQ_GRANTED. Returns FQ_GRANTED; FQ_MISSED; FQ_DISABLED; FQ_BAD_HANDLE; FQ_NOT_ALLOWED. */
-FQ_CHECKED static inline enum fq_status fq_seat_request(struct fq_seat *FQ_RESTRICT seat, const struct fq_card *FQ_RESTRICT card, uint32_t *FQ_RESTRICT next) {
+FQ_CHECKED static inline enum fq_status fq_caller_request(struct fq_caller *FQ_RESTRICT caller, const struct fq_card *FQ_RESTRICT card, uint32_t *FQ_RESTRICT next) {
     *next = FQ_NEXT_GONE;
-    const enum fq_status said = fq_seat_schedule_prep(seat);
+    const enum fq_status said = fq_caller_schedule_prep(caller);
     if (said != FQ_GRANTED) return said;
     if (card->mask != NULL) card->mask(card->at);
-    const enum fq_status handed = fq_seat_hand_again(seat, next);
+    const enum fq_status handed = fq_caller_hand_again(caller, next);
     return handed == FQ_OK ? said : handed;
 }
 
 /* Ends a poll as the kernel does (__napi_poll). `full` says that it returned its whole weight. After a full poll, if no disable is
- * pending, a seat that took the instance from the list puts it on the list again, and one that took it as its thread polls again, at
- * once (FQ_HELD). After any other poll the instance is completed (fq_seat_complete_done), and queued again if a request was missed
- * (fq_seat_hand_again). Sets *next to how the poll ended, for fq_run_polled: FQ_NEXT_GONE, FQ_NEXT_AGAIN, FQ_NEXT_AGAIN_THREAD,
+ * pending, a caller that took the instance from the list puts it on the list again, and one that took it as its thread polls again, at
+ * once (FQ_HELD). After any other poll the instance is completed (fq_caller_complete_done), and queued again if a request was missed
+ * (fq_caller_hand_again). Sets *next to how the poll ended, for fq_run_polled: FQ_NEXT_GONE, FQ_NEXT_AGAIN, FQ_NEXT_AGAIN_THREAD,
  * FQ_NEXT_REPOLL. After FQ_NEXT_AGAIN and FQ_NEXT_REPOLL the number still has to be listed, after FQ_NEXT_AGAIN_THREAD the thread still
- * has to be woken; that may follow a poll from the list too. Returns FQ_OK; FQ_HELD: the seat keeps polling, as a busy poller does;
- * FQ_NOT_ALLOWED if it doesn't poll; FQ_BAD_HANDLE. *next is FQ_NEXT_GONE unless it returns FQ_OK. A seat polls as the thread while
- * FQ_BIT_SCHED_THREADED is set, which fq_seat_requeue doesn't clear. Since 1.1. */
-FQ_CHECKED enum fq_status fq_seat_end(struct fq_seat *FQ_RESTRICT seat, bool full, uint32_t *FQ_RESTRICT next);
+ * has to be woken; that may follow a poll from the list too. Returns FQ_OK; FQ_HELD: the caller keeps polling, as a busy poller does;
+ * FQ_NOT_ALLOWED if it doesn't poll; FQ_BAD_HANDLE. *next is FQ_NEXT_GONE unless it returns FQ_OK. A caller polls as the thread while
+ * FQ_BIT_SCHED_THREADED is set, which fq_caller_requeue doesn't clear. */
+FQ_CHECKED enum fq_status fq_caller_end(struct fq_caller *FQ_RESTRICT caller, bool full, uint32_t *FQ_RESTRICT next);
 
 #if defined(__GNUC__)
-/* Ends a poll of a card whose queue can be checked by `look`. Like fq_seat_end; and if the instance was released, unmasks the card, and
+/* Ends a poll of a card whose queue can be checked by `look`. Like fq_caller_end; and if the instance was released, unmasks the card, and
  * looks after a memory fence. If there is something to poll, it requests a poll itself, masks the card and queues the instance. Without
  * this look an edge-triggered interrupt would be lost. If FQ_BIT_THREADED was set meanwhile, the instance is queued for its thread: wake
- * it after FQ_NEXT_AGAIN_THREAD. Returns what fq_seat_end returns. */
-FQ_CHECKED static inline enum fq_status fq_seat_end_watched(struct fq_seat *FQ_RESTRICT seat, bool full, const struct fq_card *FQ_RESTRICT card, uint32_t *FQ_RESTRICT next) {
-    enum fq_status said = fq_seat_end(seat, full, next);
+ * it after FQ_NEXT_AGAIN_THREAD. Returns what fq_caller_end returns. */
+FQ_CHECKED static inline enum fq_status fq_caller_end_watched(struct fq_caller *FQ_RESTRICT caller, bool full, const struct fq_card *FQ_RESTRICT card, uint32_t *FQ_RESTRICT next) {
+    enum fq_status said = fq_caller_end(caller, full, next);
     if (said != FQ_OK || *next != FQ_NEXT_GONE) return said;
     card->unmask(card->at);
     __sync_synchronize();
     if (!card->look(card->at)) return FQ_OK;
-    said = fq_seat_request(seat, card, next); /* FQ_MISSED: another caller has requested a poll; FQ_DISABLED: a disable is pending */
+    said = fq_caller_request(caller, card, next); /* FQ_MISSED: another caller has requested a poll; FQ_DISABLED: a disable is pending */
     return said == FQ_GRANTED || said == FQ_MISSED || said == FQ_DISABLED ? FQ_OK : said;
 }
 #endif
 
 /* Ends a poll of a card whose queue can't be checked. *work is the number of packets polled so far. If it is below `weight`, unmasks the
- * card while the seat still polls, polls the rest of the weight, adds that to *work, and ends like fq_seat_end, full or not. A request
+ * card while the caller still polls, polls the rest of the weight, adds that to *work, and ends like fq_caller_end, full or not. A request
  * that comes meanwhile is missed, so that one more poll follows; for that poll, and if this one was full, the card is masked. Returns
- * FQ_BAD_WEIGHT if the weight isn't 1 to 64, and nothing is done; otherwise what fq_seat_end returns. */
-FQ_CHECKED static inline enum fq_status fq_seat_end_unmasked(struct fq_seat *FQ_RESTRICT seat, const struct fq_card *FQ_RESTRICT card, size_t weight, size_t *FQ_RESTRICT work, uint32_t *FQ_RESTRICT next) {
-    struct fq_counts counts; /* only for its status: FQ_OK if the seat polls */
+ * FQ_BAD_WEIGHT if the weight isn't 1 to 64, and nothing is done; otherwise what fq_caller_end returns. */
+FQ_CHECKED static inline enum fq_status fq_caller_end_unmasked(struct fq_caller *FQ_RESTRICT caller, const struct fq_card *FQ_RESTRICT card, size_t weight, size_t *FQ_RESTRICT work, uint32_t *FQ_RESTRICT next) {
+    struct fq_counts counts; /* only for its status: FQ_OK if the caller polls */
     uint64_t word;
     *next = FQ_NEXT_GONE;
     if (weight < 1 || weight > 64) return FQ_BAD_WEIGHT;
-    enum fq_status said = fq_seat_look(seat, &word);
-    if (said == FQ_OK && word & FQ_BIT_IN_BUSY_POLL) return fq_seat_end(seat, false, next);
-    if (said == FQ_OK) said = fq_count(&seat->handle, &counts);
+    enum fq_status said = fq_caller_look(caller, &word);
+    if (said == FQ_OK && word & FQ_BIT_IN_BUSY_POLL) return fq_caller_end(caller, false, next);
+    if (said == FQ_OK) said = fq_count(&caller->handle, &counts);
     if (said != FQ_OK) return said;
     if (*work < weight) {
         card->unmask(card->at);
         *work += card->poll(card->at, weight - *work);
         if (*work >= weight) card->mask(card->at);
     }
-    if (*work >= weight) return fq_seat_end(seat, true, next);
-    said = fq_seat_complete_done(seat);
+    if (*work >= weight) return fq_caller_end(caller, true, next);
+    said = fq_caller_complete_done(caller);
     if (said != FQ_AGAIN) return said == FQ_RELEASED ? FQ_OK : said;
     card->mask(card->at);
-    return fq_seat_hand_again(seat, next);
+    return fq_caller_hand_again(caller, next);
 }
 
 /* The calls of the controller. If the instance is off: enable (napi_enable). If it is on: mark. If it is marked: try to take, until that
- * returns FQ_TAKEN, and the instance is off again (napi_disable). Request a poll once after each enable, by a seat (fq_seat_request), or
+ * returns FQ_TAKEN, and the instance is off again (napi_disable). Request a poll once after each enable, by a caller (fq_caller_request), or
  * enable by fq_control_open, which does so: an earlier request was missed and isn't polled, and a masked card with a full ring would wait
  * forever. */
 FQ_CHECKED enum fq_status fq_control_enable(struct fq_control *control, bool threaded); /* FQ_OK, FQ_CHANGED */
@@ -564,29 +588,30 @@ FQ_CHECKED enum fq_status fq_control_try_take(struct fq_control *control);      
 /* Makes one step of a driver's open (`on`) or stop; repeat it between the driver's polls until it returns FQ_OK. After FQ_OK the
  * instance is enabled, and a poll still has to be requested once (fq_control_open does so); or it is off. Returns FQ_OK, also to stop an
  * instance that is off; FQ_BUSY: a disable is pending, and the owner has to complete the instance before the next step; FQ_NOT_ALLOWED
- * to open one that isn't off; FQ_BAD_HANDLE. Since 1.1. */
+ * to open one that isn't off; FQ_BAD_HANDLE. */
 FQ_CHECKED enum fq_status fq_control_step(struct fq_control *control, bool on, bool threaded);
 
-/* Returns FQ_OK if the seat belongs to the controller's instance, otherwise FQ_BAD_HANDLE. Since 1.1. */
-FQ_CHECKED enum fq_status fq_control_has(const struct fq_control *FQ_RESTRICT control, const struct fq_seat *FQ_RESTRICT seat);
+/* Returns FQ_OK if the caller belongs to the controller's instance, otherwise FQ_BAD_HANDLE. */
+FQ_CHECKED enum fq_status fq_control_has(const struct fq_control *FQ_RESTRICT control, const struct fq_caller *FQ_RESTRICT caller);
 
-/* Opens a driver's instance: enables it, and requests a poll once by a seat at rest (as virtnet_napi_enable does), so that what came
- * while it was off is polled. Returns, and sets *next, like fq_seat_request: FQ_GRANTED, and the number has to be listed or the thread
- * woken; FQ_MISSED: another seat has requested a poll meanwhile; FQ_NOT_ALLOWED, and nothing is done, if the controller isn't off;
- * FQ_NOT_ALLOWED also if the seat isn't at rest: then the instance is enabled, and a poll still has to be requested; FQ_BAD_HANDLE, and
- * nothing is done, also if the seat is another instance's. It never returns FQ_DISABLED, which a seat gets while its instance is being disabled. */
-FQ_CHECKED static inline enum fq_status fq_control_open(struct fq_control *FQ_RESTRICT control, bool threaded, struct fq_seat *FQ_RESTRICT seat, const struct fq_card *FQ_RESTRICT card, uint32_t *FQ_RESTRICT next) {
+/* Opens a driver's instance: enables it, and requests a poll once by a caller at rest (as virtnet_napi_enable does), so that what came
+ * while it was off is polled. Returns, and sets *next, like fq_caller_request: FQ_GRANTED, and the number has to be listed or the thread
+ * woken; FQ_MISSED: another caller has requested a poll meanwhile; FQ_NOT_ALLOWED, and nothing is done, if the controller isn't off;
+ * FQ_NOT_ALLOWED also if the caller isn't at rest: then the instance is enabled, and a poll still has to be requested; FQ_BAD_HANDLE, and
+ * nothing is done, also if the caller is another instance's. It never returns FQ_DISABLED, which a caller gets while its instance is being disabled. */
+FQ_CHECKED static inline enum fq_status fq_control_open(struct fq_control *FQ_RESTRICT control, bool threaded, struct fq_caller *FQ_RESTRICT caller, const struct fq_card *FQ_RESTRICT card, uint32_t *FQ_RESTRICT next) {
     *next = FQ_NEXT_GONE;
-    enum fq_status said = fq_control_has(control, seat);
+    enum fq_status said = fq_control_has(control, caller);
     if (said == FQ_OK) said = fq_control_step(control, true, threaded);
-    return said == FQ_OK ? fq_seat_request(seat, card, next) : said;
+    return said == FQ_OK ? fq_caller_request(caller, card, next) : said;
 }
 
-/* ---- run: poll lists and polling runs (net_rx_action). The caller drives a run: fq_run_begin; while fq_run_next returns FQ_OK, poll that
+/* ---- run: poll lists and polling runs (net_rx_action). The program drives a run: fq_run_begin; while fq_run_next returns FQ_OK, poll that
  * device and report the poll by fq_run_polled; fq_run_end. Each call on a list checks for FQ_BAD_HANDLE first. */
 
 /* The report of a polling run. */
 struct fq_run_report {
+    size_t size;   /* the size of this struct */
     uint32_t polls; /* the polls, at most the window */
     uint32_t work;  /* the packets of all polls */
     bool squeezed;  /* whether the run stopped because its budget or its window was used up, whether or not anything was left */
@@ -601,7 +626,7 @@ FQ_CHECKED enum fq_status fq_list_push(struct fq_list *list, uint32_t id);
 /* Removes a number from the list, for a device that goes away; the others keep their order. It may be called during a run. Returns FQ_OK;
  * FQ_BUSY if it isn't on the list, but the run over it has it, which polls it, will poll it, or lists it at its end: then end its poll with
  * FQ_NEXT_GONE, or end the run first; FQ_NOT_THERE if neither the list nor its run has it; FQ_BAD_HANDLE. Nothing changes unless it returns
- * FQ_OK. Since 1.1. */
+ * FQ_OK. */
 FQ_CHECKED enum fq_status fq_list_remove(struct fq_list *list, uint32_t id);
 /* Sets *len to how many numbers the list and its run hold, including the one that is being polled. Returns FQ_OK; FQ_BAD_HANDLE. */
 FQ_CHECKED enum fq_status fq_list_len(const struct fq_list *FQ_RESTRICT list, uint32_t *FQ_RESTRICT len);
@@ -618,7 +643,11 @@ FQ_CHECKED enum fq_status fq_run_next(struct fq_list *FQ_RESTRICT list, uint32_t
 FQ_CHECKED enum fq_status fq_run_polled(struct fq_list *list, uint32_t work, uint32_t next);
 /* Ends the run, and sets *report. The numbers that weren't polled, and those to be polled again, are on the list. Returns FQ_OK;
  * FQ_NOT_ALLOWED. */
-FQ_CHECKED enum fq_status fq_run_end(struct fq_list *FQ_RESTRICT list, struct fq_run_report *FQ_RESTRICT report);
+FQ_CHECKED enum fq_status fq_run_end_sized(struct fq_list *FQ_RESTRICT list, struct fq_run_report *FQ_RESTRICT report);
+FQ_CHECKED static inline enum fq_status fq_run_end(struct fq_list *FQ_RESTRICT list, struct fq_run_report *FQ_RESTRICT report) {
+    report->size = sizeof *report;
+    return fq_run_end_sized(list, report);
+}
 
 /* ---- driver: a driver of up to 64 devices on one thread. It has their instances, the poll list and the runs over it. It does no input
  * or output and calls nothing back: fq_driver_step reports that an action was done at a card, and says what has to be done next. A loop needs only
@@ -645,7 +674,7 @@ FQ_CHECKED enum fq_status fq_run_end(struct fq_list *FQ_RESTRICT list, struct fq
  * Any order of calls is safe: what isn't due returns FQ_NOT_DUE and changes nothing. It says to sleep only if each device is closed, or
  * its card was unmasked, was looked at after that and had no packets, and nothing is on the poll list. So no packet waits unseen if the
  * card interrupts for each packet that arrives while it is unmasked, even if it forgets those that arrive while it is masked (edges).
- * Packets stay with the caller: they are in the card until a fetch takes them.
+ * Packets stay with the program: they are in the card until a fetch takes them.
  *
  * Only one thread uses a driver at a time. If interrupts come on another thread, raise a bit in a struct fq_word there, and report each
  * bit that the driver's thread takes from it. */
@@ -665,20 +694,20 @@ enum fq_what FQ_NUMBER {
 
 /* An action that has to be done. */
 struct fq_todo {
-    size_t size;              /* the size of this struct, which fq_driver_next and fq_driver_step set, because it may grow */
+    size_t size;              /* the size of this struct */
     uint64_t number;          /* the number under which to report it: each action has another one; 0 if there is nothing to report */
     enum fq_what what;        /* what has to be done */
     uint32_t device;          /* the device; 0 if the action is at none */
     uint32_t most;            /* the packets that a fetch may take, the driver's weight; 0 for anything else */
-    uint32_t packets;         /* set by the caller after a look and a fetch; before that 1 for a look, so that packets aren't forgotten, else 0 */
-    struct fq_run_report run; /* the report of the run that ended; all 0 for anything else */
+    uint32_t packets;         /* set by the program after a look and a fetch; before that 1 for a look, so that packets aren't forgotten, else 0 */
     enum fq_status status;    /* the error after FQ_TODO_FAILED, otherwise FQ_OK */
+    struct fq_run_report run; /* the report of the run that ended; its numbers are 0 for anything else */
 };
 
-#define FQ_TODO_INIT {sizeof(struct fq_todo), 0, FQ_TODO_SLEEP, 0, 0, 0, {0, 0, false}, FQ_OK}
+#define FQ_TODO_INIT {sizeof(struct fq_todo), 0, FQ_TODO_SLEEP, 0, 0, 0, FQ_OK, {sizeof(struct fq_run_report), 0, 0, false}}
 
 /* Like fq_driver_new, for bindings. Drivers with different salts number their actions differently, so that none takes a report that is
- * another one's. Since 1.1. */
+ * another one's. */
 FQ_CHECKED enum fq_status fq_driver_new_salted(struct fq_driver *driver, uint32_t devices, uint32_t budget, uint32_t weight, uint32_t window, uint16_t salt);
 
 /* Makes a driver of 1 to 64 devices, all closed, their cards masked. Budget, weight and window are those of fq_run_begin. fq_free frees
@@ -688,43 +717,40 @@ FQ_CHECKED static inline enum fq_status fq_driver_new(struct fq_driver *driver, 
 }
 
 /* Opens a closed device (napi_enable): its card will be unmasked and looked at, so that packets which came before are polled too.
- * Returns FQ_OK; FQ_NOT_DUE if it isn't closed; FQ_BAD_DEVICE; FQ_BAD_HANDLE. Since 1.1. */
+ * Returns FQ_OK; FQ_NOT_DUE if it isn't closed; FQ_BAD_DEVICE; FQ_BAD_HANDLE. */
 FQ_CHECKED enum fq_status fq_driver_open(struct fq_driver *driver, uint32_t device);
 
 /* Stops an open device (napi_disable). Polls that were requested are still made, its card is masked, and then it is closed, which
  * fq_driver_show shows. Packets that stay in the card are polled after the next open. Returns FQ_OK; FQ_NOT_DUE if it is closed or
- * being stopped; FQ_BAD_DEVICE; FQ_BAD_HANDLE. Since 1.1. */
+ * being stopped; FQ_BAD_DEVICE; FQ_BAD_HANDLE. */
 FQ_CHECKED enum fq_status fq_driver_stop(struct fq_driver *driver, uint32_t device);
 
 /* Reports an interrupt of a card (napi_schedule), at any time, also before an action that is due is reported. Returns FQ_GRANTED: a
  * poll was requested, whose first action is to mask the card; FQ_MISSED: a poll is requested already, and one more follows, or the
  * device is closed; FQ_DISABLED: it is being stopped; FQ_BAD_DEVICE; FQ_BAD_HANDLE. It may be called too often: an interrupt without
- * packets costs one empty poll. The status may be ignored if the device and the handle are right. Since 1.1. */
+ * packets costs one empty poll. The status may be ignored if the device and the handle are right. */
 FQ_NONNULL enum fq_status fq_driver_interrupt(struct fq_driver *driver, uint32_t device);
-
-/* Like fq_driver_next and fq_driver_step, for bindings, which set todo->size themselves. Return FQ_BAD_SIZE if that is too small, and
- * nothing is read, written or changed. Since 1.1. */
-FQ_CHECKED enum fq_status fq_driver_next_sized(struct fq_driver *FQ_RESTRICT driver, struct fq_todo *FQ_RESTRICT todo);
-FQ_CHECKED enum fq_status fq_driver_step_sized(struct fq_driver *FQ_RESTRICT driver, struct fq_todo *FQ_RESTRICT todo);
 
 /* Sets *todo to what has to be done now. It is the same action, with the same number, until that is reported or isn't due any more.
  * Returns FQ_OK; FQ_BAD_HANDLE, and *todo is FQ_TODO_FAILED. */
+FQ_CHECKED enum fq_status fq_driver_next_sized(struct fq_driver *FQ_RESTRICT driver, struct fq_todo *FQ_RESTRICT todo);
 FQ_CHECKED static inline enum fq_status fq_driver_next(struct fq_driver *FQ_RESTRICT driver, struct fq_todo *FQ_RESTRICT todo) {
     todo->size = sizeof *todo;
     return fq_driver_next_sized(driver, todo);
 }
 
-/* Reports that the action in *todo was done, with todo->packets; only todo->number and todo->packets are read. Call it before the next
- * call of fq_driver_next, or not at all: an action that isn't reported is returned again. Returns FQ_OK; FQ_BAD_HANDLE; FQ_NOT_DUE: the
- * driver doesn't wait for this report any more, because of an interrupt, an open, a stop or an earlier report, or it is another
- * driver's, and fq_driver_next says what is due instead; FQ_BAD_WORK if a fetch took more than `most`. Nothing changes unless it returns
- * FQ_OK. Since 1.1. */
+/* Reports that the action in *todo was done, with todo->packets; only its size, number and packets are read. Call it before the next call
+ * of fq_driver_next, or not at all: an action that isn't reported is returned again. Returns FQ_OK; FQ_BAD_SIZE if *todo wasn't set by
+ * fq_driver_next or fq_driver_step; FQ_BAD_HANDLE; FQ_NOT_DUE: the driver doesn't wait for this report any more, because of an interrupt,
+ * an open, a stop or an earlier report, or it is another driver's, and fq_driver_next says what is due instead; FQ_BAD_WORK if a fetch
+ * took more than `most`. Nothing changes unless it returns FQ_OK. */
 FQ_CHECKED enum fq_status fq_driver_done(struct fq_driver *FQ_RESTRICT driver, const struct fq_todo *FQ_RESTRICT todo);
 
 /* Reports the action in *todo, unless its number is 0, and sets *todo to what has to be done now: fq_driver_done and then fq_driver_next
  * in one call. Report interrupts that came meanwhile before it, so that they count before the next poll. Returns FQ_OK; FQ_NOT_DUE: the
  * driver didn't wait for this report any more, and *todo is what is due instead; FQ_BAD_HANDLE, and FQ_BAD_WORK if a fetch took more than
  * `most`: nothing changes, and *todo is FQ_TODO_FAILED. */
+FQ_CHECKED enum fq_status fq_driver_step_sized(struct fq_driver *FQ_RESTRICT driver, struct fq_todo *FQ_RESTRICT todo);
 FQ_CHECKED static inline enum fq_status fq_driver_step(struct fq_driver *FQ_RESTRICT driver, struct fq_todo *FQ_RESTRICT todo) {
     todo->size = sizeof *todo;
     return fq_driver_step_sized(driver, todo);
@@ -739,7 +765,7 @@ enum fq_device_state FQ_NUMBER {
 
 /* The state of a device, and the counts of its polls. */
 struct fq_device_shown {
-    size_t size;      /* the size of this struct, which the caller sets */
+    size_t size;      /* the size of this struct */
     uint32_t state;   /* the device's state: a number of enum fq_device_state */
     bool scheduled;   /* whether a poll is requested and isn't completed (NAPI_STATE_SCHED); set for a closed device too, as in the kernel */
     bool missed;      /* whether an interrupt came meanwhile (NAPI_STATE_MISSED) */
@@ -747,9 +773,12 @@ struct fq_device_shown {
     uint64_t packets; /* the packets of these fetches; saturates */
 };
 
-/* Sets *shown to the state of a device and the counts of its polls. Returns FQ_OK; FQ_BAD_SIZE if shown->size is too small;
- * FQ_BAD_HANDLE; FQ_BAD_DEVICE. *shown is unchanged unless it returns FQ_OK. Since 1.1. */
-FQ_CHECKED enum fq_status fq_driver_show(const struct fq_driver *FQ_RESTRICT driver, uint32_t device, struct fq_device_shown *FQ_RESTRICT shown);
+/* Sets *shown to the state of a device and the counts of its polls. Returns FQ_OK; FQ_BAD_HANDLE; FQ_BAD_DEVICE. */
+FQ_CHECKED enum fq_status fq_driver_show_sized(const struct fq_driver *FQ_RESTRICT driver, uint32_t device, struct fq_device_shown *FQ_RESTRICT shown);
+FQ_CHECKED static inline enum fq_status fq_driver_show(const struct fq_driver *FQ_RESTRICT driver, uint32_t device, struct fq_device_shown *FQ_RESTRICT shown) {
+    shown->size = sizeof *shown;
+    return fq_driver_show_sized(driver, device, shown);
+}
 
 /* ---- word: a word of pending bits. Only its poller uses a list: another thread sets the bit of a device in such a word, and wakes the poller,
  * which takes all bits and pushes their numbers. All operations are sequentially consistent. */
@@ -777,7 +806,7 @@ FQ_NONNULL static inline uint64_t fq_word_take(struct fq_word *word) { return __
 
 /* The settings of a replay. */
 struct fq_settings {
-    size_t size;     /* the size of this struct, which the caller sets */
+    size_t size;     /* the size of this struct */
     uint32_t budget; /* packets that a run polls before it is squeezed, 1 to 65535 (netdev_budget) */
     uint32_t weight; /* packets that one poll returns at most, 1 to 64 (NAPI_POLL_WEIGHT) */
     uint32_t window; /* polls that a run makes before it is squeezed, 1 to 65535 (in place of netdev_budget_usecs) */
@@ -788,28 +817,34 @@ struct fq_settings {
 
 /* What a replay returns besides its status. */
 struct fq_replayed {
-    size_t size;    /* the size of this struct, which the caller sets */
+    size_t size;    /* the size of this struct */
     size_t length;  /* the length of the report or trace in bytes, even if there is no room for it; 0 if there is none */
     uint32_t fault; /* the trace's fault: a number of enum fq_fault; 0 if it has none */
     uint32_t row;   /* the row that the fault names, counted from 1; 0 if it names none */
 };
 
-#define FQ_REPLAYED_INIT {sizeof(struct fq_replayed), 0, 0, 0}
-
-/* Replays a trace of `len` bytes, and writes its report to an array of `room` bytes. Returns FQ_BAD_SIZE, and *replayed is unchanged;
- * FQ_BAD_WEIGHT, FQ_BAD_BUDGET for the settings; FQ_OUT_OF_MEMORY; FQ_BAD_TRACE, and replayed->fault and replayed->row say why; FQ_NO_ROOM, and replayed->length is the room
- * that the report needs; FQ_OK, and the first replayed->length bytes of the array are the report, with no terminating 0. All other bytes
- * of the array are unchanged, and all of them unless it returns FQ_OK. An instance's thread polls at most 131072 times at a time, which no
- * trace of 100000 rows reaches. */
-FQ_CHECKED_AT(1, 6) enum fq_status fq_replay(const struct fq_settings *FQ_RESTRICT settings, const uint8_t *FQ_RESTRICT trace, size_t len, uint8_t *FQ_RESTRICT report, size_t room, struct fq_replayed *FQ_RESTRICT replayed);
+/* Replays a trace of `len` bytes, and writes its report to an array of `room` bytes. Returns FQ_BAD_SIZE if settings->size is wrong;
+ * FQ_BAD_WEIGHT, FQ_BAD_BUDGET for the settings; FQ_OUT_OF_MEMORY; FQ_BAD_TRACE, and replayed->fault and replayed->row say why;
+ * FQ_NO_ROOM, and replayed->length is the room that the report needs; FQ_OK, and the first replayed->length bytes of the array are the
+ * report, with no terminating 0. All other bytes of the array are unchanged, and all of them unless it returns FQ_OK. An instance's thread
+ * polls at most 131072 times at a time, which no trace of 100000 rows reaches. */
+FQ_CHECKED_AT(1, 6) enum fq_status fq_replay_sized(const struct fq_settings *FQ_RESTRICT settings, const uint8_t *FQ_RESTRICT trace, size_t len, uint8_t *FQ_RESTRICT report, size_t room, struct fq_replayed *FQ_RESTRICT replayed);
+FQ_CHECKED_AT(1, 6) static inline enum fq_status fq_replay(const struct fq_settings *FQ_RESTRICT settings, const uint8_t *FQ_RESTRICT trace, size_t len, uint8_t *FQ_RESTRICT report, size_t room, struct fq_replayed *FQ_RESTRICT replayed) {
+    replayed->size = sizeof *replayed;
+    return fq_replay_sized(settings, trace, len, report, room, replayed);
+}
 
 /* Writes a trace with the runs that the kernel would make, because net_rx_action raises the softirq again if instances are left on the poll
  * list: each softirq row that leaves some is repeated until the list is empty, at most `restarts` times; with FQ_UNTIL_EMPTY, or any number
  * from 100000 on, only the list decides. A softirq row that is followed by one at the same time isn't repeated. Numbers are written in
  * decimal, and nothing is quoted. Returns what fq_replay returns, and replayed->length is the length of the trace that it writes. A trace
- * that would have more than 100000 rows has fault 9; the row of fault 12 counts added rows. Since 1.1. */
+ * that would have more than 100000 rows has fault 9; the row of fault 12 counts added rows. */
 #define FQ_UNTIL_EMPTY UINT32_MAX /* as many added runs as empty the list */
-FQ_CHECKED_AT(1, 7) enum fq_status fq_raise(const struct fq_settings *FQ_RESTRICT settings, uint32_t restarts, const uint8_t *FQ_RESTRICT trace, size_t len, uint8_t *FQ_RESTRICT out, size_t room, struct fq_replayed *FQ_RESTRICT replayed);
+FQ_CHECKED_AT(1, 7) enum fq_status fq_raise_sized(const struct fq_settings *FQ_RESTRICT settings, uint32_t restarts, const uint8_t *FQ_RESTRICT trace, size_t len, uint8_t *FQ_RESTRICT out, size_t room, struct fq_replayed *FQ_RESTRICT replayed);
+FQ_CHECKED_AT(1, 7) static inline enum fq_status fq_raise(const struct fq_settings *FQ_RESTRICT settings, uint32_t restarts, const uint8_t *FQ_RESTRICT trace, size_t len, uint8_t *FQ_RESTRICT out, size_t room, struct fq_replayed *FQ_RESTRICT replayed) {
+    replayed->size = sizeof *replayed;
+    return fq_raise_sized(settings, restarts, trace, len, out, room, replayed);
+}
 
 /* The faults of a trace, in the order in which docs/FORMATS.md describes them. */
 enum fq_fault FQ_NUMBER {
@@ -838,7 +873,7 @@ static inline const char *fq_fault_name(uint32_t fault) {
 
 /* The settings of the machine. The members after `size` are the options of napi_machine, with their ranges and defaults. */
 struct fq_machine_settings {
-    size_t size; /* the size of this struct, which the caller sets */
+    size_t size; /* the size of this struct */
     /* scripts/options.py: begin */
     uint32_t processors;        /* processors that receive; queue q belongs to processor (q - 1) mod N, and each serves at most 64 queues, 1 to 64 (1) */
     uint32_t queues;            /* queues of each device, chosen by the packet's flow (RSS: ethtool -L, -X), 1 to 64 (1) */
@@ -868,7 +903,7 @@ struct fq_machine_settings {
 
 /* What a run of the machine returns besides its status. */
 struct fq_machine_ran {
-    size_t size;      /* the size of this struct, which the caller sets */
+    size_t size;      /* the size of this struct */
     size_t length;    /* the length of the report in bytes, even if there is no room for it; 0 if there is none */
     uint64_t row;     /* the row that the fault of the arrivals names, counted from 1; 0 if it names none */
     uint32_t fault;   /* the number of that fault, 1 to 8; 0 if they have none */
@@ -876,15 +911,23 @@ struct fq_machine_ran {
     char message[64]; /* the message of the fault of the arrivals, as napi_machine prints it, with a terminating 0; otherwise empty */
 };
 
-/* Sets all settings to the defaults of napi_machine, after the caller has set settings->size. Returns FQ_OK; FQ_BAD_SIZE, and the struct
- * is unchanged. Since 1.1. */
-FQ_CHECKED enum fq_status fq_machine_default(struct fq_machine_settings *settings);
-/* Runs the machine on arrivals of `len` bytes, and writes its report to an array of `room` bytes. Returns FQ_BAD_SIZE if a struct's
- * `size` isn't set, and *ran is unchanged; FQ_BAD_SETTING, and ran->setting says which; FQ_OUT_OF_MEMORY; FQ_BAD_ARRIVALS, and
+/* Sets all settings to the defaults of napi_machine. Returns FQ_OK. */
+FQ_CHECKED enum fq_status fq_machine_default_sized(struct fq_machine_settings *settings);
+FQ_CHECKED static inline enum fq_status fq_machine_default(struct fq_machine_settings *settings) {
+    settings->size = sizeof *settings;
+    return fq_machine_default_sized(settings);
+}
+
+/* Runs the machine on arrivals of `len` bytes, and writes its report to an array of `room` bytes. Returns FQ_BAD_SIZE if
+ * settings->size is wrong; FQ_BAD_SETTING, and ran->setting says which; FQ_OUT_OF_MEMORY; FQ_BAD_ARRIVALS, and
  * ran->fault, ran->row and ran->message say why; FQ_NO_ROOM, and ran->length is the room that the report needs; FQ_OK, and the first
  * ran->length bytes of the array are the report, with no terminating 0. All other bytes of the array are unchanged, and all of
- * them unless it returns FQ_OK. Since 1.1. */
-FQ_CHECKED_AT(1, 6) enum fq_status fq_machine(const struct fq_machine_settings *FQ_RESTRICT settings, const uint8_t *FQ_RESTRICT arrivals, size_t len, uint8_t *FQ_RESTRICT report, size_t room, struct fq_machine_ran *FQ_RESTRICT ran);
+ * them unless it returns FQ_OK. */
+FQ_CHECKED_AT(1, 6) enum fq_status fq_machine_sized(const struct fq_machine_settings *FQ_RESTRICT settings, const uint8_t *FQ_RESTRICT arrivals, size_t len, uint8_t *FQ_RESTRICT report, size_t room, struct fq_machine_ran *FQ_RESTRICT ran);
+FQ_CHECKED_AT(1, 6) static inline enum fq_status fq_machine(const struct fq_machine_settings *FQ_RESTRICT settings, const uint8_t *FQ_RESTRICT arrivals, size_t len, uint8_t *FQ_RESTRICT report, size_t room, struct fq_machine_ran *FQ_RESTRICT ran) {
+    ran->size = sizeof *ran;
+    return fq_machine_sized(settings, arrivals, len, report, room, ran);
+}
 
 #ifdef __cplusplus
 }

@@ -1,7 +1,7 @@
 // Fintaqush for C++17: the calls of fintaqush.h with the state of a caller in its type, so that a call that the state doesn't allow
 // doesn't compile. Header only. Of the objects only a SerialNapi can be copied. Nothing throws except the standard containers if memory runs
 // out, and the callback of List::run.
-// What fintaqush.h requires of its caller holds here too. A destructor abandons its object (fq_abandon): an instance whose
+// What fintaqush.h requires of the program holds here too. A destructor abandons its object (fq_abandon): an instance whose
 // poller was destroyed is never polled again. A call on an object that was moved from returns what an unset handle gives: FQ_BAD_HANDLE,
 // nullopt, 0, or the object itself.
 #ifndef FINTAQUSH_HPP
@@ -29,6 +29,7 @@ using TxState = fq_tx_shown;
 using TxWatchdog = fq_tx_watchdog;
 using Counts = fq_counts;
 using Totals = fq_totals;
+using RunReport = fq_run_report;
 using RingShown = fq_ring_shown;
 using Answers = fq_answers;
 
@@ -42,6 +43,13 @@ using Answers = fq_answers;
 namespace detail {
 // Discards the status of a call that always succeeds in the state that the type guarantees.
 inline void made(std::uint32_t) noexcept {}
+// Returns what such a call sets, call(&to).
+template <class To, class Call>
+[[nodiscard]] To set_by(Call call) noexcept {
+    To to{};
+    made(call(&to));
+    return to;
+}
 
 // The callbacks of fq_card, over a card's member functions, which don't throw.
 template <class Card>
@@ -115,28 +123,26 @@ public:
     [[nodiscard]] const Raw *raw() const noexcept { return &raw_; }
     // Returns the counts of a ring's polls, if the object has its poll end.
     [[nodiscard]] Counts counts() const noexcept {
-        Counts counts{};
-        detail::made(fq_count(&raw_.handle, &counts));
-        return counts;
+        return detail::set_by<Counts>([&](auto *to) { return fq_count(&raw_.handle, to); });
     }
 
 private:
     Raw raw_{};
 };
 
-// A byte queue limit. Times are milliseconds of the caller's clock.
-class [[nodiscard]] Limit {
+// A byte queue limit. Times are milliseconds of the program's clock.
+class [[nodiscard]] Dql {
 public:
     // Makes a limit in bytes (dql_init); returns nullopt if min is above max, or max is above 1879048192.
-    [[nodiscard]] static std::optional<Limit> make(std::uint32_t min, std::uint32_t max, std::uint64_t hold_ms, std::uint64_t now_ms) {
-        Limit made;
+    [[nodiscard]] static std::optional<Dql> make(std::uint32_t min, std::uint32_t max, std::uint64_t hold_ms, std::uint64_t now_ms) {
+        Dql made;
         if (fq_dql_init(&made.raw_, min, max, hold_ms, now_ms) != FQ_OK) return std::nullopt;
-        return std::optional<Limit>(std::move(made));
+        return std::optional<Dql>(std::move(made));
     }
-    Limit(Limit &&) = default;
-    Limit &operator=(Limit &&) = default;
-    Limit(const Limit &) = delete;
-    Limit &operator=(const Limit &) = delete;
+    Dql(Dql &&) = default;
+    Dql &operator=(Dql &&) = default;
+    Dql(const Dql &) = delete;
+    Dql &operator=(const Dql &) = delete;
 
     [[nodiscard]] Status queued(std::uint32_t count) { return Status(fq_dql_queued(&raw_, count)); }
     [[nodiscard]] Status completed(std::uint32_t count, std::uint64_t now_ms) {
@@ -148,7 +154,7 @@ public:
     [[nodiscard]] std::uint32_t in_flight() const { return fq_dql_in_flight_here(&raw_); }
 
 private:
-    Limit() = default;
+    Dql() = default;
     fq_dql raw_{};
 };
 
@@ -166,15 +172,11 @@ public:
     [[nodiscard]] Status send(std::uint32_t bytes) { return Status(fq_tx_send(at_.raw(), bytes)); }
     [[nodiscard]] Status done(std::uint32_t count, std::uint64_t now_ms) { return Status(fq_tx_done(at_.raw(), count, now_ms)); }
     [[nodiscard]] TxState state() const {
-        TxState shown{};
-        detail::made(fq_tx_state(at_.raw(), &shown));
-        return shown;
+        return detail::set_by<TxState>([&](auto *to) { return fq_tx_state(at_.raw(), to); });
     }
     // Returns whether the ring has been stopped, with no byte completed, for limit_ms; call it at each tick of a timer (fq_tx_watch).
     [[nodiscard]] bool watch(TxWatchdog &watchdog, std::uint64_t limit_ms, std::uint64_t now_ms) const {
-        bool stuck = false;
-        detail::made(fq_tx_watch(at_.raw(), &watchdog, limit_ms, now_ms, &stuck));
-        return stuck;
+        return detail::set_by<bool>([&](auto *to) { return fq_tx_watch(at_.raw(), &watchdog, limit_ms, now_ms, to); });
     }
 
 private:
@@ -212,7 +214,7 @@ private:
     fq_napi raw_;
 };
 
-// The result of a request, which is queued if it was granted (fq_seat_request): FQ_GRANTED, FQ_MISSED or FQ_DISABLED. After FQ_GRANTED,
+// The result of a request, which is queued if it was granted (fq_caller_request): FQ_GRANTED, FQ_MISSED or FQ_DISABLED. After FQ_GRANTED,
 // next is FQ_NEXT_AGAIN, and the number has to be listed, or FQ_NEXT_AGAIN_THREAD, and the thread has to be woken.
 struct [[nodiscard]] Requested {
     Status status;
@@ -245,21 +247,17 @@ class AnyCaller {
 public:
     // Returns the state word, a sum of FQ_BIT_..
     [[nodiscard]] std::uint64_t word() {
-        std::uint64_t word = 0;
-        made(fq_seat_look(at_.raw(), &word));
-        return word;
+        return set_by<std::uint64_t>([&](auto *to) { return fq_caller_look(at_.raw(), to); });
     }
 
     // Returns how often its calls returned each result since the instance was made.
     [[nodiscard]] Answers answers() const {
-        Answers answers{};
-        made(fq_seat_count(at_.raw(), &answers));
-        return answers;
+        return set_by<Answers>([&](auto *to) { return fq_caller_count(at_.raw(), to); });
     }
 
 protected:
-    explicit AnyCaller(Handle<fq_seat> &&at) noexcept : at_(std::move(at)) {}
-    Handle<fq_seat> at_;
+    explicit AnyCaller(Handle<fq_caller> &&at) noexcept : at_(std::move(at)) {}
+    Handle<fq_caller> at_;
 };
 
 // A caller that polls, or busy polls.
@@ -267,9 +265,7 @@ class Poller : public AnyCaller {
 public:
     // Removes the ring's next packets, at most the weight, and writes them to out; returns how many.
     [[nodiscard]] std::size_t poll(Packets &out, Weight weight = Weight()) {
-        std::size_t count = 0;
-        made(fq_seat_poll(at_.raw(), weight.get(), out.data(), out.size(), &count));
-        return count;
+        return set_by<std::size_t>([&](auto *to) { return fq_caller_poll(at_.raw(), weight.get(), out.data(), out.size(), to); });
     }
     // Returns the counts of the ring's polls.
     [[nodiscard]] Counts counts() const { return at_.counts(); }
@@ -287,21 +283,21 @@ public:
     // Takes an idle instance to busy poll it (napi_busy_loop).
     [[nodiscard]] TookBusy busy() && noexcept;
     // Handles an interrupt: schedules, and queues the instance if granted. Returns FQ_GRANTED, FQ_MISSED or FQ_DISABLED.
-    [[nodiscard]] Status interrupt(Kind kind) { return Status(fq_seat_interrupt(at_.raw(), kind)); }
+    [[nodiscard]] Status interrupt(Kind kind) { return Status(fq_caller_interrupt(at_.raw(), kind)); }
     // Like interrupt, with card.mask() after the grant and before the instance is queued.
     template <class Card>
     [[nodiscard]] Status interrupt(Kind kind, Card &card) {
         const fq_card calls = {&card, detail::mask<Card>, nullptr, nullptr, nullptr};
-        return Status(fq_seat_interrupt_masked(at_.raw(), kind, &calls));
+        return Status(fq_caller_interrupt_masked(at_.raw(), kind, &calls));
     }
     // Like interrupt with a card, but reads the kind from the state word: for an interrupt, a timer, a driver's open
-    // (fq_seat_request).
+    // (fq_caller_request).
     template <class Card>
     Requested request(Card &card) { return request_by({&card, detail::mask<Card>, nullptr, nullptr, nullptr}); }
     // Like request with a card, for a card that is masked already, or is never masked.
     Requested request() { return request_by({nullptr, nullptr, nullptr, nullptr, nullptr}); }
     // Sets whether polls are queued for the instance's own thread (dev_set_threaded).
-    void set_threaded(bool threaded) { detail::made(fq_seat_set_threaded(at_.raw(), threaded)); }
+    void set_threaded(bool threaded) { detail::made(fq_caller_set_threaded(at_.raw(), threaded)); }
 
 private:
     friend class Granted;
@@ -313,7 +309,7 @@ private:
     using AnyCaller::AnyCaller;
     Requested request_by(const fq_card &calls) {
         std::uint32_t next = FQ_NEXT_GONE;
-        const Status said = fq_seat_request(at_.raw(), &calls, &next);
+        const Status said = fq_caller_request(at_.raw(), &calls, &next);
         return {said, fq_next(next)};
     }
 };
@@ -322,7 +318,7 @@ private:
 class [[nodiscard]] Granted : public detail::AnyCaller {
 public:
     [[nodiscard]] Caller hand(Kind kind) && noexcept {
-        detail::made(fq_seat_hand(at_.raw(), kind));
+        detail::made(fq_caller_hand(at_.raw(), kind));
         return Caller(std::move(at_));
     }
 
@@ -336,21 +332,21 @@ private:
 class [[nodiscard]] Polling : public detail::Poller {
 public:
     [[nodiscard]] Caller requeue() && noexcept {
-        detail::made(fq_seat_requeue(at_.raw()));
+        detail::made(fq_caller_requeue(at_.raw()));
         return Caller(std::move(at_));
     }
-    // Ends the poll as the kernel does (fq_seat_end); full says that it returned its whole weight.
+    // Ends the poll as the kernel does (fq_caller_end); full says that it returned its whole weight.
     [[nodiscard]] End end(bool full) && noexcept;
-    // Like end, for a card whose queue can be checked (fq_seat_end_watched): calls card.unmask(), look() and mask(), which
+    // Like end, for a card whose queue can be checked (fq_caller_end_watched): calls card.unmask(), look() and mask(), which
     // don't throw. The instance may be queued for its thread: wake it after FQ_NEXT_AGAIN_THREAD.
     template <class Card>
     [[nodiscard]] End end_watched(bool full, Card &card) && noexcept;
-    // Like end, for a card whose queue can't be checked (fq_seat_end_unmasked), after work packets were polled: calls
+    // Like end, for a card whose queue can't be checked (fq_caller_end_unmasked), after work packets were polled: calls
     // card.unmask(), poll(most) and mask().
     template <class Card>
     [[nodiscard]] End end_unmasked(Card &card, Weight weight, std::size_t &work) && noexcept;
     [[nodiscard]] Completed complete() && noexcept {
-        if (fq_seat_complete_done(at_.raw()) == FQ_AGAIN) return Completed(Granted(std::move(at_)));
+        if (fq_caller_complete_done(at_.raw()) == FQ_AGAIN) return Completed(Granted(std::move(at_)));
         return Completed(Caller(std::move(at_)));
     }
 
@@ -365,10 +361,10 @@ private:
 class [[nodiscard]] Busy : public detail::Poller {
 public:
     // Completes a poll below its weight (napi_complete_done), and keeps busy polling.
-    void complete_held() { detail::made(fq_seat_complete(at_.raw())); }
+    void complete_held() { detail::made(fq_caller_complete(at_.raw())); }
     // Stops busy polling (busy_poll_stop): one poll has to follow.
     [[nodiscard]] Polling stop() && noexcept {
-        while (fq_seat_busy_stop(at_.raw()) == FQ_CHANGED) {
+        while (fq_caller_busy_stop(at_.raw()) == FQ_CHANGED) {
         }
         return Polling(std::move(at_));
     }
@@ -389,19 +385,19 @@ struct [[nodiscard]] Ended {
 };
 
 inline Scheduled Caller::schedule() && noexcept {
-    const Status said = fq_seat_schedule_prep(at_.raw());
+    const Status said = fq_caller_schedule_prep(at_.raw());
     if (said == FQ_GRANTED) return {said, Granted(std::move(at_))};
     return {said, Caller(std::move(at_))};
 }
 
 inline Took Caller::take(Kind kind) && noexcept {
-    if (fq_seat_take(at_.raw(), kind) == FQ_TAKEN) return Took(Polling(std::move(at_)));
+    if (fq_caller_take(at_.raw(), kind) == FQ_TAKEN) return Took(Polling(std::move(at_)));
     return Took(Caller(std::move(at_)));
 }
 
 inline TookBusy Caller::busy() && noexcept {
     std::uint32_t said;
-    do said = fq_seat_busy_take(at_.raw());
+    do said = fq_caller_busy_take(at_.raw());
     while (said == FQ_CHANGED);
     if (said == FQ_TAKEN) return TookBusy(Busy(std::move(at_)));
     return TookBusy(Caller(std::move(at_)));
@@ -414,7 +410,7 @@ inline End Polling::ended(std::uint32_t said, std::uint32_t next) noexcept {
 
 inline End Polling::end(bool full) && noexcept {
     std::uint32_t next;
-    const std::uint32_t said = fq_seat_end(at_.raw(), full, &next);
+    const std::uint32_t said = fq_caller_end(at_.raw(), full, &next);
     return ended(said, next);
 }
 
@@ -422,7 +418,7 @@ template <class Card>
 End Polling::end_watched(bool full, Card &card) && noexcept {
     const fq_card calls = {&card, detail::mask<Card>, detail::unmask<Card>, detail::look<Card>, nullptr};
     std::uint32_t next;
-    const std::uint32_t said = fq_seat_end_watched(at_.raw(), full, &calls, &next);
+    const std::uint32_t said = fq_caller_end_watched(at_.raw(), full, &calls, &next);
     return ended(said, next);
 }
 
@@ -430,7 +426,7 @@ template <class Card>
 End Polling::end_unmasked(Card &card, Weight weight, std::size_t &work) && noexcept {
     const fq_card calls = {&card, detail::mask<Card>, detail::unmask<Card>, nullptr, detail::poll<Card>};
     std::uint32_t next;
-    const std::uint32_t said = fq_seat_end_unmasked(at_.raw(), &calls, weight.get(), &work, &next);
+    const std::uint32_t said = fq_caller_end_unmasked(at_.raw(), &calls, weight.get(), &work, &next);
     return ended(said, next);
 }
 
@@ -536,9 +532,7 @@ public:
 
     // Returns the ring's capacity, and how many packets were put.
     [[nodiscard]] RingShown shown() const {
-        RingShown shown{};
-        detail::made(fq_ring_show(at_.raw(), &shown));
-        return shown;
+        return detail::set_by<RingShown>([&](auto *to) { return fq_ring_show(at_.raw(), to); });
     }
 
 private:
@@ -552,9 +546,7 @@ private:
 class [[nodiscard]] Output {
 public:
     [[nodiscard]] std::size_t poll(Packets &out, Weight weight = Weight()) {
-        std::size_t count = 0;
-        detail::made(fq_ring_poll(at_.raw(), weight.get(), out.data(), out.size(), &count));
-        return count;
+        return detail::set_by<std::size_t>([&](auto *to) { return fq_ring_poll(at_.raw(), weight.get(), out.data(), out.size(), to); });
     }
     [[nodiscard]] Counts counts() const { return at_.counts(); }
 
@@ -577,9 +569,7 @@ public:
     [[nodiscard]] bool put(std::uint64_t number, std::uint32_t bytes) { return input_.put(number, bytes); }
     [[nodiscard]] std::size_t put_all(const fq_packet *packets, std::size_t len) { return input_.put_all(packets, len); }
     [[nodiscard]] std::size_t poll(Packets &out, Weight weight = Weight()) {
-        std::size_t count = 0;
-        detail::made(fq_ring_poll(input_.at_.raw(), weight.get(), out.data(), out.size(), &count));
-        return count;
+        return detail::set_by<std::size_t>([&](auto *to) { return fq_ring_poll(input_.at_.raw(), weight.get(), out.data(), out.size(), to); });
     }
     [[nodiscard]] Counts counts() const { return input_.at_.counts(); }
     [[nodiscard]] RingShown shown() const { return input_.shown(); }
@@ -591,9 +581,7 @@ public:
     }
     // Frees the ring, and returns its totals.
     [[nodiscard]] Totals finish() && {
-        Totals totals{};
-        detail::made(fq_ring_finish(input_.at_.raw(), &totals));
-        return totals;
+        return detail::set_by<Totals>([&](auto *to) { return fq_ring_finish(input_.at_.raw(), to); });
     }
 
 private:
@@ -608,9 +596,9 @@ std::optional<std::vector<Caller>> callers(std::size_t count, Make make, ToCalle
     if (count < 2 || count > 8) return std::nullopt;
     std::vector<Caller> made;
     made.reserve(count);
-    fq_seat seats[8] = {};
-    const std::uint32_t said = make(seats);
-    for (std::size_t i = 0; i < count; i++) made.push_back(to_caller(Handle<fq_seat>(seats[i])));
+    fq_caller callers[8] = {};
+    const std::uint32_t said = make(callers);
+    for (std::size_t i = 0; i < count; i++) made.push_back(to_caller(Handle<fq_caller>(callers[i])));
     if (said != FQ_OK) return std::nullopt;
     return made;
 }
@@ -629,8 +617,8 @@ struct [[nodiscard]] Shared {
         Handle<fq_control> control;
         if (fq_ring_new(ring.raw(), capacity) != FQ_OK) return std::nullopt;
         auto made = detail::callers(
-            callers, [&](fq_seat *seats) { return fq_shared_new(ring.raw(), control.raw(), seats, callers); },
-            [](Handle<fq_seat> &&seat) { return Caller(std::move(seat)); });
+            callers, [&](fq_caller *at) { return fq_shared_new(ring.raw(), control.raw(), at, callers); },
+            [](Handle<fq_caller> &&caller) { return Caller(std::move(caller)); });
         if (!made) return std::nullopt;
         return Shared{Input(std::move(ring)), Control<Off>(std::move(control)), std::move(*made)};
     }
@@ -645,8 +633,8 @@ struct [[nodiscard]] Bare {
     [[nodiscard]] static std::optional<Bare> make(std::size_t callers) {
         Handle<fq_control> control;
         auto made = detail::callers(
-            callers, [&](fq_seat *seats) { return fq_shared_bare(control.raw(), seats, callers); },
-            [](Handle<fq_seat> &&seat) { return Caller(std::move(seat)); });
+            callers, [&](fq_caller *at) { return fq_shared_bare(control.raw(), at, callers); },
+            [](Handle<fq_caller> &&caller) { return Caller(std::move(caller)); });
         if (!made) return std::nullopt;
         return Bare{Control<Off>(std::move(control)), std::move(*made)};
     }
@@ -662,13 +650,13 @@ struct [[nodiscard]] Pushed {
 // The result of a run: FQ_OK, or the reason for which it ended early, and the report of what it did until then.
 struct [[nodiscard]] Ran {
     Status status;
-    fq_run_report report;
+    RunReport report;
     // Returns whether the run ended without an error.
     explicit operator bool() const noexcept { return status == FQ_OK; }
     [[nodiscard]] bool has_value() const noexcept { return status == FQ_OK; }
-    const fq_run_report &operator*() const noexcept { return report; }
-    const fq_run_report *operator->() const noexcept { return &report; }
-    operator std::optional<fq_run_report>() const noexcept { return status == FQ_OK ? std::optional(report) : std::nullopt; }
+    const RunReport &operator*() const noexcept { return report; }
+    const RunReport *operator->() const noexcept { return &report; }
+    operator std::optional<RunReport>() const noexcept { return status == FQ_OK ? std::optional(report) : std::nullopt; }
 };
 
 // A poll list of one thread. A number leaves it when its poll ends with FQ_NEXT_GONE, or by remove.
@@ -689,9 +677,7 @@ public:
     [[nodiscard]] Status remove(std::uint32_t id) { return fq_list_remove(at_.raw(), id); }
     // Returns how many numbers the list and its run hold.
     [[nodiscard]] std::uint32_t size() const {
-        std::uint32_t len = 0;
-        detail::made(fq_list_len(at_.raw(), &len));
-        return len;
+        return detail::set_by<std::uint32_t>([&](auto *to) { return fq_list_len(at_.raw(), to); });
     }
 
     // Makes a run (net_rx_action). poll(id, weight) returns the packets that it processed, and how the poll ended. Returns FQ_BAD_WEIGHT
@@ -716,9 +702,9 @@ private:
     // A run in progress, which ends with its scope. A call fails, and changes nothing, if there is nothing left to end.
     struct Run {
         fq_list *at;
-        fq_run_report report;
+        RunReport report;
 
-        Run(fq_list *list, fq_run_report none) noexcept : at(list), report(none) {}
+        Run(fq_list *list, RunReport none) noexcept : at(list), report(none) {}
         Run(const Run &) = delete;
         Run &operator=(const Run &) = delete;
         // A poll whose result was rejected is still open: it is reported as FQ_NEXT_ABSENT.
@@ -796,7 +782,6 @@ public:
     // Returns the state of a device and the counts of its polls; nullopt if there is no such device.
     [[nodiscard]] std::optional<DeviceShown> shown(std::uint32_t device) const {
         DeviceShown shown{};
-        shown.size = sizeof shown;
         if (fq_driver_show(at_.raw(), device, &shown) != FQ_OK) return std::nullopt;
         return shown;
     }
@@ -830,8 +815,7 @@ template <class Ran, class Call, class Refusal>
 
 template <class Call>
 [[nodiscard]] std::variant<std::string, NoReport> replayed(std::string_view trace, Call call) {
-    const fq_replayed none = FQ_REPLAYED_INIT;
-    return written(trace, none, call, [](std::uint32_t said, const fq_replayed &ran) { return NoReport{said, ran.fault, ran.row}; });
+    return written(trace, fq_replayed{}, call, [](std::uint32_t said, const fq_replayed &ran) { return NoReport{said, ran.fault, ran.row}; });
 }
 } // namespace detail
 
@@ -850,7 +834,6 @@ template <class Call>
 // The settings of the machine, at first the defaults of napi_machine.
 struct MachineSettings : fq_machine_settings {
     MachineSettings() noexcept : fq_machine_settings{} {
-        size = sizeof(fq_machine_settings);
         detail::made(fq_machine_default(this));
     }
 };
@@ -865,10 +848,8 @@ struct MachineFault {
 
 // Runs the machine on arrivals (napi_machine), and returns its report.
 [[nodiscard]] inline std::variant<std::string, MachineFault> machine(std::string_view arrivals, const fq_machine_settings &settings = MachineSettings()) {
-    fq_machine_ran none{};
-    none.size = sizeof none;
     return detail::written(
-        arrivals, none, [&](auto... to) { return fq_machine(&settings, to...); },
+        arrivals, fq_machine_ran{}, [&](auto... to) { return fq_machine(&settings, to...); },
         [](std::uint32_t said, const fq_machine_ran &ran) { return MachineFault{said, ran.setting, ran.fault, ran.row, ran.message}; });
 }
 

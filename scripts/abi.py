@@ -88,8 +88,11 @@ def table(read: Mapping[str, Any]) -> Iterator[str]:
 
 
 def calls_of_block(block: Mapping[str, Any]) -> list[str]:
-    """Returns the calls of a block; only a comment of one call names the kernel's function of it, in its first sentence."""
-    names = [item["name"] for item in block["items"] if item["kind"] == "function"]
+    """Returns the calls of a block, without those for bindings; only a comment of one call names the kernel's function of it, in its first
+    sentence."""
+    names = [
+        item["name"] for item in block["items"] if item["kind"] == "function" and not item["name"].endswith("_sized")
+    ]
     kernels = re.search(r"\(((?!fq_)\w*_\w+)\)", re.split(r"[.:;] ", block["about"])[0])
     return [f"`{name}`" + (f" (`{kernels[1]}`)" if kernels and len(names) == 1 else "") for name in names]
 

@@ -2,7 +2,6 @@
 
 from __future__ import annotations
 
-import keyword
 import textwrap
 from collections.abc import Iterator, Mapping
 from typing import Any
@@ -101,17 +100,12 @@ def calls(read: Mapping[str, Any]) -> Iterator[str]:
         if not item["inline"]:
             arguments = [f'"{name}": {ctypes_of(c_type)}' for name, c_type in item["parameters"]]
             result = ctypes_of(item["returns"])
-            head = f'    "{call_name(item)}": ('
+            call = item["name"].removeprefix("fq_")
+            head = f'    "{call}": ('
             line = f"{head}{result}, {{{', '.join(arguments)}}}),"
             wider = [head, f"        {result},", *within("        {", arguments, "},"), "    ),"]
             yield from [line] if len(line) <= WIDEST else wider
     yield "}"
-
-
-def call_name(item: Item) -> str:
-    """Returns a call's name; one that is a keyword of Python ends with `_`."""
-    name = str(item["name"][len("fq_") :])
-    return f"{name}_" if keyword.iskeyword(name) else name
 
 
 def sizes(read: Mapping[str, Any]) -> Iterator[str]:

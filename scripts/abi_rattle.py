@@ -6,10 +6,15 @@ from collections.abc import Iterable, Iterator, Mapping
 from pathlib import Path
 from typing import Any
 
-from abi_names import enum_of, faults, statuses
+from abi_names import enum_of, faults, sentence, statuses
 from parts import TOP, with_part
 
 FILES = {"replay", "raise", "machine"}  # the calls of files_c, which has statuses of its own
+STATUS_HEAD = """\
+//! The statuses that calls on objects return (`enum fq_status`). `scripts/abi.py` writes this file.
+
+/// Done.
+pub const OK: u32 = 0;"""
 Status = tuple[int, str, str]  # its number, its name and its message
 
 
@@ -20,7 +25,8 @@ def texts(read: Mapping[str, Any]) -> dict[Path, str]:
         TOP / "crates/napi_c/specs/Names.antt": tables,
         TOP / "crates/c_handles/specs/Status.antt": numbers,
     }
-    return {path: make(read, path.read_text()) for path, make in makers.items()}
+    made = {path: make(read, path.read_text()) for path, make in makers.items()}
+    return {**made, TOP / "crates/c_handles/src/status.rt": "\n".join([STATUS_HEAD, *constants(read)]) + "\n"}
 
 
 def below(text: str, heading: str, first: str, last: str, lines: Iterable[str]) -> str:
@@ -69,10 +75,19 @@ def numbers(read: Mapping[str, Any], text: str) -> str:
     return with_part(text, "OK = 0\n", last, definitions(read))
 
 
-def definitions(read: Mapping[str, Any]) -> Iterator[str]:
-    """Yields the definitions of all numbers but those of a queue limit's errors, and those that only calls of files_c return."""
+def of_objects(read: Mapping[str, Any]) -> Iterator[Status]:
+    """Yields the number, the name and the note of each status that calls on objects return, but the errors of a queue limit and FQ_OK."""
     for name, number, note in enum_of(read, "fq_status")["values"]:
         calls, has_calls, _ = note.partition(": ")
         if number >= 16 and not (has_calls and {*calls.split(", ")} <= FILES):
-            name = name[len("FQ_") :]
-            yield from (f"abbrev pub {name} : ℕ", f"{name} = {number}", "")
+            yield number, name[len("FQ_") :], note
+
+
+def definitions(read: Mapping[str, Any]) -> Iterator[str]:
+    for number, name, _ in of_objects(read):
+        yield from (f"abbrev pub {name} : ℕ", f"{name} = {number}", "")
+
+
+def constants(read: Mapping[str, Any]) -> Iterator[str]:
+    for number, name, note in of_objects(read):
+        yield from ("", f"/// {sentence(note)}", f"pub const {name}: u32 = {number};")

@@ -11,8 +11,8 @@ from abi_names import enum_of, faults, is_object, names_of, prefix_of, sentence,
 from header import Item, items_of
 
 HEAD = """\
-//! `include/fintaqush.h` in Rust: its numbers, structs and functions. The head of the header says what it requires of its
-//! caller; the other modules of this crate meet that. `scripts/abi.py` writes this file.
+//! `include/fintaqush.h` in Rust: its numbers, structs and functions. The head of the header says what it requires of
+//! the program; the other modules of this crate meet that. `scripts/abi.py` writes this file.
 #![allow(non_camel_case_types)]
 
 mod functions;

@@ -2,7 +2,7 @@
 scripts/abi.json, so that all others read that file and need no clang.
 
 Its groups begin at a comment `/* ---- NAME: TITLE. MORE`. In a group a comment is about the declarations below it, up to the next comment
-or a blank line; a comment at the end of a declaration's line is a note on it. A comment or a note of a call that ends with `Since 1.1.` says
+or a blank line; a comment at the end of a declaration's line is a note on it. A comment or a note of a call that ends with `Since 2.1.` says
 with which version it came.
 """
 
@@ -22,7 +22,7 @@ Item = dict[str, Any]  # a declaration: its kind, name, text and note, and what 
 TOP = Path(__file__).resolve().parent.parent
 HEADER = TOP / "include/fintaqush.h"
 ABI = TOP / "scripts/abi.json"
-FIRST = "1.0"  # the version of calls that don't say one
+FIRST = "2.0"  # the version of calls that don't say one
 BANNER = "---- "
 # What isn't part of a declaration's text: macros that say no more than its comment, or that differ by compiler, and a script's marks.
 OMITTED = re.compile(

@@ -1,11 +1,11 @@
 #!/usr/bin/env bash
 # scripts/package.sh FOLDER: makes the Debian packages of what scripts/install.sh installs, for machines without the kit, by
 # dpkg-deb:
-#   libfintaqush1_VERSION_ARCHITECTURE.deb     the shared library
+#   libfintaqush2_VERSION_ARCHITECTURE.deb     the shared library
 #   libfintaqush-dev_VERSION_ARCHITECTURE.deb  headers, static library, files for pkg-config and CMake, manual pages, guide, examples
 #   python3-fintaqush_VERSION_all.deb          the package for Python
 #   fintaqush_VERSION_ARCHITECTURE.deb         the command, the programs and the tools
-# libfintaqush-dev and python3-fintaqush depend on libfintaqush1.
+# libfintaqush-dev and python3-fintaqush depend on libfintaqush2.
 # DEBFULLNAME and DEBEMAIL name the maintainer; the date is SOURCE_DATE_EPOCH, else that of the last commit. What isn't built yet
 # is proved and built first. Exit status: 0 done; 64 the arguments are wrong; 69 a program is missing; 70 something couldn't be
 # built; 73 it can't be written there.

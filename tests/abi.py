@@ -27,12 +27,12 @@ import header  # noqa: E402
 TYPES = {"u8": "uint8_t", "u16": "uint16_t", "u32": "uint32_t", "u64": "uint64_t", "i64": "int64_t", "usize": "size_t", "bool": "bool"}
 SIZES = {"uint8_t": 1, "uint16_t": 2, "uint32_t": 4, "uint64_t": 8, "int64_t": 8, "size_t": 8, "bool": 1}
 # The structs whose name in C isn't that of Rattle, in small letters.
-RENAMED = {"Packet": "fq_packet", "TxState": "fq_tx_shown"}
+RENAMED = {"Packet": "fq_packet"}
 EMPTY = {"Global"}  # the heap, which has no bytes and is no parameter in C
 ONLY_C = {"fq_card", "fq_word"}  # structs that only the header's inline functions use
 # The handle that a call's prefix names, if that isn't the handle's own name; and the calls on handles of any kind.
 KINDS = {"run": "list"}
-OF_ANY = {"fq_free", "fq_abandon", "fq_move", "fq_count"}
+OF_ANY = {"fq_free", "fq_abandon", "fq_move", "fq_count_sized"}
 # Python's enums, and what their names begin with in C.
 PREFIXES = {
     "Status": "FQ_",
@@ -262,13 +262,13 @@ PLANTED_IN_HEADER = [
     ("fq_dql_init(struct fq_dql *dql, uint32_t min, uint32_t max,", "fq_dql_init(struct fq_dql *dql, uint32_t max, uint32_t min,", "fq_dql_init"),
     ("fq_dql_limit(const struct fq_dql *dql);", "fq_dql_limit(struct fq_dql *dql);", "fq_dql_limit"),
     ("fq_list_len(const struct fq_list *", "fq_list_len(const struct fq_ring *", "fq_list_len"),
-    ("fq_ring_show(const struct", "fq_ring_show(struct", "fq_ring_show"),
-    ("fq_seat_look(struct", "fq_seat_look(const struct", "fq_seat_look"),
+    ("fq_ring_show_sized(const struct", "fq_ring_show_sized(struct", "fq_ring_show_sized"),
+    ("fq_caller_look(struct", "fq_caller_look(const struct", "fq_caller_look"),
     ("fq_shared_bare(struct fq_control *", "fq_shared_bare(struct fq_handle *", "fq_shared_bare"),
     ("struct fq_tx { struct fq_handle handle; }", "struct fq_tx { struct fq_handle handle; int more; }", "fq_tx"),
     ("uint64_t private_b;\n    uint32_t private_c[2];", "uint32_t private_c[2];\n    uint64_t private_b;", "fq_dql"),
     ("    uint64_t number; /* a number", "    int64_t number; /* a number", "fq_packet"),
-    ("FQ_STRUCT_PACKET = 3, FQ_STRUCT_COUNTS = 4", "FQ_STRUCT_PACKET = 4, FQ_STRUCT_COUNTS = 3", "fq_struct_size"),
+    ("FQ_STRUCT_NAPI = 2, FQ_STRUCT_PACKET = 3", "FQ_STRUCT_NAPI = 3, FQ_STRUCT_PACKET = 2", "fq_struct_size"),
 ]
 
 

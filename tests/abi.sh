@@ -13,7 +13,7 @@ export PYTHONDONTWRITEBYTECODE=1
 copy_of_sources() {
     rm -rf "$scratch/copy"
     mkdir -p "$scratch/copy"
-    (cd "$top" && cp -r --parents include scripts docs/C.md bindings/rust/src bindings/python/fintaqush crates/napi_c/src crates/napi_c/specs crates/c_handles/specs "$scratch/copy")
+    (cd "$top" && cp -r --parents include scripts docs/C.md bindings/rust/src bindings/python/fintaqush crates/napi_c/src crates/napi_c/specs crates/c_handles/{src,specs} "$scratch/copy")
 }
 
 # reports FILE COMMAND ..: the command ends with status 1, and names the file.
@@ -41,7 +41,7 @@ new_message_is_written() {
     local file
     copy_of_sources
     sed -i 's|/\* put, push, send: there is no room \*/|/* put, push, send: it is full */|' "$scratch/copy/include/fintaqush.h"
-    for file in crates/napi_c/src/names.rt crates/napi_c/specs/Names.antt bindings/rust/src/fault.rs; do
+    for file in crates/napi_c/src/names.rt crates/napi_c/specs/Names.antt crates/c_handles/src/status.rt bindings/rust/src/fault.rs; do
         reports "$file" "$scratch/copy/scripts/abi.py" --check || return
     done
 }

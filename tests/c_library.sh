@@ -144,12 +144,16 @@ echo '21 corners, each answered as it has to be' > "$scratch/cornered"
 check 'corners.c compiles' compile gcc "$top/tests/c/corners.c" "$scratch/corners" -O2 "$wraps"
 check 'answers at corners' compared "$scratch/cornered" "$scratch/corners"
 
+echo '17 calls, each of its own size only' > "$scratch/sized"
+check 'sizes.c compiles' compile gcc "$top/tests/c/sizes.c" "$scratch/sizes" -O2
+check 'structs of other sizes are rejected' compared "$scratch/sized" "$scratch/sizes"
+
 check 'bursts in C++ compile' compile g++ "$top/tests/c/bursts.cpp" "$scratch/bursts" -O2
 check 'bursts in C++' "$scratch/bursts"
 
 # ---- a model card
 
-points=-Wl$(printf ',--wrap=fq_seat_%s' schedule schedule_prep hand hand_again take requeue complete complete_done end)
+points=-Wl$(printf ',--wrap=fq_caller_%s' schedule schedule_prep hand hand_again take requeue complete complete_done end)
 echo 'the card hangs without a look, by a late mask and by an enable without a request, and never else' > "$scratch/hung"
 check 'the model card compiles' compile gcc "$top/tests/c/card.c" "$scratch/card" -O2 "$points"
 check 'the model card' compared "$scratch/hung" "$scratch/card"
@@ -320,11 +324,11 @@ for name, (least, most, _) in machine.OPTIONS.items(): print(name, least, most)'
     [ "$number" = 23 ]
 }
 
-{ echo 'moment,device,bytes' && awk 'BEGIN { for (i = 0; i < 20000; i++) print i * 900, i % 7 + 1, i % 1400 + 60 }' OFS=, ; } > "$scratch/arrivals.csv"
-{ echo 'moment,device,bytes,flow' && awk 'BEGIN { for (i = 0; i < 5000; i++) print i * 700, 1, 60, i % 11 }' OFS=, ; } > "$scratch/flows.csv"
-printf 'moment,device,bytes\n5,1,60\n4,1,60\n' > "$scratch/falls.csv"
-printf 'moment,device,bytes\n5,65,60\n' > "$scratch/far.csv"
-printf 'moment,device,bytes\n' > "$scratch/none.csv"
+{ echo 'ns,device,bytes' && awk 'BEGIN { for (i = 0; i < 20000; i++) print i * 900, i % 7 + 1, i % 1400 + 60 }' OFS=, ; } > "$scratch/arrivals.csv"
+{ echo 'ns,device,bytes,flow' && awk 'BEGIN { for (i = 0; i < 5000; i++) print i * 700, 1, 60, i % 11 }' OFS=, ; } > "$scratch/flows.csv"
+printf 'ns,device,bytes\n5,1,60\n4,1,60\n' > "$scratch/falls.csv"
+printf 'ns,device,bytes\n5,65,60\n' > "$scratch/far.csv"
+printf 'ns,device,bytes\n' > "$scratch/none.csv"
 if "$top/scripts/build.sh" napi_machine > "$scratch/log" 2>&1; then
     check 'the machine compiles' compile gcc "$top/tests/c/machine.c" "$scratch/machine" -O2
     for arrivals in "$scratch"/{arrivals,falls,far,none}.csv "$top/crates/napi_machine/stdin" /dev/null; do
@@ -363,6 +367,8 @@ sanitized() {
     check "$name: random calls of drivers" compared "$scratch/drove" "$scratch/sanitized"
     check "$name: corners.c compiles" compile gcc "$top/tests/c/corners.c" "$scratch/sanitized" -O1 -g "$flag" -fno-sanitize-recover=all "$wraps"
     check "$name: answers at corners" compared "$scratch/cornered" "$scratch/sanitized"
+    check "$name: sizes.c compiles" compile gcc "$top/tests/c/sizes.c" "$scratch/sanitized" -O1 -g "$flag" -fno-sanitize-recover=all
+    check "$name: structs of other sizes are rejected" compared "$scratch/sized" "$scratch/sanitized"
     check "$name: types.cpp compiles" compile g++ "$top/tests/c/types.cpp" "$scratch/sanitized" -O1 -g "$flag" -fno-sanitize-recover=all "$wraps"
     check "$name: the types of C++" compared "$scratch/typed" "$scratch/sanitized"
     check "$name: orders.c compiles" compile gcc "$top/tests/c/orders.c" "$scratch/sanitized" -O1 -g "$flag" -fno-sanitize-recover=all
@@ -403,10 +409,10 @@ fi
 cat > "$scratch/tells.c" << 'END'
 #include <fintaqush.h>
 int main(void) {
-    struct fq_seat seat = FQ_NONE;
+    struct fq_caller caller = FQ_NONE;
     struct fq_list list = FQ_NONE;
     uint32_t next;
-    if (fq_seat_end(&seat, true, &next) == FQ_NOT_ALLOWED) return 1;
+    if (fq_caller_end(&caller, true, &next) == FQ_NOT_ALLOWED) return 1;
     return fq_run_polled(&list, 64, next) == FQ_BAD_HANDLE ? 0 : 2;
 }
 END

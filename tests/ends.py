@@ -17,7 +17,7 @@ from judging import Judged, difference, judge
 
 TRACE = b"moment,device,event,value\n"
 OPENED = TRACE + b"0,1,open,4\n"
-ARRIVALS = b"moment,device,bytes\n"
+ARRIVALS = b"ns,device,bytes\n"
 ZEROS, FOLDER, CLOSED = object(), object(), object()  # what standard input is, in place of a text
 UNWRITTEN = 4, b"output fault 15 OutputFailed\n"
 

@@ -39,10 +39,9 @@ exports_calls_alone() {
             NF != 3 || $2 != now[1] || $3 + 0 > now[2] + 0 { print; wrong = 1 } END { exit wrong }' "$scratch/exported"
 }
 
-# What came with 1.0 stays there: a program that was linked then asks for it by that version.
+# What came with 2.0 stays there: a program that was linked then asks for it by that version.
 stays_in_its_version() {
-    [ "$(grep -c '@@FINTAQUSH_1\.0$' "$scratch/exported")" -ge 65 ] && grep -q '^fq_seat_poll@@FINTAQUSH_1\.0$' "$scratch/exported" &&
-        grep -q '^fq_driver_next_sized@@FINTAQUSH_1\.1$' "$scratch/exported" && grep -q '^fq_machine@@FINTAQUSH_1\.1$' "$scratch/exported"
+    [ "$(grep -c '@@FINTAQUSH_2\.0$' "$scratch/exported")" -ge 65 ] && grep -q '^fq_caller_poll@@FINTAQUSH_2\.0$' "$scratch/exported"
 }
 
 # by_a_prefix_with_spaces: pkg-config prints it so that a shell can read it.
@@ -111,7 +110,7 @@ by_cmake() {
 cmake_minimum_required(VERSION 3.10)
 project(limits C CXX)
 set(CMAKE_CXX_STANDARD 17)
-find_package(Fintaqush 1.0 REQUIRED)
+find_package(Fintaqush 2.0 REQUIRED)
 add_executable(limit limit.c)
 target_link_libraries(limit Fintaqush::fintaqush)
 add_executable(limit_static limit.cpp)
@@ -232,7 +231,7 @@ check 'installs' install --python "$prefix"
 export PKG_CONFIG_PATH=$prefix/lib/pkgconfig
 if has pkg-config 'programs by pkg-config'; then
     check 'a program by pkg-config' linked
-    check 'its library is the shared one' needs "$scratch/threads" libfintaqush.so.1
+    check 'its library is the shared one' needs "$scratch/threads" libfintaqush.so.2
     check 'a static program by pkg-config' linked -static
     check 'by a prefix with spaces' by_a_prefix_with_spaces
     check 'the programs of the guide' guide_programs_run "$prefix/share/doc/fintaqush"
@@ -317,7 +316,7 @@ if has dpkg-deb 'the Debian packages'; then
     check 'packages' "$top/scripts/package.sh" "$scratch"
     check 'the library by itself' has_files "libfintaqush$major" "usr/lib/[^/]*-linux-gnu/libfintaqush.so.$version"
     check 'what programs are built with' has_files libfintaqush-dev 'usr/include/fintaqush.h' 'usr/lib/[^/]*-linux-gnu/libfintaqush.a' \
-        'usr/lib/[^/]*-linux-gnu/pkgconfig/fintaqush.pc' 'usr/share/man/man3/fq_seat_end.3.gz' 'usr/share/doc/libfintaqush-dev/GUIDE.md' \
+        'usr/lib/[^/]*-linux-gnu/pkgconfig/fintaqush.pc' 'usr/share/man/man3/fq_caller_end.3.gz' 'usr/share/doc/libfintaqush-dev/GUIDE.md' \
         'usr/share/doc/libfintaqush-dev/examples/c/edge.c' 'usr/share/man/man3/fq_machine.3.gz' 'usr/share/man/man3/fq_driver_next.3.gz'
     if has lintian 'the packages by the rules of Debian'; then
         # but for the licence, which isn't chosen yet

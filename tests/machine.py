@@ -25,7 +25,7 @@ from collections.abc import Callable, Iterable, Iterator, Sequence
 from finding import group_in
 
 TOP = pathlib.Path(__file__).resolve().parent.parent
-HEADER, FLOWS = "moment,device,bytes", "moment,device,bytes,flow"
+HEADER, FLOWS = "ns,device,bytes", "ns,device,bytes,flow"
 LONGEST = 10**9
 # The least, the greatest and the default value of each option. A name as default: the value of that option.
 OPTIONS: dict[str, tuple[int, int, int | str]] = {
@@ -279,7 +279,7 @@ def faults(program: str) -> list[str]:
     """Each error of the rows with its message and status, and with nothing written; in a row that has several the lowest one. With --queues above 1
     there is a fourth column, and queues are within the processor's 64."""
     good, many, two = f"{HEADER}\n0,1,60\n", ["--queues", "3"], (["--processors", "2"], ["--processors=2", "--budget=0"])
-    bare = ["", "moment,device,event,value\n", "moment,device,bytes,2\n", f"{FLOWS}\n", f" {HEADER}\n"]
+    bare = ["", "moment,device,event,value\n", "ns,device,bytes,2\n", "time,device,bytes\n", f"{FLOWS}\n", f" {HEADER}\n"]
     fields, numbers = ["0,1", "0,1,60,", "x,1,60,60"], ["x,1,60", ",1,60", "0,+1,60", "0,1,6e1", "0,1, 60", f"{'0' * 21},1,60", "x,0,0"]
     ranges = ["0,0,60", "0,129,60", "0,1,0", "0,1,65536", f"{2**62},1,60", f"{'9' * 20},1,60"]
     later = [(5, "OutOfRange", f"7,1,60\n{2**64 + 7},1,60"), (8, "Falls", "7,1,60\n6,1,60"), (5, "OutOfRange", "7,1,60\n6,0,60"),
@@ -300,15 +300,16 @@ def faults(program: str) -> list[str]:
 
 
 def texts(program: str) -> list[str]:
-    """Arrivals as other programs write them: other line ends, a byte-order mark, quotes in all rows or in one, many zeros, the bounds
-    of the ranges."""
+    """Arrivals as other programs and earlier versions write them: the header with `moment`, other line ends, a byte-order mark, quotes in all
+    rows or in one, many zeros, the bounds of the ranges."""
     text = f"{HEADER}\n0,1,60\n{2**62 - 1},128,65535\n"
     zeros = f"{HEADER}\n{'0' * 20},{'1'.zfill(20)},{'60'.zfill(20)}\n{2**62 - 1},128,65535\n"
     quoted = "".join(",".join(f'"{field}"' for field in line.split(",")) + "\n" for line in text.splitlines())
     others = [text.replace("\n", end) for end in ("\r\n", "\r", "\n\n")] + [text.rstrip(), "\ufeff" + text, zeros, quoted]
-    others += [text.replace("0,1,", '"0",1,'), text.replace(",128,", ',"128",'), text.replace("bytes", '"bytes"')]
+    others += [text.replace("ns", "moment"), text.replace("0,1,", '"0",1,'), text.replace(",128,", ',"128",'), text.replace("bytes", '"bytes"')]
     wanted, _ = same(program, ["--processors", "2"], text)
     same(program, ["--processors", "2"], f"{HEADER}\n")
+    same(program, ["--queues", "2"], f"{FLOWS.replace('ns', 'moment')}\n0,1,60,1\n5,1,60,0\n")
     return [f"{each!r} gives {printed}" for each in others if (printed := ran(program, ["--processors", "2"], each)) != (wanted, "", 0)]
 
 

@@ -33,7 +33,7 @@ USERS = ("bench_", "example_", "test_", "uses_")
 OUTSIDE = {"__do_softirq", "time_after", "softnet_stat", "virtio_net", "sysexits", "btr", "mb", "MACHINES", "enqueue_to_backlog",
            "rps_trigger_softirq", "nstat", "UdpRcvbufErrors", "no_std", "num_queued", "num_completed",
            "virtqueue_napi_complete", "mlx5e_trigger_napi_sched", "mlx5e_trigger_napi_icosq", "ethernet", "skb_flow_limit", "__qdisc_run",
-           "napi_weight", "rx_weight", "MAX_SOFTIRQ_TIME", "handle_softirqs", "libfintaqush1"}
+           "napi_weight", "rx_weight", "MAX_SOFTIRQ_TIME", "handle_softirqs", "libfintaqush2"}
 # The crates that may have unsafe code: those that export C functions.
 EXPORTING = {"c_handles", "napi_c", "files_c"}
 SENT = "unsafe impl<A> Send for Trail<A> {}"  # the one other line of unsafe code

@@ -207,7 +207,7 @@ def check_machine(count: int, devices: int, words: list[str]) -> None:
     """Checks the report of so many arrivals at so many devices."""
     of = Counter(1 + place % devices for place in range(count))
     rows = "".join(f"{1000 * place},{1 + place % devices},60\n" for place in range(count))
-    lines = run("napi_machine", words, b"moment,device,bytes\n" + rows.encode())
+    lines = run("napi_machine", words, b"ns,device,bytes\n" + rows.encode())
     fields = [line.split() for line in lines if line.startswith("device ")]
     told = {int(words[1]): dict(zip(words[2::2], map(int, words[3::2]))) for words in fields}
     expect({device: each["arrived"] for device, each in told.items()}, dict(of), "arrived")

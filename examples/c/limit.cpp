@@ -6,7 +6,7 @@
 constexpr std::uint32_t FRAME = 1500, MAX = 1879048192;
 
 int main() {
-    auto limit = fintaqush::Limit::make(0, MAX, 1000, 0);
+    auto limit = fintaqush::Dql::make(0, MAX, 1000, 0);
     if (!limit) return 1;
     for (std::uint64_t now = 6; now <= 18; now += 6) {
         unsigned frames = 0;

@@ -12,7 +12,7 @@ static const struct fq_settings settings = {.size = sizeof settings, .budget = 1
 /* Prints the device's line of the report of a trace. */
 static bool replay(const char *runs, const uint8_t *bytes, size_t len) {
     char report[4096];
-    struct fq_replayed replayed = FQ_REPLAYED_INIT;
+    struct fq_replayed replayed;
     if (fq_replay(&settings, bytes, len, (uint8_t *)report, sizeof report - 1, &replayed) != FQ_OK) return false;
     report[replayed.length] = '\0';
     const char *line = strstr(report, "device ");
@@ -22,7 +22,7 @@ static bool replay(const char *runs, const uint8_t *bytes, size_t len) {
 
 int main(void) {
     uint8_t whole[1024];
-    struct fq_replayed raised = FQ_REPLAYED_INIT;
+    struct fq_replayed raised;
     if (!replay("recorded", (const uint8_t *)trace, sizeof trace - 1)) return 1;
     if (fq_raise(&settings, FQ_UNTIL_EMPTY, (const uint8_t *)trace, sizeof trace - 1, whole, sizeof whole, &raised) != FQ_OK) return 1;
     return replay("raised", whole, raised.length) ? 0 : 1;

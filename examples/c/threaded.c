@@ -11,7 +11,7 @@ enum { PACKETS = 200000, WEIGHT = 64, BURST = 100 };
 
 struct interrupts {
     struct fq_ring *ring;
-    struct fq_seat *seat;
+    struct fq_caller *caller;
     sem_t *wake;
     bool failed;
 };
@@ -24,7 +24,7 @@ static void *interrupt(void *at) {
         for (size_t put = 0, count; put < BURST; put += count) {
             if (fq_ring_put_all(irq->ring, burst + put, BURST - put, &count) == FQ_FULL) sched_yield();
         }
-        const uint32_t said = fq_seat_interrupt(irq->seat, FQ_THREAD);
+        const uint32_t said = fq_caller_interrupt(irq->caller, FQ_THREAD);
         if (said == FQ_GRANTED) sem_post(irq->wake);
         irq->failed |= said != FQ_GRANTED && said != FQ_MISSED;
     }
@@ -32,7 +32,7 @@ static void *interrupt(void *at) {
 }
 
 struct poller {
-    struct fq_seat *seat;
+    struct fq_caller *caller;
     sem_t *wake;
     uint64_t next;
     unsigned long held;
@@ -45,9 +45,9 @@ static uint32_t poll_once(struct poller *poller) {
     uint32_t said, next;
     do {
         size_t count;
-        if (fq_seat_poll(poller->seat, WEIGHT, out, WEIGHT, &count) != FQ_OK) poller->failed = true;
+        if (fq_caller_poll(poller->caller, WEIGHT, out, WEIGHT, &count) != FQ_OK) poller->failed = true;
         for (size_t i = 0; i < count; i++) poller->failed |= out[i].number != poller->next++ || out[i].bytes != 60;
-        said = fq_seat_end(poller->seat, count == WEIGHT, &next);
+        said = fq_caller_end(poller->caller, count == WEIGHT, &next);
         poller->held += said == FQ_HELD;
     } while (said == FQ_HELD);
     poller->failed |= said != FQ_OK;
@@ -60,7 +60,7 @@ static void *poll_all(void *at) {
     uint32_t next = FQ_NEXT_GONE;
     while (poller->next < PACKETS && !poller->failed) {
         if (next != FQ_NEXT_AGAIN_THREAD) sem_wait(poller->wake);
-        next = fq_seat_take(poller->seat, FQ_THREAD) == FQ_TAKEN ? poll_once(poller) : (uint32_t)FQ_NEXT_GONE;
+        next = fq_caller_take(poller->caller, FQ_THREAD) == FQ_TAKEN ? poll_once(poller) : (uint32_t)FQ_NEXT_GONE;
     }
     return NULL;
 }
@@ -68,12 +68,12 @@ static void *poll_all(void *at) {
 int main(void) {
     struct fq_ring ring = FQ_NONE;
     struct fq_control control = FQ_NONE;
-    struct fq_seat seats[2] = {FQ_NONE, FQ_NONE};
+    struct fq_caller callers[2] = {FQ_NONE, FQ_NONE};
     sem_t wake;
-    if (fq_ring_new(&ring, 256) != FQ_OK || fq_shared_new(&ring, &control, seats, 2) != FQ_OK || sem_init(&wake, 0, 0) != 0) return 1;
+    if (fq_ring_new(&ring, 256) != FQ_OK || fq_shared_new(&ring, &control, callers, 2) != FQ_OK || sem_init(&wake, 0, 0) != 0) return 1;
     if (fq_control_step(&control, true, true) != FQ_OK) return 1;
-    struct interrupts irq = {&ring, &seats[0], &wake, false};
-    struct poller poller = {&seats[1], &wake, 0, 0, false};
+    struct interrupts irq = {&ring, &callers[0], &wake, false};
+    struct poller poller = {&callers[1], &wake, 0, 0, false};
     pthread_t threads[2];
     if (pthread_create(&threads[0], NULL, interrupt, &irq) != 0) return 1;
     if (pthread_create(&threads[1], NULL, poll_all, &poller) != 0) return 1;
@@ -81,10 +81,10 @@ int main(void) {
     if (irq.failed || poller.failed || poller.next != PACKETS || poller.held == 0) return 1;
     /* napi_disable: an instance that was queued for the thread last is taken and completed */
     while (fq_control_step(&control, false, false) == FQ_BUSY)
-        if (fq_seat_take(&seats[1], FQ_THREAD) == FQ_TAKEN) poll_once(&poller);
+        if (fq_caller_take(&callers[1], FQ_THREAD) == FQ_TAKEN) poll_once(&poller);
     printf("%d packets by a thread of its own, each once and in order\n", PACKETS);
     sem_destroy(&wake);
     if (fq_free(&control.handle) != FQ_OK || fq_free(&ring.handle) != FQ_OK) return 1;
-    for (int i = 0; i < 2; i++) if (fq_free(&seats[i].handle) != FQ_OK) return 1;
+    for (int i = 0; i < 2; i++) if (fq_free(&callers[i].handle) != FQ_OK) return 1;
     return 0;
 }

@@ -155,7 +155,7 @@ static inline bool run(void) {
 
 /* Makes a step to open or stop a device; returns whether that is done. A stop that has begun is finished first. */
 static inline bool step(struct device *device, bool on) {
-    struct fq_device_shown shown = {.size = sizeof shown};
+    struct fq_device_shown shown;
     const uint32_t said = on ? fq_driver_open(&driver, device->id) : fq_driver_stop(&driver, device->id);
     if (said != FQ_NOT_DUE) must("step", said, FQ_OK);
     must("show", fq_driver_show(&driver, device->id, &shown), FQ_OK);

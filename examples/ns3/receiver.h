@@ -57,7 +57,7 @@ struct Counts {
 class Receiver {
   public:
     Receiver(Settings settings, size_t cards, std::ostream *arrivals) : settings(settings), cards(cards), arrivals(arrivals) {
-        if (arrivals) *arrivals << "moment,device,bytes\n";
+        if (arrivals) *arrivals << "ns,device,bytes\n";
         must("list", fq_list_new(&list));
         for (Card &card : this->cards) {
             must("ring", fq_ring_new(&card.ring, RING));

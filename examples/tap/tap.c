@@ -124,7 +124,7 @@ static size_t poll_ring(struct queue *queue, size_t most) {
 
 /* Makes a poll; if an interrupt was missed, another poll follows. */
 static uint32_t fetch(struct queue *queue, uint32_t most) {
-    struct fq_device_shown shown = {.size = sizeof shown};
+    struct fq_device_shown shown;
     must("show", fq_driver_show(&driver, (uint32_t)queue->number, &shown), FQ_OK);
     const size_t count = set.direct ? read_all(queue, most) : poll_ring(queue, most);
     queue->polls++;
@@ -154,7 +154,7 @@ static bool run(void) {
 static bool control(bool on) {
     bool there = true;
     for (uint32_t i = 0; i < set.queues; i++) {
-        struct fq_device_shown shown = {.size = sizeof shown};
+        struct fq_device_shown shown;
         const uint32_t said = on ? fq_driver_open(&driver, i) : fq_driver_stop(&driver, i);
         if (said == FQ_OK) row(&trace, now_ms(), i + 1, on ? "enable" : "disable", 0);
         else must("control", said, FQ_NOT_DUE);

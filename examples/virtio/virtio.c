@@ -166,7 +166,7 @@ static bool run(void) {
 static bool control(bool on) {
     bool there = true;
     for (uint32_t i = 0; i < QUEUES; i++) {
-        struct fq_device_shown shown = {.size = sizeof shown};
+        struct fq_device_shown shown;
         const uint32_t said = on ? fq_driver_open(&driver, i) : fq_driver_stop(&driver, i);
         if (said != FQ_NOT_DUE) must("control", said, FQ_OK);
         must("show", fq_driver_show(&driver, i, &shown), FQ_OK);

@@ -5,7 +5,7 @@ union any {
     struct fq_handle handle;
     struct fq_ring ring;
     struct fq_tx tx;
-    struct fq_seat seat;
+    struct fq_caller caller;
     struct fq_control control;
     struct fq_list list;
     struct fq_driver driver;

@@ -145,11 +145,11 @@ static void drivers(void) {
     stays(fq_driver_new(&driver, 65, 300, 64, 1024), FQ_BAD_COUNT, 0, "a driver of too many");
 }
 
-/* The handles of an instance: its ring's input, its controller, and two seats; and an array of too many seats. */
+/* The handles of an instance: its ring's input, its controller, and two callers; and an array of too many callers. */
 static union any many[9], handles[4];
 static struct fq_ring *const input = &handles[0].ring;
 static struct fq_control *const control = &handles[1].control;
-static struct fq_seat *const irq = &handles[2].seat, *const poller = &handles[3].seat;
+static struct fq_caller *const irq = &handles[2].caller, *const poller = &handles[3].caller;
 
 static void made(bool bare) {
     if (bare) {
@@ -158,8 +158,8 @@ static void made(bool bare) {
         return;
     }
     want(fq_ring_new(input, 4) == FQ_OK, "its ring");
-    stays(fq_shared_new(input, control, irq, 1), FQ_BAD_COUNT, blocks, "one seat");
-    stays(fq_shared_new(input, control, &many[0].seat, 9), FQ_BAD_COUNT, blocks, "nine");
+    stays(fq_shared_new(input, control, irq, 1), FQ_BAD_COUNT, blocks, "one caller");
+    stays(fq_shared_new(input, control, &many[0].caller, 9), FQ_BAD_COUNT, blocks, "nine");
     stays(fq_shared_new(&handles[1].ring, &handles[0].control, irq, 2), FQ_IN_USE, blocks, "a controller where the ring is");
     want(fq_shared_new(input, control, irq, 2) == FQ_OK, "an instance");
     stays(fq_shared_new(input, control, irq, 2), FQ_IN_USE, blocks, "one in its place");
@@ -182,17 +182,17 @@ static void in_each_order(bool bare, enum end end) {
 
 /* Brings an instance into a state, and tries to free the handles that can't be freed in it. */
 static void in_state(bool bare, int state) {
-    struct fq_seat *held = poller;
+    struct fq_caller *held = poller;
     made(bare);
     want(fq_control_enable(control, false) == FQ_OK, "it is enabled");
-    if (state == 1) want(fq_seat_schedule(irq) == FQ_GRANTED, "granted"), held = irq;
-    if (state == 2 || state == 3) want(fq_seat_schedule(irq) == FQ_GRANTED && fq_seat_hand(irq, FQ_LIST) == FQ_OK && fq_seat_take(poller, FQ_LIST) == FQ_TAKEN, "polled");
-    if (state == 4) want(fq_seat_busy_take(poller) == FQ_TAKEN, "busy polled");
+    if (state == 1) want(fq_caller_schedule(irq) == FQ_GRANTED, "granted"), held = irq;
+    if (state == 2 || state == 3) want(fq_caller_schedule(irq) == FQ_GRANTED && fq_caller_hand(irq, FQ_LIST) == FQ_OK && fq_caller_take(poller, FQ_LIST) == FQ_TAKEN, "polled");
+    if (state == 4) want(fq_caller_busy_take(poller) == FQ_TAKEN, "busy polled");
     if (state == 3 || state == 5) want(fq_control_mark(control) == FQ_OK, "marked");
     given_up(&control->handle, "a controller that isn't off");
-    if (state >= 1 && state <= 4) given_up(&held->handle, "a seat that doesn't rest");
-    else ended(&held->handle, FREE, "a seat that rests");
-    ended(held == irq ? &poller->handle : &irq->handle, FREE, "the other seat");
+    if (state >= 1 && state <= 4) given_up(&held->handle, "a caller that doesn't rest");
+    else ended(&held->handle, FREE, "a caller that rests");
+    ended(held == irq ? &poller->handle : &irq->handle, FREE, "the other caller");
     if (!bare) ended(&input->handle, FREE, "the input");
     nothing_is_left("of an instance at work");
 }
@@ -203,8 +203,8 @@ static void instances(void) {
         in_each_order(bare, ABANDON);
         for (int state = 0; state < 6; state++) in_state(bare, state);
     }
-    stays(fq_shared_bare(control, irq, 1), FQ_BAD_COUNT, 0, "a bare instance of one seat");
-    stays(fq_shared_bare(control, &many[0].seat, 9), FQ_BAD_COUNT, 0, "of nine");
+    stays(fq_shared_bare(control, irq, 1), FQ_BAD_COUNT, 0, "a bare instance of one caller");
+    stays(fq_shared_bare(control, &many[0].caller, 9), FQ_BAD_COUNT, 0, "of nine");
     union any list = {{false, NULL}};
     want(fq_list_new(&list.list) == FQ_OK, "a list");
     stays(fq_shared_new(&list.ring, control, irq, 2), FQ_BAD_HANDLE, blocks, "an instance over a list");
@@ -215,7 +215,7 @@ static void instances(void) {
 static void replayed(const char *trace, size_t room, uint32_t budget, uint32_t wanted) {
     static uint8_t report[4096];
     const struct fq_settings settings = {sizeof settings, budget, 64, 1024};
-    struct fq_replayed what = FQ_REPLAYED_INIT;
+    struct fq_replayed what;
     want(fq_replay(&settings, (const uint8_t *)trace, strlen(trace), report, room, &what) == wanted, "a replay");
     nothing_is_left("of a replay");
 }
@@ -232,8 +232,8 @@ static void replays(void) {
 
 static void machined(const char *arrivals, size_t room, uint32_t processors, uint32_t wanted) {
     static uint8_t report[4096];
-    struct fq_machine_settings settings = {.size = sizeof settings};
-    struct fq_machine_ran ran = {.size = sizeof ran};
+    struct fq_machine_settings settings;
+    struct fq_machine_ran ran;
     want(fq_machine_default(&settings) == FQ_OK, "the default settings");
     settings.processors = processors, settings.threaded = 1;
     want(fq_machine(&settings, (const uint8_t *)arrivals, strlen(arrivals), report, room, &ran) == wanted, "a machine");
@@ -241,12 +241,12 @@ static void machined(const char *arrivals, size_t room, uint32_t processors, uin
 }
 
 static void machines(void) {
-    const char *const good = "moment,device,bytes\n0,1,60\n10,2,60\n10,1,1500\n900000,65,60\n";
+    const char *const good = "ns,device,bytes\n0,1,60\n10,2,60\n10,1,1500\n900000,65,60\n";
     machined(good, 4096, 2, FQ_OK);
     machined(good, 10, 2, FQ_NO_ROOM);
     machined(good, 4096, 1, FQ_BAD_ARRIVALS);
     machined(good, 4096, 65, FQ_BAD_SETTING);
-    machined("moment,device,bytes\n5,1,60\n4,1,60\n", 4096, 2, FQ_BAD_ARRIVALS);
+    machined("ns,device,bytes\n5,1,60\n4,1,60\n", 4096, 2, FQ_BAD_ARRIVALS);
     machined("", 4096, 2, FQ_BAD_ARRIVALS);
 }
 

@@ -4,7 +4,7 @@
  * and a disable starts at every point. In the end nothing may wait on the card, which then isn't masked. The orders of
  * fintaqush.h never fail there; the three that hang real cards do: no check after the unmask, a mask after the hand-over, and an
  * enable without a request. A call that makes several steps is tried as it is, and step by step, with points between the steps.
- * To be linked with --wrap for the calls of a seat. */
+ * To be linked with --wrap for the calls of a caller. */
 #include <fintaqush.h>
 #include <stdio.h>
 #include <stdlib.h>
@@ -15,7 +15,7 @@ enum { WEIGHT = 2, PACKETS = 3, POINTS = 120, TURNS = 90, NEVER = 1000 };
 static enum order order;
 static bool threaded, by_steps;
 static struct fq_control control;
-static struct fq_seat seats[3]; /* the interrupt's seat, and two pollers' */
+static struct fq_caller callers[3]; /* the interrupt's caller, and two pollers' */
 
 /* The points at which things happen: points are counted. */
 static unsigned point_now, turn_now, packet_at[PACKETS], stop_at, turn_at;
@@ -52,22 +52,22 @@ static void point(void) {
     if ((handles || polls != 0) && polls < 2 && turn_now++ == turn_at) turn();
 }
 
-/* The steps of fq_seat_hand_again and fq_seat_end, as the header describes them. */
-static uint32_t hands_again(struct fq_seat *seat, uint32_t *next) {
+/* The steps of fq_caller_hand_again and fq_caller_end, as the header describes them. */
+static uint32_t hands_again(struct fq_caller *caller, uint32_t *next) {
     uint64_t word;
-    must(fq_seat_look(seat, &word) == FQ_OK, "a look");
+    must(fq_caller_look(caller, &word) == FQ_OK, "a look");
     *next = word & FQ_BIT_THREADED ? FQ_NEXT_AGAIN_THREAD : FQ_NEXT_AGAIN;
-    return fq_seat_hand(seat, word & FQ_BIT_THREADED ? FQ_THREAD : FQ_LIST);
+    return fq_caller_hand(caller, word & FQ_BIT_THREADED ? FQ_THREAD : FQ_LIST);
 }
 
-static uint32_t ends(struct fq_seat *seat, bool full, uint32_t *next) {
+static uint32_t ends(struct fq_caller *caller, bool full, uint32_t *next) {
     uint64_t word;
-    must(fq_seat_look(seat, &word) == FQ_OK, "a look");
+    must(fq_caller_look(caller, &word) == FQ_OK, "a look");
     const bool is_polled_on = full && !(word & FQ_BIT_DISABLE), is_thread = word & FQ_BIT_SCHED_THREADED;
     *next = is_polled_on && !is_thread ? FQ_NEXT_REPOLL : FQ_NEXT_GONE;
-    if (is_polled_on) return is_thread ? FQ_HELD : fq_seat_requeue(seat);
-    const uint32_t said = fq_seat_complete(seat);
-    return said == FQ_AGAIN ? hands_again(seat, next) : said == FQ_RELEASED ? FQ_OK : said;
+    if (is_polled_on) return is_thread ? FQ_HELD : fq_caller_requeue(caller);
+    const uint32_t said = fq_caller_complete(caller);
+    return said == FQ_AGAIN ? hands_again(caller, next) : said == FQ_RELEASED ? FQ_OK : said;
 }
 
 /* A call with a point before and after it, or its steps. */
@@ -81,15 +81,15 @@ static uint32_t ends(struct fq_seat *seat, bool full, uint32_t *next) {
         point();                                        \
         return said;                                    \
     }
-WRAP(fq_seat_schedule, (struct fq_seat *seat), (seat), )
-WRAP(fq_seat_hand, (struct fq_seat *seat, uint32_t to), (seat, to), )
-WRAP(fq_seat_take, (struct fq_seat *seat, uint32_t from), (seat, from), )
-WRAP(fq_seat_requeue, (struct fq_seat *seat), (seat), )
-WRAP(fq_seat_complete, (struct fq_seat *seat), (seat), )
-WRAP(fq_seat_schedule_prep, (struct fq_seat *seat), (seat), if (by_steps) return fq_seat_schedule(seat))
-WRAP(fq_seat_complete_done, (struct fq_seat *seat), (seat), if (by_steps) return fq_seat_complete(seat))
-WRAP(fq_seat_hand_again, (struct fq_seat *seat, uint32_t *next), (seat, next), if (by_steps) return hands_again(seat, next))
-WRAP(fq_seat_end, (struct fq_seat *seat, bool full, uint32_t *next), (seat, full, next), if (by_steps) return ends(seat, full, next))
+WRAP(fq_caller_schedule, (struct fq_caller *caller), (caller), )
+WRAP(fq_caller_hand, (struct fq_caller *caller, uint32_t to), (caller, to), )
+WRAP(fq_caller_take, (struct fq_caller *caller, uint32_t from), (caller, from), )
+WRAP(fq_caller_requeue, (struct fq_caller *caller), (caller), )
+WRAP(fq_caller_complete, (struct fq_caller *caller), (caller), )
+WRAP(fq_caller_schedule_prep, (struct fq_caller *caller), (caller), if (by_steps) return fq_caller_schedule(caller))
+WRAP(fq_caller_complete_done, (struct fq_caller *caller), (caller), if (by_steps) return fq_caller_complete(caller))
+WRAP(fq_caller_hand_again, (struct fq_caller *caller, uint32_t *next), (caller, next), if (by_steps) return hands_again(caller, next))
+WRAP(fq_caller_end, (struct fq_caller *caller, bool full, uint32_t *next), (caller, full, next), if (by_steps) return ends(caller, full, next))
 
 static void mask(void *at) {
     (void)at;
@@ -128,10 +128,10 @@ static uint32_t kind(void) { return threaded ? FQ_THREAD : FQ_LIST; }
 
 static void request(void) {
     if (order != LATE) {
-        must(fq_seat_interrupt_masked(&seats[0], kind(), &card) < FQ_NOT_ALLOWED, "an interrupt");
+        must(fq_caller_interrupt_masked(&callers[0], kind(), &card) < FQ_NOT_ALLOWED, "an interrupt");
         return;
     }
-    const uint32_t said = fq_seat_interrupt(&seats[0], kind());
+    const uint32_t said = fq_caller_interrupt(&callers[0], kind());
     must(said < FQ_NOT_ALLOWED, "an interrupt");
     if (said == FQ_GRANTED) mask(NULL);
 }
@@ -147,11 +147,11 @@ static void interrupt(void) {
 }
 
 /* Ends a poll, and returns whether the poller continues. */
-static bool end(struct fq_seat *seat, size_t work) {
+static bool end(struct fq_caller *caller, size_t work) {
     uint32_t next = 99, said;
-    if (order == UNMASKED) said = fq_seat_end_unmasked(seat, &card, WEIGHT, &work, &next);
-    else if (order == UNLOOKED) said = fq_seat_end(seat, work == WEIGHT, &next);
-    else said = fq_seat_end_watched(seat, work == WEIGHT, &card, &next);
+    if (order == UNMASKED) said = fq_caller_end_unmasked(caller, &card, WEIGHT, &work, &next);
+    else if (order == UNLOOKED) said = fq_caller_end(caller, work == WEIGHT, &next);
+    else said = fq_caller_end_watched(caller, work == WEIGHT, &card, &next);
     must(said == FQ_OK || (threaded && said == FQ_HELD && work == WEIGHT), "an end");
     must(next == FQ_NEXT_GONE || next == (threaded ? FQ_NEXT_AGAIN_THREAD : FQ_NEXT_AGAIN) || (!threaded && next == FQ_NEXT_REPOLL), "how it ended");
     if (order == UNLOOKED && said == FQ_OK && next == FQ_NEXT_GONE) unmask(NULL);
@@ -159,10 +159,10 @@ static bool end(struct fq_seat *seat, size_t work) {
 }
 
 static void turn(void) {
-    struct fq_seat *const seat = &seats[++polls];
-    if (fq_seat_take(seat, kind()) == FQ_TAKEN)
+    struct fq_caller *const caller = &callers[++polls];
+    if (fq_caller_take(caller, kind()) == FQ_TAKEN)
         do must(masked || order > UNMASKED, "it polls, and the card isn't masked");
-        while (end(seat, poll_card(NULL, WEIGHT)));
+        while (end(caller, poll_card(NULL, WEIGHT)));
     polls--;
 }
 
@@ -172,7 +172,7 @@ static void drain(void) {
     for (int turns = 0; word & FQ_BIT_SCHED; turns++) {
         must(turns < 100, "the poller never rests");
         turn();
-        must(fq_seat_look(&seats[0], &word) == FQ_OK, "a look");
+        must(fq_caller_look(&callers[0], &word) == FQ_OK, "a look");
     }
 }
 
@@ -180,7 +180,7 @@ static void drain(void) {
 static bool hangs(void) {
     waiting = next_packet = polls = point_now = turn_now = 0;
     masked = raised = handles = stops = false;
-    must(fq_shared_bare(&control, seats, 3) == FQ_OK && fq_control_step(&control, true, threaded) == FQ_OK, "a new instance");
+    must(fq_shared_bare(&control, callers, 3) == FQ_OK && fq_control_step(&control, true, threaded) == FQ_OK, "a new instance");
     point();
     for (drain(); next_packet < packets; drain()) packet();
     must(point_now <= POINTS && turn_now <= TURNS, "more points than are tried");
@@ -191,7 +191,7 @@ static bool hangs(void) {
     }
     const bool is_hung = waiting != 0 || masked;
     must(fq_control_step(&control, false, false) == FQ_OK && fq_free(&control.handle) == FQ_OK, "the end");
-    for (int i = 0; i < 3; i++) must(fq_free(&seats[i].handle) == FQ_OK, "the end of a seat");
+    for (int i = 0; i < 3; i++) must(fq_free(&callers[i].handle) == FQ_OK, "the end of a caller");
     return is_hung;
 }
 

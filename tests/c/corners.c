@@ -12,13 +12,13 @@ static void want(bool holds, const char *what) {
     exit(9);
 }
 
-/* An instance that is enabled, with an interrupt's seat and a poller's. */
+/* An instance that is enabled, with an interrupt's caller and a poller's. */
 static struct fq_control control;
-static struct fq_seat seats[2];
-static struct fq_seat *const irq = &seats[0], *const poller = &seats[1];
+static struct fq_caller callers[2];
+static struct fq_caller *const irq = &callers[0], *const poller = &callers[1];
 
 static void enabled(bool threaded) {
-    want(fq_shared_bare(&control, seats, 2) == FQ_OK && fq_control_enable(&control, threaded) == FQ_OK, "it is enabled");
+    want(fq_shared_bare(&control, callers, 2) == FQ_OK && fq_control_enable(&control, threaded) == FQ_OK, "it is enabled");
 }
 
 static void given_up(void) {
@@ -30,12 +30,12 @@ static void given_up(void) {
 static void a_full_poll_of_a_thread(void) {
     uint32_t next = 99;
     enabled(true);
-    want(fq_seat_interrupt(irq, FQ_THREAD) == FQ_GRANTED && fq_seat_take(poller, FQ_THREAD) == FQ_TAKEN, "its thread takes it");
-    want(fq_seat_end(poller, true, &next) == FQ_HELD && next == FQ_NEXT_GONE, "a full poll stays with the thread");
-    want(fq_seat_interrupt(irq, FQ_THREAD) == FQ_MISSED, "a request meanwhile is missed");
-    want(fq_seat_end(poller, false, &next) == FQ_OK && next == FQ_NEXT_AGAIN_THREAD, "so one more poll follows");
-    want(fq_seat_take(poller, FQ_THREAD) == FQ_TAKEN && fq_seat_end(poller, false, &next) == FQ_OK && next == FQ_NEXT_GONE, "which ends it");
-    want(fq_seat_interrupt(irq, FQ_THREAD) == FQ_GRANTED && fq_seat_take(poller, FQ_THREAD) == FQ_TAKEN, "the next interrupt is granted");
+    want(fq_caller_interrupt(irq, FQ_THREAD) == FQ_GRANTED && fq_caller_take(poller, FQ_THREAD) == FQ_TAKEN, "its thread takes it");
+    want(fq_caller_end(poller, true, &next) == FQ_HELD && next == FQ_NEXT_GONE, "a full poll stays with the thread");
+    want(fq_caller_interrupt(irq, FQ_THREAD) == FQ_MISSED, "a request meanwhile is missed");
+    want(fq_caller_end(poller, false, &next) == FQ_OK && next == FQ_NEXT_AGAIN_THREAD, "so one more poll follows");
+    want(fq_caller_take(poller, FQ_THREAD) == FQ_TAKEN && fq_caller_end(poller, false, &next) == FQ_OK && next == FQ_NEXT_GONE, "which ends it");
+    want(fq_caller_interrupt(irq, FQ_THREAD) == FQ_GRANTED && fq_caller_take(poller, FQ_THREAD) == FQ_TAKEN, "the next interrupt is granted");
     given_up();
 }
 
@@ -43,11 +43,11 @@ static void a_full_poll_of_a_thread(void) {
 static void a_full_poll_of_a_busy_poller(void) {
     uint32_t next = 99;
     enabled(false);
-    want(fq_seat_end(poller, true, &next) == FQ_NOT_ALLOWED && next == FQ_NEXT_GONE, "a seat at rest ends no poll");
-    want(fq_seat_busy_take(poller) == FQ_TAKEN, "it is busy polled");
+    want(fq_caller_end(poller, true, &next) == FQ_NOT_ALLOWED && next == FQ_NEXT_GONE, "a caller at rest ends no poll");
+    want(fq_caller_busy_take(poller) == FQ_TAKEN, "it is busy polled");
     for (int full = 0; full < 2; full++) {
         next = 99;
-        want(fq_seat_end(poller, full, &next) == FQ_HELD && next == FQ_NEXT_GONE, "a busy poller polls on");
+        want(fq_caller_end(poller, full, &next) == FQ_HELD && next == FQ_NEXT_GONE, "a busy poller polls on");
     }
     given_up();
 }
@@ -162,7 +162,7 @@ static void a_ring_whose_instance_is_refused(void) {
         size_t count;
         want(fq_ring_new(&ring, 4) == FQ_OK && fq_ring_put(&ring, 5, 60) == FQ_OK, "a ring");
         takes = 0, refused_take = at;
-        said = fq_shared_new(&ring, &control, seats, 2);
+        said = fq_shared_new(&ring, &control, callers, 2);
         refused_take = 0;
         if (said == FQ_OUT_OF_MEMORY) {
             want(!control.handle.private_set && !irq->handle.private_set && !poller->handle.private_set, "nothing is set");
@@ -231,11 +231,11 @@ static void an_open_asks_once(void) {
     for (int threaded = 0; threaded < 2; threaded++) {
         uint32_t next = 99;
         masks = 0;
-        want(fq_shared_bare(&control, seats, 2) == FQ_OK && fq_seat_request(irq, &card, &next) == FQ_MISSED && next == FQ_NEXT_GONE && masks == 0, "off");
+        want(fq_shared_bare(&control, callers, 2) == FQ_OK && fq_caller_request(irq, &card, &next) == FQ_MISSED && next == FQ_NEXT_GONE && masks == 0, "off");
         want(fq_control_open(&control, threaded, poller, &card, &next) == FQ_GRANTED && masks == 1, "it is asked for");
         want(next == (threaded ? FQ_NEXT_AGAIN_THREAD : FQ_NEXT_AGAIN), "where it was handed");
         for (int polls = 0; polls < 2; polls++) {
-            want(fq_seat_take(poller, threaded ? FQ_THREAD : FQ_LIST) == FQ_TAKEN && fq_seat_end(poller, false, &next) == FQ_OK, "it is polled");
+            want(fq_caller_take(poller, threaded ? FQ_THREAD : FQ_LIST) == FQ_TAKEN && fq_caller_end(poller, false, &next) == FQ_OK, "it is polled");
             want((next == FQ_NEXT_GONE) == (polls == 1), "once more, for the request that was missed");
         }
         want(fq_control_open(&control, threaded, poller, &card, &next) == FQ_NOT_ALLOWED && next == FQ_NEXT_GONE && masks == 1, "it is on already");
@@ -244,22 +244,22 @@ static void an_open_asks_once(void) {
     }
 }
 
-/* An open by another instance's seat enables nothing. */
-static void an_open_knows_its_seats(void) {
+/* An open by another instance's caller enables nothing. */
+static void an_open_knows_its_callers(void) {
     struct fq_control other = FQ_NONE;
-    struct fq_seat others[2] = {FQ_NONE, FQ_NONE};
+    struct fq_caller others[2] = {FQ_NONE, FQ_NONE};
     uint32_t next = 99;
     masks = 0;
-    want(fq_shared_bare(&control, seats, 2) == FQ_OK && fq_shared_bare(&other, others, 2) == FQ_OK, "two instances");
-    want(fq_control_has(&control, poller) == FQ_OK && fq_control_has(&control, irq) == FQ_OK && fq_control_has(&other, &others[1]) == FQ_OK, "its seats");
+    want(fq_shared_bare(&control, callers, 2) == FQ_OK && fq_shared_bare(&other, others, 2) == FQ_OK, "two instances");
+    want(fq_control_has(&control, poller) == FQ_OK && fq_control_has(&control, irq) == FQ_OK && fq_control_has(&other, &others[1]) == FQ_OK, "its callers");
     want(fq_control_has(&other, irq) == FQ_BAD_HANDLE && fq_control_has(&control, &others[0]) == FQ_BAD_HANDLE, "others");
-    want(fq_control_open(&control, false, &others[0], &card, &next) == FQ_BAD_HANDLE && next == FQ_NEXT_GONE && masks == 0, "another instance's seat");
+    want(fq_control_open(&control, false, &others[0], &card, &next) == FQ_BAD_HANDLE && next == FQ_NEXT_GONE && masks == 0, "another instance's caller");
     want(fq_control_open(&control, false, poller, &card, &next) == FQ_GRANTED && fq_control_open(&other, false, &others[0], &card, &next) == FQ_GRANTED, "its own");
     want(fq_abandon(&others[0].handle) == FQ_OK && fq_abandon(&others[1].handle) == FQ_OK && fq_abandon(&other.handle) == FQ_OK, "the end");
     given_up();
 }
 
-/* fq_seat_end_watched and fq_seat_request read the kind from the state word: they queue for a thread that was set meanwhile, and report it. */
+/* fq_caller_end_watched and fq_caller_request read the kind from the state word: they queue for a thread that was set meanwhile, and report it. */
 static void unmask(void *at) { (void)at; }
 static bool look(void *at) { return (void)at, true; }
 static const struct fq_card watched = {NULL, mask, unmask, look, NULL};
@@ -267,14 +267,14 @@ static const struct fq_card watched = {NULL, mask, unmask, look, NULL};
 static void handed_to_a_thread_that_was_set_meanwhile(void) {
     uint32_t next = 99;
     enabled(false);
-    want(fq_seat_request(irq, &watched, &next) == FQ_GRANTED && next == FQ_NEXT_AGAIN && fq_seat_take(poller, FQ_LIST) == FQ_TAKEN, "on the list");
-    want(fq_seat_set_threaded(irq, true) == FQ_OK, "threaded meanwhile");
-    want(fq_seat_end_watched(poller, false, &watched, &next) == FQ_OK && next == FQ_NEXT_AGAIN_THREAD, "the thread is to be woken");
-    want(fq_seat_request(irq, &watched, &next) == FQ_MISSED && next == FQ_NEXT_GONE, "a request is missed");
-    want(fq_seat_take(poller, FQ_THREAD) == FQ_TAKEN && fq_seat_end(poller, false, &next) == FQ_OK && next == FQ_NEXT_AGAIN_THREAD, "again");
-    want(fq_seat_take(poller, FQ_THREAD) == FQ_TAKEN && fq_seat_end(poller, false, &next) == FQ_OK && next == FQ_NEXT_GONE, "and over");
-    want(fq_seat_request(irq, &watched, &next) == FQ_GRANTED && next == FQ_NEXT_AGAIN_THREAD, "by a request too");
-    want(fq_seat_request(poller, &watched, &next) == FQ_MISSED, "once");
+    want(fq_caller_request(irq, &watched, &next) == FQ_GRANTED && next == FQ_NEXT_AGAIN && fq_caller_take(poller, FQ_LIST) == FQ_TAKEN, "on the list");
+    want(fq_caller_set_threaded(irq, true) == FQ_OK, "threaded meanwhile");
+    want(fq_caller_end_watched(poller, false, &watched, &next) == FQ_OK && next == FQ_NEXT_AGAIN_THREAD, "the thread is to be woken");
+    want(fq_caller_request(irq, &watched, &next) == FQ_MISSED && next == FQ_NEXT_GONE, "a request is missed");
+    want(fq_caller_take(poller, FQ_THREAD) == FQ_TAKEN && fq_caller_end(poller, false, &next) == FQ_OK && next == FQ_NEXT_AGAIN_THREAD, "again");
+    want(fq_caller_take(poller, FQ_THREAD) == FQ_TAKEN && fq_caller_end(poller, false, &next) == FQ_OK && next == FQ_NEXT_GONE, "and over");
+    want(fq_caller_request(irq, &watched, &next) == FQ_GRANTED && next == FQ_NEXT_AGAIN_THREAD, "by a request too");
+    want(fq_caller_request(poller, &watched, &next) == FQ_MISSED, "once");
     given_up();
 }
 
@@ -298,7 +298,7 @@ static void refusals_of_a_replay(void) {
     static const char good[] = "moment,device,event,value\n0,1,open,4\n";
     static const uint8_t bad[] = "?";
     uint8_t report[1];
-    struct fq_replayed told = FQ_REPLAYED_INIT;
+    struct fq_replayed told;
     struct fq_settings settings = {sizeof settings, 0, 0, 0};
     want(fq_replay(&settings, bad, 1, report, 0, &told) == FQ_BAD_WEIGHT, "a weight is looked at first");
     settings.weight = 64;
@@ -320,7 +320,7 @@ static void runs_that_the_kernel_would_add(void) {
         const char *wanted;
     } rows[] = {{FQ_UNTIL_EMPTY, ROWS RUN RUN RUN RUN LAST}, {0, given}, {1, ROWS RUN RUN LAST LAST}, {3, ROWS RUN RUN RUN RUN LAST}};
     struct fq_settings settings = {sizeof settings, 1, 1, 1024};
-    struct fq_replayed told = FQ_REPLAYED_INIT;
+    struct fq_replayed told;
     uint8_t out[512];
     for (size_t i = 0; i < sizeof rows / sizeof rows[0]; i++) {
         want(fq_raise(&settings, rows[i].restarts, (const uint8_t *)given, sizeof given - 1, out, sizeof out, &told) == FQ_OK, "runs are added");
@@ -336,20 +336,20 @@ static void runs_that_the_kernel_would_add(void) {
 /* For a count of 0 the pointer of an array may be null, in each call that has one. */
 static void arrays_of_nothing(void) {
     const struct fq_settings settings = FQ_DEFAULT_SETTINGS;
-    struct fq_machine_settings machine = {.size = sizeof machine};
-    struct fq_machine_ran ran = {.size = sizeof ran};
-    struct fq_replayed replayed = FQ_REPLAYED_INIT;
+    struct fq_machine_settings machine;
+    struct fq_machine_ran ran;
+    struct fq_replayed replayed;
     struct fq_ring ring = FQ_NONE;
     size_t count = 9;
     want(fq_version(NULL, 0) == strlen(FQ_VERSION) && fq_status_text(FQ_OK, NULL, 0) == 5, "texts");
     want(fq_status_message(FQ_OK, NULL, 0) == 4 && fq_fault_text(1, NULL, 0) == 9, "a message, a fault");
     want(fq_ring_new(&ring, 1) == FQ_OK && fq_ring_put_all(&ring, NULL, 0, &count) == FQ_OK && count == 0, "a burst");
-    want(fq_ring_poll(&ring, 1, NULL, 0, &count) == FQ_NO_ROOM && fq_seat_poll(poller, 1, NULL, 0, &count) == FQ_NO_ROOM, "polls");
-    want(fq_shared_new(&ring, &control, NULL, 0) == FQ_BAD_COUNT && fq_shared_bare(&control, NULL, 0) == FQ_BAD_COUNT, "seats");
+    want(fq_ring_poll(&ring, 1, NULL, 0, &count) == FQ_NO_ROOM && fq_caller_poll(poller, 1, NULL, 0, &count) == FQ_NO_ROOM, "polls");
+    want(fq_shared_new(&ring, &control, NULL, 0) == FQ_BAD_COUNT && fq_shared_bare(&control, NULL, 0) == FQ_BAD_COUNT, "callers");
     want(fq_abandon(&ring.handle) == FQ_OK, "the ring's end");
     want(fq_replay(&settings, NULL, 0, NULL, 0, &replayed) == FQ_BAD_TRACE && replayed.fault == FQ_FAULT_BAD_HEADER, "a replay");
     want(fq_raise(&settings, 9, NULL, 0, NULL, 0, &replayed) == FQ_BAD_TRACE && replayed.fault == FQ_FAULT_BAD_HEADER, "a raise");
-    static const uint8_t trace[] = "moment,device,event,value\n", arrivals[] = "moment,device,bytes\n";
+    static const uint8_t trace[] = "moment,device,event,value\n", arrivals[] = "ns,device,bytes\n";
     want(fq_replay(&settings, trace, sizeof trace - 1, NULL, 0, &replayed) == FQ_NO_ROOM && replayed.length > 0, "a report");
     want(fq_machine_default(&machine) == FQ_OK, "settings");
     want(fq_machine(&machine, NULL, 0, NULL, 0, &ran) == FQ_BAD_ARRIVALS && ran.fault == 1, "a machine");
@@ -400,7 +400,7 @@ static const struct {
     void (*call)(void);
 } cases[] = {CASE(a_full_poll_of_a_thread), CASE(a_full_poll_of_a_busy_poller), CASE(bytes_of_an_instance), CASE(a_limit_out_of_bounds), CASE(a_polled_instance_is_handed), CASE(a_list_of_64), CASE(a_device_leaves_a_list),
     CASE(weights_of_devices), CASE(a_split_of_what_is_no_ring), CASE(a_ring_whose_instance_is_refused), CASE(buffers_in_turn),
-    CASE(ends_of_polls_on_one_thread), CASE(a_full_poll_under_a_disable), CASE(an_open_asks_once), CASE(an_open_knows_its_seats),
+    CASE(ends_of_polls_on_one_thread), CASE(a_full_poll_under_a_disable), CASE(an_open_asks_once), CASE(an_open_knows_its_callers),
     CASE(handed_to_a_thread_that_was_set_meanwhile), CASE(a_stopped_ring_is_watched),
     CASE(refusals_of_a_replay), CASE(runs_that_the_kernel_would_add), CASE(arrays_of_nothing), CASE(frees_and_lists)};
 

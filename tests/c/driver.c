@@ -54,7 +54,7 @@ static void act(struct fq_todo *todo) {
 /* ---- random calls */
 
 static struct fq_device_shown shown_of(struct fq_driver *driver, uint32_t device) {
-    struct fq_device_shown shown = {sizeof shown, 9, true, true, 9, 9};
+    struct fq_device_shown shown = {0, 9, true, true, 9, 9};
     want(fq_driver_show(driver, device, &shown) == FQ_OK && shown.state <= FQ_DEVICE_STOPPING, "what a device shows");
     return shown;
 }
@@ -87,17 +87,14 @@ static void refused(struct fq_driver *driver, uint32_t device, uint32_t said, ui
 static void tries_what_is_refused(struct fq_driver *driver, uint32_t devices, const struct fq_todo *due) {
     const uint32_t device = below(devices);
     const struct fq_device_shown before = shown_of(driver, device);
-    struct fq_todo old = *due, small = *due;
-    struct fq_device_shown none = {sizeof none - 1, 0, false, false, 0, 0};
+    struct fq_todo old = *due;
+    struct fq_device_shown none;
     old.number += 1 + below(3);
-    small.size--;
     refused(driver, device, fq_driver_done(driver, &old), FQ_NOT_DUE, due, before);
-    refused(driver, device, fq_driver_next_sized(driver, &small), FQ_BAD_SIZE, due, before);
-    refused(driver, device, fq_driver_step_sized(driver, &small), FQ_BAD_SIZE, due, before);
     refused(driver, device, fq_driver_open(driver, devices), FQ_BAD_DEVICE, due, before);
     refused(driver, device, fq_driver_stop(driver, UINT32_MAX), FQ_BAD_DEVICE, due, before);
     refused(driver, device, fq_driver_interrupt(driver, devices), FQ_BAD_DEVICE, due, before);
-    refused(driver, device, fq_driver_show(driver, devices, &none), FQ_BAD_SIZE, due, before);
+    refused(driver, device, fq_driver_show(driver, devices, &none), FQ_BAD_DEVICE, due, before);
     if (before.state != FQ_DEVICE_CLOSED) refused(driver, device, fq_driver_open(driver, device), FQ_NOT_DUE, due, before);
     if (before.state != FQ_DEVICE_OPEN) refused(driver, device, fq_driver_stop(driver, device), FQ_NOT_DUE, due, before);
     if (due->what == FQ_TODO_FETCH) {
@@ -177,14 +174,13 @@ static void random_calls(uint32_t devices, uint32_t budget, uint32_t weight, uin
 
 /* ---- the same by steps, beside a driver that reports and asks */
 
-/* A step returns what the report returns, and sets *todo to what is due then, or to the error. If its size is too small, nothing changes. */
+/* A step returns what the report returns, and sets *todo to what is due then, or to the error. */
 static uint32_t steps(struct fq_driver *driver, struct fq_driver *twin, struct fq_todo *todo) {
     struct fq_todo other = *todo;
-    const bool is_small = todo->size < sizeof other;
-    const enum fq_status wanted = is_small ? FQ_BAD_SIZE : fq_driver_done(twin, &other);
+    const enum fq_status wanted = fq_driver_done(twin, &other);
     if (!fq_is_error(wanted)) want(fq_driver_next(twin, &other) == FQ_OK, "what is due at the twin");
-    want(fq_driver_step_sized(driver, todo) == wanted, "what a step returns");
-    want(fq_is_error(wanted) && !is_small ? is_failed(todo, wanted) : same_todo(todo, &other), "what a step sets");
+    want(fq_driver_step(driver, todo) == wanted, "what a step returns");
+    want(fq_is_error(wanted) ? is_failed(todo, wanted) : same_todo(todo, &other), "what a step sets");
     return wanted;
 }
 
@@ -192,13 +188,11 @@ static uint32_t steps(struct fq_driver *driver, struct fq_driver *twin, struct f
 static uint32_t one_step(struct fq_driver *driver, struct fq_driver *twin, struct fq_todo *todo) {
     const struct fq_todo kept = *todo;
     const uint32_t wrong = below(16);
-    if (wrong == 0) todo->size -= 1 + below(8);
     if (wrong == 1) todo->number += 1 + below(3);
     if (wrong == 2) *todo = (struct fq_todo)FQ_TODO_INIT;
     if (wrong == 3 && todo->what == FQ_TODO_FETCH) todo->packets = todo->most + 1 + below(9);
     const uint32_t said = steps(driver, twin, todo);
-    want((wrong == 0) == (said == FQ_BAD_SIZE), "a size that is too small");
-    want(wrong == 0 || said == FQ_OK || said == FQ_NOT_DUE || (wrong == 3 && said == FQ_BAD_WORK), "a step");
+    want(said == FQ_OK || said == FQ_NOT_DUE || (wrong == 3 && said == FQ_BAD_WORK), "a step");
     if (fq_is_error(said)) *todo = kept;
     else act(todo);
     return said;
@@ -219,7 +213,7 @@ static void other_calls(struct fq_driver *driver, struct fq_driver *twin, uint32
 static void random_steps(uint32_t devices, uint32_t budget, uint32_t weight, uint32_t window) {
     struct fq_driver driver = FQ_NONE, twin = FQ_NONE;
     struct fq_todo todo = FQ_TODO_INIT;
-    long made[FQ_BAD_SIZE + 1] = {0};
+    long made[FQ_BAD_WORK + 1] = {0};
     want(fq_driver_new_salted(&driver, devices, budget, weight, window, 7) == FQ_OK, "a driver");
     want(fq_driver_new_salted(&twin, devices, budget, weight, window, 7) == FQ_OK, "a driver with the same numbers");
     for (uint32_t i = 0; i < DEVICES; i++) cards[i] = (struct card){true, false, 0, 0};
@@ -228,7 +222,7 @@ static void random_steps(uint32_t devices, uint32_t budget, uint32_t weight, uin
         else made[one_step(&driver, &twin, &todo)]++;
         if (below(32) == 0) rests(&driver, devices), rests(&twin, devices);
     }
-    want(made[FQ_OK] > 0 && made[FQ_NOT_DUE] > 0 && made[FQ_BAD_WORK] > 0 && made[FQ_BAD_SIZE] > 0, "a step has returned each status");
+    want(made[FQ_OK] > 0 && made[FQ_NOT_DUE] > 0 && made[FQ_BAD_WORK] > 0, "a step has returned each status");
     want(fq_free(&driver.handle) == FQ_OK && fq_free(&twin.handle) == FQ_OK, "the end of two drivers");
 }
 
@@ -266,11 +260,11 @@ static void program(void (*go)(struct fq_driver *driver, struct fq_todo *todo)) 
 static void without_a_driver(void) {
     union any none = {{false, NULL}}, list = {{false, NULL}};
     struct fq_todo todo = FQ_TODO_INIT;
-    struct fq_device_shown shown = {sizeof shown, 0, false, false, 0, 0};
+    struct fq_device_shown shown;
     want(fq_list_new(&list.list) == FQ_OK, "a list");
     for (int i = 0; i < 2; i++) {
         struct fq_driver *const handle = i ? &list.driver : &none.driver;
-        const struct fq_todo fetch = {sizeof fetch, 7, FQ_TODO_FETCH, 1, 2, 3, {4, 5, true}, FQ_OK};
+        const struct fq_todo fetch = {sizeof fetch, 7, FQ_TODO_FETCH, 1, 2, 3, FQ_OK, {sizeof fetch.run, 4, 5, true}};
         todo = fetch;
         want(fq_driver_done(handle, &todo) == FQ_BAD_HANDLE && same_todo(&todo, &fetch), "a report without a driver");
         want(fq_driver_next(handle, &todo) == FQ_BAD_HANDLE && is_failed(&todo, FQ_BAD_HANDLE), "it fails");
@@ -289,37 +283,29 @@ static void without_a_driver(void) {
 /* If several statuses apply, each call returns the one that the header names first. */
 static void first_named(void) {
     struct fq_driver driver = FQ_NONE;
-    struct fq_todo todo = FQ_TODO_INIT, small;
-    struct fq_device_shown shown = {sizeof shown - 1, 0, false, false, 0, 0};
-    todo.size--;
-    want(fq_driver_next_sized(&driver, &todo) == FQ_BAD_SIZE && fq_driver_step_sized(&driver, &todo) == FQ_BAD_SIZE, "no driver, and a small size");
-    want(fq_driver_show(&driver, 9, &shown) == FQ_BAD_SIZE && todo.what == FQ_TODO_SLEEP, "no driver, and a small size");
+    struct fq_todo todo = FQ_TODO_INIT;
+    struct fq_device_shown shown;
+    want(fq_driver_show(&driver, 9, &shown) == FQ_BAD_HANDLE, "no driver, and no device");
     want(fq_driver_new(&driver, 1, 300, 8, 1024) == FQ_OK && fq_driver_open(&driver, 0) == FQ_OK, "a driver");
-    want(fq_driver_show(&driver, 9, &shown) == FQ_BAD_SIZE, "a small size, and no device");
     while (fq_driver_step(&driver, &todo) == FQ_OK && todo.what != FQ_TODO_FETCH) {} /* a look that isn't answered leads to a poll */
-    todo.packets = 9, todo.number++, small = todo, small.size--;
-    want(fq_driver_step_sized(&driver, &small) == FQ_BAD_SIZE, "a small size, and an old number");
+    todo.packets = 9, todo.number++;
     want(fq_driver_done(&driver, &todo) == FQ_NOT_DUE && fq_driver_step(&driver, &todo) == FQ_NOT_DUE, "an old number, and too many packets");
     want(todo.what == FQ_TODO_FETCH && todo.packets == 0 && fq_free(&driver.handle) == FQ_OK, "the fetch is due");
 }
 
-/* A struct of zeros is no action, what is beyond its size stays, and an action of one driver is none of another. */
+/* A struct of zeros is no action, and an action of one driver is none of another. */
 static void mistakes(void) {
     struct fq_driver one = FQ_NONE, other = FQ_NONE;
-    struct { struct fq_todo todo; uint64_t beyond; } at;
-    memset(&at, 0, sizeof at);
-    at.beyond = 1;
+    struct fq_todo todo = {0};
     want(fq_driver_new(&one, 1, 300, 64, 1024) == FQ_OK && fq_driver_new(&other, 1, 300, 64, 1024) == FQ_OK, "two drivers");
     want(fq_driver_open(&one, 0) == FQ_OK && fq_driver_open(&other, 0) == FQ_OK, "two opens");
-    want(fq_driver_step(&one, &at.todo) == FQ_OK && at.todo.what == FQ_TODO_UNMASK && at.todo.size == sizeof at.todo, "a struct of zeros");
-    const struct fq_todo unmask = at.todo;
-    want(fq_driver_next(&other, &at.todo) == FQ_OK && at.todo.what == FQ_TODO_UNMASK && at.todo.number != unmask.number, "two numbers");
-    want(fq_driver_done(&other, &unmask) == FQ_NOT_DUE && fq_driver_done(&one, &at.todo) == FQ_NOT_DUE, "another driver's action");
-    want(fq_driver_done(&one, &unmask) == FQ_OK && fq_driver_done(&other, &at.todo) == FQ_OK, "its own");
-    at.todo.size = sizeof at;
-    want(fq_driver_next_sized(&one, &at.todo) == FQ_OK && at.todo.size == sizeof at && at.todo.what == FQ_TODO_LOOK, "a larger size");
-    want(fq_free(&one.handle) == FQ_OK && fq_driver_next_sized(&one, &at.todo) == FQ_BAD_HANDLE, "a driver that was freed");
-    want(is_failed(&at.todo, FQ_BAD_HANDLE) && at.todo.size == sizeof at && at.beyond == 1 && fq_free(&other.handle) == FQ_OK, "all of the struct");
+    want(fq_driver_step(&one, &todo) == FQ_OK && todo.what == FQ_TODO_UNMASK && todo.size == sizeof todo, "a struct of zeros");
+    const struct fq_todo unmask = todo;
+    want(fq_driver_next(&other, &todo) == FQ_OK && todo.what == FQ_TODO_UNMASK && todo.number != unmask.number, "two numbers");
+    want(fq_driver_done(&other, &unmask) == FQ_NOT_DUE && fq_driver_done(&one, &todo) == FQ_NOT_DUE, "another driver's action");
+    want(fq_driver_done(&one, &unmask) == FQ_OK && fq_driver_done(&other, &todo) == FQ_OK, "its own");
+    want(fq_free(&one.handle) == FQ_OK && fq_driver_next(&one, &todo) == FQ_BAD_HANDLE, "a driver that was freed");
+    want(is_failed(&todo, FQ_BAD_HANDLE) && fq_free(&other.handle) == FQ_OK, "all of the struct");
 }
 
 int main(int argc, char **argv) {

@@ -1,7 +1,6 @@
 /* machine NAME=VALUE .. < ARRIVALS: what napi_machine does with them, by fq_machine: the report on standard output, or the message of
  * the error on standard error, and its status. Before that, each array that is too short has to stay unchanged, with the length that
- * the report needs returned; no byte after a report may be written; and structs of other sizes are refused. It exits with 9 if one of
- * this isn't so. */
+ * the report needs returned, and no byte after a report may be written. It exits with 9 if one of this isn't so. */
 #include <fintaqush.h>
 #include <stdio.h>
 #include <stdlib.h>
@@ -40,17 +39,6 @@ static void set(struct fq_machine_settings *settings, const char *word) {
     want(false, word);
 }
 
-static void refuses_sizes(struct fq_machine_settings settings, struct fq_machine_ran ran) {
-    uint8_t none = GUARD;
-    const struct fq_machine_ran before = ran;
-    struct fq_machine_settings kept = settings;
-    kept.size = --settings.size;
-    want(fq_machine_default(&kept) == FQ_BAD_SIZE && !memcmp(&kept, &settings, sizeof kept), "settings of another size");
-    want(fq_machine(&settings, arrivals, 0, &none, 0, &ran) == FQ_BAD_SIZE && !memcmp(&before, &ran, sizeof ran), "settings that say another size");
-    settings.size++, ran.size++;
-    want(fq_machine(&settings, arrivals, 0, &none, 0, &ran) == FQ_BAD_SIZE && ran.length == before.length, "a result that says another size");
-}
-
 /* Prints an error as napi_machine does, and of a setting its number. */
 static int tell(uint32_t said, const struct fq_machine_ran *ran) {
     want(ran->length == 0 && (said == FQ_BAD_SETTING) == (ran->setting != 0) && (said == FQ_BAD_ARRIVALS) == (ran->fault != 0), "what an error says");
@@ -60,11 +48,10 @@ static int tell(uint32_t said, const struct fq_machine_ran *ran) {
 }
 
 int main(int count, char **words) {
-    struct fq_machine_settings settings = {.size = sizeof settings};
-    struct fq_machine_ran ran = {.size = sizeof ran, .length = 1, .row = 2, .fault = 3, .setting = 4};
+    struct fq_machine_settings settings;
+    struct fq_machine_ran ran = {.length = 1, .row = 2, .fault = 3, .setting = 4};
     uint8_t none = GUARD;
     want(fq_machine_default(&settings) == FQ_OK, "the default settings");
-    refuses_sizes(settings, ran);
     for (int i = 1; i < count; i++) set(&settings, words[i]);
     const size_t len = fread(arrivals, 1, sizeof arrivals, stdin);
     uint32_t said = fq_machine(&settings, arrivals, len, &none, 0, &ran);

@@ -124,7 +124,7 @@ static bool hangs(void) {
         }
     }
     for (uint32_t i = 0; i < DEVICES; i++) {
-        struct fq_device_shown shown = {.size = sizeof shown};
+        struct fq_device_shown shown;
         must(fq_driver_show(&driver, i, &shown) == FQ_OK && shown.state != FQ_DEVICE_STOPPING, "what is shown");
         hung |= shown.state == FQ_DEVICE_OPEN ? cards[i].waiting != 0 || cards[i].masked : !cards[i].masked;
     }

@@ -80,7 +80,7 @@ static long may_refuse(uint32_t most) {
 
 /* ---- what the handles refer to */
 
-enum what { NOTHING, RING, INPUT, OUTPUT, SENDER, LIST, SEAT, CONTROL };
+enum what { NOTHING, RING, INPUT, OUTPUT, SENDER, LIST, CALLER, CONTROL };
 
 struct sender {
     unsigned users;
@@ -131,7 +131,7 @@ static size_t unused(const unsigned *users, size_t size) {
 }
 
 static struct object object_of(enum what what) {
-    struct object o = {what, NULL, NULL, NULL, NULL, 0, {0, 0, 0, 0, 0, 0, 0}};
+    struct object o = {what, NULL, NULL, NULL, NULL, 0, {0, 0, 0, 0, 0, 0, 0, 0}};
     return o;
 }
 
@@ -167,7 +167,7 @@ static void new_ring(void) {
     *objects[i].ring = (struct ring){.users = 1, .places = places};
 }
 
-/* Few rings leave handles for the seats of instances. */
+/* Few rings leave handles for the callers of instances. */
 static void only_ring(void) {
     if (objects[one_of(RING, RING)].what != RING) new_ring();
 }
@@ -216,7 +216,7 @@ static void given(struct ring *r, const struct fq_packet *out, size_t count, siz
 
 typedef uint32_t poll_call(union any *, size_t, struct fq_packet *, size_t, size_t *);
 static uint32_t ring_poll(union any *at, size_t weight, struct fq_packet *out, size_t len, size_t *count) { return fq_ring_poll(&at->ring, weight, out, len, count); }
-static uint32_t seat_poll(union any *at, size_t weight, struct fq_packet *out, size_t len, size_t *count) { return fq_seat_poll(&at->seat, weight, out, len, count); }
+static uint32_t caller_poll(union any *at, size_t weight, struct fq_packet *out, size_t len, size_t *count) { return fq_caller_poll(&at->caller, weight, out, len, count); }
 
 /* A poll of this ring by one of two calls, which is allowed, or returns this status. */
 static void polls_by(poll_call *poll, const char *what, uint32_t i, uint32_t wanted, struct ring *r) {
@@ -252,7 +252,7 @@ static void split(void) {
 static void finish(void) {
     if (below(8)) return;
     const uint32_t i = one_of(RING, RING);
-    struct fq_totals totals = {1, 2, 3, 4};
+    struct fq_totals totals = {0, 1, 2, 3, 4};
     const struct ring *r = objects[i].ring;
     const bool is_whole = objects[i].what == RING;
     want("finish", fq_ring_finish(&handles[i].ring, &totals), is_whole ? FQ_OK : FQ_BAD_HANDLE);
@@ -263,22 +263,22 @@ static void finish(void) {
 
 static void show_ring(void) {
     const uint32_t i = one_of(RING, INPUT);
-    struct fq_ring_shown shown = {7, 8};
+    struct fq_ring_shown shown = {0, 7, 8};
     const bool has = takes_puts(&objects[i]);
     want("show of a ring", fq_ring_show(&handles[i].ring, &shown), has ? FQ_OK : FQ_BAD_HANDLE);
     if (has) hold("what it shows", shown.put == objects[i].ring->put && shown.capacity == objects[i].ring->places);
     else hold("what stays", shown.put == 7 && shown.capacity == 8);
 }
 
-/* ---- seats */
+/* ---- callers */
 
 static struct model_napi *napi_of(const struct object *o) { return &o->shared->napi; }
-static bool polls(const struct object *o) { return o->what == SEAT && model_polls(napi_of(o), o->who); }
-static bool busy_polls(const struct object *o) { return o->what == SEAT && model_busy_polls(napi_of(o), o->who); }
-static bool is_granted(const struct object *o) { return o->what == SEAT && model_owns(napi_of(o), o->who, GRANTED); }
-static bool rests(const struct object *o) { return o->what == SEAT && !polls(o) && !busy_polls(o) && !is_granted(o); }
+static bool polls(const struct object *o) { return o->what == CALLER && model_polls(napi_of(o), o->who); }
+static bool busy_polls(const struct object *o) { return o->what == CALLER && model_busy_polls(napi_of(o), o->who); }
+static bool is_granted(const struct object *o) { return o->what == CALLER && model_owns(napi_of(o), o->who, GRANTED); }
+static bool rests(const struct object *o) { return o->what == CALLER && !polls(o) && !busy_polls(o) && !is_granted(o); }
 
-/* The model's result is counted, as the seat counts it. */
+/* The model's result is counted, as the caller counts it. */
 static uint32_t counted(struct object *o, uint32_t said) {
     struct fq_answers *const a = &o->answers;
     uint64_t *const counts[] = {&a->granted, &a->missed, &a->disabled, &a->released, &a->again, &a->held};
@@ -287,41 +287,41 @@ static uint32_t counted(struct object *o, uint32_t said) {
     return said;
 }
 
-/* The result of a call of a seat: made by the model if it is allowed. */
-static uint32_t seat_schedules(struct object *o) {
-    if (o->what != SEAT) return FQ_BAD_HANDLE;
+/* The result of a call of a caller: made by the model if it is allowed. */
+static uint32_t caller_schedules(struct object *o) {
+    if (o->what != CALLER) return FQ_BAD_HANDLE;
     return rests(o) ? counted(o, model_schedule(napi_of(o), o->who)) : (uint32_t)FQ_NOT_ALLOWED;
 }
 
-static uint32_t seat_completes(struct object *o) {
-    if (o->what != SEAT) return FQ_BAD_HANDLE;
+static uint32_t caller_completes(struct object *o) {
+    if (o->what != CALLER) return FQ_BAD_HANDLE;
     return counted(o, model_complete(napi_of(o), o->who));
 }
 
-static uint32_t seat_hands(struct object *o, uint32_t kind) {
+static uint32_t caller_hands(struct object *o, uint32_t kind) {
     if (kind > FQ_THREAD) return FQ_BAD_KIND;
-    if (o->what != SEAT) return FQ_BAD_HANDLE;
+    if (o->what != CALLER) return FQ_BAD_HANDLE;
     return is_granted(o) ? model_hand(napi_of(o), o->who, kind) : (uint32_t)FQ_NOT_ALLOWED;
 }
 
 /* Hands over what was granted, by the word's threaded bit. */
 static uint32_t hands_again(struct object *o, uint32_t *next) {
-    const uint32_t kind = o->what == SEAT && napi_of(o)->threaded ? FQ_THREAD : FQ_LIST, said = seat_hands(o, kind);
+    const uint32_t kind = o->what == CALLER && napi_of(o)->threaded ? FQ_THREAD : FQ_LIST, said = caller_hands(o, kind);
     *next = said != FQ_OK ? FQ_NEXT_GONE : kind == FQ_THREAD ? FQ_NEXT_AGAIN_THREAD : FQ_NEXT_AGAIN;
     return said;
 }
 
-static uint32_t seat_takes(struct object *o, uint32_t kind) {
+static uint32_t caller_takes(struct object *o, uint32_t kind) {
     if (kind > FQ_THREAD) return FQ_BAD_KIND;
-    if (o->what != SEAT) return FQ_BAD_HANDLE;
+    if (o->what != CALLER) return FQ_BAD_HANDLE;
     return rests(o) ? model_take(napi_of(o), o->who, kind) : (uint32_t)FQ_NOT_ALLOWED;
 }
 
-static uint32_t random_seat(void) { return one_of(SEAT, SEAT); }
+static uint32_t random_caller(void) { return one_of(CALLER, CALLER); }
 
 /* Mostly one in such a state. */
-static uint32_t seat_that(bool is_so(const struct object *)) {
-    const uint32_t from = random_seat();
+static uint32_t caller_that(bool is_so(const struct object *)) {
+    const uint32_t from = random_caller();
     for (uint32_t i = 0; i < HANDLES && below(8) != 0; i++)
         if (is_so(&objects[(from + i) % HANDLES])) return (from + i) % HANDLES;
     return from;
@@ -332,38 +332,38 @@ static bool may_end(const struct object *o) { return polls(o) || busy_polls(o); 
 /* Rarely out of range. */
 static uint32_t random_kind(void) { return below(9) ? below(2) : 2 + below(2); }
 
-static void seat_call(void) {
-    const uint32_t which = below(12), i = which == 9 ? seat_that(may_end) : which == 10 ? seat_that(is_granted) : random_seat(), kind = random_kind();
+static void caller_call(void) {
+    const uint32_t which = below(12), i = which == 9 ? caller_that(may_end) : which == 10 ? caller_that(is_granted) : random_caller(), kind = random_kind();
     struct object *const o = &objects[i];
-    const uint32_t other = o->what == SEAT ? FQ_NOT_ALLOWED : FQ_BAD_HANDLE;
+    const uint32_t other = o->what == CALLER ? FQ_NOT_ALLOWED : FQ_BAD_HANDLE;
     uint32_t next = 99, wanted, wanted_next;
     switch (which) {
-    case 0: want("schedule", fq_seat_schedule(&handles[i].seat), seat_schedules(o)); break;
-    case 1: want("hand", fq_seat_hand(&handles[i].seat, kind), seat_hands(o, kind)); break;
+    case 0: want("schedule", fq_caller_schedule(&handles[i].caller), caller_schedules(o)); break;
+    case 1: want("hand", fq_caller_hand(&handles[i].caller, kind), caller_hands(o, kind)); break;
     case 2:
-    case 3: want("take", fq_seat_take(&handles[i].seat, kind), seat_takes(o, kind)); break;
-    case 4: want("requeue", fq_seat_requeue(&handles[i].seat), polls(o) ? model_hand(napi_of(o), o->who, FQ_LIST) : other); break;
-    case 5: want("complete", fq_seat_complete(&handles[i].seat), seat_completes(o)); break;
-    case 6: want("busy take", fq_seat_busy_take(&handles[i].seat), rests(o) ? model_busy_take(napi_of(o), o->who) : other); break;
-    case 7: want("busy stop", fq_seat_busy_stop(&handles[i].seat), busy_polls(o) ? model_busy_stop(napi_of(o), o->who) : other); break;
-    case 8: want_in("schedule prep", "", fq_seat_schedule_prep(&handles[i].seat), seat_schedules(o), ""); break;
-    case 9: want_in("complete done", "", fq_seat_complete_done(&handles[i].seat), seat_completes(o), ""); break;
+    case 3: want("take", fq_caller_take(&handles[i].caller, kind), caller_takes(o, kind)); break;
+    case 4: want("requeue", fq_caller_requeue(&handles[i].caller), polls(o) ? model_hand(napi_of(o), o->who, FQ_LIST) : other); break;
+    case 5: want("complete", fq_caller_complete(&handles[i].caller), caller_completes(o)); break;
+    case 6: want("busy take", fq_caller_busy_take(&handles[i].caller), rests(o) ? model_busy_take(napi_of(o), o->who) : other); break;
+    case 7: want("busy stop", fq_caller_busy_stop(&handles[i].caller), busy_polls(o) ? model_busy_stop(napi_of(o), o->who) : other); break;
+    case 8: want_in("schedule prep", "", fq_caller_schedule_prep(&handles[i].caller), caller_schedules(o), ""); break;
+    case 9: want_in("complete done", "", fq_caller_complete_done(&handles[i].caller), caller_completes(o), ""); break;
     case 10:
         wanted = hands_again(o, &wanted_next);
-        want_in("hand again", "", fq_seat_hand_again(&handles[i].seat, &next), wanted, how(wanted_next));
+        want_in("hand again", "", fq_caller_hand_again(&handles[i].caller, &next), wanted, how(wanted_next));
         hold("where it was handed", next == wanted_next);
         break;
     default:
         if (rests(o)) napi_of(o)->threaded = kind & 1;
-        want("set threaded", fq_seat_set_threaded(&handles[i].seat, kind & 1), rests(o) ? FQ_OK : other);
+        want("set threaded", fq_caller_set_threaded(&handles[i].caller, kind & 1), rests(o) ? FQ_OK : other);
     }
 }
 
-static void poll_seat(void) {
-    const uint32_t i = random_seat();
+static void poll_caller(void) {
+    const uint32_t i = random_caller();
     struct object *const o = &objects[i];
-    const uint32_t wanted = polls(o) || busy_polls(o) ? FQ_OK : o->what == SEAT ? FQ_NOT_ALLOWED : FQ_BAD_HANDLE;
-    polls_by(seat_poll, "poll of a seat", i, wanted, wanted == FQ_OK ? o->shared->ring : NULL);
+    const uint32_t wanted = polls(o) || busy_polls(o) ? FQ_OK : o->what == CALLER ? FQ_NOT_ALLOWED : FQ_BAD_HANDLE;
+    polls_by(caller_poll, "poll of a caller", i, wanted, wanted == FQ_OK ? o->shared->ring : NULL);
 }
 
 /* The ring whose polls are counted for the owner of its poll end, or none. */
@@ -376,26 +376,31 @@ static struct ring *counted_ring(const struct object *o) {
     return o->shared->ring != NULL ? o->shared->ring : &none;
 }
 
+/* Whether two structs are the same after their sizes, which the model doesn't set. */
+static bool same_after_size(const void *one, const void *other, size_t size) {
+    return memcmp((const char *)one + sizeof size, (const char *)other + sizeof size, size - sizeof size) == 0;
+}
+
 static void counts(void) {
-    const uint32_t i = one_of((enum what)below(CONTROL + 1), SEAT);
-    struct fq_counts counts = {1, 2, 3};
+    const uint32_t i = one_of((enum what)below(CONTROL + 1), CALLER);
+    struct fq_counts counts = {0, 1, 2, 3};
     const struct ring *r = counted_ring(&objects[i]);
     const uint32_t wanted = r != NULL ? FQ_OK : objects[i].what == NOTHING ? FQ_BAD_HANDLE : FQ_NOT_ALLOWED;
     want("count", fq_count(&handles[i].handle, &counts), wanted);
     if (wanted != FQ_OK) hold("counts that stay", counts.polls == 1 && counts.packets == 2 && counts.bytes == 3);
-    else if (r->places != 0) hold("the counts", memcmp(&counts, &r->counts, sizeof counts) == 0);
+    else if (r->places != 0) hold("the counts", same_after_size(&counts, &r->counts, sizeof counts));
 }
 
 static void look(void) {
-    const uint32_t i = random_seat();
+    const uint32_t i = random_caller();
     const struct object *o = &objects[i];
     uint64_t word = 77;
-    struct fq_answers answers = {9, 9, 9, 9, 9, 9, 9};
-    const uint32_t wanted = o->what == SEAT ? FQ_OK : FQ_BAD_HANDLE;
-    want("look", fq_seat_look(&handles[i].seat, &word), wanted);
+    struct fq_answers answers = {0, 9, 9, 9, 9, 9, 9, 9};
+    const uint32_t wanted = o->what == CALLER ? FQ_OK : FQ_BAD_HANDLE;
+    want("look", fq_caller_look(&handles[i].caller, &word), wanted);
     hold("the word", word == (wanted == FQ_OK ? model_word(napi_of(o)) : 77));
-    want("count of a seat", fq_seat_count(&handles[i].seat, &answers), wanted);
-    if (wanted == FQ_OK) hold("how often it was answered what", memcmp(&answers, &o->answers, sizeof answers) == 0);
+    want("count of a caller", fq_caller_count(&handles[i].caller, &answers), wanted);
+    if (wanted == FQ_OK) hold("how often it was answered what", same_after_size(&answers, &o->answers, sizeof answers));
     else hold("answers that stay", answers.granted == 9 && answers.changed == 9);
 }
 
@@ -409,22 +414,22 @@ static size_t poll_at(void *at, size_t most) { return (void)at, most_asked = mos
 static const struct fq_card card = {NULL, mask, unmask, look_at, poll_at};
 
 static void interrupt(void) {
-    const uint32_t i = random_seat(), kind = random_kind();
+    const uint32_t i = random_caller(), kind = random_kind();
     uint32_t wanted = FQ_BAD_KIND;
-    if (kind <= FQ_THREAD) wanted = seat_schedules(&objects[i]);
-    if (wanted == FQ_GRANTED) hold("the model hands", seat_hands(&objects[i], kind) == FQ_OK);
+    if (kind <= FQ_THREAD) wanted = caller_schedules(&objects[i]);
+    if (wanted == FQ_GRANTED) hold("the model hands", caller_hands(&objects[i], kind) == FQ_OK);
     is_masked = false;
-    want("an interrupt", fq_seat_interrupt_masked(&handles[i].seat, kind, &card), wanted);
+    want("an interrupt", fq_caller_interrupt_masked(&handles[i].caller, kind, &card), wanted);
     hold("masked exactly where it was granted", is_masked == (wanted == FQ_GRANTED));
 }
 
 static void request(void) {
-    const uint32_t i = random_seat();
+    const uint32_t i = random_caller();
     uint32_t next = 99, wanted_next = FQ_NEXT_GONE;
-    const uint32_t wanted = seat_schedules(&objects[i]);
+    const uint32_t wanted = caller_schedules(&objects[i]);
     if (wanted == FQ_GRANTED) hold("the model hands", hands_again(&objects[i], &wanted_next) == FQ_OK);
     is_masked = false;
-    want("a request", fq_seat_request(&handles[i].seat, &card, &next), wanted);
+    want("a request", fq_caller_request(&handles[i].caller, &card, &next), wanted);
     hold("where it was queued", next == wanted_next);
     hold("masked exactly if it was granted", is_masked == (wanted == FQ_GRANTED));
 }
@@ -432,18 +437,18 @@ static void request(void) {
 /* The model's end of a poll, full or not. */
 static uint32_t ends(struct object *o, bool full, uint32_t *next) {
     *next = FQ_NEXT_GONE;
-    if (o->what != SEAT) return FQ_BAD_HANDLE;
+    if (o->what != CALLER) return FQ_BAD_HANDLE;
     if (polls(o) && full && !napi_of(o)->disable) {
         if (napi_of(o)->sched_threaded) return FQ_HELD;
         *next = FQ_NEXT_REPOLL;
         return model_hand(napi_of(o), o->who, FQ_LIST);
     }
-    const uint32_t said = seat_completes(o);
+    const uint32_t said = caller_completes(o);
     if (said == FQ_AGAIN) return hands_again(o, next);
     return said == FQ_RELEASED ? (uint32_t)FQ_OK : said;
 }
 
-/* Whether a seat polls, and from where, and whether a disable is pending. */
+/* Whether a caller polls, and from where, and whether a disable is pending. */
 static const char *polling_of(const struct object *o) {
     if (busy_polls(o)) return napi_of(o)->disable ? ", busy, disabled" : ", busy";
     if (!polls(o)) return "";
@@ -452,40 +457,40 @@ static const char *polling_of(const struct object *o) {
 }
 
 static void end(void) {
-    const uint32_t i = seat_that(may_end);
+    const uint32_t i = caller_that(may_end);
     const bool full = below(2);
     const char *state = polling_of(&objects[i]);
     uint32_t next = 99, wanted_next;
     const uint32_t wanted = ends(&objects[i], full, &wanted_next);
-    want_in(full ? "full end" : "end", state, fq_seat_end(&handles[i].seat, full, &next), wanted, how(wanted_next));
+    want_in(full ? "full end" : "end", state, fq_caller_end(&handles[i].caller, full, &next), wanted, how(wanted_next));
     hold("how it ended", next == wanted_next);
 }
 
 static void end_watched(void) {
-    const uint32_t i = seat_that(may_end);
+    const uint32_t i = caller_that(may_end);
     const bool full = below(2);
     uint32_t next = 99, wanted_next;
     const uint32_t wanted = ends(&objects[i], full, &wanted_next);
     bool wanted_masked = true;
     is_masked = true, is_there = below(2);
     if (wanted == FQ_OK && wanted_next == FQ_NEXT_GONE) {
-        wanted_masked = is_there && seat_schedules(&objects[i]) == FQ_GRANTED;
+        wanted_masked = is_there && caller_schedules(&objects[i]) == FQ_GRANTED;
         if (wanted_masked) hold("the model hands", hands_again(&objects[i], &wanted_next) == FQ_OK);
     }
-    want("end, watched", fq_seat_end_watched(&handles[i].seat, full, &card, &next), wanted);
+    want("end, watched", fq_caller_end_watched(&handles[i].caller, full, &card, &next), wanted);
     hold("how it ended, watched", next == wanted_next);
     hold("masked, watched", is_masked == wanted_masked);
 }
 
 static void end_unmasked(void) {
-    const uint32_t i = seat_that(may_end);
+    const uint32_t i = caller_that(may_end);
     struct object *const o = &objects[i];
     const size_t weight = below(67), before = below((uint32_t)weight + 1);
     size_t work = before;
     uint32_t next = 99, wanted_next = FQ_NEXT_GONE, wanted = FQ_BAD_WEIGHT;
     const bool asks = before < weight && polls(o) && weight - 1 < 64;
     is_masked = true, most_asked = polled_more = 0;
-    const uint32_t said = fq_seat_end_unmasked(&handles[i].seat, &card, weight, &work, &next);
+    const uint32_t said = fq_caller_end_unmasked(&handles[i].caller, &card, weight, &work, &next);
     if (weight - 1 < 64) wanted = ends(o, work == weight, &wanted_next);
     want("end, unmasked", said, wanted);
     hold("how it ended, unmasked", next == wanted_next);
@@ -495,7 +500,7 @@ static void end_unmasked(void) {
 
 /* ---- shared instances */
 
-/* Seats in adjacent elements, and elements for the others that aren't among them. */
+/* Callers in adjacent elements, and elements for the others that aren't among them. */
 static bool is_apart(uint32_t at, uint32_t from, uint32_t count, uint32_t other) { return at != other && (at < from || at >= from + count); }
 
 static bool is_one_set(uint32_t from, uint32_t count) {
@@ -514,14 +519,14 @@ static void new_shared(void) {
     else if (count < 2 || count > 8) wanted = FQ_BAD_COUNT;
     else if (!is_bare && objects[ring].what != RING) wanted = FQ_BAD_HANDLE;
     const long before = may_refuse(12);
-    const uint32_t said = is_bare ? fq_shared_bare(&handles[control].control, &handles[from].seat, count)
-                                  : fq_shared_new(&handles[ring].ring, &handles[control].control, &handles[from].seat, count);
+    const uint32_t said = is_bare ? fq_shared_bare(&handles[control].control, &handles[from].caller, count)
+                                  : fq_shared_new(&handles[ring].ring, &handles[control].control, &handles[from].caller, count);
     if (!takes_memory("shared", said, wanted, before)) return;
     struct shared *const s = UNUSED(instances);
     *s = (struct shared){count + 1, model_napi_new(count), false, is_bare ? NULL : objects[ring].ring};
     if (!is_bare) objects[ring].what = INPUT, s->ring->users++;
     objects[control] = object_of(CONTROL), objects[control].shared = s;
-    for (uint32_t i = 0; i < count; i++) objects[from + i] = object_of(SEAT), objects[from + i].shared = s, objects[from + i].who = i;
+    for (uint32_t i = 0; i < count; i++) objects[from + i] = object_of(CALLER), objects[from + i].shared = s, objects[from + i].who = i;
 }
 
 /* The controller's own mode: a disable that it marked is pending until it took the instance. */
@@ -621,7 +626,7 @@ static void done(void) {
 
 static void show_sender(void) {
     const uint32_t i = one_of(SENDER, SENDER);
-    struct fq_tx_shown shown = {1, 2, 3, 4, true};
+    struct fq_tx_shown shown = {0, 1, 2, 3, 4, true};
     const struct sender *s = objects[i].sender;
     want("state", fq_tx_state(&handles[i].tx, &shown), s != NULL ? FQ_OK : FQ_BAD_HANDLE);
     if (s == NULL) hold("a state that stays", shown.queued == 1 && shown.completed == 2 && shown.limit == 3 && shown.avail == 4 && shown.stopped);
@@ -716,7 +721,7 @@ static void move(void) {
 
 static bool is_freeable(const struct object *o) {
     switch (o->what) {
-    case SEAT: return rests(o);
+    case CALLER: return rests(o);
     case CONTROL: return is_off(o);
     case LIST: return !o->lister->list.runs;
     default: return true;
@@ -797,8 +802,7 @@ static uint32_t step_of(struct fq_napi *n, struct model_napi *m, uint32_t who, u
 static void instance_call(void) {
     static struct fq_napi napi;
     const uint32_t afresh = below(call == 0 ? 1 : 40), who = below(4), which = below(11);
-    if (afresh == 0) fq_napi_init(&napi, below(4));
-    else if (afresh == 1) napi = fq_napi_new(below(4));
+    if (afresh < 2) napi = fq_napi_new(below(4));
     else if (afresh < 6)
         for (size_t k = 0; k < sizeof napi; k++) ((unsigned char *)&napi)[k] = (unsigned char)(k < 8 ? below(3) * below(256) : k % 4 ? 0 : below(4));
     if (afresh < 6 && below(2)) napi.place = (uint8_t)below(7);
@@ -825,12 +829,12 @@ static void word_call(void) {
 typedef void a_call(void);
 static a_call *const ring_calls[] = {new_ring, put, put, put_all, put_all, poll_ring, poll_ring, split, finish, show_ring, counts, any_handle};
 static a_call *const sender_calls[] = {new_sender, send, send, send, done, done, show_sender, watch, any_handle};
-static a_call *const shared_calls[] = {only_ring, new_shared, put, put_all, seat_call, seat_call, seat_call, seat_call, poll_seat, look, counts, interrupt, request, end, end_watched,
+static a_call *const shared_calls[] = {only_ring, new_shared, put, put_all, caller_call, caller_call, caller_call, caller_call, poll_caller, look, counts, interrupt, request, end, end_watched,
     end_unmasked, control_call, control_call, any_handle};
 static a_call *const list_calls[] = {new_list, call_of_list, call_of_list, call_of_list, call_of_list, call_of_list, call_of_list, any_handle};
 static a_call *const limit_calls[] = {limit_call};
 static a_call *const instance_calls[] = {instance_call, instance_call, instance_call, word_call};
-static a_call *const any_calls[] = {new_ring, put, put_all, poll_ring, split, finish, show_ring, new_sender, send, done, watch, new_shared, seat_call, seat_call, poll_seat,
+static a_call *const any_calls[] = {new_ring, put, put_all, poll_ring, split, finish, show_ring, new_sender, send, done, watch, new_shared, caller_call, caller_call, poll_caller,
     look, counts, interrupt, request, end, end_watched, end_unmasked, control_call, new_list, call_of_list, call_of_list, any_handle, limit_call, instance_call};
 
 static const char *const no_cases[] = {NULL};

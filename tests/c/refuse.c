@@ -60,18 +60,18 @@ static uint32_t make_shared(void) {
     uint32_t said = fq_ring_new(&handles[0].ring, 3);
     if (said != FQ_OK) return said;
     want(fq_ring_put(&handles[0].ring, 7, 60) == FQ_OK, "a put", refused_take);
-    said = fq_shared_new(&handles[0].ring, &handles[1].control, &handles[2].seat, 8);
+    said = fq_shared_new(&handles[0].ring, &handles[1].control, &handles[2].caller, 8);
     if (said != FQ_OUT_OF_MEMORY) return said;
     want(fq_ring_poll(&handles[0].ring, 2, out, 2, &count) == FQ_OK && count == 1 && out[0].number == 7, "a ring that is whole", refused_take);
     for (int i = 1; i < HANDLES; i++) want(!handles[i].handle.private_set, "a handle that isn't set", refused_take);
     return said;
 }
 static bool shared_works(void) {
-    return takes_two(&handles[0].ring) && fq_control_enable(&handles[1].control, false) == FQ_OK && fq_seat_schedule(&handles[9].seat) == FQ_GRANTED;
+    return takes_two(&handles[0].ring) && fq_control_enable(&handles[1].control, false) == FQ_OK && fq_caller_schedule(&handles[9].caller) == FQ_GRANTED;
 }
 
-static uint32_t make_bare(void) { return fq_shared_bare(&handles[1].control, &handles[2].seat, 8); }
-static bool bare_works(void) { return fq_control_enable(&handles[1].control, false) == FQ_OK && fq_seat_schedule(&handles[9].seat) == FQ_GRANTED; }
+static uint32_t make_bare(void) { return fq_shared_bare(&handles[1].control, &handles[2].caller, 8); }
+static bool bare_works(void) { return fq_control_enable(&handles[1].control, false) == FQ_OK && fq_caller_schedule(&handles[9].caller) == FQ_GRANTED; }
 
 static uint32_t make_split(void) {
     const uint32_t said = fq_ring_new(&handles[0].ring, 2);
@@ -100,17 +100,17 @@ static void take_none(void) {
     want(make_shared() == FQ_OK && fq_list_new(&list) == FQ_OK && fq_tx_new(&tx, 2, 0, 1000, 1000, 0) == FQ_OK, "no memory", 0);
     want(fq_driver_new(&driver, 64, 300, 64, 1024) == FQ_OK, "no memory", 0);
     const long before = blocks;
-    struct fq_seat *const irq = &handles[2].seat, *const poller = &handles[3].seat;
+    struct fq_caller *const irq = &handles[2].caller, *const poller = &handles[3].caller;
     takes = 0;
     bool good = fq_control_enable(&handles[1].control, false) == FQ_OK && fq_ring_put(&handles[0].ring, 0, 60) == FQ_OK;
-    good = good && fq_ring_put_all(&handles[0].ring, packets, 2, &count) == FQ_FULL && fq_seat_interrupt(irq, FQ_LIST) == FQ_GRANTED;
-    good = good && fq_seat_take(poller, FQ_LIST) == FQ_TAKEN && fq_seat_poll(poller, 2, packets, 2, &count) == FQ_OK;
-    good = good && fq_count(&poller->handle, &counts) == FQ_OK && fq_seat_look(poller, &word) == FQ_OK && fq_seat_end(poller, true, &next) == FQ_OK;
-    good = good && fq_seat_take(poller, FQ_LIST) == FQ_TAKEN && fq_seat_end(poller, false, &next) == FQ_OK;
-    good = good && fq_seat_busy_take(poller) == FQ_TAKEN && fq_seat_complete(poller) == FQ_HELD && fq_seat_busy_stop(poller) == FQ_OK;
-    good = good && fq_seat_complete(poller) == FQ_RELEASED && fq_seat_set_threaded(poller, true) == FQ_OK;
-    good = good && fq_seat_schedule_prep(irq) == FQ_GRANTED && fq_seat_hand_again(irq, &next) == FQ_OK && next == FQ_NEXT_AGAIN_THREAD;
-    good = good && fq_seat_take(poller, FQ_THREAD) == FQ_TAKEN && fq_seat_complete_done(poller) == FQ_RELEASED;
+    good = good && fq_ring_put_all(&handles[0].ring, packets, 2, &count) == FQ_FULL && fq_caller_interrupt(irq, FQ_LIST) == FQ_GRANTED;
+    good = good && fq_caller_take(poller, FQ_LIST) == FQ_TAKEN && fq_caller_poll(poller, 2, packets, 2, &count) == FQ_OK;
+    good = good && fq_count(&poller->handle, &counts) == FQ_OK && fq_caller_look(poller, &word) == FQ_OK && fq_caller_end(poller, true, &next) == FQ_OK;
+    good = good && fq_caller_take(poller, FQ_LIST) == FQ_TAKEN && fq_caller_end(poller, false, &next) == FQ_OK;
+    good = good && fq_caller_busy_take(poller) == FQ_TAKEN && fq_caller_complete(poller) == FQ_HELD && fq_caller_busy_stop(poller) == FQ_OK;
+    good = good && fq_caller_complete(poller) == FQ_RELEASED && fq_caller_set_threaded(poller, true) == FQ_OK;
+    good = good && fq_caller_schedule_prep(irq) == FQ_GRANTED && fq_caller_hand_again(irq, &next) == FQ_OK && next == FQ_NEXT_AGAIN_THREAD;
+    good = good && fq_caller_take(poller, FQ_THREAD) == FQ_TAKEN && fq_caller_complete_done(poller) == FQ_RELEASED;
     good = good && fq_control_mark(&handles[1].control) == FQ_OK && fq_control_try_take(&handles[1].control) == FQ_TAKEN;
     good = good && fq_control_step(&handles[1].control, true, false) == FQ_OK && fq_control_step(&handles[1].control, false, false) == FQ_OK;
     for (uint32_t i = 0; i < 64; i++) good = good && fq_list_push(&list, i) == FQ_OK;
@@ -123,7 +123,7 @@ static void take_none(void) {
     good = good && fq_tx_send(&tx, 60) == FQ_OK && fq_tx_done(&tx, 1, 1) == FQ_OK && fq_tx_state(&tx, &state) == FQ_OK;
     good = good && fq_tx_watch(&tx, &watchdog, 0, 2, &stuck) == FQ_OK && !stuck;
     struct fq_todo todo = FQ_TODO_INIT;
-    struct fq_device_shown shown = {sizeof shown, 0, false, false, 0, 0};
+    struct fq_device_shown shown;
     for (uint32_t i = 0; i < 64; i++) good = good && fq_driver_open(&driver, i) == FQ_OK;
     for (int i = 0; good && i < 5000; i++) {
         good = fq_driver_next(&driver, &todo) == FQ_OK && fq_driver_show(&driver, todo.device, &shown) == FQ_OK;
@@ -135,7 +135,7 @@ static void take_none(void) {
     want(good, "a call that takes no memory", 0);
     want(takes == 0 && blocks == before, "a call takes memory, or gives it", takes);
     struct fq_ring out = FQ_NONE;
-    want(fq_ring_split(&handles[2].ring, &out) == FQ_BAD_HANDLE && takes == 0 && blocks == before, "a split of a seat", takes);
+    want(fq_ring_split(&handles[2].ring, &out) == FQ_BAD_HANDLE && takes == 0 && blocks == before, "a split of a caller", takes);
     want(fq_abandon(&list.handle) == FQ_OK && fq_abandon(&tx.handle) == FQ_OK && fq_free(&driver.handle) == FQ_OK, "the end", 0);
     give_up();
     want(blocks == 0, "something is left on the heap", 0);
@@ -144,7 +144,7 @@ static void take_none(void) {
 static const char trace[] = "moment,device,event,value\n0,1,open,4\n0,2,open,4\n1,1,rx,100\n1,2,rx,60\n2,0,softirq,0\n3,1,tx,9\n";
 enum { ROOM = 4096, GUARD = 0xA5 };
 static uint8_t report[ROOM], wanted[ROOM];
-static struct fq_replayed replayed = FQ_REPLAYED_INIT;
+static struct fq_replayed replayed;
 
 static uint32_t make_replay(void) {
     const struct fq_settings settings = FQ_DEFAULT_SETTINGS;
@@ -156,12 +156,12 @@ static uint32_t make_replay(void) {
 }
 static bool replay_works(void) { return memcmp(report, wanted, ROOM) == 0; }
 
-static const char arrivals[] = "moment,device,bytes\n0,1,60\n10,2,60\n10,1,1500\n900000,65,60\n";
+static const char arrivals[] = "ns,device,bytes\n0,1,60\n10,2,60\n10,1,1500\n900000,65,60\n";
 static uint8_t wanted_of_machine[ROOM];
 
 static uint32_t make_machine(void) {
-    struct fq_machine_settings settings = {.size = sizeof settings};
-    struct fq_machine_ran ran = {.size = sizeof ran};
+    struct fq_machine_settings settings;
+    struct fq_machine_ran ran;
     want(fq_machine_default(&settings) == FQ_OK, "the default settings", refused_take);
     settings.processors = 2, settings.threaded = 1, settings.apart = 1;
     memset(report, GUARD, ROOM);
@@ -178,7 +178,7 @@ static size_t raised_length;
 
 static uint32_t make_raised(void) {
     const struct fq_settings settings = {sizeof settings, 1, 1, 1024};
-    struct fq_replayed raised = FQ_REPLAYED_INIT;
+    struct fq_replayed raised;
     char text[1024];
     int len = snprintf(text, sizeof text, "%s", raised_head);
     for (int i = 0; i < 50; i++) len += snprintf(text + len, sizeof text - (size_t)len, "%s", raised_row);

@@ -32,15 +32,6 @@ static uint32_t play(uint8_t *out, size_t room, struct fq_replayed *replayed) {
     return raises ? fq_raise(&settings, restarts, trace, len, out, room, replayed) : fq_replay(&settings, trace, len, out, room, replayed);
 }
 
-static void refuses_sizes(struct fq_replayed replayed) {
-    const struct fq_replayed before = replayed;
-    uint8_t none = GUARD;
-    settings.size++;
-    want(play(&none, 1, &replayed) == FQ_BAD_SIZE && none == GUARD && !memcmp(&before, &replayed, sizeof before), "settings of another size");
-    settings.size--, replayed.size--;
-    want(play(&none, 1, &replayed) == FQ_BAD_SIZE && none == GUARD && replayed.length == before.length, "a result of another size");
-}
-
 /* Prints an error as napi_serial does. */
 static int tell(uint32_t said, const struct fq_replayed *replayed) {
     if (said != FQ_BAD_TRACE) {
@@ -58,9 +49,8 @@ int main(int count, char **words) {
     raises = count == 5;
     if (raises) restarts = (uint32_t)strtoul(words[4], NULL, 10);
     len = fread(trace, 1, sizeof trace, stdin);
-    struct fq_replayed replayed = {sizeof replayed, 1, 2, 3};
+    struct fq_replayed replayed = {0, 1, 2, 3};
     uint8_t none = GUARD;
-    refuses_sizes(replayed);
     uint32_t said = play(&none, 0, &replayed);
     want(none == GUARD, "an array of no bytes was written to");
     want(said != FQ_OK, "a report of no bytes");

@@ -1,8 +1,8 @@
 /* The library returns the header's version, names and sizes. A text ends with a 0 if there is room
  * for both, otherwise nothing is written. It exits with 9 if this isn't so. */
 #include <fintaqush.h>
-#if FQ_VERSION_NUMBER < 10000
-#error "a version before 1.0"
+#if FQ_VERSION_NUMBER < 20000
+#error "a version before 2.0"
 #endif
 #include <stdio.h>
 #include <stdlib.h>
@@ -43,9 +43,7 @@ int main(void) {
     want(strcmp(version_text, FQ_VERSION) == 0, "the version in numbers");
     want(fq_version_number() == FQ_VERSION_NUMBER, "the library's number");
     const size_t sizes[] = {sizeof(struct fq_handle), sizeof(struct fq_dql), sizeof(struct fq_napi),
-        sizeof(struct fq_packet), sizeof(struct fq_counts), sizeof(struct fq_totals), sizeof(struct fq_ring_shown),
-        sizeof(struct fq_tx_shown), sizeof(struct fq_answers), sizeof(struct fq_run_report),
-        sizeof(struct fq_todo), sizeof(struct fq_device_shown), sizeof(struct fq_tx_watchdog)};
+        sizeof(struct fq_packet), sizeof(struct fq_tx_watchdog)};
     const uint32_t count = sizeof sizes / sizeof sizes[0];
     want(count == FQ_STRUCT_TX_WATCHDOG + 1 && sizeof(struct fq_tx_watchdog) == 16, "the structs");
     for (uint32_t i = 0; i < 99; i++) want(fq_struct_size(i) == (i < count ? sizes[i] : 0), "a struct's size");

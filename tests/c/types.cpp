@@ -48,7 +48,7 @@ static void want(bool holds, const char *what) {
 template <class... Types>
 constexpr bool moves = ((std::is_nothrow_move_constructible_v<Types> && std::is_nothrow_move_assignable_v<Types> &&
                          !std::is_copy_constructible_v<Types> && !std::is_copy_assignable_v<Types>) && ...);
-static_assert(moves<Limit, TxRing, Caller, Granted, Polling, Busy, Control<Off>, Control<On>, Control<Marked>, Input, Output, Ring, List>);
+static_assert(moves<Dql, TxRing, Caller, Granted, Polling, Busy, Control<Off>, Control<On>, Control<Marked>, Input, Output, Ring, List>);
 static_assert(!std::is_copy_constructible_v<Word> && !std::is_copy_assignable_v<Word> && !std::is_move_constructible_v<Word>);
 static_assert(moves<Shared, Bare, Scheduled, Ended, Took, TookBusy, Completed, End>);
 static_assert(noexcept(std::declval<Caller>().schedule()) && noexcept(std::declval<Caller>().take(FQ_LIST)) && noexcept(std::declval<Polling>().end(true)) &&
@@ -344,9 +344,9 @@ static void steps_of_drivers() {
 static void machines() {
     MachineSettings settings;
     want(settings.size == sizeof(fq_machine_settings) && settings.weight == 64 && settings.ring == 256, "the default settings");
-    const auto report = machine("moment,device,bytes\n1000,1,60\n", settings);
+    const auto report = machine("ns,device,bytes\n1000,1,60\n", settings);
     want(std::get<std::string>(report).rfind("device 1 arrived 1 dropped 0 polled 1 ", 0) == 0, "a report");
-    const auto fault = std::get<MachineFault>(machine("moment,device,bytes\n5,1,60\n4,1,60\n"));
+    const auto fault = std::get<MachineFault>(machine("ns,device,bytes\n5,1,60\n4,1,60\n"));
     want(fault.status == FQ_BAD_ARRIVALS && fault.fault == 8 && fault.row == 2 && fault.message == "arrivals fault 8 Falls row 2", "a fault");
     settings.weight = 65;
     const auto heavy = std::get<MachineFault>(machine("", settings));

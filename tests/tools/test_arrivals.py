@@ -10,7 +10,7 @@ from typing import Union
 import test_tools
 from tooltest import HAS_MACHINE, HERE, MACHINE, START, TOP, InFolder, process, run
 
-HEADER = "moment,device,bytes\n"
+HEADER = "ns,device,bytes\n"
 
 
 class Arrivals(InFolder):
@@ -90,7 +90,7 @@ class FromPcap(Arrivals):
         self.succeeds("from-pcap", "recorded", "made", "--arrivals", "--flows", folder=self.folder)
         first, *rows = (self.folder / "made.csv").read_text().splitlines()
         flows = [row.split(",")[3] for row in rows]
-        self.assertEqual((first, flows[0], flows[1], flows[3]), ("moment,device,bytes,flow", flows[2], flows[4], "0"))
+        self.assertEqual((first, flows[0], flows[1], flows[3]), ("ns,device,bytes,flow", flows[2], flows[4], "0"))
         self.assertEqual(len({flows[0], flows[1], flows[3], flows[5]}), 4)
         # From the definition of CRC-32 (IEEE 802.3), by its polynomial.
         crc = 0xFFFFFFFF
@@ -204,7 +204,7 @@ class FromFtrace(Arrivals):
         self.write("recorded", self.of_a_card())
         self.succeeds("from-ftrace", "recorded", "made", "--arrivals", "--flows", folder=self.folder)
         text = (self.folder / "made.csv").read_text()
-        self.assertEqual(text, "moment,device,bytes,flow\n0,1,60,10\n0,1,60,7\n8000,1,100,10\n99000,1,100,0\n")
+        self.assertEqual(text, "ns,device,bytes,flow\n0,1,60,10\n0,1,60,7\n8000,1,100,10\n99000,1,100,0\n")
         self.assertIn("packets without a hash, which are of flow 0: 1\n", (self.folder / "made.notes").read_text())
         report = self.taken(text, "--queues", "2")
         self.assertEqual(re.findall(r"^device (\d) arrived (\d)", report, re.M), [("1", "3"), ("2", "1")])
@@ -242,7 +242,7 @@ class FromFtrace(Arrivals):
                 (without.replace("\nlost 0", "\nmissing net/net_dev_xmit\nlost 0"), "the kernel that recorded it has no event net/net_dev_xmit"),
                 (b"PERFILE2 and more", "this is the file of `perf record`: take the text of `perf script --ns`"),
                 (b"\x17\x08\x44tracing6", "this is the file of `trace-cmd record`"), (b"\xd4\xc3\xb2\xa1\x02\0\x04\0", "this is a capture, which fintaqush from-pcap reads"),
-                (b"\x0a\x0d\x0d\x0a\x1c\0\0\0", "this is a capture"), (b"moment,device,bytes\n0,1,60\n", "line 1: no line of ftrace"),
+                (b"\x0a\x0d\x0d\x0a\x1c\0\0\0", "this is a capture"), (b"ns,device,bytes\n0,1,60\n", "line 1: no line of ftrace"),
                 ("# nothing\n", "there is no packet in it"), (event.replace("va1", "x"), "no device of --pair is recorded; these are: x"),
                 (gzip.compress(text.encode())[:-700], "it isn't whole"), (b"\x1f\x8bxx", "it isn't whole"), (text.replace("recording 1", "recording 7"), "another version")]
         for changed, why in refused:
@@ -299,7 +299,7 @@ class Traffic(Arrivals):
         done = run("traffic", "--arrivals", *words, "--flows", "8")
         first, *lines = done.stdout.splitlines()
         rows = [tuple(map(int, line.split(","))) for line in lines]
-        self.assertEqual((first, [row[:3] for row in rows], {row[3] for row in rows}), ("moment,device,bytes,flow", plain, set(range(8))))
+        self.assertEqual((first, [row[:3] for row in rows], {row[3] for row in rows}), ("ns,device,bytes,flow", plain, set(range(8))))
         counts = [int(each) for each in re.findall(r"^device \d arrived (\d+)", self.taken(done.stdout, "--queues", "4"), re.M)]
         self.assertTrue(len(counts) == 4 and all(abs(each - len(rows) / 4) < 165 for each in counts), counts)
         self.assertEqual(run("traffic", "--flows", "8").returncode, 64)

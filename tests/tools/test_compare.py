@@ -15,7 +15,7 @@ from fintaqush_tools.comparing import Value
 from fintaqush_tools.errors import Refusal
 
 RECORDED = HERE / "recorded-apart.rec"
-ARRIVALS = "moment,device,bytes\n" + "".join(f"{1000 * place},1,60\n" for place in range(50))
+ARRIVALS = "ns,device,bytes\n" + "".join(f"{1000 * place},1,60\n" for place in range(50))
 
 
 class Noise(unittest.TestCase):

@@ -98,7 +98,7 @@ class Fintaqush(InFolder):
 
     @HAS_MACHINE
     def test_the_machine(self) -> None:
-        arrivals = self.write("arrivals", "moment,device,bytes\n0,1,60\n5,1,60\n")
+        arrivals = self.write("arrivals", "ns,device,bytes\n0,1,60\n5,1,60\n")
         expected = process(MACHINE, "--budget", "16", text=arrivals.read_text())
         done = call("machine", arrivals, "--budget", "16")
         self.assertEqual((done.stdout, done.returncode), (expected.stdout, 0))

@@ -47,7 +47,7 @@ class Shown(InFolder):
 
     def test_a_row_of_what_if(self) -> None:
         """By the share of the arrivals that the program has read."""
-        arrivals = self.write("arrivals", "moment,device,bytes\n" + "".join(f"{place:019},1,60\n" for place in range(1600)))
+        arrivals = self.write("arrivals", "ns,device,bytes\n" + "".join(f"{place:019},1,60\n" for place in range(1600)))
         self.assertIn("making 1 row, 50 %, ", self.seen("what-if", arrivals, MACHINE=self.program("half", HALF)))
 
     def test_a_capture(self) -> None:

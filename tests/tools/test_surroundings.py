@@ -63,7 +63,7 @@ class Surroundings(InFolder):
     def test_an_output_that_fails(self) -> None:
         """Every way to write to standard output. Earlier outputs are removed, because no file is overwritten."""
         self.write("captured", CAPTURED)
-        self.write("arrivals", "moment,device,bytes\n0,1,60\n")
+        self.write("arrivals", "ns,device,bytes\n0,1,60\n")
         for tool, words in [*WRITERS.items(), *((tool, ["--help"]) for tool in ALL)]:
             for kind, why in FAILING.items():
                 wanted = f"fintaqush {tool}: {why}\n" if why else ""

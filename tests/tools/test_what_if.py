@@ -13,7 +13,7 @@ from typing import Any
 import machine
 from tooltest import HAS_MACHINE, MACHINE, NO_WORDS, START, TOP, InFolder, process, run, skip_without
 
-HEADER = "moment,device,bytes\n"
+HEADER = "ns,device,bytes\n"
 
 
 @HAS_MACHINE
@@ -74,7 +74,7 @@ class WhatIf(InFolder):
         """With queues the fourth column is read, and without them ignored; arrivals without it have none."""
         self.assertIn("there is no column flow", run("what-if", self.arrivals, "--queues", "1,2").stderr)
         rows = self.arrivals.read_text().split()[1:]
-        with_flows = "moment,device,bytes,flow\n" + "".join(f"{row},{place % 5}\n" for place, row in enumerate(rows))
+        with_flows = "ns,device,bytes,flow\n" + "".join(f"{row},{place % 5}\n" for place, row in enumerate(rows))
         plain = self.arrivals.read_text()
         self.arrivals.write_text(with_flows)
         one, two = self.rows("--queues", "1,2")

@@ -10,8 +10,8 @@ from typing import Any
 
 from fintaqush_tools.errors import Refusal
 
-HEADER = "moment,device,bytes\n"
-HEADER_WITH_FLOWS = "moment,device,bytes,flow\n"
+HEADER = "ns,device,bytes\n"
+HEADER_WITH_FLOWS = "ns,device,bytes,flow\n"
 SECOND = 10**9  # nanoseconds, which the time stamps here are
 MOST_DEVICES = 64 * 64  # 64 devices on each of 64 processors
 

@@ -22,7 +22,7 @@ TAKEN = re.compile(
 RECEIVED = re.compile(r"dev=(\S+) .*\blen=(\d{1,10})")
 LINK_HEADER = 14  # bytes of the Ethernet header, which is removed before a packet is received
 MOST_PACKET = 65535  # bytes
-WHEN = "a packet's moment is when the poll that took it began, or the interrupt that asked for this poll"
+WHEN = "a packet's time is when the poll that took it began, or the interrupt that asked for this poll"
 NOT_KNOWN = "its arrival and a longer wait in the ring aren't recorded, nor is a packet that the card dropped"
 MERGED = "GRO may have merged several packets to one, and what the card dropped isn't recorded"
 HOW = {BY_POLL: f"{WHEN} ({BY_POLL}): {NOT_KNOWN}", BY_STACK: f"{WHEN} ({BY_STACK}): {MERGED}"}

@@ -73,7 +73,7 @@ def rate_of(path: str) -> float:
         file.readline()
         first = file.readline(LONGEST_LINE).partition(b",")[0]
     if not (first.isdigit() and last.isdigit() and len(last) <= 20) or int(last) <= int(first):
-        raise Refusal("--until needs arrivals over some time, with moments that are plain numbers")
+        raise Refusal("--until needs arrivals over some time, with times that are plain numbers")
     return (lines - 1) * 10**9 / (int(last) - int(first))
 
 

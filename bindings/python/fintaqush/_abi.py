@@ -8,7 +8,7 @@ from typing import Any
 
 u8, u16, u32, u64, i64 = ctypes.c_uint8, ctypes.c_uint16, ctypes.c_uint32, ctypes.c_uint64, ctypes.c_int64
 size, boolean, text, pointer = ctypes.c_size_t, ctypes.c_bool, ctypes.c_char_p, ctypes.POINTER
-VERSION = "1.1.0"
+VERSION = "2.0.0"
 MESSAGE_ROOM = 96
 UNTIL_EMPTY = 4294967295
 FAULTS = {
@@ -156,7 +156,7 @@ class Tx(ctypes.Structure):
     _fields_ = [("handle", Handle)]
 
 
-class Seat(ctypes.Structure):
+class Caller(ctypes.Structure):
     _fields_ = [("handle", Handle)]
 
 
@@ -177,19 +177,26 @@ class Packet(ctypes.Structure):
 
 
 class Counts(ctypes.Structure):
-    _fields_ = [("polls", u64), ("packets", u64), ("bytes", u64)]
+    _fields_ = [("size", size), ("polls", u64), ("packets", u64), ("bytes", u64)]
 
 
 class Totals(ctypes.Structure):
-    _fields_ = [("put", u64), ("polled", u64), ("left", u64), ("bytes", u64)]
+    _fields_ = [("size", size), ("put", u64), ("polled", u64), ("left", u64), ("bytes", u64)]
 
 
 class RingShown(ctypes.Structure):
-    _fields_ = [("put", u64), ("capacity", size)]
+    _fields_ = [("size", size), ("put", u64), ("capacity", size)]
 
 
 class TxShown(ctypes.Structure):
-    _fields_ = [("queued", u32), ("completed", u32), ("limit", u32), ("avail", i64), ("stopped", boolean)]
+    _fields_ = [
+        ("size", size),
+        ("queued", u32),
+        ("completed", u32),
+        ("limit", u32),
+        ("avail", i64),
+        ("stopped", boolean),
+    ]
 
 
 class TxWatchdog(ctypes.Structure):
@@ -198,6 +205,7 @@ class TxWatchdog(ctypes.Structure):
 
 class Answers(ctypes.Structure):
     _fields_ = [
+        ("size", size),
         ("granted", u64),
         ("missed", u64),
         ("disabled", u64),
@@ -209,7 +217,7 @@ class Answers(ctypes.Structure):
 
 
 class RunReport(ctypes.Structure):
-    _fields_ = [("polls", u32), ("work", u32), ("squeezed", boolean)]
+    _fields_ = [("size", size), ("polls", u32), ("work", u32), ("squeezed", boolean)]
 
 
 class Todo(ctypes.Structure):
@@ -220,8 +228,8 @@ class Todo(ctypes.Structure):
         ("device", u32),
         ("most", u32),
         ("packets", u32),
-        ("run", RunReport),
         ("status", u32),
+        ("run", RunReport),
     ]
 
 
@@ -285,21 +293,7 @@ class MachineRan(ctypes.Structure):
 
 
 # The structs whose size the library returns, by their numbers.
-SIZES: dict[type[ctypes.Structure], int] = {
-    Handle: 0,
-    Dql: 1,
-    Napi: 2,
-    Packet: 3,
-    Counts: 4,
-    Totals: 5,
-    RingShown: 6,
-    TxShown: 7,
-    Answers: 8,
-    RunReport: 9,
-    Todo: 10,
-    DeviceShown: 11,
-    TxWatchdog: 12,
-}
+SIZES: dict[type[ctypes.Structure], int] = {Handle: 0, Dql: 1, Napi: 2, Packet: 3, TxWatchdog: 4}
 
 # The calls, by their names without fq_: the type of the result, and those of the arguments.
 CALLS: dict[str, tuple[Any, dict[str, Any]]] = {
@@ -317,7 +311,6 @@ CALLS: dict[str, tuple[Any, dict[str, Any]]] = {
     "dql_avail": (i64, {"dql": pointer(Dql)}),
     "dql_in_flight": (u32, {"dql": pointer(Dql)}),
     "napi_new": (Napi, {"controller": u32}),
-    "napi_init": (None, {"napi": pointer(Napi), "controller": u32}),
     "napi_schedule": (Status, {"napi": pointer(Napi), "who": u32}),
     "napi_hand": (Status, {"napi": pointer(Napi), "who": u32, "kind": u32}),
     "napi_take": (Status, {"napi": pointer(Napi), "who": u32, "kind": u32}),
@@ -341,43 +334,46 @@ CALLS: dict[str, tuple[Any, dict[str, Any]]] = {
         Status,
         {"ring": pointer(Ring), "weight": size, "out": pointer(Packet), "len": size, "count": pointer(size)},
     ),
-    "count": (Status, {"handle": pointer(Handle), "counts": pointer(Counts)}),
-    "ring_show": (Status, {"ring": pointer(Ring), "shown": pointer(RingShown)}),
+    "count_sized": (Status, {"handle": pointer(Handle), "counts": pointer(Counts)}),
+    "ring_show_sized": (Status, {"ring": pointer(Ring), "shown": pointer(RingShown)}),
     "ring_split": (Status, {"ring": pointer(Ring), "out": pointer(Ring)}),
-    "ring_finish": (Status, {"ring": pointer(Ring), "totals": pointer(Totals)}),
+    "ring_finish_sized": (Status, {"ring": pointer(Ring), "totals": pointer(Totals)}),
     "tx_new": (Status, {"tx": pointer(Tx), "capacity": size, "min": u32, "max": u32, "hold_ms": u64, "now_ms": u64}),
     "tx_send": (Status, {"tx": pointer(Tx), "bytes": u32}),
     "tx_done": (Status, {"tx": pointer(Tx), "count": u32, "now_ms": u64}),
-    "tx_state": (Status, {"tx": pointer(Tx), "state": pointer(TxShown)}),
+    "tx_state_sized": (Status, {"tx": pointer(Tx), "state": pointer(TxShown)}),
     "tx_watch": (
         Status,
         {"tx": pointer(Tx), "watchdog": pointer(TxWatchdog), "limit_ms": u64, "now_ms": u64, "stuck": pointer(boolean)},
     ),
-    "shared_new": (Status, {"ring": pointer(Ring), "control": pointer(Control), "seats": pointer(Seat), "count": size}),
-    "shared_bare": (Status, {"control": pointer(Control), "seats": pointer(Seat), "count": size}),
-    "seat_schedule": (Status, {"seat": pointer(Seat)}),
-    "seat_schedule_prep": (Status, {"seat": pointer(Seat)}),
-    "seat_take": (Status, {"seat": pointer(Seat), "kind": u32}),
-    "seat_busy_take": (Status, {"seat": pointer(Seat)}),
-    "seat_set_threaded": (Status, {"seat": pointer(Seat), "threaded": boolean}),
-    "seat_hand": (Status, {"seat": pointer(Seat), "kind": u32}),
-    "seat_poll": (
+    "shared_new": (
         Status,
-        {"seat": pointer(Seat), "weight": size, "out": pointer(Packet), "len": size, "count": pointer(size)},
+        {"ring": pointer(Ring), "control": pointer(Control), "callers": pointer(Caller), "count": size},
     ),
-    "seat_requeue": (Status, {"seat": pointer(Seat)}),
-    "seat_complete": (Status, {"seat": pointer(Seat)}),
-    "seat_complete_done": (Status, {"seat": pointer(Seat)}),
-    "seat_busy_stop": (Status, {"seat": pointer(Seat)}),
-    "seat_look": (Status, {"seat": pointer(Seat), "word": pointer(u64)}),
-    "seat_count": (Status, {"seat": pointer(Seat), "answers": pointer(Answers)}),
-    "seat_hand_again": (Status, {"seat": pointer(Seat), "next": pointer(u32)}),
-    "seat_end": (Status, {"seat": pointer(Seat), "full": boolean, "next": pointer(u32)}),
+    "shared_bare": (Status, {"control": pointer(Control), "callers": pointer(Caller), "count": size}),
+    "caller_schedule": (Status, {"caller": pointer(Caller)}),
+    "caller_schedule_prep": (Status, {"caller": pointer(Caller)}),
+    "caller_take": (Status, {"caller": pointer(Caller), "kind": u32}),
+    "caller_busy_take": (Status, {"caller": pointer(Caller)}),
+    "caller_set_threaded": (Status, {"caller": pointer(Caller), "threaded": boolean}),
+    "caller_hand": (Status, {"caller": pointer(Caller), "kind": u32}),
+    "caller_poll": (
+        Status,
+        {"caller": pointer(Caller), "weight": size, "out": pointer(Packet), "len": size, "count": pointer(size)},
+    ),
+    "caller_requeue": (Status, {"caller": pointer(Caller)}),
+    "caller_complete": (Status, {"caller": pointer(Caller)}),
+    "caller_complete_done": (Status, {"caller": pointer(Caller)}),
+    "caller_busy_stop": (Status, {"caller": pointer(Caller)}),
+    "caller_look": (Status, {"caller": pointer(Caller), "word": pointer(u64)}),
+    "caller_count_sized": (Status, {"caller": pointer(Caller), "answers": pointer(Answers)}),
+    "caller_hand_again": (Status, {"caller": pointer(Caller), "next": pointer(u32)}),
+    "caller_end": (Status, {"caller": pointer(Caller), "full": boolean, "next": pointer(u32)}),
     "control_enable": (Status, {"control": pointer(Control), "threaded": boolean}),
     "control_mark": (Status, {"control": pointer(Control)}),
     "control_try_take": (Status, {"control": pointer(Control)}),
     "control_step": (Status, {"control": pointer(Control), "on": boolean, "threaded": boolean}),
-    "control_has": (Status, {"control": pointer(Control), "seat": pointer(Seat)}),
+    "control_has": (Status, {"control": pointer(Control), "caller": pointer(Caller)}),
     "list_new": (Status, {"list": pointer(List)}),
     "list_push": (Status, {"list": pointer(List), "id": u32}),
     "list_remove": (Status, {"list": pointer(List), "id": u32}),
@@ -385,7 +381,7 @@ CALLS: dict[str, tuple[Any, dict[str, Any]]] = {
     "run_begin": (Status, {"list": pointer(List), "budget": u32, "weight": u32, "window": u32}),
     "run_next": (Status, {"list": pointer(List), "id": pointer(u32)}),
     "run_polled": (Status, {"list": pointer(List), "work": u32, "next": u32}),
-    "run_end": (Status, {"list": pointer(List), "report": pointer(RunReport)}),
+    "run_end_sized": (Status, {"list": pointer(List), "report": pointer(RunReport)}),
     "driver_new_salted": (
         Status,
         {"driver": pointer(Driver), "devices": u32, "budget": u32, "weight": u32, "window": u32, "salt": u16},
@@ -394,10 +390,10 @@ CALLS: dict[str, tuple[Any, dict[str, Any]]] = {
     "driver_stop": (Status, {"driver": pointer(Driver), "device": u32}),
     "driver_interrupt": (Status, {"driver": pointer(Driver), "device": u32}),
     "driver_next_sized": (Status, {"driver": pointer(Driver), "todo": pointer(Todo)}),
-    "driver_step_sized": (Status, {"driver": pointer(Driver), "todo": pointer(Todo)}),
     "driver_done": (Status, {"driver": pointer(Driver), "todo": pointer(Todo)}),
-    "driver_show": (Status, {"driver": pointer(Driver), "device": u32, "shown": pointer(DeviceShown)}),
-    "replay": (
+    "driver_step_sized": (Status, {"driver": pointer(Driver), "todo": pointer(Todo)}),
+    "driver_show_sized": (Status, {"driver": pointer(Driver), "device": u32, "shown": pointer(DeviceShown)}),
+    "replay_sized": (
         Status,
         {
             "settings": pointer(Settings),
@@ -408,7 +404,7 @@ CALLS: dict[str, tuple[Any, dict[str, Any]]] = {
             "replayed": pointer(Replayed),
         },
     ),
-    "raise_": (
+    "raise_sized": (
         Status,
         {
             "settings": pointer(Settings),
@@ -420,8 +416,8 @@ CALLS: dict[str, tuple[Any, dict[str, Any]]] = {
             "replayed": pointer(Replayed),
         },
     ),
-    "machine_default": (Status, {"settings": pointer(MachineSettings)}),
-    "machine": (
+    "machine_default_sized": (Status, {"settings": pointer(MachineSettings)}),
+    "machine_sized": (
         Status,
         {
             "settings": pointer(MachineSettings),

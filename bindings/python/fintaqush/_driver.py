@@ -126,6 +126,4 @@ class Driver(_Owned):
 
     def shown(self, device: int) -> DeviceShown:
         """Returns the state of a device, and the counts of its polls. BAD_DEVICE."""
-        shown = c.sized(abi.DeviceShown)
-        c.driver_show(self._at, device, shown)
-        return DeviceShown(DeviceState(shown.state), shown.scheduled, shown.missed, shown.polls, shown.packets)
+        return c.shown(lambda state, *others: DeviceShown(DeviceState(state), *others), abi.DeviceShown, c.driver_show_sized, self._at, device)

@@ -8,14 +8,15 @@ import os
 import pathlib
 import sys
 from types import TracebackType
-from typing import Any, Callable
+from typing import Any, Callable, TypeVar
 
 from ._abi import CALLS, MESSAGE_ROOM, SIZES, VERSION, Status, size, u32, u64
 from ._faults import Fault
 
-SONAME = "libfintaqush.so.1"
+SONAME = "libfintaqush.so.2"
 MOST: dict[Any, int] = {u32: 2**32 - 1, u64: 2**64 - 1, size: 2**64 - 1}
-LONG = ("replay", "raise_", "machine")  # they release the interpreter's lock, and return their status whatever it is
+LONG = ("replay_sized", "raise_sized", "machine_sized")  # they release the interpreter's lock, and return their status whatever it is
+Tuple = TypeVar("Tuple")
 
 
 class Missing(ImportError):
@@ -66,7 +67,7 @@ def __getattr__(name: str) -> Callable[..., Any]:
 
 
 def _declared(name: str) -> Callable[..., Any]:
-    exported, (result, arguments) = f"fq_{name.rstrip('_')}", CALLS[name]
+    exported, (result, arguments) = f"fq_{name}", CALLS[name]
     try:
         function = getattr(_long if name in LONG else _short, exported)
     except AttributeError:
@@ -88,6 +89,13 @@ def _declared(name: str) -> Callable[..., Any]:
 def sized(kind: Any) -> Any:
     """Returns a struct that begins with its size, with zeros after it."""
     return kind(ctypes.sizeof(kind))
+
+
+def shown(as_tuple: Callable[..., Tuple], kind: Any, call: Callable[..., Any], *values: Any) -> Tuple:
+    """Returns what a call sets in a struct of a kind, its last argument, as a tuple of the members after its size."""
+    struct = sized(kind)
+    call(*values, struct)
+    return as_tuple(*(getattr(struct, name) for name, *_ in kind._fields_[1:]))
 
 
 def checked(status: int) -> Status:

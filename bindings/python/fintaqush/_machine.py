@@ -85,7 +85,7 @@ def machine(arrivals: bytes, **settings: int) -> MachineReport:
     if not isinstance(arrivals, bytes):
         raise TypeError("arrivals are bytes")
     asked = c.sized(abi.MachineSettings)
-    c.machine_default(asked)
+    c.machine_default_sized(asked)
     for name, value in settings.items():
         if name not in SETTINGS:
             raise TypeError(f"the machine has no setting {name!r}")
@@ -100,7 +100,7 @@ def _text_of(arrivals: bytes, settings: abi.MachineSettings) -> str:
     ran, room = c.sized(abi.MachineRan), 65536
     while True:
         report = ctypes.create_string_buffer(room)
-        said = Status(c.machine(settings, arrivals, len(arrivals), report, room, ran))
+        said = Status(c.machine_sized(settings, arrivals, len(arrivals), report, room, ran))
         if said is Status.BAD_ARRIVALS:
             raise ArrivalsFault(said, ran.fault, ran.row, ran.message.decode())
         if said is Status.BAD_SETTING:

@@ -48,7 +48,7 @@ class _One:
         raise TypeError(f"a {type(self).__name__} isn't copied")
 
 
-class Limit(_One):
+class Dql(_One):
     """A byte queue limit between min and max, with the hold time hold_ms (`dql_init`). Times are milliseconds of a clock that you choose.
     Raises BAD_BOUNDS if min is above max, or max is above 1879048192."""
 
@@ -84,7 +84,7 @@ class Limit(_One):
         return int(c.dql_in_flight(self._dql))
 
 
-class Napi(_One):
+class SerialNapi(_One):
     """An instance of one thread (`struct napi_struct`), disabled at first. A caller is a number, 0 by default; the controller's number is
     an argument here. A call that isn't allowed in the state raises NOT_ALLOWED, and changes nothing."""
 
@@ -183,9 +183,7 @@ class Ring(_Owned):
     @property
     def counts(self) -> Counts:
         """The counts of the ring's polls so far."""
-        counts = abi.Counts()
-        c.count(self._at.handle, counts)
-        return Counts(counts.polls, counts.packets, counts.bytes)
+        return c.shown(Counts, abi.Counts, c.count_sized, self._at.handle)
 
 
 class TxRing(_Owned):
@@ -215,9 +213,7 @@ class TxRing(_Owned):
     @property
     def state(self) -> TxState:
         """The state of the ring."""
-        shown = abi.TxShown()
-        c.tx_state(self._at, shown)
-        return TxState(shown.queued, shown.completed, shown.limit, shown.avail, shown.stopped)
+        return c.shown(TxState, abi.TxShown, c.tx_state_sized, self._at)
 
 
 class List(_Owned):
@@ -250,7 +246,7 @@ class List(_Owned):
 
         If poll raises, or its result is invalid, the run ends; that device isn't listed any more, all others are."""
         c.run_begin(self._at, budget, weight, window)
-        id, report = abi.u32(), abi.RunReport()
+        id, report = abi.u32(), c.sized(abi.RunReport)
         try:
             while c.run_next(self._at, ctypes.byref(id)) == Status.OK:
                 work, next = poll(id.value, weight)
@@ -258,5 +254,5 @@ class List(_Owned):
         finally:
             with contextlib.suppress(Fault):  # fails if no poll is open, as after a run without an exception
                 c.run_polled(self._at, 0, Next.ABSENT)
-            c.run_end(self._at, report)
+            c.run_end_sized(self._at, report)
         return RunReport(report.polls, report.work, report.squeezed)

@@ -68,7 +68,7 @@ def replay(trace: bytes, budget: int = 300, weight: int = 64, window: int = 1024
     the report count in that longer trace. TraceFault; BAD_WEIGHT, otherwise BAD_BUDGET."""
     if raised:
         trace = raise_runs(trace, budget, weight, window)
-    return _report_of(_written(c.replay, trace, _settings(trace, budget, weight, window)).decode())
+    return _report_of(_written(c.replay_sized, trace, _settings(trace, budget, weight, window)).decode())
 
 
 def raise_runs(trace: bytes, budget: int = 300, weight: int = 64, window: int = 1024, restarts: int | None = None) -> bytes:
@@ -76,7 +76,7 @@ def raise_runs(trace: bytes, budget: int = 300, weight: int = 64, window: int = 
     returns its bytes. Errors are those of `replay`; a fault names a row of the longer trace, and is TooManyRows if that would have more
     than 100000."""
     most = abi.UNTIL_EMPTY if restarts is None else restarts
-    return _written(c.raise_, trace, _settings(trace, budget, weight, window), most)
+    return _written(c.raise_sized, trace, _settings(trace, budget, weight, window), most)
 
 
 def _settings(trace: bytes, budget: int, weight: int, window: int) -> abi.Settings:

@@ -45,9 +45,7 @@ class Input(_Part):
     @property
     def count(self) -> int:
         """The number of packets that were put so far."""
-        shown = abi.RingShown()
-        c.ring_show(self._at, shown)
-        return int(shown.put)
+        return c.shown(lambda put, capacity: int(put), abi.RingShown, c.ring_show_sized, self._at)
 
 
 class Caller(_Part):
@@ -55,11 +53,11 @@ class Caller(_Part):
 
     def schedule(self) -> Status:
         """Requests a poll (`napi_schedule_prep`): returns GRANTED, and the caller has to queue the instance; MISSED; or DISABLED."""
-        return Status(c.seat_schedule_prep(self._at))
+        return Status(c.caller_schedule_prep(self._at))
 
     def hand(self, kind: Kind = Kind.LIST) -> None:
         """Queues a granted instance (`____napi_schedule`)."""
-        c.seat_hand(self._at, kind)
+        c.caller_hand(self._at, kind)
 
     def request(self, mask: Callable[[], object] = lambda: None) -> tuple[Status, Next]:
         """Requests a poll (`napi_schedule`). If the request is granted, masks the card and queues the instance as the state word says;
@@ -70,66 +68,62 @@ class Caller(_Part):
             return said, Next.GONE
         mask()
         next = abi.u32()
-        c.seat_hand_again(self._at, next)
+        c.caller_hand_again(self._at, next)
         return said, Next(next.value)
 
     def take(self, kind: Kind = Kind.LIST) -> bool:
         """Takes the instance from the list or as its thread; returns False if it isn't there."""
-        return bool(c.seat_take(self._at, kind) == Status.TAKEN)
+        return bool(c.caller_take(self._at, kind) == Status.TAKEN)
 
     def poll(self, weight: int = 64) -> list[Packet]:
         """Takes the ring's next packets out, at most weight, which is 1 to 64. BAD_WEIGHT."""
         out, count = (abi.Packet * 64)(), abi.size()
-        c.seat_poll(self._at, weight, out, 64, count)
+        c.caller_poll(self._at, weight, out, 64, count)
         return [Packet(one.number, one.bytes) for one in out[: count.value]]
 
     def requeue(self) -> None:
         """Puts the instance on the list again."""
-        c.seat_requeue(self._at)
+        c.caller_requeue(self._at)
 
     def complete(self) -> Status:
         """Ends a poll (`napi_complete_done`): returns RELEASED; AGAIN, and the caller has to queue the instance again; HELD for a busy
         poller."""
-        return Status(c.seat_complete_done(self._at))
+        return Status(c.caller_complete_done(self._at))
 
     def end(self, full: bool) -> Next | None:
-        """Ends a poll as the kernel does (`__napi_poll`), like `fq_seat_end`: returns what to pass to the run, or None if the caller keeps
+        """Ends a poll as the kernel does (`__napi_poll`), like `fq_caller_end`: returns what to pass to the run, or None if the caller keeps
         polling."""
         next = abi.u32()
-        return None if c.seat_end(self._at, full, next) == Status.HELD else Next(next.value)
+        return None if c.caller_end(self._at, full, next) == Status.HELD else Next(next.value)
 
     def busy_take(self) -> bool:
         """Takes an idle instance to busy poll it (`napi_busy_loop`); returns False if it isn't idle."""
-        return _decided(c.seat_busy_take, self._at) is Status.TAKEN
+        return _decided(c.caller_busy_take, self._at) is Status.TAKEN
 
     def busy_stop(self) -> None:
         """Stops busy polling (`busy_poll_stop`): one poll has to follow."""
-        _decided(c.seat_busy_stop, self._at)
+        _decided(c.caller_busy_stop, self._at)
 
     def set_threaded(self, threaded: bool) -> None:
         """Sets whether the instance is scheduled on its own thread (`dev_set_threaded`)."""
-        c.seat_set_threaded(self._at, threaded)
+        c.caller_set_threaded(self._at, threaded)
 
     @property
     def word(self) -> Word:
         """The state word."""
         word = abi.u64()
-        c.seat_look(self._at, word)
+        c.caller_look(self._at, word)
         return Word(word.value)
 
     @property
     def counts(self) -> Counts:
         """The counts of the ring's polls so far, for a caller that polls."""
-        counts = abi.Counts()
-        c.count(self._at.handle, counts)
-        return Counts(counts.polls, counts.packets, counts.bytes)
+        return c.shown(Counts, abi.Counts, c.count_sized, self._at.handle)
 
     @property
     def answers(self) -> Answers:
         """How often its calls returned each result."""
-        answers = abi.Answers()
-        c.seat_count(self._at, answers)
-        return Answers(*(getattr(answers, name) for name in Answers._fields))
+        return c.shown(Answers, abi.Answers, c.caller_count_sized, self._at)
 
 
 class Control(_Part):
@@ -161,7 +155,7 @@ def shared(capacity: int, callers: int = 2) -> tuple[Input, Control, list[Caller
     BAD_CAPACITY, BAD_COUNT."""
     if not 2 <= callers <= 8:
         raise Fault(Status.BAD_COUNT)
-    ring, control, made = abi.Ring(), abi.Control(), (abi.Seat * callers)()
+    ring, control, made = abi.Ring(), abi.Control(), (abi.Caller * callers)()
     c.ring_new(ring, capacity)
     owned = Input(ring)
     c.shared_new(ring, control, made, callers)

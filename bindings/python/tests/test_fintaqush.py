@@ -10,7 +10,7 @@ import threading
 import unittest
 
 import fintaqush
-from fintaqush import (ArrivalsFault, DeviceState, Driver, Fault, Kind, Limit, List, Napi, Next, Packet, Ring, SettingFault, Status, TraceFault,
+from fintaqush import (ArrivalsFault, DeviceState, Driver, Fault, Kind, Dql, List, SerialNapi, Next, Packet, Ring, SettingFault, Status, TraceFault,
                        Transmit, Turn, TxRing, TxState, What, Word, machine, raise_runs, replay, shared)
 
 TOP = pathlib.Path(__file__).resolve().parents[3]
@@ -28,7 +28,7 @@ class Refusals(unittest.TestCase):
 
 class TestLimit(Refusals):
     def test_it_grows(self):
-        limit, lines = Limit(), []
+        limit, lines = Dql(), []
         for now in (6, 12, 18):
             frames = 0
             while limit.avail >= 0 and frames < 10:
@@ -43,28 +43,28 @@ class TestLimit(Refusals):
         self.assertEqual((limit.in_flight, limit.limit), (0, 0))
 
     def test_what_is_refused(self):
-        self.refused(Status.BAD_BOUNDS, Limit, 2, 1)
-        self.refused(Status.BAD_BOUNDS, Limit, max=1879048193)
-        limit = Limit(max=100)
+        self.refused(Status.BAD_BOUNDS, Dql, 2, 1)
+        self.refused(Status.BAD_BOUNDS, Dql, max=1879048193)
+        limit = Dql(max=100)
         self.refused(Status.TOO_LARGE, limit.queued, 268435456)
         self.refused(Status.MORE_THAN_QUEUED, limit.completed, 1, 0)
         self.assertEqual(limit.in_flight, 0)
 
     def test_numbers_that_c_has_not(self):
-        limit = Limit()
-        for call, values, line in ((Limit, (-1,), "min is 0 to 4294967295, not -1"), (Limit, (0, 2**32), "max is 0 to 4294967295"),
+        limit = Dql()
+        for call, values, line in ((Dql, (-1,), "min is 0 to 4294967295, not -1"), (Dql, (0, 2**32), "max is 0 to 4294967295"),
                                    (limit.completed, (0, 2**64), "now_ms is 0 to 18446744073709551615"), (Ring, (-1,), "capacity"),
                                    (Ring(1).put, (-1, 60), "number"), (Ring(1).put, (1, -60), "bytes"), (Ring(1).poll, (-1,), "weight"),
-                                   (List().push, (2**32,), "id"), (List().remove, (-1,), "id"), (Napi, (-1,), "controller"), (Napi().schedule, (2**32,), "who"),
+                                   (List().push, (2**32,), "id"), (List().remove, (-1,), "id"), (SerialNapi, (-1,), "controller"), (SerialNapi().schedule, (2**32,), "who"),
                                    (replay, (b"", 2**32 + 300), "budget")):
             with self.assertRaisesRegex(ValueError, line):
                 call(*values)
-        for call, values in ((Limit, (1.5,)), (limit.queued, ("1",)), (replay, ("moment,device,event,value\n",)), (replay, (None,))):
+        for call, values in ((Dql, (1.5,)), (limit.queued, ("1",)), (replay, ("moment,device,event,value\n",)), (replay, (None,))):
             with self.assertRaises(TypeError):
                 call(*values)
 
     def test_nothing_is_copied(self):
-        for one in Limit(), Napi(), Ring(1), List(), TxRing(1), Driver(1), *shared(1)[:2], *shared(1)[2]:
+        for one in Dql(), SerialNapi(), Ring(1), List(), TxRing(1), Driver(1), *shared(1)[:2], *shared(1)[2]:
             for copied in copy.copy, copy.deepcopy, pickle.dumps:
                 with self.assertRaisesRegex(TypeError, "isn't copied"):
                     copied(one)
@@ -74,11 +74,11 @@ class TestNapi(Refusals):
     """The state words are those of the table in docs/FORMATS.md."""
 
     def test_a_turn(self):
-        napi = Napi(controller=1)
+        napi = SerialNapi(controller=1)
         self.assertEqual(napi.word, 9)
         self.assertEqual(napi.schedule(), Status.MISSED)
         self.assertEqual(napi.word, 11)
-        napi = Napi(controller=1)
+        napi = SerialNapi(controller=1)
         self.refused(Status.NOT_ALLOWED, napi.enable, who=2)
         napi.enable(who=1)
         self.assertEqual(napi.word, 0)
@@ -101,7 +101,7 @@ class TestNapi(Refusals):
         self.assertEqual(napi.word, 0)
 
     def test_a_thread_and_busy_polling(self):
-        napi = Napi()
+        napi = SerialNapi()
         napi.enable(threaded=True)
         self.assertEqual(napi.word, 256)
         napi.schedule()
@@ -119,7 +119,7 @@ class TestNapi(Refusals):
         self.assertEqual(napi.complete(), Status.RELEASED)
 
     def test_a_disable(self):
-        napi = Napi()
+        napi = SerialNapi()
         napi.enable()
         napi.schedule()
         napi.hand()
@@ -135,7 +135,7 @@ class TestNapi(Refusals):
         self.assertEqual(napi.word, 9)
 
     def test_a_full_poll_under_a_disable(self):
-        napi = Napi()
+        napi = SerialNapi()
         self.refused(Status.NOT_ALLOWED, napi.end, True)
         napi.enable()
         self.assertEqual(napi.schedule(), Status.GRANTED)
@@ -145,7 +145,7 @@ class TestNapi(Refusals):
         self.assertEqual((napi.take_disable(), napi.end(True), napi.take_disable()), (False, Next.GONE, True))
 
     def test_an_end_goes_by_the_word(self):
-        napi = Napi()
+        napi = SerialNapi()
         napi.enable(threaded=True)
         self.assertEqual(napi.schedule(), Status.GRANTED)
         napi.hand(kind=Kind.THREAD)
@@ -154,7 +154,7 @@ class TestNapi(Refusals):
 
     def test_a_fault_says_what_it_means(self):
         with self.assertRaises(Fault) as raised:
-            Napi().end(True)
+            SerialNapi().end(True)
         self.assertEqual(raised.exception.message, "the state of the object does not allow this call")
 
 
@@ -502,13 +502,13 @@ class TestMachine(Refusals):
         self.assertEqual([one.number for one in apart], [0, 1])
         self.assertEqual([one.application.wakes for one in apart], [2, 1])
         rows = "".join(f"{30000 * i},1,60\n" for i in range(2000))
-        arrivals = f"moment,device,bytes\n{rows}".encode()
+        arrivals = f"ns,device,bytes\n{rows}".encode()
         one_by_one, together = machine(arrivals), machine(arrivals, rx_nsecs=50000)
         self.assertGreater(one_by_one.processors[0].interrupts, together.processors[0].interrupts)
 
     def test_faults(self):
         for arrivals, number, row, line in ((b"", 1, 0, "arrivals fault 1 BadHeader row 0"),
-                                            (b"moment,device,bytes\n5,1,60\n4,1,60\n", 8, 2, "arrivals fault 8 Falls row 2")):
+                                            (b"ns,device,bytes\n5,1,60\n4,1,60\n", 8, 2, "arrivals fault 8 Falls row 2")):
             with self.assertRaises(ArrivalsFault) as raised:
                 machine(arrivals)
             fault = raised.exception

@@ -12,7 +12,7 @@ use crate::sys;
 #[derive(Debug)]
 #[must_use = "an instance whose poller is dropped is polled by nobody"]
 pub struct Busy {
-    pub(crate) at: Handle<sys::fq_seat>,
+    pub(crate) at: Handle<sys::fq_caller>,
 }
 
 impl Busy {
@@ -39,18 +39,18 @@ impl Busy {
     /// Completes a poll below its weight (`napi_complete_done`, which does nothing under `IN_BUSY_POLL`): the caller keeps busy
     /// polling.
     pub fn complete_held(&mut self) {
-        match calls::seat_complete(self.at.raw()) {
+        match calls::caller_complete(self.at.raw()) {
             sys::FQ_HELD => {}
-            said => unexpected("seat_complete", said),
+            said => unexpected("caller_complete", said),
         }
     }
 
     /// Tries once to stop busy polling (`busy_poll_stop`). It doesn't wait.
     pub fn try_stop(mut self) -> TryStop {
-        match calls::seat_busy_stop(self.at.raw()) {
+        match calls::caller_busy_stop(self.at.raw()) {
             sys::FQ_OK => TryStop::Stopped(Polling { at: self.at }),
             sys::FQ_CHANGED => TryStop::Changed(self),
-            said => unexpected("seat_busy_stop", said),
+            said => unexpected("caller_busy_stop", said),
         }
     }
 

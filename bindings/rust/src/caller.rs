@@ -55,14 +55,14 @@ use crate::words::{Kind, Next, Prep};
 #[derive(Debug)]
 #[must_use = "a caller that is dropped never calls again"]
 pub struct Caller {
-    pub(crate) at: Handle<sys::fq_seat>,
+    pub(crate) at: Handle<sys::fq_caller>,
 }
 
 impl Caller {
     /// Tries once to request a poll (`napi_schedule_prep`). It doesn't wait.
     pub fn try_schedule(mut self) -> TryPrep {
-        let said = calls::seat_schedule(self.at.raw());
-        match Prep::of("seat_schedule", said) {
+        let said = calls::caller_schedule(self.at.raw());
+        match Prep::of("caller_schedule", said) {
             Some(Prep::Granted) => TryPrep::Granted(Granted { at: self.at }),
             Some(Prep::Missed) => TryPrep::Missed(self),
             Some(Prep::Disabled) => TryPrep::Disabled(self),
@@ -83,10 +83,10 @@ impl Caller {
     }
 
     fn prep(&mut self) -> Prep {
-        let said = calls::seat_schedule_prep(self.at.raw());
-        match Prep::of("seat_schedule_prep", said) {
+        let said = calls::caller_schedule_prep(self.at.raw());
+        match Prep::of("caller_schedule_prep", said) {
             Some(prep) => prep,
-            None => unexpected("seat_schedule_prep", said),
+            None => unexpected("caller_schedule_prep", said),
         }
     }
 
@@ -144,10 +144,10 @@ impl Caller {
     /// Takes the instance from the list or from its thread's queue, with its poll context (`net_rx_action`,
     /// `napi_thread_wait`). Returns `Err`, and changes nothing, if it isn't there.
     pub fn take(mut self, kind: Kind) -> Result<Polling, Caller> {
-        match calls::seat_take(self.at.raw(), kind.number()) {
+        match calls::caller_take(self.at.raw(), kind.number()) {
             sys::FQ_TAKEN => Ok(Polling { at: self.at }),
             sys::FQ_NOT_THERE => Err(self),
-            said => unexpected("seat_take", said),
+            said => unexpected("caller_take", said),
         }
     }
 
@@ -158,11 +158,11 @@ impl Caller {
 
     /// Tries once to take an idle instance to busy poll it (`napi_busy_loop`). It doesn't wait.
     pub fn try_busy(mut self) -> TryBusy {
-        match calls::seat_busy_take(self.at.raw()) {
+        match calls::caller_busy_take(self.at.raw()) {
             sys::FQ_TAKEN => TryBusy::Taken(Busy { at: self.at }),
             sys::FQ_BUSY => TryBusy::Refused(self),
             sys::FQ_CHANGED => TryBusy::Changed(self),
-            said => unexpected("seat_busy_take", said),
+            said => unexpected("caller_busy_take", said),
         }
     }
 
@@ -181,9 +181,9 @@ impl Caller {
 
     /// Sets whether the instance is scheduled on its own thread from now on (`dev_set_threaded`). Allowed in any state.
     pub fn set_threaded(&mut self, threaded: bool) {
-        match calls::seat_set_threaded(self.at.raw(), threaded) {
+        match calls::caller_set_threaded(self.at.raw(), threaded) {
             sys::FQ_OK => {}
-            said => unexpected("seat_set_threaded", said),
+            said => unexpected("caller_set_threaded", said),
         }
     }
 }
@@ -192,7 +192,7 @@ impl Caller {
 #[derive(Debug)]
 #[must_use = "an instance that is granted and not handed over is polled by nobody"]
 pub struct Granted {
-    pub(crate) at: Handle<sys::fq_seat>,
+    pub(crate) at: Handle<sys::fq_caller>,
 }
 
 impl Granted {
@@ -216,18 +216,18 @@ impl Granted {
 }
 
 // Queues a granted instance on the list or for its thread.
-fn hand(at: &mut Handle<sys::fq_seat>, kind: Kind) {
-    match calls::seat_hand(at.raw(), kind.number()) {
+fn hand(at: &mut Handle<sys::fq_caller>, kind: Kind) {
+    match calls::caller_hand(at.raw(), kind.number()) {
         sys::FQ_OK => {}
-        said => unexpected("seat_hand", said),
+        said => unexpected("caller_hand", said),
     }
 }
 
 // Queues a granted instance as its state word says.
-fn hand_again(at: &mut Handle<sys::fq_seat>) -> Next {
+fn hand_again(at: &mut Handle<sys::fq_caller>) -> Next {
     let mut next = sys::FQ_NEXT_GONE;
-    match calls::seat_hand_again(at.raw(), &mut next) {
-        sys::FQ_OK => Next::of("seat_hand_again", next),
-        said => unexpected("seat_hand_again", said),
+    match calls::caller_hand_again(at.raw(), &mut next) {
+        sys::FQ_OK => Next::of("caller_hand_again", next),
+        said => unexpected("caller_hand_again", said),
     }
 }

@@ -73,11 +73,6 @@ pub(crate) fn napi_new(controller: u32) -> fq_napi {
     unsafe { fq_napi_new(controller) }
 }
 
-pub(crate) fn napi_init(napi: &mut fq_napi, controller: u32) {
-    // SAFETY: each reference and each slice leads to whole objects, to which no other argument leads.
-    unsafe { fq_napi_init(napi, controller) }
-}
-
 pub(crate) fn napi_schedule(napi: &mut fq_napi, who: u32) -> u32 {
     // SAFETY: each reference and each slice leads to whole objects, to which no other argument leads.
     unsafe { fq_napi_schedule(napi, who) }
@@ -183,14 +178,14 @@ pub(crate) fn ring_poll(
     unsafe { fq_ring_poll(ring, weight, out.as_mut_ptr(), out.len(), count) }
 }
 
-pub(crate) fn count(handle: &fq_handle, counts: &mut fq_counts) -> u32 {
+pub(crate) fn count_sized(handle: &fq_handle, counts: &mut fq_counts) -> u32 {
     // SAFETY: each reference and each slice leads to whole objects, to which no other argument leads.
-    unsafe { fq_count(handle, counts) }
+    unsafe { fq_count_sized(handle, counts) }
 }
 
-pub(crate) fn ring_show(ring: &fq_ring, shown: &mut fq_ring_shown) -> u32 {
+pub(crate) fn ring_show_sized(ring: &fq_ring, shown: &mut fq_ring_shown) -> u32 {
     // SAFETY: each reference and each slice leads to whole objects, to which no other argument leads.
-    unsafe { fq_ring_show(ring, shown) }
+    unsafe { fq_ring_show_sized(ring, shown) }
 }
 
 pub(crate) fn ring_split(ring: &mut fq_ring, out: &mut fq_ring) -> u32 {
@@ -198,9 +193,9 @@ pub(crate) fn ring_split(ring: &mut fq_ring, out: &mut fq_ring) -> u32 {
     unsafe { fq_ring_split(ring, out) }
 }
 
-pub(crate) fn ring_finish(ring: &mut fq_ring, totals: &mut fq_totals) -> u32 {
+pub(crate) fn ring_finish_sized(ring: &mut fq_ring, totals: &mut fq_totals) -> u32 {
     // SAFETY: each reference and each slice leads to whole objects, to which no other argument leads.
-    unsafe { fq_ring_finish(ring, totals) }
+    unsafe { fq_ring_finish_sized(ring, totals) }
 }
 
 pub(crate) fn tx_new(
@@ -225,9 +220,9 @@ pub(crate) fn tx_done(tx: &mut fq_tx, count: u32, now_ms: u64) -> u32 {
     unsafe { fq_tx_done(tx, count, now_ms) }
 }
 
-pub(crate) fn tx_state(tx: &fq_tx, state: &mut fq_tx_shown) -> u32 {
+pub(crate) fn tx_state_sized(tx: &fq_tx, state: &mut fq_tx_shown) -> u32 {
     // SAFETY: each reference and each slice leads to whole objects, to which no other argument leads.
-    unsafe { fq_tx_state(tx, state) }
+    unsafe { fq_tx_state_sized(tx, state) }
 }
 
 pub(crate) fn tx_watch(
@@ -244,95 +239,95 @@ pub(crate) fn tx_watch(
 pub(crate) fn shared_new(
     ring: &mut fq_ring,
     control: &mut fq_control,
-    seats: &mut [fq_seat],
+    callers: &mut [fq_caller],
 ) -> u32 {
     // SAFETY: each reference and each slice leads to whole objects, to which no other argument leads.
-    unsafe { fq_shared_new(ring, control, seats.as_mut_ptr(), seats.len()) }
+    unsafe { fq_shared_new(ring, control, callers.as_mut_ptr(), callers.len()) }
 }
 
-pub(crate) fn shared_bare(control: &mut fq_control, seats: &mut [fq_seat]) -> u32 {
+pub(crate) fn shared_bare(control: &mut fq_control, callers: &mut [fq_caller]) -> u32 {
     // SAFETY: each reference and each slice leads to whole objects, to which no other argument leads.
-    unsafe { fq_shared_bare(control, seats.as_mut_ptr(), seats.len()) }
+    unsafe { fq_shared_bare(control, callers.as_mut_ptr(), callers.len()) }
 }
 
-pub(crate) fn seat_schedule(seat: &mut fq_seat) -> u32 {
+pub(crate) fn caller_schedule(caller: &mut fq_caller) -> u32 {
     // SAFETY: each reference and each slice leads to whole objects, to which no other argument leads.
-    unsafe { fq_seat_schedule(seat) }
+    unsafe { fq_caller_schedule(caller) }
 }
 
-pub(crate) fn seat_schedule_prep(seat: &mut fq_seat) -> u32 {
+pub(crate) fn caller_schedule_prep(caller: &mut fq_caller) -> u32 {
     // SAFETY: each reference and each slice leads to whole objects, to which no other argument leads.
-    unsafe { fq_seat_schedule_prep(seat) }
+    unsafe { fq_caller_schedule_prep(caller) }
 }
 
-pub(crate) fn seat_take(seat: &mut fq_seat, kind: u32) -> u32 {
+pub(crate) fn caller_take(caller: &mut fq_caller, kind: u32) -> u32 {
     // SAFETY: each reference and each slice leads to whole objects, to which no other argument leads.
-    unsafe { fq_seat_take(seat, kind) }
+    unsafe { fq_caller_take(caller, kind) }
 }
 
-pub(crate) fn seat_busy_take(seat: &mut fq_seat) -> u32 {
+pub(crate) fn caller_busy_take(caller: &mut fq_caller) -> u32 {
     // SAFETY: each reference and each slice leads to whole objects, to which no other argument leads.
-    unsafe { fq_seat_busy_take(seat) }
+    unsafe { fq_caller_busy_take(caller) }
 }
 
-pub(crate) fn seat_set_threaded(seat: &mut fq_seat, threaded: bool) -> u32 {
+pub(crate) fn caller_set_threaded(caller: &mut fq_caller, threaded: bool) -> u32 {
     // SAFETY: each reference and each slice leads to whole objects, to which no other argument leads.
-    unsafe { fq_seat_set_threaded(seat, threaded) }
+    unsafe { fq_caller_set_threaded(caller, threaded) }
 }
 
-pub(crate) fn seat_hand(seat: &mut fq_seat, kind: u32) -> u32 {
+pub(crate) fn caller_hand(caller: &mut fq_caller, kind: u32) -> u32 {
     // SAFETY: each reference and each slice leads to whole objects, to which no other argument leads.
-    unsafe { fq_seat_hand(seat, kind) }
+    unsafe { fq_caller_hand(caller, kind) }
 }
 
-pub(crate) fn seat_poll(
-    seat: &mut fq_seat,
+pub(crate) fn caller_poll(
+    caller: &mut fq_caller,
     weight: usize,
     out: &mut [fq_packet],
     count: &mut usize,
 ) -> u32 {
     // SAFETY: each reference and each slice leads to whole objects, to which no other argument leads.
-    unsafe { fq_seat_poll(seat, weight, out.as_mut_ptr(), out.len(), count) }
+    unsafe { fq_caller_poll(caller, weight, out.as_mut_ptr(), out.len(), count) }
 }
 
-pub(crate) fn seat_requeue(seat: &mut fq_seat) -> u32 {
+pub(crate) fn caller_requeue(caller: &mut fq_caller) -> u32 {
     // SAFETY: each reference and each slice leads to whole objects, to which no other argument leads.
-    unsafe { fq_seat_requeue(seat) }
+    unsafe { fq_caller_requeue(caller) }
 }
 
-pub(crate) fn seat_complete(seat: &mut fq_seat) -> u32 {
+pub(crate) fn caller_complete(caller: &mut fq_caller) -> u32 {
     // SAFETY: each reference and each slice leads to whole objects, to which no other argument leads.
-    unsafe { fq_seat_complete(seat) }
+    unsafe { fq_caller_complete(caller) }
 }
 
-pub(crate) fn seat_complete_done(seat: &mut fq_seat) -> u32 {
+pub(crate) fn caller_complete_done(caller: &mut fq_caller) -> u32 {
     // SAFETY: each reference and each slice leads to whole objects, to which no other argument leads.
-    unsafe { fq_seat_complete_done(seat) }
+    unsafe { fq_caller_complete_done(caller) }
 }
 
-pub(crate) fn seat_busy_stop(seat: &mut fq_seat) -> u32 {
+pub(crate) fn caller_busy_stop(caller: &mut fq_caller) -> u32 {
     // SAFETY: each reference and each slice leads to whole objects, to which no other argument leads.
-    unsafe { fq_seat_busy_stop(seat) }
+    unsafe { fq_caller_busy_stop(caller) }
 }
 
-pub(crate) fn seat_look(seat: &mut fq_seat, word: &mut u64) -> u32 {
+pub(crate) fn caller_look(caller: &mut fq_caller, word: &mut u64) -> u32 {
     // SAFETY: each reference and each slice leads to whole objects, to which no other argument leads.
-    unsafe { fq_seat_look(seat, word) }
+    unsafe { fq_caller_look(caller, word) }
 }
 
-pub(crate) fn seat_count(seat: &fq_seat, answers: &mut fq_answers) -> u32 {
+pub(crate) fn caller_count_sized(caller: &fq_caller, answers: &mut fq_answers) -> u32 {
     // SAFETY: each reference and each slice leads to whole objects, to which no other argument leads.
-    unsafe { fq_seat_count(seat, answers) }
+    unsafe { fq_caller_count_sized(caller, answers) }
 }
 
-pub(crate) fn seat_hand_again(seat: &mut fq_seat, next: &mut u32) -> u32 {
+pub(crate) fn caller_hand_again(caller: &mut fq_caller, next: &mut u32) -> u32 {
     // SAFETY: each reference and each slice leads to whole objects, to which no other argument leads.
-    unsafe { fq_seat_hand_again(seat, next) }
+    unsafe { fq_caller_hand_again(caller, next) }
 }
 
-pub(crate) fn seat_end(seat: &mut fq_seat, full: bool, next: &mut u32) -> u32 {
+pub(crate) fn caller_end(caller: &mut fq_caller, full: bool, next: &mut u32) -> u32 {
     // SAFETY: each reference and each slice leads to whole objects, to which no other argument leads.
-    unsafe { fq_seat_end(seat, full, next) }
+    unsafe { fq_caller_end(caller, full, next) }
 }
 
 pub(crate) fn control_enable(control: &mut fq_control, threaded: bool) -> u32 {
@@ -355,9 +350,9 @@ pub(crate) fn control_step(control: &mut fq_control, on: bool, threaded: bool) -
     unsafe { fq_control_step(control, on, threaded) }
 }
 
-pub(crate) fn control_has(control: &fq_control, seat: &fq_seat) -> u32 {
+pub(crate) fn control_has(control: &fq_control, caller: &fq_caller) -> u32 {
     // SAFETY: each reference and each slice leads to whole objects, to which no other argument leads.
-    unsafe { fq_control_has(control, seat) }
+    unsafe { fq_control_has(control, caller) }
 }
 
 pub(crate) fn list_new(list: &mut fq_list) -> u32 {
@@ -395,9 +390,9 @@ pub(crate) fn run_polled(list: &mut fq_list, work: u32, next: u32) -> u32 {
     unsafe { fq_run_polled(list, work, next) }
 }
 
-pub(crate) fn run_end(list: &mut fq_list, report: &mut fq_run_report) -> u32 {
+pub(crate) fn run_end_sized(list: &mut fq_list, report: &mut fq_run_report) -> u32 {
     // SAFETY: each reference and each slice leads to whole objects, to which no other argument leads.
-    unsafe { fq_run_end(list, report) }
+    unsafe { fq_run_end_sized(list, report) }
 }
 
 pub(crate) fn driver_new_salted(
@@ -432,22 +427,26 @@ pub(crate) fn driver_next_sized(driver: &mut fq_driver, todo: &mut fq_todo) -> u
     unsafe { fq_driver_next_sized(driver, todo) }
 }
 
-pub(crate) fn driver_step_sized(driver: &mut fq_driver, todo: &mut fq_todo) -> u32 {
-    // SAFETY: each reference and each slice leads to whole objects, to which no other argument leads.
-    unsafe { fq_driver_step_sized(driver, todo) }
-}
-
 pub(crate) fn driver_done(driver: &mut fq_driver, todo: &fq_todo) -> u32 {
     // SAFETY: each reference and each slice leads to whole objects, to which no other argument leads.
     unsafe { fq_driver_done(driver, todo) }
 }
 
-pub(crate) fn driver_show(driver: &fq_driver, device: u32, shown: &mut fq_device_shown) -> u32 {
+pub(crate) fn driver_step_sized(driver: &mut fq_driver, todo: &mut fq_todo) -> u32 {
     // SAFETY: each reference and each slice leads to whole objects, to which no other argument leads.
-    unsafe { fq_driver_show(driver, device, shown) }
+    unsafe { fq_driver_step_sized(driver, todo) }
 }
 
-pub(crate) fn replay(
+pub(crate) fn driver_show_sized(
+    driver: &fq_driver,
+    device: u32,
+    shown: &mut fq_device_shown,
+) -> u32 {
+    // SAFETY: each reference and each slice leads to whole objects, to which no other argument leads.
+    unsafe { fq_driver_show_sized(driver, device, shown) }
+}
+
+pub(crate) fn replay_sized(
     settings: &fq_settings,
     trace: &[u8],
     report: &mut [u8],
@@ -455,7 +454,7 @@ pub(crate) fn replay(
 ) -> u32 {
     // SAFETY: each reference and each slice leads to whole objects, to which no other argument leads.
     unsafe {
-        fq_replay(
+        fq_replay_sized(
             settings,
             trace.as_ptr(),
             trace.len(),
@@ -466,7 +465,7 @@ pub(crate) fn replay(
     }
 }
 
-pub(crate) fn raise(
+pub(crate) fn raise_sized(
     settings: &fq_settings,
     restarts: u32,
     trace: &[u8],
@@ -475,7 +474,7 @@ pub(crate) fn raise(
 ) -> u32 {
     // SAFETY: each reference and each slice leads to whole objects, to which no other argument leads.
     unsafe {
-        fq_raise(
+        fq_raise_sized(
             settings,
             restarts,
             trace.as_ptr(),
@@ -487,12 +486,12 @@ pub(crate) fn raise(
     }
 }
 
-pub(crate) fn machine_default(settings: &mut fq_machine_settings) -> u32 {
+pub(crate) fn machine_default_sized(settings: &mut fq_machine_settings) -> u32 {
     // SAFETY: each reference and each slice leads to whole objects, to which no other argument leads.
-    unsafe { fq_machine_default(settings) }
+    unsafe { fq_machine_default_sized(settings) }
 }
 
-pub(crate) fn machine(
+pub(crate) fn machine_sized(
     settings: &fq_machine_settings,
     arrivals: &[u8],
     report: &mut [u8],
@@ -500,7 +499,7 @@ pub(crate) fn machine(
 ) -> u32 {
     // SAFETY: each reference and each slice leads to whole objects, to which no other argument leads.
     unsafe {
-        fq_machine(
+        fq_machine_sized(
             settings,
             arrivals.as_ptr(),
             arrivals.len(),

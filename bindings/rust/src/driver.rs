@@ -275,7 +275,7 @@ impl Driver {
     /// Returns the state of a device, and the counts of its polls. Fails with [`BAD_DEVICE`](Fault::BAD_DEVICE).
     pub fn shown(&self, device: u32) -> Result<DeviceShown, Fault> {
         let mut shown = sys::fq_device_shown::INIT;
-        let said = calls::driver_show(&self.at.0, device, &mut shown);
+        let said = calls::driver_show_sized(&self.at.0, device, &mut shown);
         Fault::unless_made(said)?;
         Ok(DeviceShown {
             state: match shown.state {

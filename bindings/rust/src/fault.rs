@@ -56,7 +56,7 @@ impl Fault {
     pub const NO_ROOM: Fault = Fault(sys::FQ_NO_ROOM);
     /// Budget and window are 1 to 65535.
     pub const BAD_BUDGET: Fault = Fault(sys::FQ_BAD_BUDGET);
-    /// A shared instance has 2 to 8 seats, a driver 1 to 64 devices.
+    /// A shared instance has 2 to 8 callers, a driver 1 to 64 devices.
     pub const BAD_COUNT: Fault = Fault(sys::FQ_BAD_COUNT);
     /// How a poll ended is 0 to 4 (enum `fq_next`).
     pub const BAD_NEXT: Fault = Fault(sys::FQ_BAD_NEXT);
@@ -122,4 +122,12 @@ pub(crate) fn unexpected(call: &str, status: u32) -> ! {
         "fq_{call} returned {status}: {}",
         sys::fq_status_name(status)
     )
+}
+
+// Returns what a call sets, which returns FQ_OK and nothing else.
+pub(crate) fn set_by<T>(call: &str, mut to: T, make: impl FnOnce(&mut T) -> u32) -> T {
+    match make(&mut to) {
+        sys::FQ_OK => to,
+        said => unexpected(call, said),
+    }
 }

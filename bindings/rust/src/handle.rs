@@ -1,6 +1,6 @@
 //! Objects of the library on the heap.
 use crate::calls;
-use crate::fault::unexpected;
+use crate::fault::set_by;
 use crate::packets::{Answers, Counts, RingShown};
 use crate::sys;
 
@@ -31,7 +31,7 @@ macro_rules! objects {
         }
     )*};
 }
-objects! { fq_ring fq_tx fq_seat fq_control fq_list fq_driver }
+objects! { fq_ring fq_tx fq_caller fq_control fq_list fq_driver }
 
 // Owns an object of the library; its drop abandons the object.
 #[derive(Debug)]
@@ -42,34 +42,28 @@ pub(crate) struct Handle<O: Object>(pub(crate) O);
 // thread's start and join do.
 unsafe impl<O: Object> Send for Handle<O> {}
 
-impl Handle<sys::fq_seat> {
+impl Handle<sys::fq_caller> {
     // Reads the state word, for a caller.
     pub(crate) fn look(&mut self) -> u64 {
-        let mut word = 0;
-        match calls::seat_look(self.raw(), &mut word) {
-            sys::FQ_OK => word,
-            said => unexpected("seat_look", said),
-        }
+        set_by("caller_look", 0, |word| {
+            calls::caller_look(self.raw(), word)
+        })
     }
 
     // The counts of the results of a caller's calls.
     pub(crate) fn answers(&self) -> Answers {
-        let mut answers = Answers::default();
-        match calls::seat_count(&self.0, &mut answers) {
-            sys::FQ_OK => answers,
-            said => unexpected("seat_count", said),
-        }
+        set_by("caller_count", Answers::INIT, |answers| {
+            calls::caller_count_sized(&self.0, answers)
+        })
     }
 }
 
 impl Handle<sys::fq_ring> {
     // The state of the input of a ring.
     pub(crate) fn shown(&self) -> RingShown {
-        let mut shown = RingShown::default();
-        match calls::ring_show(&self.0, &mut shown) {
-            sys::FQ_OK => shown,
-            said => unexpected("ring_show", said),
-        }
+        set_by("ring_show", RingShown::INIT, |shown| {
+            calls::ring_show_sized(&self.0, shown)
+        })
     }
 }
 
@@ -79,11 +73,9 @@ impl<O: Object> Handle<O> {
 
     // The counts of a ring's polls, for an object that has its poll end.
     pub(crate) fn counts(&self) -> Counts {
-        let mut counts = Counts::default();
-        match calls::count(self.0.handle(), &mut counts) {
-            sys::FQ_OK => counts,
-            said => unexpected("count", said),
-        }
+        set_by("count", Counts::INIT, |counts| {
+            calls::count_sized(self.0.handle(), counts)
+        })
     }
 
     // Returns the handle for a call.

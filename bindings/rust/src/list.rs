@@ -1,6 +1,6 @@
 //! Poll lists, and runs over them.
 use crate::calls;
-use crate::fault::{unexpected, Fault};
+use crate::fault::{set_by, unexpected, Fault};
 use crate::handle::Handle;
 use crate::packets::Weight;
 use crate::sys;
@@ -46,11 +46,7 @@ impl List {
 
     /// Returns how many numbers the list holds, including those of a run over it.
     pub fn len(&self) -> usize {
-        let mut len = 0;
-        match calls::list_len(&self.at.0, &mut len) {
-            sys::FQ_OK => len as usize,
-            said => unexpected("list_len", said),
-        }
+        set_by("list_len", 0, |len| calls::list_len(&self.at.0, len)) as usize
     }
 
     /// Returns whether the list is empty.
@@ -130,8 +126,8 @@ impl<'l> Run<'l> {
     }
 
     fn end(&mut self) -> Result<RunReport, Fault> {
-        let mut report = RunReport::default();
-        let said = calls::run_end(self.list.at.raw(), &mut report);
+        let mut report = RunReport::INIT;
+        let said = calls::run_end_sized(self.list.at.raw(), &mut report);
         Fault::unless_made(said)?;
         Ok(report)
     }

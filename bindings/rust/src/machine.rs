@@ -1,6 +1,6 @@
 //! A machine that receives packets over simulated time.
 use crate::calls;
-use crate::fault::Fault;
+use crate::fault::{set_by, Fault};
 use crate::sys;
 use std::error::Error;
 use std::fmt;
@@ -11,11 +11,11 @@ pub use crate::sys::fq_machine_settings as MachineSettings;
 impl Default for MachineSettings {
     /// Returns the defaults of `napi_machine`.
     fn default() -> MachineSettings {
-        let mut settings = MachineSettings::INIT;
-        match calls::machine_default(&mut settings) {
-            sys::FQ_OK => settings,
-            said => crate::fault::unexpected("machine_default", said),
-        }
+        set_by(
+            "machine_default",
+            MachineSettings::INIT,
+            calls::machine_default_sized,
+        )
     }
 }
 
@@ -58,7 +58,7 @@ impl Error for MachineFault {}
 /// use fintaqush::{machine, MachineFault, MachineSettings};
 ///
 /// let settings = MachineSettings { rx_nsecs: 50_000, ..MachineSettings::default() };
-/// let report = machine(b"moment,device,bytes\n1000,1,60\n", &settings).unwrap();
+/// let report = machine(b"ns,device,bytes\n1000,1,60\n", &settings).unwrap();
 /// assert!(report.starts_with(b"device 1 arrived 1 dropped 0 polled 1 "));
 ///
 /// let refused = machine(b"", &settings).unwrap_err();
@@ -70,7 +70,7 @@ pub fn machine(arrivals: &[u8], settings: &MachineSettings) -> Result<Vec<u8>, M
     let mut report = vec![0; 4096];
     let mut ran = sys::fq_machine_ran::INIT;
     loop {
-        let said = calls::machine(settings, arrivals, &mut report, &mut ran);
+        let said = calls::machine_sized(settings, arrivals, &mut report, &mut ran);
         match said {
             sys::FQ_NO_ROOM => report.resize(ran.length, 0),
             sys::FQ_BAD_SETTING => return Err(MachineFault::Setting(ran.setting)),

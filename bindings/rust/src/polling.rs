@@ -26,7 +26,7 @@ use std::sync::atomic::{fence, Ordering};
 #[derive(Debug)]
 #[must_use = "an instance whose poller is dropped is polled by nobody"]
 pub struct Polling {
-    pub(crate) at: Handle<sys::fq_seat>,
+    pub(crate) at: Handle<sys::fq_caller>,
 }
 
 impl Polling {
@@ -52,9 +52,9 @@ impl Polling {
 
     /// Queues the instance at the end of the list again (`net_rx_action`, after a poll of the whole weight).
     pub fn requeue(mut self) -> Caller {
-        match calls::seat_requeue(self.at.raw()) {
+        match calls::caller_requeue(self.at.raw()) {
             sys::FQ_OK => Caller { at: self.at },
-            said => unexpected("seat_requeue", said),
+            said => unexpected("caller_requeue", said),
         }
     }
 
@@ -64,10 +64,10 @@ impl Polling {
     /// poll from the list.
     pub fn end(mut self, full: bool) -> End {
         let mut next = 0;
-        match calls::seat_end(self.at.raw(), full, &mut next) {
-            sys::FQ_OK => End::Over(Caller { at: self.at }, Next::of("seat_end", next)),
+        match calls::caller_end(self.at.raw(), full, &mut next) {
+            sys::FQ_OK => End::Over(Caller { at: self.at }, Next::of("caller_end", next)),
             sys::FQ_HELD => End::Held(self),
-            said => unexpected("seat_end", said),
+            said => unexpected("caller_end", said),
         }
     }
 
@@ -115,30 +115,30 @@ impl Polling {
 
     /// Tries once to end the poll (`napi_complete_done`). It doesn't wait.
     pub fn try_complete(mut self) -> TryDone {
-        match calls::seat_complete(self.at.raw()) {
+        match calls::caller_complete(self.at.raw()) {
             sys::FQ_RELEASED => TryDone::Released(Caller { at: self.at }),
             sys::FQ_AGAIN => TryDone::Again(Granted { at: self.at }),
             sys::FQ_CHANGED => TryDone::Changed(self),
-            said => unexpected("seat_complete", said),
+            said => unexpected("caller_complete", said),
         }
     }
 
     /// Ends the poll, and retries until an attempt decides (`napi_complete_done`).
     pub fn complete(mut self) -> Completed {
-        match calls::seat_complete_done(self.at.raw()) {
+        match calls::caller_complete_done(self.at.raw()) {
             sys::FQ_RELEASED => Completed::Released(Caller { at: self.at }),
             sys::FQ_AGAIN => Completed::Again(Granted { at: self.at }),
-            said => unexpected("seat_complete_done", said),
+            said => unexpected("caller_complete_done", said),
         }
     }
 }
 
 // Polls with a handle that has the poll context.
 pub(crate) fn poll<'b>(
-    at: &mut Handle<sys::fq_seat>,
+    at: &mut Handle<sys::fq_caller>,
     weight: Weight,
     batch: &'b mut Batch,
 ) -> &'b [Packet] {
     let at = at.raw();
-    batch.filled_by(|out, count| calls::seat_poll(at, weight.get(), out, count))
+    batch.filled_by(|out, count| calls::caller_poll(at, weight.get(), out, count))
 }

@@ -63,7 +63,7 @@ impl Error for NoReport {}
 /// assert_eq!(refused.to_string(), "trace fault 1 BadHeader row 0");
 /// ```
 pub fn replay(trace: &[u8], settings: &Settings) -> Result<Vec<u8>, NoReport> {
-    written(|out, replayed| calls::replay(settings, trace, out, replayed))
+    written(|out, replayed| calls::replay_sized(settings, trace, out, replayed))
 }
 
 /// Adds to a trace the runs that the kernel would make with these settings, as `fintaqush raise` does, and returns the trace.
@@ -97,7 +97,7 @@ pub fn raise_runs(
     restarts: Option<u32>,
 ) -> Result<Vec<u8>, NoReport> {
     let restarts = restarts.unwrap_or(sys::FQ_UNTIL_EMPTY);
-    written(|out, replayed| calls::raise(settings, restarts, trace, out, replayed))
+    written(|out, replayed| calls::raise_sized(settings, restarts, trace, out, replayed))
 }
 
 // Returns what a call writes to an array of this many bytes, which grows until there is room.

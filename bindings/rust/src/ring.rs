@@ -1,6 +1,6 @@
 //! Receive rings.
 use crate::calls;
-use crate::fault::{unexpected, Fault};
+use crate::fault::{set_by, unexpected, Fault};
 use crate::handle::Handle;
 use crate::packets::{Batch, Counts, Packet, RingShown, Totals, Weight};
 use crate::sys;
@@ -96,11 +96,9 @@ impl Ring {
 
     /// Finishes the ring, and returns its totals.
     pub fn finish(mut self) -> Totals {
-        let mut totals = Totals::default();
-        match calls::ring_finish(self.at.raw(), &mut totals) {
-            sys::FQ_OK => totals,
-            said => unexpected("ring_finish", said),
-        }
+        set_by("ring_finish", Totals::INIT, |totals| {
+            calls::ring_finish_sized(self.at.raw(), totals)
+        })
     }
 }
 

@@ -44,12 +44,16 @@ impl<const CALLERS: usize> Shared<CALLERS> {
     pub fn new(capacity: usize) -> Result<Shared<CALLERS>, Fault> {
         let mut ring = Ring::new(capacity)?;
         let mut control = Handle::NONE;
-        let mut seats = [<sys::fq_seat as Object>::UNSET; CALLERS];
-        Fault::unless_made(calls::shared_new(ring.at.raw(), control.raw(), &mut seats))?;
+        let mut callers = [<sys::fq_caller as Object>::UNSET; CALLERS];
+        Fault::unless_made(calls::shared_new(
+            ring.at.raw(),
+            control.raw(),
+            &mut callers,
+        ))?;
         Ok(Shared {
             input: Input { at: ring.at },
             control: Control::of(control),
-            callers: seats.map(|at| Caller { at: Handle(at) }),
+            callers: callers.map(|at| Caller { at: Handle(at) }),
         })
     }
 }
@@ -69,11 +73,11 @@ impl<const CALLERS: usize> Bare<CALLERS> {
     /// [`OUT_OF_MEMORY`](Fault::OUT_OF_MEMORY).
     pub fn new() -> Result<Bare<CALLERS>, Fault> {
         let mut control = Handle::NONE;
-        let mut seats = [<sys::fq_seat as Object>::UNSET; CALLERS];
-        Fault::unless_made(calls::shared_bare(control.raw(), &mut seats))?;
+        let mut callers = [<sys::fq_caller as Object>::UNSET; CALLERS];
+        Fault::unless_made(calls::shared_bare(control.raw(), &mut callers))?;
         Ok(Bare {
             control: Control::of(control),
-            callers: seats.map(|at| Caller { at: Handle(at) }),
+            callers: callers.map(|at| Caller { at: Handle(at) }),
         })
     }
 }

@@ -1,5 +1,5 @@
-//! `include/fintaqush.h` in Rust: its numbers, structs and functions. The head of the header says what it requires of its
-//! caller; the other modules of this crate meet that. `scripts/abi.py` writes this file.
+//! `include/fintaqush.h` in Rust: its numbers, structs and functions. The head of the header says what it requires of
+//! the program; the other modules of this crate meet that. `scripts/abi.py` writes this file.
 #![allow(non_camel_case_types)]
 
 mod functions;
@@ -65,7 +65,7 @@ pub const FQ_BAD_WEIGHT: u32 = 114;
 pub const FQ_NO_ROOM: u32 = 115;
 /// Budget and window are 1 to 65535.
 pub const FQ_BAD_BUDGET: u32 = 116;
-/// A shared instance has 2 to 8 seats, a driver 1 to 64 devices.
+/// A shared instance has 2 to 8 callers, a driver 1 to 64 devices.
 pub const FQ_BAD_COUNT: u32 = 117;
 /// How a poll ended is 0 to 4 (enum `fq_next`).
 pub const FQ_BAD_NEXT: u32 = 118;
@@ -90,24 +90,8 @@ pub const FQ_STRUCT_DQL: u32 = 1;
 pub const FQ_STRUCT_NAPI: u32 = 2;
 /// `FQ_STRUCT_PACKET` of `enum fq_struct`.
 pub const FQ_STRUCT_PACKET: u32 = 3;
-/// `FQ_STRUCT_COUNTS` of `enum fq_struct`.
-pub const FQ_STRUCT_COUNTS: u32 = 4;
-/// `FQ_STRUCT_TOTALS` of `enum fq_struct`.
-pub const FQ_STRUCT_TOTALS: u32 = 5;
-/// `FQ_STRUCT_RING_SHOWN` of `enum fq_struct`.
-pub const FQ_STRUCT_RING_SHOWN: u32 = 6;
-/// `FQ_STRUCT_TX_SHOWN` of `enum fq_struct`.
-pub const FQ_STRUCT_TX_SHOWN: u32 = 7;
-/// `FQ_STRUCT_ANSWERS` of `enum fq_struct`.
-pub const FQ_STRUCT_ANSWERS: u32 = 8;
-/// `FQ_STRUCT_RUN_REPORT` of `enum fq_struct`.
-pub const FQ_STRUCT_RUN_REPORT: u32 = 9;
-/// `FQ_STRUCT_TODO` of `enum fq_struct`.
-pub const FQ_STRUCT_TODO: u32 = 10;
-/// `FQ_STRUCT_DEVICE_SHOWN` of `enum fq_struct`.
-pub const FQ_STRUCT_DEVICE_SHOWN: u32 = 11;
 /// `FQ_STRUCT_TX_WATCHDOG` of `enum fq_struct`.
-pub const FQ_STRUCT_TX_WATCHDOG: u32 = 12;
+pub const FQ_STRUCT_TX_WATCHDOG: u32 = 4;
 
 /// On a poll list.
 pub const FQ_LIST: u32 = 0;
@@ -260,7 +244,7 @@ pub struct fq_tx {
 /// `fq_free(&ring.handle)`. A caller of a shared instance.
 #[repr(C)]
 #[derive(Debug)]
-pub struct fq_seat {
+pub struct fq_caller {
     pub(crate) handle: fq_handle,
 }
 
@@ -292,7 +276,7 @@ pub struct fq_driver {
 #[repr(C)]
 #[derive(Clone, Copy, Debug, Default, PartialEq, Eq)]
 pub struct fq_packet {
-    /// A number that the caller chooses: an index, a pointer.
+    /// A number that the program chooses: an index, a pointer.
     pub number: u64,
     /// Its size in bytes.
     pub bytes: u32,
@@ -300,8 +284,10 @@ pub struct fq_packet {
 
 /// The counts of a ring's polls, each of which saturates at its maximum.
 #[repr(C)]
-#[derive(Clone, Copy, Debug, Default, PartialEq, Eq)]
+#[derive(Clone, Copy, Debug, PartialEq, Eq)]
 pub struct fq_counts {
+    /// The size of this struct.
+    pub size: usize,
     /// The polls.
     pub polls: u64,
     /// The packets that they returned.
@@ -310,10 +296,22 @@ pub struct fq_counts {
     pub bytes: u64,
 }
 
+impl fq_counts {
+    /// Its size, and zeros.
+    pub const INIT: fq_counts = fq_counts {
+        size: std::mem::size_of::<fq_counts>(),
+        polls: 0,
+        packets: 0,
+        bytes: 0,
+    };
+}
+
 /// The counts of a whole ring, each of which saturates at its maximum.
 #[repr(C)]
-#[derive(Clone, Copy, Debug, Default, PartialEq, Eq)]
+#[derive(Clone, Copy, Debug, PartialEq, Eq)]
 pub struct fq_totals {
+    /// The size of this struct.
+    pub size: usize,
     /// The packets that were put.
     pub put: u64,
     /// The packets that polls returned.
@@ -324,20 +322,44 @@ pub struct fq_totals {
     pub bytes: u64,
 }
 
+impl fq_totals {
+    /// Its size, and zeros.
+    pub const INIT: fq_totals = fq_totals {
+        size: std::mem::size_of::<fq_totals>(),
+        put: 0,
+        polled: 0,
+        left: 0,
+        bytes: 0,
+    };
+}
+
 /// The state of a ring, or of its input.
 #[repr(C)]
-#[derive(Clone, Copy, Debug, Default, PartialEq, Eq)]
+#[derive(Clone, Copy, Debug, PartialEq, Eq)]
 pub struct fq_ring_shown {
+    /// The size of this struct.
+    pub size: usize,
     /// The packets put so far, a count that saturates; minus the packets of `fq_count`, it is the number in the ring.
     pub put: u64,
     /// In packets.
     pub capacity: usize,
 }
 
+impl fq_ring_shown {
+    /// Its size, and zeros.
+    pub const INIT: fq_ring_shown = fq_ring_shown {
+        size: std::mem::size_of::<fq_ring_shown>(),
+        put: 0,
+        capacity: 0,
+    };
+}
+
 /// The state of a transmit ring.
 #[repr(C)]
-#[derive(Clone, Copy, Debug, Default, PartialEq, Eq)]
+#[derive(Clone, Copy, Debug, PartialEq, Eq)]
 pub struct fq_tx_shown {
+    /// The size of this struct.
+    pub size: usize,
     /// The bytes of all packets ever sent, modulo 2^32.
     pub queued: u32,
     /// The bytes of all packets ever completed, modulo 2^32: queued - completed are in flight.
@@ -350,6 +372,18 @@ pub struct fq_tx_shown {
     pub stopped: bool,
 }
 
+impl fq_tx_shown {
+    /// Its size, and zeros.
+    pub const INIT: fq_tx_shown = fq_tx_shown {
+        size: std::mem::size_of::<fq_tx_shown>(),
+        queued: 0,
+        completed: 0,
+        limit: 0,
+        avail: 0,
+        stopped: false,
+    };
+}
+
 /// What a driver's watchdog timer keeps about a transmit ring (`dev_watchdog`): all 0 at first.
 #[repr(C)]
 #[derive(Clone, Copy, Debug, Default, PartialEq, Eq)]
@@ -359,10 +393,12 @@ pub struct fq_tx_watchdog {
     pub(crate) private_since: u64,
 }
 
-/// How often a seat's calls returned each result. Each count saturates at its maximum.
+/// How often a caller's calls returned each result. Each count saturates at its maximum.
 #[repr(C)]
-#[derive(Clone, Copy, Debug, Default, PartialEq, Eq)]
+#[derive(Clone, Copy, Debug, PartialEq, Eq)]
 pub struct fq_answers {
+    /// The size of this struct.
+    pub size: usize,
     /// Requests that were granted.
     pub granted: u64,
     /// Requests that were missed.
@@ -379,10 +415,26 @@ pub struct fq_answers {
     pub changed: u64,
 }
 
+impl fq_answers {
+    /// Its size, and zeros.
+    pub const INIT: fq_answers = fq_answers {
+        size: std::mem::size_of::<fq_answers>(),
+        granted: 0,
+        missed: 0,
+        disabled: 0,
+        released: 0,
+        again: 0,
+        held: 0,
+        changed: 0,
+    };
+}
+
 /// The report of a polling run.
 #[repr(C)]
-#[derive(Clone, Copy, Debug, Default, PartialEq, Eq)]
+#[derive(Clone, Copy, Debug, PartialEq, Eq)]
 pub struct fq_run_report {
+    /// The size of this struct.
+    pub size: usize,
     /// The polls, at most the window.
     pub polls: u32,
     /// The packets of all polls.
@@ -391,11 +443,21 @@ pub struct fq_run_report {
     pub squeezed: bool,
 }
 
+impl fq_run_report {
+    /// Its size, and zeros.
+    pub const INIT: fq_run_report = fq_run_report {
+        size: std::mem::size_of::<fq_run_report>(),
+        polls: 0,
+        work: 0,
+        squeezed: false,
+    };
+}
+
 /// An action that has to be done.
 #[repr(C)]
 #[derive(Clone, Copy, Debug, PartialEq, Eq)]
 pub struct fq_todo {
-    /// The size of this struct, which `fq_driver_next` and `fq_driver_step` set, because it may grow.
+    /// The size of this struct.
     pub size: usize,
     /// The number under which to report it: each action has another one; 0 if there is nothing to report.
     pub number: u64,
@@ -405,13 +467,13 @@ pub struct fq_todo {
     pub device: u32,
     /// The packets that a fetch may take, the driver's weight; 0 for anything else.
     pub most: u32,
-    /// Set by the caller after a look and a fetch; before that 1 for a look, so that packets aren't forgotten, else
+    /// Set by the program after a look and a fetch; before that 1 for a look, so that packets aren't forgotten, else
     /// 0.
     pub packets: u32,
-    /// The report of the run that ended; all 0 for anything else.
-    pub run: fq_run_report,
     /// The error after `FQ_TODO_FAILED`, otherwise `FQ_OK`.
     pub status: u32,
+    /// The report of the run that ended; its numbers are 0 for anything else.
+    pub run: fq_run_report,
 }
 
 impl fq_todo {
@@ -423,12 +485,13 @@ impl fq_todo {
         device: 0,
         most: 0,
         packets: 0,
+        status: 0,
         run: fq_run_report {
+            size: std::mem::size_of::<fq_run_report>(),
             polls: 0,
             work: 0,
             squeezed: false,
         },
-        status: 0,
     };
 }
 
@@ -436,7 +499,7 @@ impl fq_todo {
 #[repr(C)]
 #[derive(Clone, Copy, Debug, PartialEq, Eq)]
 pub struct fq_device_shown {
-    /// The size of this struct, which the caller sets.
+    /// The size of this struct.
     pub size: usize,
     /// The device's state: a number of enum `fq_device_state`.
     pub state: u32,
@@ -467,7 +530,7 @@ impl fq_device_shown {
 #[repr(C)]
 #[derive(Clone, Copy, Debug, PartialEq, Eq)]
 pub struct fq_settings {
-    /// The size of this struct, which the caller sets.
+    /// The size of this struct.
     pub size: usize,
     /// Packets that a run polls before it is squeezed, 1 to 65535 (`netdev_budget`).
     pub budget: u32,
@@ -491,7 +554,7 @@ impl fq_settings {
 #[repr(C)]
 #[derive(Clone, Copy, Debug, PartialEq, Eq)]
 pub struct fq_replayed {
-    /// The size of this struct, which the caller sets.
+    /// The size of this struct.
     pub size: usize,
     /// The length of the report or trace in bytes, even if there is no room for it; 0 if there is none.
     pub length: usize,
@@ -516,7 +579,7 @@ impl fq_replayed {
 #[repr(C)]
 #[derive(Clone, Copy, Debug, PartialEq, Eq)]
 pub struct fq_machine_settings {
-    /// The size of this struct, which the caller sets.
+    /// The size of this struct.
     pub size: usize,
     /// Processors that receive; queue q belongs to processor (q - 1) mod N, and each serves at most 64 queues, 1 to
     /// 64 (1).
@@ -609,7 +672,7 @@ impl fq_machine_settings {
 #[repr(C)]
 #[derive(Clone, Copy, Debug, PartialEq, Eq)]
 pub struct fq_machine_ran {
-    /// The size of this struct, which the caller sets.
+    /// The size of this struct.
     pub size: usize,
     /// The length of the report in bytes, even if there is no room for it; 0 if there is none.
     pub length: usize,

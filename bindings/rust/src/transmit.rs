@@ -1,6 +1,6 @@
 //! Transmit rings under a byte queue limit.
 use crate::calls;
-use crate::fault::{unexpected, Fault};
+use crate::fault::{set_by, Fault};
 use crate::handle::Handle;
 use crate::sys;
 
@@ -67,19 +67,15 @@ impl TxRing {
     /// Returns whether it has been stopped, with no byte completed, for `limit_ms` since the first call that found it stopped
     /// (`dev_watchdog`): call it in each tick of a timer.
     pub fn watch(&self, watchdog: &mut TxWatchdog, limit_ms: u64, now_ms: u64) -> bool {
-        let (at, mut stuck) = (&self.at.0, false);
-        match calls::tx_watch(at, watchdog, limit_ms, now_ms, &mut stuck) {
-            sys::FQ_OK => stuck,
-            said => unexpected("tx_watch", said),
-        }
+        set_by("tx_watch", false, |stuck| {
+            calls::tx_watch(&self.at.0, watchdog, limit_ms, now_ms, stuck)
+        })
     }
 
     /// Returns the state of the ring.
     pub fn state(&self) -> TxState {
-        let mut state = TxState::default();
-        match calls::tx_state(&self.at.0, &mut state) {
-            sys::FQ_OK => state,
-            said => unexpected("tx_state", said),
-        }
+        set_by("tx_state", TxState::INIT, |state| {
+            calls::tx_state_sized(&self.at.0, state)
+        })
     }
 }

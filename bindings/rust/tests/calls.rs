@@ -92,6 +92,7 @@ fn a_transmit_ring_is_stopped_by_its_limit_and_started_again() {
         limit: 1000,
         avail: -200,
         stopped: true,
+        ..TxState::INIT
     };
     assert_eq!(ring.state(), over);
     assert_eq!(ring.send(1), Err(Fault::STOPPED));
@@ -349,6 +350,7 @@ fn runs_poll_four_devices_in_turn() {
             polls,
             work,
             squeezed,
+            ..
         } = report.unwrap();
         let squeezed = if squeezed { ", squeezed" } else { "" };
         writeln!(told, " - {polls} polls, {work} packets{squeezed}").unwrap();
@@ -838,14 +840,6 @@ fn the_structs_have_the_sizes_that_the_library_tells() {
     assert_eq!(told(FQ_STRUCT_DQL), size_of::<fq_dql>());
     assert_eq!(told(FQ_STRUCT_NAPI), size_of::<fq_napi>());
     assert_eq!(told(FQ_STRUCT_PACKET), size_of::<fq_packet>());
-    assert_eq!(told(FQ_STRUCT_COUNTS), size_of::<fq_counts>());
-    assert_eq!(told(FQ_STRUCT_TOTALS), size_of::<fq_totals>());
-    assert_eq!(told(FQ_STRUCT_RING_SHOWN), size_of::<fq_ring_shown>());
-    assert_eq!(told(FQ_STRUCT_TX_SHOWN), size_of::<fq_tx_shown>());
-    assert_eq!(told(FQ_STRUCT_ANSWERS), size_of::<fq_answers>());
-    assert_eq!(told(FQ_STRUCT_RUN_REPORT), size_of::<fq_run_report>());
-    assert_eq!(told(FQ_STRUCT_TODO), size_of::<fq_todo>());
-    assert_eq!(told(FQ_STRUCT_DEVICE_SHOWN), size_of::<fq_device_shown>());
     assert_eq!(told(FQ_STRUCT_TX_WATCHDOG), size_of::<fq_tx_watchdog>());
     assert_eq!(told(FQ_STRUCT_TX_WATCHDOG + 1), 0);
 }
@@ -1025,7 +1019,7 @@ fn the_machine_reports_what_its_program_does() {
         report,
         include_bytes!("../../../crates/napi_machine/stdout")
     );
-    let falls = machine(b"moment,device,bytes\n5,1,60\n4,1,60\n", &settings).unwrap_err();
+    let falls = machine(b"ns,device,bytes\n5,1,60\n4,1,60\n", &settings).unwrap_err();
     let message = "arrivals fault 8 Falls row 2".to_string();
     assert_eq!(falls.to_string(), message);
     assert_eq!(
@@ -1058,7 +1052,7 @@ fn the_machine_reports_what_its_program_does() {
     let many: String = (0..4000)
         .map(|i| format!("{i},{},60\n", i % 64 + 1))
         .collect();
-    let many = format!("moment,device,bytes\n{many}");
+    let many = format!("ns,device,bytes\n{many}");
     assert!(machine(many.as_bytes(), &settings).unwrap().len() > 4096);
 }
 

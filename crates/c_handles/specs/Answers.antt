@@ -5,7 +5,7 @@ use Rattle.{rx_ring.specs.ReceiveRing.capped, c_handles.specs.Status.{GRANTED, M
 use Rattle.c_handles.specs.{Status.{DISABLED, RELEASED, AGAIN, HELD, CHANGED}, declared.answers.FqAnswers.FqAnswers}
 
 abbrev pub no_answers : FqAnswers
-no_answers = record { granted = 0; missed = 0; disabled = 0; released = 0; again = 0; held = 0; changed = 0 }
+no_answers = record { size = 64; granted = 0; missed = 0; disabled = 0; released = 0; again = 0; held = 0; changed = 0 }
 
 -- the count of one result, after a call that returned this status
 abbrev pub one_more : ℕ → ℕ → ℕ → ℕ
@@ -13,6 +13,7 @@ one_more of said count = if said == of then capped (count + 1) else count
 
 abbrev pub count_answer : ℕ → FqAnswers → FqAnswers
 count_answer said a = record {
+  size = a.size;
   granted = one_more GRANTED said a.granted;
   missed = one_more MISSED said a.missed;
   disabled = one_more DISABLED said a.disabled;

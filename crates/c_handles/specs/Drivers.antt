@@ -32,7 +32,7 @@ pub record IsNewDriver (devices budget weight window salt : ℕ) (d : Driver) : 
 -- ---- what the driver asks for (`struct fq_todo`, `enum fq_what`)
 
 abbrev pub no_run : FqRunReport
-no_run = record { polls = 0; work = 0; squeezed = false }
+no_run = record { size = 24; polls = 0; work = 0; squeezed = false }
 
 -- the number of an action in C
 abbrev pub what_in : What → ℕ
@@ -60,7 +60,7 @@ unset_packets (Look id) = 1
 unset_packets _ = 0
 
 abbrev pub todo_run_in : What → FqRunReport
-todo_run_in (Ended r) = record { polls = r.polls; work = r.work; squeezed = r.squeezed }
+todo_run_in (Ended r) = record { size = 24; polls = r.polls; work = r.work; squeezed = r.squeezed }
 todo_run_in _ = no_run
 
 abbrev pub todo_in : ℕ → ℕ → What → FqTodo
@@ -71,8 +71,8 @@ todo_in size number what = record {
   device = device_in what;
   most = most_in what;
   packets = unset_packets what;
-  run = todo_run_in what;
   status = OK;
+  run = todo_run_in what;
 }
 
 -- a call failed with this status, and there is nothing to do
@@ -84,8 +84,8 @@ failed_in size status = record {
   device = 0;
   most = 0;
   packets = 0;
-  run = no_run;
   status = status;
+  run = no_run;
 }
 
 -- what a step leaves in the struct, which has the next action unless a fetch took too many packets

@@ -3,4 +3,4 @@ use Rattle.{std.specs.Prelude.length, rx_ring.specs.{ReceiveRing.capped, Ends.{p
 use Rattle.c_handles.specs.declared.input.FqRingShown.{FqRingShown}
 
 abbrev pub shown_of : RxIn → FqRingShown
-shown_of end = record { put = capped (length (put_list end)); capacity = capacity_of end }
+shown_of end = record { size = 24; put = capped (length (put_list end)); capacity = capacity_of end }

@@ -3,11 +3,14 @@ ghost use Rattle.std.specs.Prelude.{◌≡◌};
 ghost use Rattle.c_handles.specs.Answers.{no_answers, count_answer};
 
 use crate::status;
+use std::mem::size_of;
 
 /// The counts of the results of one caller's calls: `struct fq_answers`. Each count saturates.
 #[repr(C)]
 #[derive(Clone, Copy)]
 pub struct FqAnswers {
+    /// The size of this struct in bytes.
+    pub size: usize,
     /// Requests that were granted.
     pub granted: u64,
     /// Requests that were missed.
@@ -30,6 +33,7 @@ impl FqAnswers {
         ensures { result ≡ no_answers }
     {
         FqAnswers {
+            size: size_of::<FqAnswers>(),
             granted: 0,
             missed: 0,
             disabled: 0,

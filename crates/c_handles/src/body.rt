@@ -33,7 +33,7 @@ pub enum Object {
     List(Box<ListObject, Global>),
     /// A driver.
     Driver(Box<Driver, Global>),
-    /// A caller of a shared instance (`fq_seat_..` in C).
+    /// A caller of a shared instance (`fq_caller_..` in C).
     Seat(CallerObject),
     /// The controller of a shared instance.
     Controller(Controller),

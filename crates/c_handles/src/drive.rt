@@ -8,12 +8,13 @@ use crate::lister::FqRunReport;
 use crate::status;
 use driver_core::{Driver, DriverDevice, Refused, Stage, Todo, TodoPlace, What};
 use napi_model::Prep;
+use std::mem::size_of;
 
 /// What a driver has to do: `struct fq_todo`.
 #[repr(C)]
 #[derive(Clone, Copy)]
 pub struct FqTodo {
-    /// Its size in bytes, as the caller knows it.
+    /// The size of this struct in bytes.
     pub size: usize,
     /// The number under which to report it; 0 if there is nothing to report.
     pub number: u64,
@@ -25,17 +26,17 @@ pub struct FqTodo {
     pub most: u32,
     /// The packets that a fetch took, or a look found: set by the caller.
     pub packets: u32,
-    /// The report of a run that ended.
-    pub run: FqRunReport,
     /// Why the call failed, if there is nothing to do because of that.
     pub status: u32,
+    /// The report of a run that ended.
+    pub run: FqRunReport,
 }
 
 /// The state of a device, for display: `struct fq_device_shown`.
 #[repr(C)]
 #[derive(Clone, Copy)]
 pub struct FqDeviceShown {
-    /// Its size in bytes, as the caller knows it.
+    /// The size of this struct in bytes.
     pub size: usize,
     /// Closed, open or being stopped (`enum fq_device_state`).
     pub state: u32,
@@ -50,6 +51,7 @@ pub struct FqDeviceShown {
 }
 
 const NO_RUN: FqRunReport = FqRunReport {
+    size: size_of::<FqRunReport>(),
     polls: 0,
     work: 0,
     squeezed: false,
@@ -104,6 +106,7 @@ fn todo_run_in(what: What) -> FqRunReport
 {
     match what {
         What::Ended(report) => FqRunReport {
+            size: size_of::<FqRunReport>(),
             polls: report.polls,
             work: report.work,
             squeezed: report.squeezed,
@@ -127,6 +130,7 @@ impl TodoPlace for FqTodo {
         self.device = device;
         self.most = most;
         self.packets = unset_packets(what);
+        self.run.size = run.size;
         self.run.polls = run.polls;
         self.run.work = run.work;
         self.run.squeezed = run.squeezed;
@@ -149,8 +153,8 @@ impl FqTodo {
             device: 0,
             most: 0,
             packets: 0,
-            run: NO_RUN,
             status,
+            run: NO_RUN,
         };
         status
     }

@@ -7,11 +7,14 @@ ghost use Rattle.c_handles.specs.Status.{FULL, OK};
 
 use crate::status;
 use rx_ring::{Packet, RxIn};
+use std::mem::size_of;
 
 /// The state of a ring's input: `struct fq_ring_shown`.
 #[repr(C)]
 #[derive(Clone, Copy)]
 pub struct FqRingShown {
+    /// The size of this struct in bytes.
+    pub size: usize,
     /// The packets that were put so far; the count saturates.
     pub put: u64,
     /// How many packets the ring can hold.
@@ -23,6 +26,7 @@ pub struct FqRingShown {
 pub struct RingInput {
     end: RxIn,
     shown: FqRingShown,
+    ghost size: { shown.size ≡ 24 },
     ghost capacity: { shown.capacity ≡ capacity_of end },
     ghost put: { shown.put ≡ capped (length (put_list end)) },
 }
@@ -34,7 +38,11 @@ impl RingInput {
         requires empty { put_list end ≡ [] }
         ensures { result.end ≡ end }
     {
-        let shown = FqRingShown { put: 0, capacity };
+        let shown = FqRingShown {
+            size: size_of::<FqRingShown>(),
+            put: 0,
+            capacity,
+        };
         RingInput { end, shown }
     }
 

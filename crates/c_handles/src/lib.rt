@@ -1,6 +1,6 @@
 //! The objects of C's handles: what a handle refers to, how its object is lent to a call or taken out, and the effect of calls
-//! on the callers and the controller of a shared instance and on a poll list, in every state. In C a caller of a shared
-//! instance is called a seat (`fq_seat_..`), and names here follow that. The exports are in `napi_c`.
+//! on the callers and the controller of a shared instance and on a poll list, in every state. Names here call a caller of a
+//! shared instance (`fq_caller_..`) a seat. The exports are in `napi_c`.
 #![tactic(auto)]
 
 mod answers;

@@ -10,6 +10,8 @@ use poll_runs::{PlainList, PollingRun};
 #[repr(C)]
 #[derive(Clone, Copy)]
 pub struct FqRunReport {
+    /// The size of this struct in bytes.
+    pub size: usize,
     /// The number of polls, at most the window.
     pub polls: u32,
     /// The packets of all polls together.

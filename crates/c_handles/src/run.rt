@@ -11,6 +11,7 @@ use crate::lister::{FqRunReport, ListObject};
 use crate::status;
 use napi_model::Kind;
 use poll_runs::{Next, Once, PlainList, PollList, PollingRun};
+use std::mem::size_of;
 
 // Returns how a poll ended, from its number in C (`enum fq_next`).
 fn next_of(number: u32) -> Option<Next>
@@ -220,6 +221,7 @@ impl ListObject {
             → IsRunOf budget window start polls self.new.list report.new }
         ensures early { (start : _) (polls : List Poll) → result ≡ OK → Runs start polls self.old
             → (report.new.polls ≡ length polls) × (report.new.work ≡ work_of polls) }
+        ensures size { result ≡ OK → report.new.size ≡ 24 }
         ensures squeezed { result ≡ OK → report.new.squeezed ≡ has_spent_in (list_run self.old) }
         ensures back { result ≡ OK
             → self.new.list ≡ list_after_end (list_run self.old) self.old.list }
@@ -238,6 +240,7 @@ impl ListObject {
         // this proves that the list holds at most 64 numbers
         let _few = self.list.ids();
         *report = FqRunReport {
+            size: size_of::<FqRunReport>(),
             polls: done.polls,
             work: done.work,
             squeezed: done.squeezed,

@@ -140,7 +140,7 @@ fn report_fault(alloc: Global, fault: &MachineFault, ran: &mut FqMachineRan) -> 
 /// NO_ROOM, and writes nothing; BAD_SIZE for one of the structs; BAD_SETTING, with the setting's number; BAD_ARRIVALS, with the
 /// numbers and the message of their error; or OUT_OF_MEMORY.
 #[unsafe(no_mangle)]
-pub extern "C" fn fq_machine(
+pub extern "C" fn fq_machine_sized(
     alloc: Global,
     settings: &FqMachineSettings,
     arrivals: &[u8],

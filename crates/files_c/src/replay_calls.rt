@@ -188,7 +188,7 @@ fn answer(
 /// OK; BAD_SIZE for one of the structs; NO_ROOM, and writes nothing; BAD_WEIGHT or BAD_BUDGET (also for the window); BAD_TRACE, with the numbers of its error;
 /// or OUT_OF_MEMORY.
 #[unsafe(no_mangle)]
-pub extern "C" fn fq_replay(
+pub extern "C" fn fq_replay_sized(
     alloc: Global,
     settings: &FqSettings,
     trace: &[u8],
@@ -207,9 +207,9 @@ pub extern "C" fn fq_replay(
 }
 
 /// Like `raise_trace`, from the bytes of a trace to an array: the trace with added runs, at most `restarts` after each softirq
-/// row, is the first `length` bytes of the array. Returns what `fq_replay` returns.
+/// row, is the first `length` bytes of the array. Returns what `fq_replay_sized` returns.
 #[unsafe(no_mangle)]
-pub extern "C" fn fq_raise(
+pub extern "C" fn fq_raise_sized(
     alloc: Global,
     settings: &FqSettings,
     restarts: u32,

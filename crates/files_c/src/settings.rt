@@ -25,7 +25,7 @@ impl FqMachineSettings {
 
 /// Sets all settings to their defaults, like `MachineSettings::default`. Returns OK, or BAD_SIZE and writes nothing.
 #[unsafe(no_mangle)]
-pub extern "C" fn fq_machine_default(settings: &mut FqMachineSettings) -> u32
+pub extern "C" fn fq_machine_default_sized(settings: &mut FqMachineSettings) -> u32
     ensures default { result ≡ FILES_OK → settings.new.values ≡ option_defaults }
     ensures size { result ≡ FILES_OK → settings.new.size ≡ 104 }
     ensures status { result ≢ FILES_OK → result ≡ FILES_BAD_SIZE }

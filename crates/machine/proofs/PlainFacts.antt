@@ -36,8 +36,8 @@ module _ (queues : ℕ) (text behind-m behind-d behind-b rest : List ℕ) (momen
         tells = λ s n last. rw (several, m.is_one, d.is_one, b.is_one, f.is_one, m.value, d.value, b.value, f.value) refl;
       }
 
-abbrev moment-title : List ℕ
-moment-title = 109 ∷ 111 ∷ 109 ∷ 101 ∷ 110 ∷ 116 ∷ []
+abbrev ns-title : List ℕ
+ns-title = 110 ∷ 115 ∷ []
 
 abbrev device-title : List ℕ
 device-title = 100 ∷ 101 ∷ 118 ∷ 105 ∷ 99 ∷ 101 ∷ []
@@ -49,12 +49,12 @@ abbrev flow-title : List ℕ
 flow-title = 102 ∷ 108 ∷ 111 ∷ 119 ∷ []
 
 abbrev titles : List (List ℕ)
-titles = moment-title ∷ device-title ∷ bytes-title ∷ []
+titles = ns-title ∷ device-title ∷ bytes-title ∷ []
 
 abbrev header-of : List ℕ → List ℕ
-header-of end = 109 ∷ 111 ∷ 109 ∷ 101 ∷ 110 ∷ 116 ∷ 44 ∷ 100 ∷ 101 ∷ 118 ∷ 105 ∷ 99 ∷ 101 ∷ 44 ∷ 98 ∷ 121 ∷ 116 ∷ 101 ∷ 115 ∷ end
+header-of end = 110 ∷ 115 ∷ 44 ∷ 100 ∷ 101 ∷ 118 ∷ 105 ∷ 99 ∷ 101 ∷ 44 ∷ 98 ∷ 121 ∷ 116 ∷ 101 ∷ 115 ∷ end
 
--- the header of a machine with one queue per device, `moment,device,bytes`
+-- the header of a machine with one queue per device, `ns,device,bytes`
 pub three-titles : (queues : ℕ) (text rest : List ℕ) → (queues == 1) ≡ true → text ≡ header-of (10 ∷ []) ++ rest
     → StartsWithHeader queues text rest
 unfolding next_record strip_bom arrival_fields field_at
@@ -64,13 +64,13 @@ three-titles queues text rest one splits = record {
   tells = titled;
 }
   where
-    four : arrival_fields queues titles ≡ Some (moment-title, device-title, bytes-title, 48 ∷ [])
+    four : arrival_fields queues titles ≡ Some (ns-title, device-title, bytes-title, 48 ∷ [])
     four = rw one refl
 
     titled : is_arrivals_title queues (arrival_fields queues titles) ≡ true
     titled = rw (four, one) refl
 
--- the header of a machine with several queues per device, `moment,device,bytes,flow`
+-- the header of a machine with several queues per device, `ns,device,bytes,flow`
 pub four-titles : (queues : ℕ) (text rest : List ℕ) → (queues == 1) ≡ false
     → text ≡ header-of (44 ∷ 102 ∷ 108 ∷ 111 ∷ 119 ∷ 10 ∷ []) ++ rest → StartsWithHeader queues text rest
 unfolding next_record strip_bom arrival_fields field_at
@@ -82,7 +82,7 @@ four-titles queues text rest several splits =
       tells = titled;
     }
   where
-    four : arrival_fields queues (titles ++ flow-title ∷ []) ≡ Some (moment-title, device-title, bytes-title, flow-title)
+    four : arrival_fields queues (titles ++ flow-title ∷ []) ≡ Some (ns-title, device-title, bytes-title, flow-title)
     four = rw several refl
 
     titled : is_arrivals_title queues (arrival_fields queues (titles ++ flow-title ∷ [])) ≡ true

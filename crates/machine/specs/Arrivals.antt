@@ -37,11 +37,11 @@ arrival_fields queues fields =
     then four_from (field_at fields 0) (field_at fields 1) (field_at fields 2) (flow_of queues fields)
     else None
 
--- the header is `moment,device,bytes`; with several queues per device it is `moment,device,bytes,flow`
+-- the header is `ns,device,bytes`; with several queues per device it is `ns,device,bytes,flow`; older texts have `moment` for `ns`
 abbrev pub is_arrivals_title : ℕ → Option ArrivalFields → Bool
 is_arrivals_title queues None = false
 is_arrivals_title queues (Some four) =
-    bytes_eq four.0 (codes "moment")
+    (bytes_eq four.0 (codes "ns") || bytes_eq four.0 (codes "moment"))
     && (bytes_eq four.1 (codes "device") && (bytes_eq four.2 (codes "bytes") && (queues == 1 || bytes_eq four.3 (codes "flow"))))
 
 -- the number of the queue that receives a flow of a device, if each device has this many queues

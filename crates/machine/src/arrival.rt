@@ -62,14 +62,15 @@ fn four_of(queues: u32, fields: &ByteRecord) -> Option<(&[u8], &[u8], &[u8], &[u
     Some((moment, device, bytes, flow))
 }
 
-/// Returns whether a record is the header: `moment,device,bytes`, and `flow` with several queues per device.
+/// Returns whether a record is the header: `ns,device,bytes`, and `flow` with several queues per device. Older texts have `moment`
+/// for `ns`.
 pub(crate) fn is_title(queues: u32, fields: &ByteRecord) -> bool
     ensures { result ≡ is_arrivals_title queues (arrival_fields queues (fields_of fields.now)) }
 {
     let Some((moment, device, bytes, flow)) = four_of(queues, fields) else {
         return false;
     };
-    moment == b"moment".as_slice()
+    (moment == b"ns".as_slice() || moment == b"moment".as_slice())
         && device == b"device".as_slice()
         && bytes == b"bytes".as_slice()
         && (queues == 1 || flow == b"flow".as_slice())

@@ -13,8 +13,8 @@ use thiserror::Error;
 /// has one, and of its errors the one with the lowest number; the numbers are those of a replay's errors. Rows count from 1.
 #[derive(Clone, Copy, Debug, PartialEq, Eq, Error)]
 pub enum MachineFault {
-    /// 1: the text has no first record, or it isn't `moment,device,bytes`.
-    #[error("the first record isn't `moment,device,bytes`")]
+    /// 1: the text has no first record, or it isn't `ns,device,bytes`.
+    #[error("the first record isn't `ns,device,bytes`")]
     BadHeader,
     /// 2: the row doesn't have three fields.
     #[error("row {row} hasn't three fields")]
@@ -22,11 +22,11 @@ pub enum MachineFault {
     /// 3: a field of the row isn't one to twenty ASCII digits.
     #[error("a number of row {row} isn't one to twenty digits")]
     BadNumber { row: u64 },
-    /// 5: the row's moment, device or number of bytes is out of its range.
+    /// 5: the row's time, device or number of bytes is out of its range.
     #[error("a number of row {row} is out of its range")]
     OutOfRange { row: u64 },
-    /// 8: the row's moment is before that of the row above it.
-    #[error("the moment of row {row} falls")]
+    /// 8: the row's time is before that of the row above it.
+    #[error("the time of row {row} falls")]
     Falls { row: u64 },
     /// 10: the reader failed.
     #[error("the arrivals could not be read")]

@@ -54,15 +54,14 @@ pub(crate) fn plain_arrival<'t>(
     Some((arrival, rest))
 }
 
-/// Returns the text after the header `moment,device,bytes`, or with several queues `moment,device,bytes,flow`, if a text starts
-/// with it.
+/// Returns the text after the header `ns,device,bytes`, or with several queues `ns,device,bytes,flow`, if a text starts with it.
 pub(crate) fn after_header(queues: u32, text: &[u8]) -> Option<&[u8]>
     ensures { IfSome result (λ rest. StartsWithHeader queues text.now rest.now) }
 {
     if queues == 1 {
-        let rest = text.strip_prefix(b"moment,device,bytes\n".as_slice())?;
+        let rest = text.strip_prefix(b"ns,device,bytes\n".as_slice())?;
         return Some(rest);
     }
-    let rest = text.strip_prefix(b"moment,device,bytes,flow\n".as_slice())?;
+    let rest = text.strip_prefix(b"ns,device,bytes,flow\n".as_slice())?;
     Some(rest)
 }

@@ -38,7 +38,7 @@ refusals =
     ∷ (114, (codes "FQ_BAD_WEIGHT", codes "a weight is 1 to 64 packets"))
     ∷ (115, (codes "FQ_NO_ROOM", codes "the array is too short"))
     ∷ (116, (codes "FQ_BAD_BUDGET", codes "budget and window are 1 to 65535"))
-    ∷ (117, (codes "FQ_BAD_COUNT", codes "a shared instance has 2 to 8 seats, a driver 1 to 64 devices"))
+    ∷ (117, (codes "FQ_BAD_COUNT", codes "a shared instance has 2 to 8 callers, a driver 1 to 64 devices"))
     ∷ (118, (codes "FQ_BAD_NEXT", codes "how a poll ended is 0 to 4 (enum fq_next)"))
     ∷ (119, (codes "FQ_BAD_WORK", codes "a poll is reported with more packets than the weight"))
     ∷ (120, (codes "FQ_BAD_TRACE", codes "the bytes are not a trace, or a row of it can't be processed"))

@@ -1,4 +1,4 @@
--- The size of each struct of the header in bytes, by its number (`enum fq_struct`).
+-- The size of each struct of the header that never grows, in bytes, by its number (`enum fq_struct`).
 use Rattle.std.specs.Prelude.{ℕ, ◌==◌, if◌then◌else◌}
 
 abbrev pub size_in : ℕ → ℕ
@@ -7,13 +7,5 @@ size_in which =
     else (if which == 1 then 56
     else (if which == 2 then 16
     else (if which == 3 then 16
-    else (if which == 4 then 24
-    else (if which == 5 then 32
-    else (if which == 6 then 16
-    else (if which == 7 then 32
-    else (if which == 8 then 56
-    else (if which == 9 then 12
-    else (if which == 10 then 48
-    else (if which == 11 then 32
-    else (if which == 12 then 16
-    else 0))))))))))))
+    else (if which == 4 then 16
+    else 0))))

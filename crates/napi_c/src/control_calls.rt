@@ -106,7 +106,7 @@ pub extern "C" fn fq_control_step(handle: &mut FqHandle, on: bool, threaded: boo
     }
 }
 
-/// Returns OK if the seat belongs to the controller's instance, otherwise BAD_HANDLE.
+/// Returns OK if the caller belongs to the controller's instance, otherwise BAD_HANDLE.
 #[unsafe(no_mangle)]
 pub extern "C" fn fq_control_has(handle: &mut FqHandle, seat: &mut FqHandle) -> u32
     ensures { result ≢ OK → result ≡ BAD_HANDLE }

@@ -125,13 +125,13 @@ fn next_in(at: &mut Object, todo: &mut FqTodo) -> u32
 /// Sets `todo` to the next action, like `Driver::next`.
 #[unsafe(no_mangle)]
 pub extern "C" fn fq_driver_next_sized(handle: &mut FqHandle, todo: &mut FqTodo) -> u32
-    ensures small { todo.old.size < 48 → (result ≡ BAD_SIZE) × (todo.new ≡ todo.old)
+    ensures size { todo.old.size ≢ 64 → (result ≡ BAD_SIZE) × (todo.new ≡ todo.old)
         × (handle.new ≡ handle.old) }
-    ensures makes { 48 ≤ todo.old.size
+    ensures makes { todo.old.size ≡ 64
         → DriverMakes (IsDriverNext todo.old todo.new) handle.old result handle.new }
     ensures none { result ≡ BAD_HANDLE → todo.new ≡ failed_in todo.old.size BAD_HANDLE }
 {
-    if todo.size < size_of::<FqTodo>() {
+    if todo.size != size_of::<FqTodo>() {
         return status::BAD_SIZE;
     }
     if !handle.is_set() {
@@ -152,9 +152,14 @@ fn done_in(at: &mut Object, todo: &FqTodo) -> u32
 /// Reports that an action was done, like `Driver::done`.
 #[unsafe(no_mangle)]
 pub extern "C" fn fq_driver_done(handle: &mut FqHandle, todo: &FqTodo) -> u32
-    ensures { DriverMakes (IsTodoReport todo.now.number todo.now.packets) handle.old result
+    ensures size { todo.now.size ≢ 64 → (result ≡ BAD_SIZE) × (handle.new ≡ handle.old) }
+    ensures makes { todo.now.size ≡ 64
+        → DriverMakes (IsTodoReport todo.now.number todo.now.packets) handle.old result
         handle.new }
 {
+    if todo.size != size_of::<FqTodo>() {
+        return status::BAD_SIZE;
+    }
     if !handle.is_set() {
         return status::BAD_HANDLE;
     }
@@ -164,13 +169,13 @@ pub extern "C" fn fq_driver_done(handle: &mut FqHandle, todo: &FqTodo) -> u32
 /// Reports that an action was done, unless its number is 0, and sets `todo` to the next action, like `Driver::step`.
 #[unsafe(no_mangle)]
 pub extern "C" fn fq_driver_step_sized(handle: &mut FqHandle, todo: &mut FqTodo) -> u32
-    ensures small { todo.old.size < 48 → (result ≡ BAD_SIZE) × (todo.new ≡ todo.old)
+    ensures size { todo.old.size ≢ 64 → (result ≡ BAD_SIZE) × (todo.new ≡ todo.old)
         × (handle.new ≡ handle.old) }
-    ensures makes { 48 ≤ todo.old.size
+    ensures makes { todo.old.size ≡ 64
         → DriverMakes (IsDriverStep todo.old todo.new) handle.old result handle.new }
     ensures none { result ≡ BAD_HANDLE → todo.new ≡ failed_in todo.old.size BAD_HANDLE }
 {
-    if todo.size < size_of::<FqTodo>() {
+    if todo.size != size_of::<FqTodo>() {
         return status::BAD_SIZE;
     }
     if !handle.is_set() {
@@ -184,17 +189,17 @@ pub extern "C" fn fq_driver_step_sized(handle: &mut FqHandle, todo: &mut FqTodo)
 
 /// Sets the state and the counts of a device.
 #[unsafe(no_mangle)]
-pub extern "C" fn fq_driver_show(
+pub extern "C" fn fq_driver_show_sized(
     handle: &mut FqHandle,
     device: u32,
     shown: &mut FqDeviceShown,
 ) -> u32
-    ensures small { shown.old.size < 32 → (result ≡ BAD_SIZE) × (handle.new ≡ handle.old) }
-    ensures makes { 32 ≤ shown.old.size
+    ensures size { shown.old.size ≢ 32 → (result ≡ BAD_SIZE) × (handle.new ≡ handle.old) }
+    ensures makes { shown.old.size ≡ 32
         → DriverMakes (IsDriverShow shown.old shown.new device) handle.old result handle.new }
     ensures none { result ≢ OK → shown.new ≡ shown.old }
 {
-    if shown.size < size_of::<FqDeviceShown>() {
+    if shown.size != size_of::<FqDeviceShown>() {
         return status::BAD_SIZE;
     }
     if !handle.is_set() {

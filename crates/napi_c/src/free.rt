@@ -20,7 +20,7 @@ fn is_freeable(body: &Object) -> bool
 }
 
 /// Frees a handle's object: returns OK, after which the handle has none; NOT_ALLOWED, without an effect, for a caller
-/// (`fq_seat_..`) that owns something, for a controller of an enabled instance, and for a list in a run; BAD_HANDLE if there is
+/// (`fq_caller_..`) that owns something, for a controller of an enabled instance, and for a list in a run; BAD_HANDLE if there is
 /// no object.
 #[unsafe(no_mangle)]
 pub extern "C" fn fq_free(alloc: Global, handle: &mut FqHandle) -> u32

@@ -1,5 +1,6 @@
 //! The packet polling core for C: exported functions that check the preconditions of the calls that they make. Comments name
-//! the statuses of `enum fq_status` without their prefix `FQ_`. A seat is a caller of a shared instance (`fq_seat_..`).
+//! the statuses of `enum fq_status` without their prefix `FQ_`. Names here call a caller of a shared instance (`fq_caller_..`)
+//! a seat.
 #![tactic(auto)]
 
 mod attempts;

@@ -2,10 +2,11 @@
 ghost use Rattle.std.specs.Prelude.{◌≡◌, ◌≢◌, ◌↔◌, IsSome};
 ghost use Rattle.c_handles.specs.Handles.{LeadsToList, ListMakes, ListMakesIn};
 ghost use Rattle.c_handles.specs.Runs.{IsNewListObject, IsLength, IsPush, IsRemoveCall, IsBeginCall, IsNext, IsPolledCall, IsEnd};
-ghost use Rattle.c_handles.specs.Status.{OK, IN_USE, OUT_OF_MEMORY};
+ghost use Rattle.c_handles.specs.Status.{OK, IN_USE, OUT_OF_MEMORY, BAD_SIZE};
 
 use c_handles::{FqHandle, FqRunReport, ListObject, Object, status};
 use std::alloc::Global;
+use std::mem::size_of;
 
 /// Makes a poll list of one thread.
 #[unsafe(no_mangle)]
@@ -133,10 +134,15 @@ fn end_in(at: &mut Object, report: &mut FqRunReport) -> u32
 
 /// Ends the run, like `PollingRun::end`.
 #[unsafe(no_mangle)]
-pub extern "C" fn fq_run_end(handle: &mut FqHandle, report: &mut FqRunReport) -> u32
-    ensures makes { ListMakes (IsEnd report.old report.new) handle.old result handle.new }
+pub extern "C" fn fq_run_end_sized(handle: &mut FqHandle, report: &mut FqRunReport) -> u32
+    ensures size { report.old.size ≢ 24 → (result ≡ BAD_SIZE) × (handle.new ≡ handle.old) }
+    ensures makes { report.old.size ≡ 24
+        → ListMakes (IsEnd report.old report.new) handle.old result handle.new }
     ensures none { result ≢ OK → report.new ≡ report.old }
 {
+    if report.size != size_of::<FqRunReport>() {
+        return status::BAD_SIZE;
+    }
     if !handle.is_set() {
         return status::BAD_HANDLE;
     }

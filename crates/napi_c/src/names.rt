@@ -21,18 +21,18 @@ fn write(text: &[u8], to: &mut [u8]) -> usize
 #[unsafe(no_mangle)]
 pub extern "C" fn fq_version(to: &mut [u8]) -> usize
     ensures length { result ≡ 5 }
-    ensures written { to.new ≡ written (codes "1.1.0") to.old }
+    ensures written { to.new ≡ written (codes "2.0.0") to.old }
     ensures kept { length to.new ≤ result → to.new ≡ to.old }
 {
-    write(b"1.1.0", to)
+    write(b"2.0.0", to)
 }
 
 /// Returns the library's version as a number, as FQ_VERSION_NUMBER of the header.
 #[unsafe(no_mangle)]
 pub extern "C" fn fq_version_number() -> u32
-    ensures { result ≡ 10100 }
+    ensures { result ≡ 20000 }
 {
-    10100
+    20000
 }
 
 /// Writes the name of a status in the same way; "?" for an unknown number.
@@ -163,7 +163,7 @@ fn refusal_message(status: u32) -> &'static [u8]
         114 => b"a weight is 1 to 64 packets",
         115 => b"the array is too short",
         116 => b"budget and window are 1 to 65535",
-        117 => b"a shared instance has 2 to 8 seats, a driver 1 to 64 devices",
+        117 => b"a shared instance has 2 to 8 callers, a driver 1 to 64 devices",
         118 => b"how a poll ended is 0 to 4 (enum fq_next)",
         119 => b"a poll is reported with more packets than the weight",
         120 => b"the bytes are not a trace, or a row of it can't be processed",

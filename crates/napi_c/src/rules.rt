@@ -14,10 +14,10 @@ use crate::serial_end::{GONE, REPOLL, queue_of, stays_scheduled};
 use c_handles::{CallerObject, FqHandle, Object, status};
 use napi_calls::CallerState;
 
-/// Requests a poll (`napi_schedule_prep`): like `fq_seat_schedule`, repeated while another thread interferes. Returns GRANTED,
+/// Requests a poll (`napi_schedule_prep`): like `fq_caller_schedule`, repeated while another thread interferes. Returns GRANTED,
 /// MISSED or DISABLED; NOT_ALLOWED if the caller owns the instance; CHANGED only after 2^64 attempts.
 #[unsafe(no_mangle)]
-pub extern "C" fn fq_seat_schedule_prep(handle: &mut FqHandle) -> u32
+pub extern "C" fn fq_caller_schedule_prep(handle: &mut FqHandle) -> u32
     ensures { SeatDoes (Repeats (SeatStep CallerSchedules)) handle.old result handle.new }
 {
     if !handle.is_set() {
@@ -29,10 +29,10 @@ pub extern "C" fn fq_seat_schedule_prep(handle: &mut FqHandle) -> u32
     }
 }
 
-/// CompleteAttempt a poll (`napi_complete_done`): like `fq_seat_complete`, repeated while another thread interferes. Returns RELEASED
+/// CompleteAttempt a poll (`napi_complete_done`): like `fq_caller_complete`, repeated while another thread interferes. Returns RELEASED
 /// or AGAIN; HELD if the caller busy polls; NOT_ALLOWED if it doesn't poll; CHANGED only after 2^64 attempts.
 #[unsafe(no_mangle)]
-pub extern "C" fn fq_seat_complete_done(handle: &mut FqHandle) -> u32
+pub extern "C" fn fq_caller_complete_done(handle: &mut FqHandle) -> u32
     ensures { SeatDoes (Repeats (SeatStep CallerCompletes)) handle.old result handle.new }
 {
     if !handle.is_set() {
@@ -61,7 +61,7 @@ fn queue_granted(seat: &mut CallerObject) -> u32
 /// Queues a granted instance (`____napi_schedule`): for its thread if THREADED is set, on the list otherwise. Sets `next` to
 /// which (`enum fq_next`). Returns OK; NOT_ALLOWED if the caller wasn't granted the instance.
 #[unsafe(no_mangle)]
-pub extern "C" fn fq_seat_hand_again(handle: &mut FqHandle, next: &mut u32) -> u32
+pub extern "C" fn fq_caller_hand_again(handle: &mut FqHandle, next: &mut u32) -> u32
     ensures makes { SeatDoes (SeatQueues next.new) handle.old result handle.new }
     ensures none { result ≢ OK → next.new ≡ NEXT_GONE }
 {
@@ -145,7 +145,7 @@ fn end_in(at: &mut Object, full: bool, next: &mut u32) -> u32
 /// Returns OK, and the caller owns nothing; HELD, also for a busy poller, and the caller still polls; NOT_ALLOWED if it doesn't
 /// poll; CHANGED only after 2^64 attempts, and the caller still polls.
 #[unsafe(no_mangle)]
-pub extern "C" fn fq_seat_end(handle: &mut FqHandle, full: bool, next: &mut u32) -> u32
+pub extern "C" fn fq_caller_end(handle: &mut FqHandle, full: bool, next: &mut u32) -> u32
     ensures makes { SeatDoes (SeatEnds full next.new) handle.old result handle.new }
     ensures rests { result ≡ OK → LeadsToSeat (λ s. IsResting s.state) handle.new.held.body }
     ensures none { result ≢ OK → next.new ≡ NEXT_GONE }

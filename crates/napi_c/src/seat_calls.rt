@@ -1,10 +1,10 @@
-//! The calls of the callers of a shared instance (`fq_seat_..`). Each makes one attempt, and returns CHANGED if another thread
+//! The calls of the callers of a shared instance (`fq_caller_..`). Each makes one attempt, and returns CHANGED if another thread
 //! interfered.
-ghost use Rattle.std.specs.Prelude.{◌≡◌, ◌≢◌, ◌<◌, ◌≤◌, ◌⊎◌, true, false, length, take, Some, None};
+ghost use Rattle.std.specs.Prelude.{◌≡◌, ◌≢◌, ◌<◌, ◌≤◌, ◌⊎◌, ◌↔◌, true, false, length, take, Some, None};
 ghost use Rattle.napi_model.specs.declared.state.Kind.{Kind};
 ghost use Rattle.napi_model.specs.declared.event.Done.TheVariants as done;
 ghost use Rattle.c_handles.specs.Kinds.{kind_in};
-ghost use Rattle.c_handles.specs.Status.{OK, RELEASED, AGAIN, BAD_KIND, BAD_HANDLE, BAD_WEIGHT, NO_ROOM};
+ghost use Rattle.c_handles.specs.Status.{OK, RELEASED, AGAIN, BAD_KIND, BAD_HANDLE, BAD_SIZE, BAD_WEIGHT, NO_ROOM};
 ghost use Rattle.c_handles.specs.SeatCalls.{RestsWith, GrantedWith};
 ghost use Rattle.c_handles.specs.SeatCalls.{CallerSchedules, CallerHands, CallerTakes, CallerRequeues, CallerCompletes};
 ghost use Rattle.c_handles.specs.SeatCalls.{CallerBusyTakes, CallerBusyStops, CallerSetsThreaded};
@@ -17,10 +17,11 @@ ghost use Rattle.napi_c.specs.Objects.{is_polling_seat, is_seat, LeadsToKind, Le
 use c_handles::{FqAnswers, FqHandle, Object, kind_of, status};
 use napi_model::encode;
 use rx_ring::{MAX_WEIGHT, Packet};
+use std::mem::size_of;
 
 /// Sets `word` to the state word, a sum of bits. Allowed in every state of the caller.
 #[unsafe(no_mangle)]
-pub extern "C" fn fq_seat_look(handle: &mut FqHandle, word: &mut u64) -> u32
+pub extern "C" fn fq_caller_look(handle: &mut FqHandle, word: &mut u64) -> u32
     ensures shows { SeatShows word.old word.new handle.old result handle.new }
     ensures none { result ≢ OK → word.new ≡ word.old }
 {
@@ -41,7 +42,7 @@ pub extern "C" fn fq_seat_look(handle: &mut FqHandle, word: &mut u64) -> u32
 
 /// Like `Caller::try_schedule`: returns GRANTED, MISSED, DISABLED or CHANGED; NOT_ALLOWED if the caller owns the instance.
 #[unsafe(no_mangle)]
-pub extern "C" fn fq_seat_schedule(handle: &mut FqHandle) -> u32
+pub extern "C" fn fq_caller_schedule(handle: &mut FqHandle) -> u32
     ensures { SeatMakes CallerSchedules handle.old result handle.new }
 {
     if !handle.is_set() {
@@ -55,7 +56,7 @@ pub extern "C" fn fq_seat_schedule(handle: &mut FqHandle) -> u32
 
 /// Like `Granted::hand`: returns OK; BAD_KIND; NOT_ALLOWED if the caller wasn't granted the instance.
 #[unsafe(no_mangle)]
-pub extern "C" fn fq_seat_hand(handle: &mut FqHandle, kind: u32) -> u32
+pub extern "C" fn fq_caller_hand(handle: &mut FqHandle, kind: u32) -> u32
     ensures made { (k : Kind) → kind_in kind ≡ Some k
         → SeatMakes (CallerHands k) handle.old result handle.new }
     ensures bad { kind_in kind ≡ None → (result ≡ BAD_KIND) × (handle.new ≡ handle.old) }
@@ -74,7 +75,7 @@ pub extern "C" fn fq_seat_hand(handle: &mut FqHandle, kind: u32) -> u32
 
 /// Like `Caller::take`: returns TAKEN or NOT_THERE; BAD_KIND; NOT_ALLOWED if the caller owns the instance.
 #[unsafe(no_mangle)]
-pub extern "C" fn fq_seat_take(handle: &mut FqHandle, kind: u32) -> u32
+pub extern "C" fn fq_caller_take(handle: &mut FqHandle, kind: u32) -> u32
     ensures made { (k : Kind) → kind_in kind ≡ Some k
         → SeatMakes (CallerTakes k) handle.old result handle.new }
     ensures bad { kind_in kind ≡ None → (result ≡ BAD_KIND) × (handle.new ≡ handle.old) }
@@ -93,7 +94,7 @@ pub extern "C" fn fq_seat_take(handle: &mut FqHandle, kind: u32) -> u32
 
 /// Like `Polling::requeue`: returns OK; NOT_ALLOWED if the caller doesn't poll.
 #[unsafe(no_mangle)]
-pub extern "C" fn fq_seat_requeue(handle: &mut FqHandle) -> u32
+pub extern "C" fn fq_caller_requeue(handle: &mut FqHandle) -> u32
     ensures { SeatMakes CallerRequeues handle.old result handle.new }
 {
     if !handle.is_set() {
@@ -108,7 +109,7 @@ pub extern "C" fn fq_seat_requeue(handle: &mut FqHandle) -> u32
 /// Like `Polling::try_complete`: returns RELEASED, AGAIN or CHANGED; HELD if the caller busy polls (`Busy::complete_held`);
 /// NOT_ALLOWED if it doesn't poll.
 #[unsafe(no_mangle)]
-pub extern "C" fn fq_seat_complete(handle: &mut FqHandle) -> u32
+pub extern "C" fn fq_caller_complete(handle: &mut FqHandle) -> u32
     ensures makes { SeatMakes CallerCompletes handle.old result handle.new }
     ensures released { result ≡ RELEASED
         → LeadsToSeat
@@ -128,7 +129,7 @@ pub extern "C" fn fq_seat_complete(handle: &mut FqHandle) -> u32
 
 /// Like `Caller::try_busy`: returns TAKEN, BUSY or CHANGED; NOT_ALLOWED if the caller owns the instance.
 #[unsafe(no_mangle)]
-pub extern "C" fn fq_seat_busy_take(handle: &mut FqHandle) -> u32
+pub extern "C" fn fq_caller_busy_take(handle: &mut FqHandle) -> u32
     ensures { SeatMakes CallerBusyTakes handle.old result handle.new }
 {
     if !handle.is_set() {
@@ -142,7 +143,7 @@ pub extern "C" fn fq_seat_busy_take(handle: &mut FqHandle) -> u32
 
 /// Like `Busy::try_stop`: returns OK, after which the caller polls once more, or CHANGED; NOT_ALLOWED if it doesn't busy poll.
 #[unsafe(no_mangle)]
-pub extern "C" fn fq_seat_busy_stop(handle: &mut FqHandle) -> u32
+pub extern "C" fn fq_caller_busy_stop(handle: &mut FqHandle) -> u32
     ensures { SeatMakes CallerBusyStops handle.old result handle.new }
 {
     if !handle.is_set() {
@@ -156,7 +157,7 @@ pub extern "C" fn fq_seat_busy_stop(handle: &mut FqHandle) -> u32
 
 /// Like `Caller::set_threaded`: returns OK; NOT_ALLOWED if the caller owns the instance.
 #[unsafe(no_mangle)]
-pub extern "C" fn fq_seat_set_threaded(handle: &mut FqHandle, threaded: bool) -> u32
+pub extern "C" fn fq_caller_set_threaded(handle: &mut FqHandle, threaded: bool) -> u32
     ensures { SeatMakes (CallerSetsThreaded threaded) handle.old result handle.new }
 {
     if !handle.is_set() {
@@ -172,7 +173,7 @@ pub extern "C" fn fq_seat_set_threaded(handle: &mut FqHandle, threaded: bool) ->
 /// weight isn't 1 to 64; NO_ROOM if the array is shorter than the weight; NOT_ALLOWED if the caller doesn't poll. After an
 /// error nothing was polled.
 #[unsafe(no_mangle)]
-pub extern "C" fn fq_seat_poll(
+pub extern "C" fn fq_caller_poll(
     handle: &mut FqHandle,
     weight: usize,
     out: &mut [Packet],
@@ -208,13 +209,14 @@ pub extern "C" fn fq_seat_poll(
 
 fn answers_in(at: &Object, answers: &mut FqAnswers) -> u32
     ensures shown { (s : CallerObject) → at.now ≡ variant.Seat s → (result ≡ OK)
-        × (answers.new ≡ s.answers) }
+        × (answers.new ≡ record s.answers { size = 64 }) }
     ensures other { is_seat at.now ≡ false → result ≡ BAD_HANDLE }
     ensures kept { result ≢ OK → (answers.new ≡ answers.old) × (result ≡ BAD_HANDLE) }
 {
     match at {
         Object::Seat(seat) => {
             *answers = seat.answers;
+            answers.size = size_of::<FqAnswers>();
             status::OK
         }
         _ => status::BAD_HANDLE,
@@ -223,14 +225,20 @@ fn answers_in(at: &Object, answers: &mut FqAnswers) -> u32
 
 /// Sets `answers` to the counts of the results of a caller's calls.
 #[unsafe(no_mangle)]
-pub extern "C" fn fq_seat_count(handle: &mut FqHandle, answers: &mut FqAnswers) -> u32
+pub extern "C" fn fq_caller_count_sized(handle: &mut FqHandle, answers: &mut FqAnswers) -> u32
     ensures shown { (s : CallerObject) → handle.old.held.body ≡ Some (variant.Seat s)
-        → (result ≡ OK)
-        × (answers.new ≡ s.answers) }
-    ensures other { LeadsToOther is_seat handle.old → result ≡ BAD_HANDLE }
-    ensures kept { result ≢ OK → (answers.new ≡ answers.old) × (result ≡ BAD_HANDLE) }
+        → answers.old.size ≡ 64 → (result ≡ OK)
+        × (answers.new ≡ record s.answers { size = 64 }) }
+    ensures other { LeadsToOther is_seat handle.old → answers.old.size ≡ 64
+        → result ≡ BAD_HANDLE }
+    ensures size { (result ≡ BAD_SIZE) ↔ (answers.old.size ≢ 64) }
+    ensures kept { result ≢ OK → (answers.new ≡ answers.old)
+        × (result ≢ BAD_SIZE → result ≡ BAD_HANDLE) }
     ensures same { handle.new.held.body ≡ handle.old.held.body }
 {
+    if answers.size != size_of::<FqAnswers>() {
+        return status::BAD_SIZE;
+    }
     if !handle.is_set() {
         return status::BAD_HANDLE;
     }

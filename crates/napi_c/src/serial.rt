@@ -128,15 +128,6 @@ pub extern "C" fn fq_napi_new(controller: u32) -> FqNapi
     napi_of(State::opening(controller), controller)
 }
 
-/// Like [`fq_napi_new`], in the caller's memory, which may have any content.
-#[unsafe(no_mangle)]
-pub extern "C" fn fq_napi_init(napi: &mut FqNapi, controller: u32)
-    ensures state { fq_state napi.new ≡ opening controller }
-    ensures controller { napi.new.controller ≡ controller }
-{
-    *napi = fq_napi_new(controller);
-}
-
 /// Returns the state word, like `encode`.
 #[unsafe(no_mangle)]
 pub extern "C" fn fq_napi_word(napi: &FqNapi) -> u64

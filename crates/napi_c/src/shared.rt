@@ -269,7 +269,7 @@ pub extern "C" fn fq_shared_new(
     share(alloc, input.held.as_mut(), control, seats)
 }
 
-/// Like `Napi::new`, but without a ring, for a card that the driver polls itself: `fq_seat_poll` returns no packets. `control`
+/// Like `Napi::new`, but without a ring, for a card that the driver polls itself: `fq_caller_poll` returns no packets. `control`
 /// and `seats` are as in [`fq_shared_new`].
 #[unsafe(no_mangle)]
 pub extern "C" fn fq_shared_bare(

@@ -1,15 +1,13 @@
-//! The sizes of the structs that calls read and write, so that bindings can check theirs.
+//! The sizes of the structs that never grow, so that bindings can check theirs.
 ghost use Rattle.std.specs.Prelude.{◌≡◌};
 ghost use Rattle.napi_c.specs.Sizes.{size_in};
 
-use crate::counts::{FqCounts, FqTotals};
 use crate::limit::FqDql;
 use crate::serial::FqNapi;
 use crate::watch::FqTxWatchdog;
-use c_handles::{FqAnswers, FqDeviceShown, FqHandle, FqRingShown, FqRunReport, FqTodo};
+use c_handles::FqHandle;
 use rx_ring::Packet;
 use std::mem::size_of;
-use tx_ring::TxState;
 
 /// Returns the size of a struct in bytes, by its number (`enum fq_struct`); 0 for a number that isn't one.
 #[unsafe(no_mangle)]
@@ -21,15 +19,7 @@ pub extern "C" fn fq_struct_size(which: u32) -> usize
         1 => size_of::<FqDql>(),
         2 => size_of::<FqNapi>(),
         3 => size_of::<Packet>(),
-        4 => size_of::<FqCounts>(),
-        5 => size_of::<FqTotals>(),
-        6 => size_of::<FqRingShown>(),
-        7 => size_of::<TxState>(),
-        8 => size_of::<FqAnswers>(),
-        9 => size_of::<FqRunReport>(),
-        10 => size_of::<FqTodo>(),
-        11 => size_of::<FqDeviceShown>(),
-        12 => size_of::<FqTxWatchdog>(),
+        4 => size_of::<FqTxWatchdog>(),
         _ => 0,
     }
 }

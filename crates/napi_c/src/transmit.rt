@@ -6,14 +6,17 @@ ghost use Rattle.dql_core.specs.declared.event.DqlFault.TheVariants.{BadBounds};
 ghost use Rattle.tx_ring.specs.Queue.{TransmitQueue, most_tx_places, opening_queue, tx_state, after_send, after_done, send_fault, done_fault};
 ghost use Rattle.tx_ring.specs.Ring.{ShowsQueue};
 ghost use Rattle.tx_ring.specs.declared.event.TxFault.{TxFault};
-ghost use Rattle.c_handles.specs.Status.{OK, IN_USE, BAD_CAPACITY, BAD_HANDLE, OUT_OF_MEMORY, dql_status};
+ghost use Rattle.c_handles.specs.Status.{OK, IN_USE, BAD_CAPACITY, BAD_HANDLE, BAD_SIZE, OUT_OF_MEMORY, dql_status};
 ghost use Rattle.c_handles.specs.Transmits.{IsTxWith, TxShows, tx_status};
+ghost use Rattle.napi_c.specs.Counts.{tx_shown_of};
 ghost use Rattle.napi_c.specs.Objects.{is_tx, LeadsToOther};
 
+use crate::counts::FqTxShown;
 use c_handles::{FqHandle, Object, status};
 use dql_core::{Dql, DqlFault};
 use std::alloc::Global;
-use tx_ring::{TxFault, TxRing, TxState};
+use std::mem::size_of;
+use tx_ring::{TxFault, TxRing};
 
 fn status_of(fault: TxFault) -> u32
     ensures { result ≡ tx_status (Some fault) }
@@ -117,28 +120,33 @@ pub extern "C" fn fq_tx_done(handle: &mut FqHandle, count: u32, now: u64) -> u32
 
 /// Sets the caller's struct to the ring's state, like `TxRing::state`.
 #[unsafe(no_mangle)]
-pub extern "C" fn fq_tx_state(handle: &mut FqHandle, state: &mut TxState) -> u32
-    ensures shown { (t : TransmitQueue) → TxShows handle.old t → (result ≡ OK)
-        × (state.new ≡ tx_state t) }
-    ensures other { LeadsToOther is_tx handle.old → result ≡ BAD_HANDLE }
-    ensures kept { result ≢ OK → (state.new ≡ state.old) × (result ≡ BAD_HANDLE) }
+pub extern "C" fn fq_tx_state_sized(handle: &mut FqHandle, state: &mut FqTxShown) -> u32
+    ensures shown { (t : TransmitQueue) → TxShows handle.old t → state.old.size ≡ 40
+        → (result ≡ OK) × (state.new ≡ tx_shown_of (tx_state t)) }
+    ensures other { LeadsToOther is_tx handle.old → state.old.size ≡ 40 → result ≡ BAD_HANDLE }
+    ensures size { (result ≡ BAD_SIZE) ↔ (state.old.size ≢ 40) }
+    ensures kept { result ≢ OK → (state.new ≡ state.old)
+        × (result ≢ BAD_SIZE → result ≡ BAD_HANDLE) }
     ensures same { handle.new.held.body ≡ handle.old.held.body }
 {
+    if state.size != size_of::<FqTxShown>() {
+        return status::BAD_SIZE;
+    }
     if !handle.is_set() {
         return status::BAD_HANDLE;
     }
     state_in(handle.held.as_mut(), state)
 }
 
-fn state_in(body: &Object, state: &mut TxState) -> u32
+fn state_in(body: &Object, state: &mut FqTxShown) -> u32
     ensures shown { (t : TransmitQueue) → IsTxWith (λ r. ShowsQueue r t) body.now → (result ≡ OK)
-        × (state.new ≡ tx_state t) }
+        × (state.new ≡ tx_shown_of (tx_state t)) }
     ensures other { is_tx body.now ≡ false → result ≡ BAD_HANDLE }
     ensures kept { result ≢ OK → (state.new ≡ state.old) × (result ≡ BAD_HANDLE) }
 {
     match body {
         Object::Tx(ring) => {
-            *state = ring.state();
+            *state = FqTxShown::of(ring.state());
             status::OK
         }
         _ => status::BAD_HANDLE,

@@ -16,10 +16,10 @@ const FLOWS: &str =
 const COALESCED: &str = "moment,device,bytes\n0,1,100\n3000,1,100\n4000,1,100\n9000,1,100\n";
 
 // A packet that arrives while the NAPI timer of its queue is set.
-const UNMASKED: &str = "moment,device,bytes\n0,1,60\n9500,1,60\n";
+const UNMASKED: &str = "ns,device,bytes\n0,1,60\n9500,1,60\n";
 
 // Packets that arrive during the gap after an interrupt, and after the next gap.
-const GAP: &str = "moment,device,bytes\n0,1,60\n8000,1,60\n9000,1,60\n50000,1,60\n";
+const GAP: &str = "ns,device,bytes\n0,1,60\n8000,1,60\n9000,1,60\n50000,1,60\n";
 
 const APART: [&str; 2] = ["--apart=1", "--app-wake=3000"];
 

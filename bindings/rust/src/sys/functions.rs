@@ -18,14 +18,13 @@ extern "C" {
     /// name of a status, or its message ("?" for an unknown number); the name of a trace's fault. It returns the
     /// length of the text; if that isn't below `room`, the array is unchanged.
     pub fn fq_fault_text(fault: u32, to: *mut c_char, room: usize) -> usize;
-    /// Returns the library's version as a number, as `FQ_VERSION_NUMBER` is that of the header. Since 1.1.
+    /// Returns the library's version as a number, as `FQ_VERSION_NUMBER` is that of the header.
     pub fn fq_version_number() -> u32;
-    /// The structs that calls read and write, except those of `fq_replay` and those that begin with their size.
-    /// `fq_struct_size` returns the size of one in bytes, so that bindings can check theirs; 0 for an unknown number.
+    /// The structs that calls read and write and that never grow. `fq_struct_size` returns the size of one in bytes,
+    /// so that bindings can check theirs; 0 for an unknown number.
     pub fn fq_struct_size(which: u32) -> usize;
     /// Makes a new limit between `min` and `max` bytes, with the slack hold time `hold_ms` (`dql_init`). `*dql` has
     /// to be all 0 or a limit; it is unchanged if the call returns `FQ_BAD_BOUNDS`. Returns `FQ_OK`; `FQ_BAD_BOUNDS`.
-    /// Since 1.1.
     pub fn fq_dql_init(dql: *mut fq_dql, min: u32, max: u32, hold_ms: u64, now_ms: u64) -> u32;
     /// Adds an object of `count` bytes that was sent to the device (`dql_queued`). Returns `FQ_OK`; `FQ_TOO_LARGE`;
     /// `FQ_TOO_MUCH_IN_FLIGHT`.
@@ -43,8 +42,6 @@ extern "C" {
     pub fn fq_dql_in_flight(dql: *const fq_dql) -> u32;
     /// Returns a new instance (`netif_napi_add`), which is disabled.
     pub fn fq_napi_new(controller: u32) -> fq_napi;
-    /// Like `fq_napi_new`, in the caller's struct.
-    pub fn fq_napi_init(napi: *mut fq_napi, controller: u32);
     /// Requests a poll (`napi_schedule_prep`). Returns `FQ_GRANTED`; `FQ_MISSED`; `FQ_DISABLED`.
     pub fn fq_napi_schedule(napi: *mut fq_napi, who: u32) -> u32;
     /// Queues a granted instance (`____napi_schedule`), or puts a polled one on the list again. Returns `FQ_OK`;
@@ -93,10 +90,12 @@ extern "C" {
     pub fn fq_napi_enable(napi: *mut fq_napi, who: u32, threaded: bool) -> u32;
     /// Returns the state word, a sum of `FQ_BIT_..`
     pub fn fq_napi_word(napi: *const fq_napi) -> u64;
-    /// Frees the object of a handle, which is unset after that. AN OBJECT IN USE IS NOT FREED: for a seat that isn't
-    /// at rest, a controller that isn't off, and a list in a run it returns `FQ_NOT_ALLOWED`, and the handle still
-    /// has its object, which leaks unless a later call frees it. Rings, transmit rings and drivers are freed in any
-    /// state; packets in a ring are lost, so poll them before. Returns `FQ_OK`; `FQ_BAD_HANDLE`; `FQ_NOT_ALLOWED`.
+    /// Frees the object of a handle, which is unset after that. AN OBJECT IN USE IS NOT FREED: for a caller that
+    /// isn't at rest, a controller that isn't off, and a list in a run it returns `FQ_NOT_ALLOWED`, and the handle
+    /// still has its object, which leaks unless a later call frees it. The others are freed in any state: a ring with
+    /// packets, which are lost, so poll them before; one end of a ring that was split, or the input of an instance's
+    /// ring, whose other end stays; a transmit ring with packets; a list with numbers; a driver with open devices.
+    /// Returns `FQ_OK`; `FQ_BAD_HANDLE`; `FQ_NOT_ALLOWED`.
     pub fn fq_free(handle: *mut fq_handle) -> u32;
     /// Frees the object of a handle in any state, so nothing leaks. Returns `FQ_OK`; `FQ_BAD_HANDLE`. An instance
     /// whose poller was abandoned is never polled again. The status may be ignored.
@@ -130,19 +129,18 @@ extern "C" {
         count: *mut usize,
     ) -> u32;
     /// Sets `*counts` to the counts of a ring's polls. The handle has to own the poll end: it is a ring, or the poll
-    /// end of one that was split; a seat that polls; the controller of a disabled instance. Returns `FQ_OK`;
-    /// `FQ_BAD_HANDLE`; `FQ_NOT_ALLOWED` for any other. `*counts` is unchanged unless it returns `FQ_OK`.
-    pub fn fq_count(handle: *const fq_handle, counts: *mut fq_counts) -> u32;
-    /// Sets `*shown` to the state of a ring, or of its input. Returns `FQ_OK`; `FQ_BAD_HANDLE`, and `*shown` is
-    /// unchanged.
-    pub fn fq_ring_show(ring: *const fq_ring, shown: *mut fq_ring_shown) -> u32;
+    /// end of one that was split; a caller that polls; the controller of a disabled instance. Returns `FQ_OK`;
+    /// `FQ_BAD_HANDLE`; `FQ_NOT_ALLOWED` for any other.
+    pub fn fq_count_sized(handle: *const fq_handle, counts: *mut fq_counts) -> u32;
+    /// Sets `*shown` to the state of a ring, or of its input. Returns `FQ_OK`; `FQ_BAD_HANDLE`.
+    pub fn fq_ring_show_sized(ring: *const fq_ring, shown: *mut fq_ring_shown) -> u32;
     /// Splits a ring without an instance for two threads: after it, `ring` is the ring's input, for puts, and `out`
     /// its poll end, for polls. Each is freed separately. Returns `FQ_OK`; `FQ_IN_USE`; `FQ_BAD_HANDLE`;
     /// `FQ_OUT_OF_MEMORY`.
     pub fn fq_ring_split(ring: *mut fq_ring, out: *mut fq_ring) -> u32;
     /// Frees a ring that was never split, and sets `*totals` to its totals; the handle is unset after that. Returns
     /// `FQ_OK`; `FQ_BAD_HANDLE`, and nothing changes.
-    pub fn fq_ring_finish(ring: *mut fq_ring, totals: *mut fq_totals) -> u32;
+    pub fn fq_ring_finish_sized(ring: *mut fq_ring, totals: *mut fq_totals) -> u32;
     /// Makes a ring of capacity 1 to 65536, not stopped, over a new limit between `min` and `max` bytes, with the
     /// slack hold time `hold_ms` (`dql_init`). `fq_free` frees it, whatever it holds. Returns `FQ_OK`; `FQ_IN_USE`;
     /// `FQ_BAD_BOUNDS`; `FQ_BAD_CAPACITY`; `FQ_OUT_OF_MEMORY`.
@@ -162,11 +160,11 @@ extern "C" {
     /// and the queue is started if the limit has room again. Returns `FQ_OK`; `FQ_MORE_THAN_SENT`, and nothing is
     /// completed; `FQ_BAD_HANDLE`.
     pub fn fq_tx_done(tx: *mut fq_tx, count: u32, now_ms: u64) -> u32;
-    /// Sets `*state` to the state of the ring. Returns `FQ_OK`; `FQ_BAD_HANDLE`, and `*state` is unchanged.
-    pub fn fq_tx_state(tx: *const fq_tx, state: *mut fq_tx_shown) -> u32;
+    /// Sets `*state` to the state of the ring. Returns `FQ_OK`; `FQ_BAD_HANDLE`.
+    pub fn fq_tx_state_sized(tx: *const fq_tx, state: *mut fq_tx_shown) -> u32;
     /// Checks a ring at each tick of that timer. Sets `*stuck` to whether the ring has been stopped, with no byte
     /// completed, for `limit_ms` since the first check that found it so; if the clock went back to before that check,
-    /// 0 ms have passed. Returns `FQ_OK`; `FQ_BAD_HANDLE`, and `*stuck` is false. Since 1.1.
+    /// 0 ms have passed. Returns `FQ_OK`; `FQ_BAD_HANDLE`, and `*stuck` is false.
     pub fn fq_tx_watch(
         tx: *const fq_tx,
         watchdog: *mut fq_tx_watchdog,
@@ -174,122 +172,122 @@ extern "C" {
         now_ms: u64,
         stuck: *mut bool,
     ) -> u32;
-    /// Makes an instance over the ring's poll end, with its controller and an array of `count` (2 to 8) seats, one
-    /// for each caller. It is disabled. After it, `ring` is only the ring's input. Returns `FQ_OK`; `FQ_IN_USE`;
-    /// `FQ_BAD_COUNT`; `FQ_BAD_HANDLE`; `FQ_OUT_OF_MEMORY`.
+    /// Makes an instance over the ring's poll end, with its controller and an array of `count` (2 to 8) callers. It
+    /// is disabled. After it, `ring` is only the ring's input. Returns `FQ_OK`; `FQ_IN_USE`; `FQ_BAD_COUNT`;
+    /// `FQ_BAD_HANDLE`; `FQ_OUT_OF_MEMORY`.
     pub fn fq_shared_new(
         ring: *mut fq_ring,
         control: *mut fq_control,
-        seats: *mut fq_seat,
+        callers: *mut fq_caller,
         count: usize,
     ) -> u32;
-    /// Makes an instance without a ring, for a card that the caller polls itself; `fq_seat_poll` returns no packets.
-    /// Otherwise like `fq_shared_new`. Returns `FQ_OK`; `FQ_IN_USE`; `FQ_BAD_COUNT`; `FQ_OUT_OF_MEMORY`.
-    pub fn fq_shared_bare(control: *mut fq_control, seats: *mut fq_seat, count: usize) -> u32;
-    /// The calls of a seat, which is one caller of the instance. Each makes one attempt, after checks for
-    /// `FQ_BAD_KIND`, `FQ_BAD_WEIGHT`, `FQ_NO_ROOM` and `FQ_BAD_HANDLE`; `fq_seat_schedule_prep` and
-    /// `fq_seat_complete_done` repeat it while another thread changes the instance. A seat at rest, which owns
-    /// nothing, may request a poll (`napi_schedule_prep`), take the instance from the list or as its thread, take it
-    /// to busy poll it (`napi_busy_loop`), and set whether polls are queued for its thread (`dev_set_threaded`).
-    /// `FQ_GRANTED`, `FQ_MISSED`, `FQ_DISABLED`, `FQ_CHANGED`.
-    pub fn fq_seat_schedule(seat: *mut fq_seat) -> u32;
-    /// The calls of a seat, which is one caller of the instance. Each makes one attempt, after checks for
-    /// `FQ_BAD_KIND`, `FQ_BAD_WEIGHT`, `FQ_NO_ROOM` and `FQ_BAD_HANDLE`; `fq_seat_schedule_prep` and
-    /// `fq_seat_complete_done` repeat it while another thread changes the instance. A seat at rest, which owns
-    /// nothing, may request a poll (`napi_schedule_prep`), take the instance from the list or as its thread, take it
-    /// to busy poll it (`napi_busy_loop`), and set whether polls are queued for its thread (`dev_set_threaded`).
-    /// `FQ_GRANTED`, `FQ_MISSED`, `FQ_DISABLED`, since 1.1.
-    pub fn fq_seat_schedule_prep(seat: *mut fq_seat) -> u32;
-    /// The calls of a seat, which is one caller of the instance. Each makes one attempt, after checks for
-    /// `FQ_BAD_KIND`, `FQ_BAD_WEIGHT`, `FQ_NO_ROOM` and `FQ_BAD_HANDLE`; `fq_seat_schedule_prep` and
-    /// `fq_seat_complete_done` repeat it while another thread changes the instance. A seat at rest, which owns
-    /// nothing, may request a poll (`napi_schedule_prep`), take the instance from the list or as its thread, take it
-    /// to busy poll it (`napi_busy_loop`), and set whether polls are queued for its thread (`dev_set_threaded`).
-    /// `FQ_TAKEN`, `FQ_NOT_THERE`.
-    pub fn fq_seat_take(seat: *mut fq_seat, kind: u32) -> u32;
-    /// The calls of a seat, which is one caller of the instance. Each makes one attempt, after checks for
-    /// `FQ_BAD_KIND`, `FQ_BAD_WEIGHT`, `FQ_NO_ROOM` and `FQ_BAD_HANDLE`; `fq_seat_schedule_prep` and
-    /// `fq_seat_complete_done` repeat it while another thread changes the instance. A seat at rest, which owns
-    /// nothing, may request a poll (`napi_schedule_prep`), take the instance from the list or as its thread, take it
-    /// to busy poll it (`napi_busy_loop`), and set whether polls are queued for its thread (`dev_set_threaded`).
-    /// `FQ_TAKEN`, `FQ_BUSY`, `FQ_CHANGED`.
-    pub fn fq_seat_busy_take(seat: *mut fq_seat) -> u32;
-    /// The calls of a seat, which is one caller of the instance. Each makes one attempt, after checks for
-    /// `FQ_BAD_KIND`, `FQ_BAD_WEIGHT`, `FQ_NO_ROOM` and `FQ_BAD_HANDLE`; `fq_seat_schedule_prep` and
-    /// `fq_seat_complete_done` repeat it while another thread changes the instance. A seat at rest, which owns
-    /// nothing, may request a poll (`napi_schedule_prep`), take the instance from the list or as its thread, take it
-    /// to busy poll it (`napi_busy_loop`), and set whether polls are queued for its thread (`dev_set_threaded`).
-    /// `FQ_OK`.
-    pub fn fq_seat_set_threaded(seat: *mut fq_seat, threaded: bool) -> u32;
-    /// A seat that was granted the instance has to queue it (`____napi_schedule`). `FQ_OK`.
-    pub fn fq_seat_hand(seat: *mut fq_seat, kind: u32) -> u32;
-    /// A seat that polls may poll the ring, like `fq_ring_poll`, and then requeues the instance or completes
+    /// Makes an instance without a ring, for a card that the program polls itself; `fq_caller_poll` returns no
+    /// packets. Otherwise like `fq_shared_new`. Returns `FQ_OK`; `FQ_IN_USE`; `FQ_BAD_COUNT`; `FQ_OUT_OF_MEMORY`.
+    pub fn fq_shared_bare(control: *mut fq_control, callers: *mut fq_caller, count: usize) -> u32;
+    /// The calls of a caller of a shared instance. Each makes one attempt, after checks for `FQ_BAD_KIND`,
+    /// `FQ_BAD_WEIGHT`, `FQ_NO_ROOM` and `FQ_BAD_HANDLE`; `fq_caller_schedule_prep` and `fq_caller_complete_done`
+    /// repeat it while another thread changes the instance. A caller at rest, which owns nothing, may request a poll
+    /// (`napi_schedule_prep`), take the instance from the list or as its thread, take it to busy poll it
+    /// (`napi_busy_loop`), and set whether polls are queued for its thread (`dev_set_threaded`). `FQ_GRANTED`,
+    /// `FQ_MISSED`, `FQ_DISABLED`, `FQ_CHANGED`.
+    pub fn fq_caller_schedule(caller: *mut fq_caller) -> u32;
+    /// The calls of a caller of a shared instance. Each makes one attempt, after checks for `FQ_BAD_KIND`,
+    /// `FQ_BAD_WEIGHT`, `FQ_NO_ROOM` and `FQ_BAD_HANDLE`; `fq_caller_schedule_prep` and `fq_caller_complete_done`
+    /// repeat it while another thread changes the instance. A caller at rest, which owns nothing, may request a poll
+    /// (`napi_schedule_prep`), take the instance from the list or as its thread, take it to busy poll it
+    /// (`napi_busy_loop`), and set whether polls are queued for its thread (`dev_set_threaded`). `FQ_GRANTED`,
+    /// `FQ_MISSED`, `FQ_DISABLED`.
+    pub fn fq_caller_schedule_prep(caller: *mut fq_caller) -> u32;
+    /// The calls of a caller of a shared instance. Each makes one attempt, after checks for `FQ_BAD_KIND`,
+    /// `FQ_BAD_WEIGHT`, `FQ_NO_ROOM` and `FQ_BAD_HANDLE`; `fq_caller_schedule_prep` and `fq_caller_complete_done`
+    /// repeat it while another thread changes the instance. A caller at rest, which owns nothing, may request a poll
+    /// (`napi_schedule_prep`), take the instance from the list or as its thread, take it to busy poll it
+    /// (`napi_busy_loop`), and set whether polls are queued for its thread (`dev_set_threaded`). `FQ_TAKEN`,
+    /// `FQ_NOT_THERE`.
+    pub fn fq_caller_take(caller: *mut fq_caller, kind: u32) -> u32;
+    /// The calls of a caller of a shared instance. Each makes one attempt, after checks for `FQ_BAD_KIND`,
+    /// `FQ_BAD_WEIGHT`, `FQ_NO_ROOM` and `FQ_BAD_HANDLE`; `fq_caller_schedule_prep` and `fq_caller_complete_done`
+    /// repeat it while another thread changes the instance. A caller at rest, which owns nothing, may request a poll
+    /// (`napi_schedule_prep`), take the instance from the list or as its thread, take it to busy poll it
+    /// (`napi_busy_loop`), and set whether polls are queued for its thread (`dev_set_threaded`). `FQ_TAKEN`,
+    /// `FQ_BUSY`, `FQ_CHANGED`.
+    pub fn fq_caller_busy_take(caller: *mut fq_caller) -> u32;
+    /// The calls of a caller of a shared instance. Each makes one attempt, after checks for `FQ_BAD_KIND`,
+    /// `FQ_BAD_WEIGHT`, `FQ_NO_ROOM` and `FQ_BAD_HANDLE`; `fq_caller_schedule_prep` and `fq_caller_complete_done`
+    /// repeat it while another thread changes the instance. A caller at rest, which owns nothing, may request a poll
+    /// (`napi_schedule_prep`), take the instance from the list or as its thread, take it to busy poll it
+    /// (`napi_busy_loop`), and set whether polls are queued for its thread (`dev_set_threaded`). `FQ_OK`.
+    pub fn fq_caller_set_threaded(caller: *mut fq_caller, threaded: bool) -> u32;
+    /// A caller that was granted the instance has to queue it (`____napi_schedule`). `FQ_OK`.
+    pub fn fq_caller_hand(caller: *mut fq_caller, kind: u32) -> u32;
+    /// A caller that polls may poll the ring, like `fq_ring_poll`, and then requeues the instance or completes
     /// (`napi_complete_done`).
-    pub fn fq_seat_poll(
-        seat: *mut fq_seat,
+    pub fn fq_caller_poll(
+        caller: *mut fq_caller,
         weight: usize,
         out: *mut fq_packet,
         len: usize,
         count: *mut usize,
     ) -> u32;
-    /// A seat that polls may poll the ring, like `fq_ring_poll`, and then requeues the instance or completes
+    /// A caller that polls may poll the ring, like `fq_ring_poll`, and then requeues the instance or completes
     /// (`napi_complete_done`). `FQ_OK`: it is on the list again.
-    pub fn fq_seat_requeue(seat: *mut fq_seat) -> u32;
-    /// A seat that polls may poll the ring, like `fq_ring_poll`, and then requeues the instance or completes
+    pub fn fq_caller_requeue(caller: *mut fq_caller) -> u32;
+    /// A caller that polls may poll the ring, like `fq_ring_poll`, and then requeues the instance or completes
     /// (`napi_complete_done`). `FQ_RELEASED`, `FQ_AGAIN`, `FQ_CHANGED`; `FQ_HELD` for a busy poller.
-    pub fn fq_seat_complete(seat: *mut fq_seat) -> u32;
-    /// A seat that polls may poll the ring, like `fq_ring_poll`, and then requeues the instance or completes
-    /// (`napi_complete_done`). `FQ_RELEASED`, `FQ_AGAIN`; `FQ_HELD` for a busy poller, since 1.1.
-    pub fn fq_seat_complete_done(seat: *mut fq_seat) -> u32;
-    /// A seat that busy polls may poll and complete, and stops (`busy_poll_stop`): it then polls once more. `FQ_OK`,
-    /// `FQ_CHANGED`.
-    pub fn fq_seat_busy_stop(seat: *mut fq_seat) -> u32;
-    /// Sets `*word` to the state word, a sum of `FQ_BIT_..`, in any state of the seat. Returns `FQ_OK`;
+    pub fn fq_caller_complete(caller: *mut fq_caller) -> u32;
+    /// A caller that polls may poll the ring, like `fq_ring_poll`, and then requeues the instance or completes
+    /// (`napi_complete_done`). `FQ_RELEASED`, `FQ_AGAIN`; `FQ_HELD` for a busy poller.
+    pub fn fq_caller_complete_done(caller: *mut fq_caller) -> u32;
+    /// A caller that busy polls may poll and complete, and stops (`busy_poll_stop`): it then polls once more.
+    /// `FQ_OK`, `FQ_CHANGED`.
+    pub fn fq_caller_busy_stop(caller: *mut fq_caller) -> u32;
+    /// Sets `*word` to the state word, a sum of `FQ_BIT_..`, in any state of the caller. Returns `FQ_OK`;
     /// `FQ_BAD_HANDLE`.
-    pub fn fq_seat_look(seat: *mut fq_seat, word: *mut u64) -> u32;
-    /// Sets `*answers` to how often the seat's calls returned each result since it was made. Returns `FQ_OK`;
-    /// `FQ_BAD_HANDLE`, and `*answers` is unchanged.
-    pub fn fq_seat_count(seat: *const fq_seat, answers: *mut fq_answers) -> u32;
+    pub fn fq_caller_look(caller: *mut fq_caller, word: *mut u64) -> u32;
+    /// Sets `*answers` to how often the caller's calls returned each result since it was made. Returns `FQ_OK`;
+    /// `FQ_BAD_HANDLE`.
+    pub fn fq_caller_count_sized(caller: *const fq_caller, answers: *mut fq_answers) -> u32;
     /// Queues a granted instance as the kernel does (`____napi_schedule`): for its thread if `FQ_BIT_THREADED` is
     /// set. Sets `*next` to `FQ_NEXT_AGAIN` or `FQ_NEXT_AGAIN_THREAD`. Returns `FQ_OK`; `FQ_BAD_HANDLE`;
-    /// `FQ_NOT_ALLOWED`. `*next` is `FQ_NEXT_GONE` unless it returns `FQ_OK`. Since 1.1.
-    pub fn fq_seat_hand_again(seat: *mut fq_seat, next: *mut u32) -> u32;
+    /// `FQ_NOT_ALLOWED`. `*next` is `FQ_NEXT_GONE` unless it returns `FQ_OK`.
+    pub fn fq_caller_hand_again(caller: *mut fq_caller, next: *mut u32) -> u32;
     /// Ends a poll as the kernel does (`__napi_poll`). `full` says that it returned its whole weight. After a full
-    /// poll, if no disable is pending, a seat that took the instance from the list puts it on the list again, and one
-    /// that took it as its thread polls again, at once (`FQ_HELD`). After any other poll the instance is completed
-    /// (`fq_seat_complete_done`), and queued again if a request was missed (`fq_seat_hand_again`). Sets `*next` to
-    /// how the poll ended, for `fq_run_polled`: `FQ_NEXT_GONE`, `FQ_NEXT_AGAIN`, `FQ_NEXT_AGAIN_THREAD`,
+    /// poll, if no disable is pending, a caller that took the instance from the list puts it on the list again, and
+    /// one that took it as its thread polls again, at once (`FQ_HELD`). After any other poll the instance is
+    /// completed (`fq_caller_complete_done`), and queued again if a request was missed (`fq_caller_hand_again`). Sets
+    /// `*next` to how the poll ended, for `fq_run_polled`: `FQ_NEXT_GONE`, `FQ_NEXT_AGAIN`, `FQ_NEXT_AGAIN_THREAD`,
     /// `FQ_NEXT_REPOLL`. After `FQ_NEXT_AGAIN` and `FQ_NEXT_REPOLL` the number still has to be listed, after
     /// `FQ_NEXT_AGAIN_THREAD` the thread still has to be woken; that may follow a poll from the list too. Returns
-    /// `FQ_OK`; `FQ_HELD`: the seat keeps polling, as a busy poller does; `FQ_NOT_ALLOWED` if it doesn't poll;
-    /// `FQ_BAD_HANDLE`. `*next` is `FQ_NEXT_GONE` unless it returns `FQ_OK`. A seat polls as the thread while
-    /// `FQ_BIT_SCHED_THREADED` is set, which `fq_seat_requeue` doesn't clear. Since 1.1.
-    pub fn fq_seat_end(seat: *mut fq_seat, full: bool, next: *mut u32) -> u32;
+    /// `FQ_OK`; `FQ_HELD`: the caller keeps polling, as a busy poller does; `FQ_NOT_ALLOWED` if it doesn't poll;
+    /// `FQ_BAD_HANDLE`. `*next` is `FQ_NEXT_GONE` unless it returns `FQ_OK`. A caller polls as the thread while
+    /// `FQ_BIT_SCHED_THREADED` is set, which `fq_caller_requeue` doesn't clear.
+    pub fn fq_caller_end(caller: *mut fq_caller, full: bool, next: *mut u32) -> u32;
     /// The calls of the controller. If the instance is off: enable (`napi_enable`). If it is on: mark. If it is
     /// marked: try to take, until that returns `FQ_TAKEN`, and the instance is off again (`napi_disable`). Request a
-    /// poll once after each enable, by a seat (`fq_seat_request`), or enable by `fq_control_open`, which does so: an
-    /// earlier request was missed and isn't polled, and a masked card with a full ring would wait forever. `FQ_OK`,
-    /// `FQ_CHANGED`.
+    /// poll once after each enable, by a caller (`fq_caller_request`), or enable by `fq_control_open`, which does so:
+    /// an earlier request was missed and isn't polled, and a masked card with a full ring would wait forever.
+    /// `FQ_OK`, `FQ_CHANGED`.
     pub fn fq_control_enable(control: *mut fq_control, threaded: bool) -> u32;
     /// The calls of the controller. If the instance is off: enable (`napi_enable`). If it is on: mark. If it is
     /// marked: try to take, until that returns `FQ_TAKEN`, and the instance is off again (`napi_disable`). Request a
-    /// poll once after each enable, by a seat (`fq_seat_request`), or enable by `fq_control_open`, which does so: an
-    /// earlier request was missed and isn't polled, and a masked card with a full ring would wait forever. `FQ_OK`.
+    /// poll once after each enable, by a caller (`fq_caller_request`), or enable by `fq_control_open`, which does so:
+    /// an earlier request was missed and isn't polled, and a masked card with a full ring would wait forever.
+    /// `FQ_OK`.
     pub fn fq_control_mark(control: *mut fq_control) -> u32;
     /// The calls of the controller. If the instance is off: enable (`napi_enable`). If it is on: mark. If it is
     /// marked: try to take, until that returns `FQ_TAKEN`, and the instance is off again (`napi_disable`). Request a
-    /// poll once after each enable, by a seat (`fq_seat_request`), or enable by `fq_control_open`, which does so: an
-    /// earlier request was missed and isn't polled, and a masked card with a full ring would wait forever.
+    /// poll once after each enable, by a caller (`fq_caller_request`), or enable by `fq_control_open`, which does so:
+    /// an earlier request was missed and isn't polled, and a masked card with a full ring would wait forever.
     /// `FQ_TAKEN`, `FQ_BUSY`, `FQ_CHANGED`.
     pub fn fq_control_try_take(control: *mut fq_control) -> u32;
     /// Makes one step of a driver's open (`on`) or stop; repeat it between the driver's polls until it returns
     /// `FQ_OK`. After `FQ_OK` the instance is enabled, and a poll still has to be requested once (`fq_control_open`
     /// does so); or it is off. Returns `FQ_OK`, also to stop an instance that is off; `FQ_BUSY`: a disable is
     /// pending, and the owner has to complete the instance before the next step; `FQ_NOT_ALLOWED` to open one that
-    /// isn't off; `FQ_BAD_HANDLE`. Since 1.1.
+    /// isn't off; `FQ_BAD_HANDLE`.
     pub fn fq_control_step(control: *mut fq_control, on: bool, threaded: bool) -> u32;
-    /// Returns `FQ_OK` if the seat belongs to the controller's instance, otherwise `FQ_BAD_HANDLE`. Since 1.1.
-    pub fn fq_control_has(control: *const fq_control, seat: *const fq_seat) -> u32;
+    /// Returns `FQ_OK` if the caller belongs to the controller's instance, otherwise `FQ_BAD_HANDLE`.
+    pub fn fq_control_has(control: *const fq_control, caller: *const fq_caller) -> u32;
     /// Makes a poll list for up to 64 numbers of devices; for more devices use more lists, for example one for each
     /// processor. A number leaves the list when its poll ends with `FQ_NEXT_GONE`, or by `fq_list_remove`. Returns
     /// `FQ_OK`; `FQ_IN_USE`; `FQ_OUT_OF_MEMORY`.
@@ -302,7 +300,7 @@ extern "C" {
     /// during a run. Returns `FQ_OK`; `FQ_BUSY` if it isn't on the list, but the run over it has it, which polls it,
     /// will poll it, or lists it at its end: then end its poll with `FQ_NEXT_GONE`, or end the run first;
     /// `FQ_NOT_THERE` if neither the list nor its run has it; `FQ_BAD_HANDLE`. Nothing changes unless it returns
-    /// `FQ_OK`. Since 1.1.
+    /// `FQ_OK`.
     pub fn fq_list_remove(list: *mut fq_list, id: u32) -> u32;
     /// Sets `*len` to how many numbers the list and its run hold, including the one that is being polled. Returns
     /// `FQ_OK`; `FQ_BAD_HANDLE`.
@@ -320,9 +318,9 @@ extern "C" {
     pub fn fq_run_polled(list: *mut fq_list, work: u32, next: u32) -> u32;
     /// Ends the run, and sets `*report`. The numbers that weren't polled, and those to be polled again, are on the
     /// list. Returns `FQ_OK`; `FQ_NOT_ALLOWED`.
-    pub fn fq_run_end(list: *mut fq_list, report: *mut fq_run_report) -> u32;
+    pub fn fq_run_end_sized(list: *mut fq_list, report: *mut fq_run_report) -> u32;
     /// Like `fq_driver_new`, for bindings. Drivers with different salts number their actions differently, so that
-    /// none takes a report that is another one's. Since 1.1.
+    /// none takes a report that is another one's.
     pub fn fq_driver_new_salted(
         driver: *mut fq_driver,
         devices: u32,
@@ -333,46 +331,47 @@ extern "C" {
     ) -> u32;
     /// Opens a closed device (`napi_enable`): its card will be unmasked and looked at, so that packets which came
     /// before are polled too. Returns `FQ_OK`; `FQ_NOT_DUE` if it isn't closed; `FQ_BAD_DEVICE`; `FQ_BAD_HANDLE`.
-    /// Since 1.1.
     pub fn fq_driver_open(driver: *mut fq_driver, device: u32) -> u32;
     /// Stops an open device (`napi_disable`). Polls that were requested are still made, its card is masked, and then
     /// it is closed, which `fq_driver_show` shows. Packets that stay in the card are polled after the next open.
-    /// Returns `FQ_OK`; `FQ_NOT_DUE` if it is closed or being stopped; `FQ_BAD_DEVICE`; `FQ_BAD_HANDLE`. Since 1.1.
+    /// Returns `FQ_OK`; `FQ_NOT_DUE` if it is closed or being stopped; `FQ_BAD_DEVICE`; `FQ_BAD_HANDLE`.
     pub fn fq_driver_stop(driver: *mut fq_driver, device: u32) -> u32;
     /// Reports an interrupt of a card (`napi_schedule`), at any time, also before an action that is due is reported.
     /// Returns `FQ_GRANTED`: a poll was requested, whose first action is to mask the card; `FQ_MISSED`: a poll is
     /// requested already, and one more follows, or the device is closed; `FQ_DISABLED`: it is being stopped;
     /// `FQ_BAD_DEVICE`; `FQ_BAD_HANDLE`. It may be called too often: an interrupt without packets costs one empty
-    /// poll. The status may be ignored if the device and the handle are right. Since 1.1.
+    /// poll. The status may be ignored if the device and the handle are right.
     pub fn fq_driver_interrupt(driver: *mut fq_driver, device: u32) -> u32;
-    /// Like `fq_driver_next` and `fq_driver_step`, for bindings, which set `todo->size` themselves. Return
-    /// `FQ_BAD_SIZE` if that is too small, and nothing is read, written or changed. Since 1.1.
+    /// Sets `*todo` to what has to be done now. It is the same action, with the same number, until that is reported
+    /// or isn't due any more. Returns `FQ_OK`; `FQ_BAD_HANDLE`, and `*todo` is `FQ_TODO_FAILED`.
     pub fn fq_driver_next_sized(driver: *mut fq_driver, todo: *mut fq_todo) -> u32;
-    /// Like `fq_driver_next` and `fq_driver_step`, for bindings, which set `todo->size` themselves. Return
-    /// `FQ_BAD_SIZE` if that is too small, and nothing is read, written or changed. Since 1.1.
-    pub fn fq_driver_step_sized(driver: *mut fq_driver, todo: *mut fq_todo) -> u32;
-    /// Reports that the action in `*todo` was done, with `todo->packets`; only `todo->number` and `todo->packets` are
-    /// read. Call it before the next call of `fq_driver_next`, or not at all: an action that isn't reported is
-    /// returned again. Returns `FQ_OK`; `FQ_BAD_HANDLE`; `FQ_NOT_DUE`: the driver doesn't wait for this report any
-    /// more, because of an interrupt, an open, a stop or an earlier report, or it is another driver's, and
-    /// `fq_driver_next` says what is due instead; `FQ_BAD_WORK` if a fetch took more than `most`. Nothing changes
-    /// unless it returns `FQ_OK`. Since 1.1.
+    /// Reports that the action in `*todo` was done, with `todo->packets`; only its size, number and packets are read.
+    /// Call it before the next call of `fq_driver_next`, or not at all: an action that isn't reported is returned
+    /// again. Returns `FQ_OK`; `FQ_BAD_SIZE` if `*todo` wasn't set by `fq_driver_next` or `fq_driver_step`;
+    /// `FQ_BAD_HANDLE`; `FQ_NOT_DUE`: the driver doesn't wait for this report any more, because of an interrupt, an
+    /// open, a stop or an earlier report, or it is another driver's, and `fq_driver_next` says what is due instead;
+    /// `FQ_BAD_WORK` if a fetch took more than `most`. Nothing changes unless it returns `FQ_OK`.
     pub fn fq_driver_done(driver: *mut fq_driver, todo: *const fq_todo) -> u32;
-    /// Sets `*shown` to the state of a device and the counts of its polls. Returns `FQ_OK`; `FQ_BAD_SIZE` if
-    /// `shown->size` is too small; `FQ_BAD_HANDLE`; `FQ_BAD_DEVICE`. `*shown` is unchanged unless it returns `FQ_OK`.
-    /// Since 1.1.
-    pub fn fq_driver_show(
+    /// Reports the action in `*todo`, unless its number is 0, and sets `*todo` to what has to be done now:
+    /// `fq_driver_done` and then `fq_driver_next` in one call. Report interrupts that came meanwhile before it, so
+    /// that they count before the next poll. Returns `FQ_OK`; `FQ_NOT_DUE`: the driver didn't wait for this report
+    /// any more, and `*todo` is what is due instead; `FQ_BAD_HANDLE`, and `FQ_BAD_WORK` if a fetch took more than
+    /// `most`: nothing changes, and `*todo` is `FQ_TODO_FAILED`.
+    pub fn fq_driver_step_sized(driver: *mut fq_driver, todo: *mut fq_todo) -> u32;
+    /// Sets `*shown` to the state of a device and the counts of its polls. Returns `FQ_OK`; `FQ_BAD_HANDLE`;
+    /// `FQ_BAD_DEVICE`.
+    pub fn fq_driver_show_sized(
         driver: *const fq_driver,
         device: u32,
         shown: *mut fq_device_shown,
     ) -> u32;
-    /// Replays a trace of `len` bytes, and writes its report to an array of `room` bytes. Returns `FQ_BAD_SIZE`, and
-    /// `*replayed` is unchanged; `FQ_BAD_WEIGHT`, `FQ_BAD_BUDGET` for the settings; `FQ_OUT_OF_MEMORY`;
+    /// Replays a trace of `len` bytes, and writes its report to an array of `room` bytes. Returns `FQ_BAD_SIZE` if
+    /// `settings->size` is wrong; `FQ_BAD_WEIGHT`, `FQ_BAD_BUDGET` for the settings; `FQ_OUT_OF_MEMORY`;
     /// `FQ_BAD_TRACE`, and `replayed->fault` and `replayed->row` say why; `FQ_NO_ROOM`, and `replayed->length` is the
     /// room that the report needs; `FQ_OK`, and the first `replayed->length` bytes of the array are the report, with
     /// no terminating 0. All other bytes of the array are unchanged, and all of them unless it returns `FQ_OK`. An
     /// instance's thread polls at most 131072 times at a time, which no trace of 100000 rows reaches.
-    pub fn fq_replay(
+    pub fn fq_replay_sized(
         settings: *const fq_settings,
         trace: *const u8,
         len: usize,
@@ -385,8 +384,8 @@ extern "C" {
     /// most `restarts` times; with `FQ_UNTIL_EMPTY`, or any number from 100000 on, only the list decides. A softirq
     /// row that is followed by one at the same time isn't repeated. Numbers are written in decimal, and nothing is
     /// quoted. Returns what `fq_replay` returns, and `replayed->length` is the length of the trace that it writes. A
-    /// trace that would have more than 100000 rows has fault 9; the row of fault 12 counts added rows. Since 1.1.
-    pub fn fq_raise(
+    /// trace that would have more than 100000 rows has fault 9; the row of fault 12 counts added rows.
+    pub fn fq_raise_sized(
         settings: *const fq_settings,
         restarts: u32,
         trace: *const u8,
@@ -395,16 +394,15 @@ extern "C" {
         room: usize,
         replayed: *mut fq_replayed,
     ) -> u32;
-    /// Sets all settings to the defaults of `napi_machine`, after the caller has set `settings->size`. Returns
-    /// `FQ_OK`; `FQ_BAD_SIZE`, and the struct is unchanged. Since 1.1.
-    pub fn fq_machine_default(settings: *mut fq_machine_settings) -> u32;
+    /// Sets all settings to the defaults of `napi_machine`. Returns `FQ_OK`.
+    pub fn fq_machine_default_sized(settings: *mut fq_machine_settings) -> u32;
     /// Runs the machine on arrivals of `len` bytes, and writes its report to an array of `room` bytes. Returns
-    /// `FQ_BAD_SIZE` if a struct's `size` isn't set, and `*ran` is unchanged; `FQ_BAD_SETTING`, and `ran->setting`
-    /// says which; `FQ_OUT_OF_MEMORY`; `FQ_BAD_ARRIVALS`, and `ran->fault`, `ran->row` and `ran->message` say why;
-    /// `FQ_NO_ROOM`, and `ran->length` is the room that the report needs; `FQ_OK`, and the first `ran->length` bytes
-    /// of the array are the report, with no terminating 0. All other bytes of the array are unchanged, and all of
-    /// them unless it returns `FQ_OK`. Since 1.1.
-    pub fn fq_machine(
+    /// `FQ_BAD_SIZE` if `settings->size` is wrong; `FQ_BAD_SETTING`, and `ran->setting` says which;
+    /// `FQ_OUT_OF_MEMORY`; `FQ_BAD_ARRIVALS`, and `ran->fault`, `ran->row` and `ran->message` say why; `FQ_NO_ROOM`,
+    /// and `ran->length` is the room that the report needs; `FQ_OK`, and the first `ran->length` bytes of the array
+    /// are the report, with no terminating 0. All other bytes of the array are unchanged, and all of them unless it
+    /// returns `FQ_OK`.
+    pub fn fq_machine_sized(
         settings: *const fq_machine_settings,
         arrivals: *const u8,
         len: usize,

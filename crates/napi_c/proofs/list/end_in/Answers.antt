@@ -8,6 +8,7 @@ returns-in-List-clause-makes c =
     let made : IsEnd c.args.report.now c.end.new.report c.deref_mut.result.now c.end.result c.end.new.self = record {
       run = said.run;
       early = said.early;
+      size = said.size;
       squeezed = said.squeezed;
       back = said.back;
       bounds = said.bounds;

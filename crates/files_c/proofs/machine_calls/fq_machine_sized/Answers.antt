@@ -4,7 +4,7 @@ use Rattle.machine.specs.Fault.{IsMachineOutside}
 use Rattle.files_c.specs.Machine.{IsMachineFault}
 use Rattle.files_c.specs.declared.machine_calls.FqMachineRan.{FqMachineRan}
 use Rattle.files_c.proofs.OutsideFacts.{memory-status, theirs}
-use Rattle.files_c.proofs.machine_calls.fq_machine.Goals as goal
+use Rattle.files_c.proofs.machine_calls.fq_machine_sized.Goals as goal
 
 pub returns-in-Ok-report_of-clause-written : goal.returns-in-Ok-report_of-clause-written
 returns-in-Ok-report_of-clause-written c = λ ok.

@@ -1,6 +1,6 @@
 use Rattle.std.proofs.Common.{ℕ, subst}
 use Rattle.c_handles.{proofs.Endings.{completes_released, completes_again}, specs.SeatCalls.CallerCompletes}
-use Rattle.napi_c.proofs.seat_calls.fq_seat_complete.Goals as goal
+use Rattle.napi_c.proofs.seat_calls.fq_caller_complete.Goals as goal
 
 pub returns-in-Seat-clause-released : goal.returns-in-Seat-clause-released
 returns-in-Seat-clause-released c = λ said.
