@@ -557,7 +557,7 @@ pub struct fq_machine_settings {
     pub apart: u32,
     /// Time from waking that application until it runs, 0 to 1000000000 ns (0).
     pub app_wake: u32,
-    /// Time of an interrupt, or of an expired NAPI timer, 0 to 1000000000 ns (4000).
+    /// Time of an interrupt, 0 to 1000000000 ns (4000).
     pub interrupt: u32,
     /// Time of a poll before its first packet, 0 to 1000000000 ns (1000).
     pub poll: u32,
@@ -573,6 +573,12 @@ pub struct fq_machine_settings {
     /// Least time between two interrupts of a card (ethtool -C rx-usecs of igb, ixgbe, e1000, e1000e, in us there);
     /// not with rx-nsecs or rx-frames, 0 to 1000000000 ns (0).
     pub rx_gap: u32,
+    /// Time of the interrupt of an expired NAPI timer (`napi_watchdog`), 0 to 1000000000 ns (`UINT32_MAX`: that of
+    /// interrupt).
+    pub timer: u32,
+    /// Time to wake an idle processor by an expired NAPI timer, which counts as interrupt time, 0 to 1000000000 ns
+    /// (`UINT32_MAX`: that of wake).
+    pub timer_wake: u32,
 }
 
 impl fq_machine_settings {
@@ -602,6 +608,8 @@ impl fq_machine_settings {
         wake: 0,
         heedless: 0,
         rx_gap: 0,
+        timer: 0,
+        timer_wake: 0,
     };
 }
 

@@ -27,6 +27,7 @@ use Rattle.machine_model.specs.Processor.{ProcessorView, arrives, begins, delive
 use Rattle.machine_model.specs.Processor.{ends_interrupt, ends_poll, happens, is_busy, is_polling, poll_looks, spent, step, takes_up}
 use Rattle.machine_model.specs.Processor.{upcoming}
 use Rattle.machine.proofs.WalkFacts.{Walk, either, idle-is, is_scheduling, looks-by, nexted, polled-by, stirred, stirred-by, walk-any}
+use Rattle.machine.proofs.WalkFacts.{waking}
 use Rattle.machine_model.proofs.ListedFacts.{pushed-run}
 use Rattle.std.proofs.Common.{◌≡◌, ◌∙◌, ℕ, zero, suc, ◌<◌, Bool, true, false, None, refl, sym, ap, arith}
 use Rattle.std.specs.Prelude.{if◌then◌else◌}
@@ -340,7 +341,7 @@ pub life-stirred : {s : MachineSettings} {P Q R : ProcessorView → Type 0} → 
     → Q (stirred moment p)
 life-stirred {Q = Q} l moment p h =
     stirred-by Q moment p (λ busy. h) (λ came counts is. l.aside moment came counts p is h)
-    (λ counts idle asks. l.moved None (saturated (moment + p.settings.wake)) counts p h)
+    (λ n counts idle asks. l.moved None (saturated (moment + waking n p)) counts p h)
     (λ idle. l.moved None moment p.counts p h)
 
 -- time passes, or queues change

@@ -1,5 +1,6 @@
 -- Laws about deferred interrupts (`napi_defer_hard_irqs`).
 use Rattle.std.specs.Prelude.{◌≡◌, ◌≤◌, ◌<◌, ℕ, ◌+◌, ◌^◌, ◌==◌, ◌&&◌, max, not, is_some, true, false, Some, List, [], ◌∷◌, if◌then◌else◌}
+use Rattle.std.specs.Prelude.{unwrap_or}
 use Rattle.machine_model.specs.declared.settings.MachineSettings.{MachineSettings}
 use Rattle.device_places.specs.Places.{at}
 use Rattle.machine.specs.{Fates.finds_room, Lives.{MachineEvent, InTurn, behind, next, packet}}
@@ -27,7 +28,7 @@ pub record IsDeferred (until : ℕ) (phase : Phase) : Type 0 where
 
 -- Law: on an idle processor with polling and without threads, let the next event be that a queue's NAPI timer expires. If
 -- nothing else interferes, the queue's interrupt, its poll and its oldest packet follow at once, and the packet is delivered at
--- most `wake` + `interrupt` + `poll` + `packet` later. By the previous law, its whole wait is at most this sum plus
+-- most `timer-wake` + `timer` + `poll` + `packet` later. By the previous law, its whole wait is at most this sum plus
 -- `gro-flush-timeout`.
 abbrev pub DeferralIsBounded : Type 0
 DeferralIsBounded = (s : MachineSettings) (events : List MachineEvent) (n until came : ℕ) (d : QueueView) → let p = behind s events in
@@ -36,4 +37,4 @@ DeferralIsBounded = (s : MachineSettings) (events : List MachineEvent) (n until 
     → upcoming (step p) ≡ Ends
     → upcoming (step (step p)) ≡ Ends
     → ((step (step (step p))).work ≡ Packet (record { device = n; came = came; given = 0 }))
-    × ((step (step (step p))).ends ≤ until + (s.wake + (s.interrupt + (s.poll + s.packet))))
+    × ((step (step (step p))).ends ≤ until + (unwrap_or s.timer_wake s.wake + (unwrap_or s.timer s.interrupt + (s.poll + s.packet))))
