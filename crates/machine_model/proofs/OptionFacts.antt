@@ -84,12 +84,19 @@ pub no_option : OptionRule
 no_option = rule [] (λ s. 0) 0 0 0
 
 -- the default of this option is in its range
-abbrev is_plain : OptionRule → Bool
+abbrev pub is_plain : OptionRule → Bool
 is_plain o = nat_le o.least o.default && nat_le o.default o.most
 
-pub plain : (o : OptionRule) (value : ℕ) → is_plain o ≡ true → IsOptionInRange o value → (o.least ≤ value) × (value ≤ o.most)
+plain : (o : OptionRule) (value : ℕ) → is_plain o ≡ true → IsOptionInRange o value → (o.least ≤ value) × (value ≤ o.most)
 plain o value is (inl range) = range
 plain o value is (inr usual) = grind (arith, common_steps)
+
+pub plain_at : (values : List ℕ) (k : ℕ) → AreInRange values → k < OPTION_COUNT
+    → is_plain (slice_index_or machine_options k no_option) ≡ true
+    → ((slice_index_or machine_options k no_option).least ≤ slice_index_or values k 0)
+    × (slice_index_or values k 0 ≤ (slice_index_or machine_options k no_option).most)
+plain_at values k h l is =
+    plain (slice_index_or machine_options k no_option) (slice_index_or values k 0) is (in_range_at values k no_option 0 h l)
 
 -- a cost of its own, or that of another option
 pub own_in : (n : ℕ) → ((0 ≤ n) × (n ≤ 1000000000)) ⊎ (n ≡ 4294967295) → ForSome (own_cost n) (λ time. time ≤ 1000000000)
