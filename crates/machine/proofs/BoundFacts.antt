@@ -101,7 +101,7 @@ none-asks : (n : ℕ) (ds : QueueViews) (d : QueueView) (until : ℕ) → ((k : 
 unfolding map_at
 none-asks n ds d until quiet there deferred k =
     at-either (λ b o. asks_at o ≡ false) (interrupted true) n k (changed expired n ds)
-    (λ here. rw (at-changed-same k here) (ap asks (handled-phase true (expired d)) ∙ (deferred-asks until d.phase deferred).2.1))
+    (λ here. rw (at-changed-same k here) (ap asks (handled-phase true (expired d)) ∙ (deferred-asks until d.phase deferred).3))
     (λ other. ap asks_at (at-apart expired n k ds other) ∙ quiet k)
   where
     at-changed-same : (k : ℕ) → (n == k) ≡ true → at k (changed expired n ds) ≡ Some (expired d)
@@ -222,7 +222,7 @@ after-timer n until d p quiet polling single nothing there deferred first =
     let q : ProcessorView = record p { devices = changed expired n p.devices } in
     let asks = one-asks n p.devices d until quiet there deferred in
     let own : at n q.devices ≡ Some (expired d) = at-changed expired n p.devices ∙ ap (λ (o : Option QueueView). map_at expired o) there in
-    let fired : is_fired_at (at n q.devices) ≡ true = ap is_fired_at own ∙ (deferred-asks until d.phase deferred).2.0 in
+    let fired : is_fired_at (at n q.devices) ≡ true = ap is_fired_at own ∙ (deferred-asks until d.phase deferred).2 in
     let is : happens (upcoming p) p ≡ interrupts n (awake until n p) =
     ap (λ (u : Upcoming). happens u p) first
     ∙ (ap takes_up (stirred-idle until q nothing ∙ (ap (λ (o : Option ℕ). woken until o q) asks ∙ timer-wakes until n q fired))
