@@ -855,7 +855,7 @@ struct fq_machine_settings {
     uint32_t gro_flush_timeout; /* time until a queue that stays masked is polled again (gro_flush_timeout); 0: none does, 0 to 1000000000 ns (0) */
     uint32_t threaded;          /* 1: each queue is polled by a thread of its own (/sys/class/net/DEV/threaded), 0 to 1 (0) */
     uint32_t apart;             /* 1: the application has a processor of its own (taskset), 0 to 1 (0) */
-    uint32_t app_wake;          /* time from waking that application until it runs, 0 to 1000000000 ns (0) */
+    uint32_t app_wake;          /* time from waking the application until it runs; on the processor that polls it is a part of the use, 0 to 1000000000 ns (0) */
     uint32_t interrupt;         /* time of an interrupt, 0 to 1000000000 ns (4000) */
     uint32_t poll;              /* time of a poll before its first packet, 0 to 1000000000 ns (1000) */
     uint32_t packet;            /* time of each packet of a poll, 0 to 1000000000 ns (1000) */

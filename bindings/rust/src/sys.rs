@@ -555,7 +555,8 @@ pub struct fq_machine_settings {
     pub threaded: u32,
     /// 1: the application has a processor of its own (taskset), 0 to 1 (0).
     pub apart: u32,
-    /// Time from waking that application until it runs, 0 to 1000000000 ns (0).
+    /// Time from waking the application until it runs; on the processor that polls it is a part of the use, 0 to
+    /// 1000000000 ns (0).
     pub app_wake: u32,
     /// Time of an interrupt, 0 to 1000000000 ns (4000).
     pub interrupt: u32,

@@ -7,7 +7,6 @@ use Rattle.std.proofs.{Common.{arith}, lemmas.{Bool.{and_left, and_parts, leb-tr
 use Rattle.std.specs.{List.AllByRecursion, Prelude.{◌==◌, ◌&&◌, if◌then◌else◌, is_some, max, not, position, unwrap_or}}
 use Rattle.machine_model.specs.declared.settings.MachineSettings.{MachineSettings}
 use Rattle.device_places.specs.Places.{at, changed}
-use Rattle.circular_buffer.specs.Buffer.{buffer}
 use Rattle.machine.specs.{Deferrals.TimersAreNear, Lives.{MachineEvent, InTurn, behind, next, packet}, Times.{ClocksNeverFall}}
 use Rattle.machine.specs.Fates.{delivery_of, finds_room, taken_in}
 use Rattle.machine_model.specs.declared.processor.Work.{Work}
@@ -18,7 +17,7 @@ use Rattle.machine_model.specs.{Softirq.{SoftirqView, run_ended, run_next}, Wait
 use Rattle.machine_model.specs.declared.tasks.RunnableTask.{RunnableTask}
 use Rattle.machine_model.specs.Device.{QueueView, expired, interrupted, queue_polled, raised_again, without_next}
 use Rattle.machine_model.specs.Devices.{QueueViews, asks_at, has_room_at, is_fired_at, with_device}
-use Rattle.machine_model.specs.Application.{ApplicationView, fed}
+use Rattle.machine_model.specs.Application.{ApplicationView, fed, takes_up_packet, use_length}
 use Rattle.machine_model.specs.Processor.{ProcessorView, arrives, begins, disturbed, ends_current, happens, is_busy, is_by, is_due}
 use Rattle.machine_model.specs.Processor.{is_polling, step, takes_up, upcoming, wake_cost}
 use Rattle.machine.proofs.TableFacts.{at-kept, map-kept, map-there, map_at}
@@ -145,13 +144,13 @@ cell-steady s t = record {
 
 timed-uses : (s : MachineSettings) (t came : ℕ) (more : List ℕ) (p : ProcessorView) → Base s t p → p.application.socket.items ≡ came ∷ more
     → position asks_at p.devices ≡ None
-    → Timed s t (begins (Use came) p.settings.use_time
-    (record p { application = record p.application { socket = buffer more p.application.socket.capacity } }))
+    → Timed s t (begins (Use came) (use_length p.settings p.application)
+    (record p { application = takes_up_packet more p.application }))
 timed-uses s t came more p b is quiet =
     let h = b.waits in
     let items : IsFair s → AllByRecursion (λ x. saturated (x + s.packet) ≤ t) (came ∷ more) = rw is at h.socket in
-    timed-begins s t (Use came) p.settings.use_time
-    (record p { application = record p.application { socket = buffer more p.application.socket.capacity } })
+    timed-begins s t (Use came) (use_length p.settings p.application)
+    (record p { application = takes_up_packet more p.application })
     (record { settings = h.settings; cells = h.cells; socket = λ fair. (items fair).1; rest = h.rest }) b.fits b.clock b.up refl
     (λ hand same. cc same)
     (λ other same. (
@@ -161,7 +160,7 @@ timed-uses s t came more p b is quiet =
     ))
   where
     by : (other : ℕ) → other ≡ came → saturated (came + s.packet) ≤ t → p.clock ≡ t → p.settings.use_time ≡ s.use_time → p.clock < 2 ^ 64
-        → saturated (other + use_cost s) ≤ saturated (p.clock + p.settings.use_time)
+        → saturated (other + use_cost s) ≤ saturated (p.clock + use_length p.settings p.application)
     by other same first clock time fits = omega (arith, same, first, clock, time, fits)
 
 timed-resume : (s : MachineSettings) (t : ℕ) (rest : Rest) (p : ProcessorView) → Base s t p → p.rest ≡ Some rest

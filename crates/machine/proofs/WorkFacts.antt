@@ -19,7 +19,6 @@ use Rattle.machine_model.specs.declared.processor.{Upcoming.{Upcoming, TheVarian
 use Rattle.machine_model.specs.Kept.{work_given, polled_by}
 use Rattle.machine_model.specs.Softirq.{RunView, SoftirqView, asked_in, polled_run, pushed, run_ended, run_next, softirq_polled}
 use Rattle.machine_model.specs.{Device.{after_packet, expired, raised_again, without_next}}
-use Rattle.{circular_buffer.specs.Buffer.buffer}
 use Rattle.machine_model.specs.Devices.{QueueViews, has_room_at, is_missed_at, next_packet_at, schedules_at, with_device}
 use Rattle.machine_model.specs.{Waits.saturated}
 use Rattle.machine_model.specs.Tasks.{is_application, runnable, with_application}
@@ -209,8 +208,8 @@ work-walk s = record {
       (record { list = λ single. cc (single, t); none = λ t. free.unasked })
       (λ no. cc ((both (and_left (is_polling s) s.threaded no)).0)) (fits s);
   uses = λ came more p free h none is quiet first.
-      goes-begins s (Use came) p.settings.use_time
-      (record p { application = record p.application { socket = buffer more p.application.socket.capacity } })
+      goes-begins s (Use came) (use_length p.settings p.application)
+      (record p { application = takes_up_packet more p.application })
       (record { settings = h.settings; run = h.run; soft = h.soft; threads = h.threads })
       (record { list = λ t. free.unasked; none = λ t. free.unasked }) (λ no. refl) (fits s);
   stays = λ p free h still settled. goes-free s p free.nothing h free.unasked;

@@ -19,7 +19,7 @@ use Rattle.machine_model.specs.Devices.{asks_at, is_fired_at, is_missed_at, next
 use Rattle.machine_model.specs.Softirq.{RunView, SoftirqView, asked_in, begun, poll_ended, run_next, softirq_polled, pushed}
 use Rattle.machine_model.specs.Waits.{saturated}
 use Rattle.machine_model.specs.Tasks.{after_first, runnable}
-use Rattle.machine_model.specs.{Application.{has_place, used}, Kept.{IsProcessorKept, polled_by}, Processor.ProcessorView}
+use Rattle.machine_model.specs.{Application.{has_place, use_ended}, Kept.{IsProcessorKept, polled_by}, Processor.ProcessorView}
 use Rattle.machine_model.specs.Processor.{begins, begins_run, delivers, delivers_oldest, disturbed, ends_by, ends_current}
 use Rattle.machine_model.specs.Processor.{ends_interrupt, ends_poll}
 use Rattle.machine_model.specs.Processor.{ends_run, goes_on, happens, interrupt_cost, interrupts, is_busy, is_by, is_due, is_polling}
@@ -401,11 +401,11 @@ ends-less w (Packet packet) p least nothing busy =
 ends-less w (Use came) p least nothing busy = omega (
   arith,
   idle-left w
-      (record p { application = used p.clock came p.application }) nothing,
+      (record p { application = use_ended p.clock came p.application }) nothing,
   same,
 )
   where
-    same : base w (record p { application = used p.clock came p.application }) ≡ base w p
+    same : base w (record p { application = use_ended p.clock came p.application }) ≡ base w p
     same = refl
 
 current-less : (w : ℕ) (p : ProcessorView) → load ≤ w → is_busy p.work ≡ true → left w (ends_current p) < left w p

@@ -2,14 +2,13 @@
 use Rattle.std.specs.Prelude.{◌≡◌, ℕ, zero, suc, ◌+◌, ◌-◌, ◌<◌, ◌==◌, ◌||◌, ◌&&◌, not, nat_le, nat_lt, Bool, true, false, List, [], ◌∷◌}
 use Rattle.std.specs.{Prelude.{◌++◌, length, position, slice_get, Option, Some, None, is_some, if◌then◌else◌}, Option.option_map_or}
 use Rattle.std.specs.Prelude.{unwrap_or}
-use Rattle.circular_buffer.specs.Buffer.{buffer}
 use Rattle.device_places.specs.Places.{at, changed}
 use Rattle.{machine_model.specs.declared.settings.MachineSettings.MachineSettings}
 use Rattle.machine_model.specs.Device.{after_packet, queue_delivered, expired, interrupted, queue_polled, raised_again, without_next}
 use Rattle.machine_model.specs.Devices.{QueueViews, asks_at, has_room_at, is_fired_at, is_missed_at, next_packet_at, schedules_at}
 use Rattle.machine_model.specs.Devices.{soonest_from, with_device}
 use Rattle.machine_model.specs.Softirq.{SoftirqView, begun, asked_in, poll_ended, run_ended, is_run_spent, run_next, pushed}
-use Rattle.machine_model.specs.{Application.{ApplicationView, fed, has_place, opened_application, used}, Waits.saturated}
+use Rattle.machine_model.specs.{Application.{ApplicationView, fed, has_place, opened_application, takes_up_packet, use_ended, use_length}, Waits.saturated}
 use Rattle.machine_model.specs.Tasks.{after_first, runnable, with_application}
 use Rattle.machine_model.specs.declared.{devices.Timer.Timer, tasks.RunnableTask.{RunnableTask, TheVariants.{Application, Thread}}}
 use Rattle.machine_model.specs.declared.processor.{ProcessorCounts.ProcessorCounts, TheConstants.ProcessorCounts.NONE, Work.Work}
@@ -67,12 +66,11 @@ interrupts number p =
 abbrev pub polls : ℕ → ProcessorView → ProcessorView
 polls number p = begins (Poll number) p.settings.poll p
 
--- the application uses the oldest packet of its socket, if there is one
+-- the application uses the oldest packet of its socket, if there is one; waking up is a part of the use
 abbrev pub uses : List ℕ → ProcessorView → ProcessorView
 uses [] p = p
 uses (came ∷ more) p =
-    let socket = buffer more p.application.socket.capacity in
-    begins (Use came) p.settings.use_time (record p { application = record p.application { socket = socket } })
+    begins (Use came) (use_length p.settings p.application) (record p { application = takes_up_packet more p.application })
 
 -- ---- which work begins: the first that is possible, in this order
 
@@ -180,7 +178,7 @@ ends_by Nothing p = p
 ends_by (Interrupt number) p = if is_polling p.settings then p else ends_interrupt number p
 ends_by (Poll number) p = poll_looks number 0 p
 ends_by (Packet packet) p = poll_looks packet.device (packet.given + 1) (delivers packet.device packet.came p)
-ends_by (Use came) p = record p { application = used p.clock came p.application }
+ends_by (Use came) p = record p { application = use_ended p.clock came p.application }
 
 -- the time that a piece of work took is added to the processor's counts
 abbrev pub spent : Work → ℕ → ProcessorCounts → ProcessorCounts

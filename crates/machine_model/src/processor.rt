@@ -260,9 +260,10 @@ impl Processor {
         requires { self.old.work ≡ Nothing }
         ensures { self.new ≡ uses self.old.application.socket.items self.old }
     {
+        let length = self.application.use_length(&self.settings);
         if let Some(came) = self.application.take() {
             self.work = Work::Use(came);
-            self.ends = end_after(self.clock, self.settings.use_time);
+            self.ends = end_after(self.clock, length);
         }
     }
 
@@ -495,7 +496,7 @@ impl Processor {
                 self.look(packet.device, packet.given + 1)?;
             }
             Work::Use(came) => {
-                self.application.use_packet(self.clock, came)?;
+                self.application.end_use(self.clock, came)?;
                 self.work = Work::Nothing;
             }
         }

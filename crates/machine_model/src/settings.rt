@@ -58,7 +58,7 @@ pub const OPTIONS: [MachineOption; OPTION_COUNT] = options! {
     ("gro-flush-timeout", 0, 1000000000, 0, "ns", "time until a queue that stays masked is polled again (gro_flush_timeout); 0: none does"),
     ("threaded", 0, 1, 0, "", "1: each queue is polled by a thread of its own (/sys/class/net/DEV/threaded)"),
     ("apart", 0, 1, 0, "", "1: the application has a processor of its own (taskset)"),
-    ("app-wake", 0, 1000000000, 0, "ns", "time from waking that application until it runs"),
+    ("app-wake", 0, 1000000000, 0, "ns", "time from waking the application until it runs; on the processor that polls it is a part of the use"),
     ("interrupt", 0, 1000000000, 4000, "ns", "time of an interrupt"),
     ("poll", 0, 1000000000, 1000, "ns", "time of a poll before its first packet"),
     ("packet", 0, 1000000000, 1000, "ns", "time of each packet of a poll"),
@@ -109,7 +109,8 @@ pub struct MachineSettings {
     pub threaded: bool,
     /// Whether the application has its own processor.
     pub apart: bool,
-    /// The time from waking that application until it runs, 0 to 1000000000. Used with `apart` only.
+    /// The time from waking the application until it runs, 0 to 1000000000. Without `apart` it is a part of the use of the packet
+    /// that finds the application asleep.
     pub app_wake: u32,
     /// The time of an interrupt, 0 to 1000000000. It is also that of a NAPI timer's interrupt, unless `timer` is given.
     pub interrupt: u32,
