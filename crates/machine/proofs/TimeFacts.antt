@@ -4,7 +4,7 @@ use Rattle.std.proofs.lemmas.Grind.{common_steps}
 use Rattle.std.proofs.Common.{◌≡◌, ◌∙◌, ℕ, ◌+◌, ◌-◌, ◌<◌, ◌≤◌, ◌^◌, Bool, true, false, Option, Some, None, List, [], ◌∷◌, ◌++◌, refl}
 use Rattle.std.proofs.Common.{ap}
 use Rattle.std.proofs.{Common.{arith}, lemmas.{Bool.{and_left, and_parts, leb-true}}}
-use Rattle.std.specs.{List.AllByRecursion, Prelude.{◌==◌, ◌&&◌, if◌then◌else◌, is_some, max, not, position, unwrap_or}}
+use Rattle.std.specs.{List.AllByRecursion, Prelude.{◌==◌, ◌&&◌, if◌then◌else◌, max, not, position, unwrap_or}}
 use Rattle.machine_model.specs.declared.settings.MachineSettings.{MachineSettings}
 use Rattle.device_places.specs.Places.{at, changed}
 use Rattle.machine.specs.{Deferrals.TimersAreNear, Lives.{MachineEvent, InTurn, behind, next, packet}, Times.{ClocksNeverFall}}

@@ -18,7 +18,7 @@ use Rattle.machine_model.specs.declared.tasks.RunnableTask.TheVariants.{Thread}
 use Rattle.machine_model.specs.declared.processor.{Upcoming.{Upcoming, TheVariants.{Never, Ends, Expires}}}
 use Rattle.machine_model.specs.Kept.{work_given, polled_by}
 use Rattle.machine_model.specs.Softirq.{RunView, SoftirqView, asked_in, polled_run, pushed, run_ended, run_next, softirq_polled}
-use Rattle.machine_model.specs.{Device.{after_packet, expired, raised_again, without_next}}
+use Rattle.machine_model.specs.{Application.{takes_up_packet, use_length}, Device.{after_packet, expired, raised_again, without_next}}
 use Rattle.machine_model.specs.Devices.{QueueViews, has_room_at, is_missed_at, next_packet_at, schedules_at, with_device}
 use Rattle.machine_model.specs.{Waits.saturated}
 use Rattle.machine_model.specs.Tasks.{is_application, runnable, with_application}

@@ -1,14 +1,14 @@
 -- Laws about deferred interrupts (`napi_defer_hard_irqs`).
-use Rattle.std.specs.Prelude.{◌≡◌, ◌≤◌, ◌<◌, ℕ, ◌+◌, ◌^◌, ◌==◌, ◌&&◌, max, not, is_some, true, false, Some, List, [], ◌∷◌, if◌then◌else◌}
+use Rattle.std.specs.Prelude.{◌≡◌, ◌≤◌, ◌<◌, ℕ, ◌+◌, ◌^◌, true, false, Some, List}
 use Rattle.std.specs.Prelude.{unwrap_or}
 use Rattle.machine_model.specs.declared.settings.MachineSettings.{MachineSettings}
 use Rattle.device_places.specs.Places.{at}
-use Rattle.machine.specs.{Fates.finds_room, Lives.{MachineEvent, InTurn, behind, next, packet}}
+use Rattle.machine.specs.{Lives.{MachineEvent, InTurn, behind}}
 use Rattle.machine_model.specs.{Device.{QueueView, next_packet}, declared.device.Phase.Phase}
 use Rattle.machine_model.specs.declared.device.{NapiState.TheVariants.Idle, Line.TheVariants.Masked}
-use Rattle.machine_model.specs.{Devices.next_packet_at, Processor.{Advances, ProcessorView, is_polling, step, upcoming}}
-use Rattle.machine_model.specs.declared.processor.{Upcoming.{Upcoming, TheVariants.{Ends, Expires}}, Work.Work}
-use Rattle.machine_model.specs.declared.processor.Work.TheVariants.{Nothing, Packet, Poll}
+use Rattle.machine_model.specs.{Processor.{Advances, ProcessorView, is_polling, step, upcoming}}
+use Rattle.machine_model.specs.declared.processor.{Upcoming.{TheVariants.{Ends, Expires}}}
+use Rattle.machine_model.specs.declared.processor.Work.TheVariants.{Nothing, Packet}
 
 -- Law: with no further packets, the events on a processor end.
 abbrev pub EveryRunEnds : Type 0
