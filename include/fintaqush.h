@@ -890,14 +890,16 @@ struct fq_machine_settings {
     uint32_t gro_flush_timeout; /* time until a queue that stays masked is polled again (gro_flush_timeout); 0: none does, 0 to 1000000000 ns (0) */
     uint32_t threaded;          /* 1: each queue is polled by a thread of its own (/sys/class/net/DEV/threaded), 0 to 1 (0) */
     uint32_t apart;             /* 1: the application has a processor of its own (taskset), 0 to 1 (0) */
-    uint32_t app_wake;          /* time from waking that application until it runs, 0 to 1000000000 ns (0) */
-    uint32_t interrupt;         /* time of an interrupt, or of an expired NAPI timer, 0 to 1000000000 ns (4000) */
+    uint32_t app_wake;          /* time from waking the application until it runs; on the processor that polls it is a part of the use, 0 to 1000000000 ns (0) */
+    uint32_t interrupt;         /* time of an interrupt, 0 to 1000000000 ns (4000) */
     uint32_t poll;              /* time of a poll before its first packet, 0 to 1000000000 ns (1000) */
     uint32_t packet;            /* time of each packet of a poll, 0 to 1000000000 ns (1000) */
     uint32_t use_time;          /* time that the application takes for a packet, 0 to 1000000000 ns (2000) */
     uint32_t wake;              /* time to wake an idle processor, which counts as interrupt time, 0 to 1000000000 ns (0) */
     uint32_t heedless;          /* 1: the driver unmasks the queue whatever napi_complete_done returns (vmxnet3, tg3, be2net, mana), 0 to 1 (0) */
     uint32_t rx_gap;            /* least time between two interrupts of a card (ethtool -C rx-usecs of igb, ixgbe, e1000, e1000e, in us there); not with rx-nsecs or rx-frames, 0 to 1000000000 ns (0) */
+    uint32_t timer;             /* time of the interrupt of an expired NAPI timer (napi_watchdog), 0 to 1000000000 ns (UINT32_MAX: that of interrupt) */
+    uint32_t timer_wake;        /* time to wake an idle processor by an expired NAPI timer, which counts as interrupt time, 0 to 1000000000 ns (UINT32_MAX: that of wake) */
     /* scripts/options.py: end */
 };
 

@@ -20,25 +20,37 @@ Option = dict[str, Any]  # a row of the table
 TABLE = TOP / "crates/machine_model/src/settings.rt"
 FIELDS = ("name", "least", "most", "default", "unit", "what")
 MEMBERS = {"use": "use_time"}  # options whose name is a keyword of a language
+UNSET = 2**32 - 1  # the default in the table of an option whose default is the value of another one
+OTHERS = {"timer": "interrupt", "timer-wake": "wake"}  # that other one
 
 
 def table() -> list[Option]:
-    """Returns the options, each as an object; `member` is its name in structs and in JSON."""
+    """Returns the options, each as an object; `member` is its name in structs and in JSON. A default that is another option's value is
+    its name."""
     found = re.search(r"pub const OPTIONS: .* = options! \{(.*?)\n\};", TABLE.read_text(), re.S)
     if not found:
         sys.exit(f"{TABLE}: it has no table of options")
     options = [dict(zip(FIELDS, row)) for row in ast.literal_eval(f"[{found[1]}]")]
-    return [{**option, "member": MEMBERS.get(option["name"], option["name"].replace("-", "_"))} for option in options]
+    for option in options:
+        option["member"] = MEMBERS.get(option["name"], option["name"].replace("-", "_"))
+        option["default"] = OTHERS[option["name"]] if option["default"] == UNSET else option["default"]
+    return options
 
 
 def is_flag(option: Option) -> bool:
     return (option["least"], option["most"], option["unit"]) == (0, 1, "")
 
 
-def described(option: Option) -> str:
-    """Returns what an option is, with its range, its default, and the unit of times."""
+def default_of(option: Option) -> str:
+    return f"that of {option['default']}" if isinstance(option["default"], str) else str(option["default"])
+
+
+def described(option: Option, unset: str = "") -> str:
+    """Returns what an option is, with its range, its default, and the unit of times. `unset` says which value is a default that is another
+    option's."""
     ns = " ns" if option["unit"] == "ns" else ""
-    return f"{option['what']}, {option['least']} to {option['most']}{ns} ({option['default']})"
+    before = unset if isinstance(option["default"], str) else ""
+    return f"{option['what']}, {option['least']} to {option['most']}{ns} ({before}{default_of(option)})"
 
 
 def as_json(options: Sequence[Option]) -> str:
@@ -50,7 +62,9 @@ def as_json(options: Sequence[Option]) -> str:
 
 def header(options: Sequence[Option]) -> Iterable[str]:
     wide = max(len(option["member"]) for option in options) + 1
-    return [f"    uint32_t {option['member'] + ';':{wide}} /* {described(option)} */" for option in options]
+    return [
+        f"    uint32_t {option['member'] + ';':{wide}} /* {described(option, 'UINT32_MAX: ')} */" for option in options
+    ]
 
 
 def names(options: Sequence[Option]) -> list[str]:
@@ -76,7 +90,7 @@ def page(options: Sequence[Option]) -> Iterable[str]:
     yield from ("| Option | Range | Default | What it is, and the setting of Linux |", "|---|---|---|---|")
     for option in options:
         values = f"{option['least']} to {option['most']} {option['unit']}".rstrip()
-        yield f"| `--{option['name']}` | {values} | {option['default']} | {option['what']} |"
+        yield f"| `--{option['name']}` | {values} | {default_of(option)} | {option['what']} |"
 
 
 # The files with such a part: how its two comments begin and end, and what makes its lines.

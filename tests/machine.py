@@ -81,7 +81,7 @@ def same(program: str, arguments: Sequence[str], text: str) -> tuple[str, dict[s
     return out, {} if status else values(said)
 
 
-# The rules of cards, which a program may lack. It then also lacks --app-wake on the processor that polls.
+# The rules of cards, which a program may lack.
 OF_CARDS = "rx-gap", "latched", "gro-batch", "take", "heedless", "timer", "timer-wake"
 
 
@@ -89,7 +89,7 @@ OF_CARDS = "rx-gap", "latched", "gro-batch", "take", "heedless", "timer", "timer
 def options_of(program: str) -> dict[str, tuple[int, int, int | str]]:
     lacks = [name for name in OF_CARDS if ran(program, [f"--{name}", "0"], text_of([]))[2] != 0]
     if lacks:
-        print(f"not compared, because {program} lacks them: {' '.join(lacks)}, and app-wake on the processor that polls")
+        print(f"not compared, because {program} lacks them: {' '.join(lacks)}")
     return {name: row for name, row in OPTIONS.items() if name not in lacks}
 
 
@@ -125,7 +125,7 @@ def examples(program: str) -> list[str]:
         is_right = all(part in out for part in of["contains"]) and of["report"] in ([], out.splitlines())
         wrong += [] if is_right else [f"{of['options'][0]}\n{out}"]
         count += 1
-    return wrong if count >= 5 and count + left_out == 14 else [f"there are {count} examples, and {left_out} are left out", *wrong]
+    return wrong if count >= 5 and count + left_out == 15 else [f"there are {count} examples, and {left_out} are left out", *wrong]
 
 
 # ---- random arrivals with random options
@@ -151,8 +151,6 @@ def random_options(chance: random.Random, program: str) -> Settings:
         del chosen["rx-gap"]
     if chosen.get("take", 0) > chosen.get("packet", int(OPTIONS["packet"][2])):
         del chosen["take"]
-    if not has_cards(program) and not chosen.get("apart"):
-        chosen.pop("app-wake", None)
     return chosen
 
 
@@ -236,7 +234,8 @@ def cases_of(settings: Settings, rows: list[tuple[int, ...]], printed: str, call
         "backlog": settings["backlog"] > 0 and polls_on, "wake": settings["wake"] > 0 and polls_on,
         "coalescing": settings["rx-nsecs"] > 0 and polls_on,
         "coalescing by frames": settings["rx-nsecs"] > 0 and settings["rx-frames"] > 1 and polls_on,
-        "apart": of["wakes"] > 1, "apart, refused": of["wakes"] > 1 and total["refused"] > 0}
+        "apart": of["wakes"] > 1, "apart, refused": of["wakes"] > 1 and total["refused"] > 0,
+        "app-wake on the processor that polls": settings["app-wake"] > 0 and not settings["apart"] and polls_on}
 
 
 def cases_of_cards(settings: Settings, printed: str, calls: dict[str, int]) -> dict[str, bool]:
@@ -248,8 +247,7 @@ def cases_of_cards(settings: Settings, printed: str, calls: dict[str, int]) -> d
         "scheduled again, threads": calls["agains"] > 0 and settings["threaded"] > 0,
         "latched": settings["latched"] == 1 and polls_on, "latched, and read": settings["latched"] == 2 and polls_on,
         "heedless": settings["heedless"] == 1 and polls_on, "heedless with timers": settings["heedless"] == 1 and timers,
-        "timers at a cost of their own": timers and settings["timer"] != settings["interrupt"],
-        "app-wake on the processor that polls": settings["app-wake"] > 0 and not settings["apart"] and polls_on}
+        "timers at a cost of their own": timers and settings["timer"] != settings["interrupt"]}
 
 
 # ---- what a setting doesn't change
@@ -327,7 +325,7 @@ def options(program: str) -> list[str]:
     for name, (low, high, _) in options_of(program).items():
         refused += [[f"--{name}", str(high + 1)], [f"--{name}={'1'.zfill(11)}"], [f"--{name}", "99999999999999999999"]]
         refused += [[f"--{name}", str(low - 1)]] if low else [[f"--{name}=-1"]]
-        more = {"take": [f"--packet={high}"], "app-wake": ["--apart=1"]}.get(name, [])  # what the greatest value needs
+        more = {"take": [f"--packet={high}"]}.get(name, [])  # what the greatest value needs
         taken += [[f"--{name}", str(low), *more], [f"--{name}={str(high).zfill(10)}", *more]]
     for each in refused:
         if (printed := ran(program, each, "what\n")) != ("", "usage fault 64\n", 64):

@@ -318,7 +318,8 @@ def options_of_linux() -> list[str]:
     """Each option in OPERATORS' table of Linux's settings exists; and each that sets what Linux sets is there: all but the sizes of the
     machine, what its driver does, the costs, and the window, which Linux doesn't have."""
     known = {f"--{option['name']}" for option in json.loads((TOP / "tools/fintaqush_tools/options.json").read_text())}
-    own = {"--processors", "--socket", "--window", "--heedless", "--app-wake", "--interrupt", "--poll", "--packet", "--use", "--wake"}
+    own = {"--processors", "--socket", "--window", "--heedless", "--app-wake", "--interrupt", "--poll", "--packet", "--use", "--wake", "--timer",
+           "--timer-wake"}
     table = (TOP / "docs/OPERATORS.md").read_text().partition("## Which setting does what")[2].partition("\n## ")[0]
     named = {option for row in table.splitlines() for option in re.findall(r"`(--[\w-]+)[ `]", row.rpartition(" | ")[2])}
     return [f"no option {option}" for option in sorted(named - known)] + [f"no row with {option}" for option in sorted(known - own - named)]

@@ -5,7 +5,7 @@ from __future__ import annotations
 import json
 from collections.abc import Collection, Mapping, Sequence
 from pathlib import Path
-from typing import Any
+from typing import Any, Union
 
 from fintaqush_tools.errors import Refusal
 from fintaqush_tools.options import as_options
@@ -15,8 +15,10 @@ Line = Mapping[str, int]  # the numbers of a line of a report, by their names
 
 # The options, made of their table by scripts/options.py.
 TABLE: list[dict[str, Any]] = json.loads(Path(__file__).with_name("options.json").read_text(encoding="utf-8"))
-# The minimum, maximum and default of each option; what each is; and those that are times.
-OPTIONS: dict[str, tuple[int, int, int]] = {it["name"]: (it["least"], it["most"], it["default"]) for it in TABLE}
+# The minimum, maximum and default of each option; what each is; and those that are times. A name as default: the value of that option.
+OPTIONS: dict[str, tuple[int, int, Union[int, str]]] = {
+    it["name"]: (it["least"], it["most"], it["default"]) for it in TABLE
+}
 MEANS: dict[str, str] = {it["name"]: it["what"] for it in TABLE}
 IN_NS = tuple(it["name"] for it in TABLE if it["unit"] == "ns")
 NAMES = ("interrupt", "poll", "packet", "use", "wake", "app-wake", "take", "timer", "timer-wake")
@@ -58,7 +60,16 @@ VALUES = list(ARE)
 def help_of(name: str) -> str:
     """Returns the help text of an option: what it is, its range, its unit and its default."""
     low, high, default = OPTIONS[name]
-    return f"{MEANS[name]}, {low} to {high}{' ns' if name in IN_NS else ''} ({default})"
+    told = f"that of --{default}" if isinstance(default, str) else default
+    return f"{MEANS[name]}, {low} to {high}{' ns' if name in IN_NS else ''} ({told})"
+
+
+def default_of(name: str, settings: Mapping[str, Any]) -> int:
+    """Returns the default of an option with these settings."""
+    default = OPTIONS[name][2]
+    if isinstance(default, int):
+        return default
+    return int(settings[default]) if default in settings else default_of(default, settings)
 
 
 def lines_of(report: str) -> dict[str, list[dict[str, int]]]:
@@ -126,4 +137,4 @@ def share(lines: Sequence[Line], name: str) -> str:
 
 def option_words(settings: Mapping[str, Any]) -> list[str]:
     """Returns the command-line options of napi_machine for these settings, without those that have their default."""
-    return as_options({name: value for name, value in settings.items() if int(value) != OPTIONS[name][2]})
+    return as_options({name: value for name, value in settings.items() if int(value) != default_of(name, settings)})

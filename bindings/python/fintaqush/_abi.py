@@ -278,6 +278,8 @@ class MachineSettings(ctypes.Structure):
         ("wake", u32),
         ("heedless", u32),
         ("rx_gap", u32),
+        ("timer", u32),
+        ("timer_wake", u32),
     ]
 
 

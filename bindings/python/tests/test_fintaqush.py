@@ -501,6 +501,9 @@ class TestMachine(Refusals):
         apart = machine(self.ARRIVALS, apart=True, app_wake=3000, processors=2).processors
         self.assertEqual([one.number for one in apart], [0, 1])
         self.assertEqual([one.application.wakes for one in apart], [2, 1])
+        shorter = [machine(self.ARRIVALS, defer_hard_irqs=2, gro_flush_timeout=20000, **costs).processors[0].times[1]
+                   for costs in ({}, {"timer": 3000}, {"interrupt": 3000})]
+        self.assertEqual(shorter, [24000, 20000, 21000])
         rows = "".join(f"{30000 * i},1,60\n" for i in range(2000))
         arrivals = f"ns,device,bytes\n{rows}".encode()
         one_by_one, together = machine(arrivals), machine(arrivals, rx_nsecs=50000)
@@ -514,7 +517,7 @@ class TestMachine(Refusals):
             fault = raised.exception
             self.assertEqual((fault.status, fault.number, fault.row, str(fault)), (Status.BAD_ARRIVALS, number, row, line))
             self.assertEqual(str(pickle.loads(pickle.dumps(fault))), line)
-        for name, value in (("weight", 65), ("backlog", 2), ("wake", 10**9 + 1), ("processors", 0)):
+        for name, value in (("weight", 65), ("backlog", 2), ("wake", 10**9 + 1), ("timer", 10**9 + 1), ("processors", 0)):
             with self.assertRaisesRegex(SettingFault, f"^FQ_BAD_SETTING: {name}$"):
                 machine(self.ARRIVALS, **{name: value})
         with self.assertRaisesRegex(SettingFault, "^FQ_BAD_SETTING: rx_gap$"):

@@ -618,9 +618,10 @@ pub struct fq_machine_settings {
     pub threaded: u32,
     /// 1: the application has a processor of its own (taskset), 0 to 1 (0).
     pub apart: u32,
-    /// Time from waking that application until it runs, 0 to 1000000000 ns (0).
+    /// Time from waking the application until it runs; on the processor that polls it is a part of the use, 0 to
+    /// 1000000000 ns (0).
     pub app_wake: u32,
-    /// Time of an interrupt, or of an expired NAPI timer, 0 to 1000000000 ns (4000).
+    /// Time of an interrupt, 0 to 1000000000 ns (4000).
     pub interrupt: u32,
     /// Time of a poll before its first packet, 0 to 1000000000 ns (1000).
     pub poll: u32,
@@ -636,6 +637,12 @@ pub struct fq_machine_settings {
     /// Least time between two interrupts of a card (ethtool -C rx-usecs of igb, ixgbe, e1000, e1000e, in us there);
     /// not with rx-nsecs or rx-frames, 0 to 1000000000 ns (0).
     pub rx_gap: u32,
+    /// Time of the interrupt of an expired NAPI timer (`napi_watchdog`), 0 to 1000000000 ns (`UINT32_MAX`: that of
+    /// interrupt).
+    pub timer: u32,
+    /// Time to wake an idle processor by an expired NAPI timer, which counts as interrupt time, 0 to 1000000000 ns
+    /// (`UINT32_MAX`: that of wake).
+    pub timer_wake: u32,
 }
 
 impl fq_machine_settings {
@@ -665,6 +672,8 @@ impl fq_machine_settings {
         wake: 0,
         heedless: 0,
         rx_gap: 0,
+        timer: 0,
+        timer_wake: 0,
     };
 }
 

@@ -1049,6 +1049,11 @@ fn the_machine_reports_what_its_program_does() {
         ..settings
     };
     assert_eq!(machine(arrivals, &both), Err(MachineFault::Setting(23)));
+    let timer = MachineSettings {
+        timer: 1_000_000_001,
+        ..settings
+    };
+    assert_eq!(machine(arrivals, &timer), Err(MachineFault::Setting(24)));
     let many: String = (0..4000)
         .map(|i| format!("{i},{},60\n", i % 64 + 1))
         .collect();

@@ -6,7 +6,7 @@ use Rattle.std.proofs.lemmas.{Bool.{le-ltb, lt-ltb}, List.Sums.{position_or_len_
 use Rattle.std.proofs.lemmas.Grind.{common_steps}
 use Rattle.std.specs.List.{position_or_len}
 use Rattle.std.specs.Option.{option_map_or}
-use Rattle.std.specs.Prelude.{◌==◌, is_some}
+use Rattle.std.specs.Prelude.{◌==◌, unwrap_or}
 use Rattle.std.specs.Prelude.{position}
 use Rattle.machine_model.specs.declared.settings.MachineSettings.{MachineSettings}
 use Rattle.device_places.specs.Places.{at, changed}
@@ -14,8 +14,8 @@ use Rattle.machine.specs.{Deferrals.{DeferralIsBounded, IsDeferred}}
 use Rattle.machine_model.specs.declared.device.{Phase.Phase, NapiState.TheVariants.Idle, Line.TheVariants.Masked}
 use Rattle.machine_model.specs.declared.processor.Work.TheVariants.{Nothing, Interrupt, Poll, Packet}
 use Rattle.machine_model.specs.declared.{processor.Upcoming.{Upcoming, TheVariants.{Ends, Expires}}}
-use Rattle.machine_model.specs.Device.{QueueView, asks, expired, handled, interrupted, next_packet, schedules, without_next}
-use Rattle.machine_model.specs.Devices.{QueueViews, asks_at, schedules_at}
+use Rattle.machine_model.specs.Device.{QueueView, asks, expired, handled, interrupted, is_fired, next_packet, schedules, without_next}
+use Rattle.machine_model.specs.Devices.{QueueViews, asks_at, is_fired_at, schedules_at}
 use Rattle.machine_model.specs.Devices.{next_packet_at}
 use Rattle.machine_model.specs.Softirq.{RunView, SoftirqView, asked_in, begun, run_next, pushed}
 use Rattle.machine_model.specs.Waits.{saturated}
@@ -53,31 +53,31 @@ takes-interrupt : (n : ℕ) (p : ProcessorView) → p.work ≡ Nothing → posit
 unfolding takes_up
 takes-interrupt n p h1 h2 = grind (arith, common_steps)
 
-stirred-idle : (t : ℕ) (p : ProcessorView) → p.work ≡ Nothing → stirred t p ≡ woken t (is_some (position asks_at p.devices)) p
+stirred-idle : (t : ℕ) (p : ProcessorView) → p.work ≡ Nothing → stirred t p ≡ woken t (position asks_at p.devices) p
 stirred-idle t p h1 = grind (arith, common_steps)
 
 -- how an interrupt leaves the processor, with polling and without threads
 pub record Interrupted (n : ℕ) (p q : ProcessorView) : Type 0 where
   pub work : q.work ≡ Interrupt n
-  pub ends : q.ends ≡ saturated (p.clock + p.settings.interrupt)
+  pub ends : q.ends ≡ saturated (p.clock + unwrap_or p.settings.timer p.settings.interrupt)
   pub settings : q.settings ≡ p.settings
   pub softirq : q.softirq ≡ pushed n p.softirq
   pub devices : q.devices ≡ changed (interrupted true) n p.devices
 
 interrupted-is : (n : ℕ) (p : ProcessorView) → is_polling p.settings ≡ true → p.settings.threaded ≡ false
-    → schedules_at (at n p.devices) ≡ true → Interrupted n p (interrupts n p)
+    → schedules_at (at n p.devices) ≡ true → is_fired_at (at n p.devices) ≡ true → Interrupted n p (interrupts n p)
 unfolding interrupts
-interrupted-is n p h1 h2 h3 = grind (arith, common_steps)
+interrupted-is n p h1 h2 h3 h4 = grind (arith, common_steps)
 
 -- a queue whose interrupt is deferred, after its timer expired
 deferred-asks : (until : ℕ) (phase : Phase) → IsDeferred until phase
     → (asks (device.expired_phase phase) ≡ true) × (schedules (device.expired_phase phase) ≡ true)
-    × (asks (handled true (device.expired_phase phase)) ≡ false)
+    × (is_fired (device.expired_phase phase) ≡ true) × (asks (handled true (device.expired_phase phase)) ≡ false)
 deferred-asks until phase deferred = by phase deferred.line deferred.state deferred.timer
   where
     by : (phase : Phase) → phase.line ≡ Masked → phase.state ≡ Idle → phase.timer ≡ Some until
         → (asks (device.expired_phase phase) ≡ true) × (schedules (device.expired_phase phase) ≡ true)
-        × (asks (handled true (device.expired_phase phase)) ≡ false)
+        × (is_fired (device.expired_phase phase) ≡ true) × (asks (handled true (device.expired_phase phase)) ≡ false)
     by phase h1 h2 h3 = grind (arith, common_steps)
 
 -- the queue whose timer expired asks for an interrupt, and no other queue does
@@ -101,7 +101,7 @@ none-asks : (n : ℕ) (ds : QueueViews) (d : QueueView) (until : ℕ) → ((k : 
 unfolding map_at
 none-asks n ds d until quiet there deferred k =
     at-either (λ b o. asks_at o ≡ false) (interrupted true) n k (changed expired n ds)
-    (λ here. rw (at-changed-same k here) (ap asks (handled-phase true (expired d)) ∙ (deferred-asks until d.phase deferred).2))
+    (λ here. rw (at-changed-same k here) (ap asks (handled-phase true (expired d)) ∙ (deferred-asks until d.phase deferred).3))
     (λ other. ap asks_at (at-apart expired n k ds other) ∙ quiet k)
   where
     at-changed-same : (k : ℕ) → (n == k) ≡ true → at k (changed expired n ds) ≡ Some (expired d)
@@ -199,8 +199,19 @@ after-poll n came p work found third =
 -- the processor after the timer expired on it, while it was idle
 abbrev pub awake : ℕ → ℕ → ProcessorView → ProcessorView
 awake until n p =
-    let counts = record p.counts { interrupt_time = saturated (p.counts.interrupt_time + p.settings.wake) } in
-    record p { devices = changed expired n p.devices; clock = saturated (until + p.settings.wake); counts = counts }
+    let time = unwrap_or p.settings.timer_wake p.settings.wake in
+    let counts = record p.counts { interrupt_time = saturated (p.counts.interrupt_time + time) } in
+    record p { devices = changed expired n p.devices; clock = saturated (until + time); counts = counts }
+
+-- this queue's NAPI timer wakes the processor
+timer-wakes : (t n : ℕ) (q : ProcessorView) → is_fired_at (at n q.devices) ≡ true
+    → let time = unwrap_or q.settings.timer_wake q.settings.wake in
+    woken t (Some n) q
+    ≡ record q {
+      clock = saturated (t + time);
+      counts = record q.counts { interrupt_time = saturated (q.counts.interrupt_time + time) };
+    }
+timer-wakes t n q fired = grind (arith, common_steps)
 
 after-timer : (n until : ℕ) (d : QueueView) (p : ProcessorView) → ((k : ℕ) → asks_at (at k p.devices) ≡ false) → is_polling p.settings
     ≡ true
@@ -210,14 +221,14 @@ unfolding step disturbed map_at
 after-timer n until d p quiet polling single nothing there deferred first =
     let q : ProcessorView = record p { devices = changed expired n p.devices } in
     let asks = one-asks n p.devices d until quiet there deferred in
+    let own : at n q.devices ≡ Some (expired d) = at-changed expired n p.devices ∙ ap (λ (o : Option QueueView). map_at expired o) there in
+    let fired : is_fired_at (at n q.devices) ≡ true = ap is_fired_at own ∙ (deferred-asks until d.phase deferred).2 in
     let is : happens (upcoming p) p ≡ interrupts n (awake until n p) =
     ap (λ (u : Upcoming). happens u p) first
-    ∙ (ap takes_up (stirred-idle until q nothing ∙ ap (λ (o : Option ℕ). woken until (is_some o) q) asks)
+    ∙ (ap takes_up (stirred-idle until q nothing ∙ (ap (λ (o : Option ℕ). woken until o q) asks ∙ timer-wakes until n q fired))
     ∙ takes-interrupt n (awake until n p) nothing asks) in
     subst (λ (x : ProcessorView). Interrupted n (awake until n p) x) (sym is)
-    (interrupted-is n (awake until n p) polling single
-    (ap schedules_at (at-changed expired n p.devices ∙ ap (λ (o : Option QueueView). map_at expired o) there)
-    ∙ (deferred-asks until d.phase deferred).1))
+    (interrupted-is n (awake until n p) polling single (ap schedules_at own ∙ (deferred-asks until d.phase deferred).1) fired)
 
 next-same : (backlog : Bool) (d : QueueView) → next_packet backlog (interrupted true (expired d)) ≡ next_packet backlog d
 unfolding interrupted
@@ -233,7 +244,7 @@ deferral-steps : (s : MachineSettings) (n until came : ℕ) (d : QueueView) (p :
     → upcoming p ≡ Expires (record { at = until; device = n }) → next_packet s.backlog d ≡ Some came → upcoming (step p) ≡ Ends
     → upcoming (step (step p)) ≡ Ends
     → ((step (step (step p))).work ≡ Packet (record { device = n; came = came; given = 0 }))
-    × ((step (step (step p))).ends ≤ until + (s.wake + (s.interrupt + (s.poll + s.packet))))
+    × ((step (step (step p))).ends ≤ until + (unwrap_or s.timer_wake s.wake + (unwrap_or s.timer s.interrupt + (s.poll + s.packet))))
 deferral-steps s n until came d p goes r polls single nothing there deferred first found second third =
     let is : p.settings ≡ s = goes.rests.settings in
     let polling : is_polling p.settings ≡ true = same-polling s p is ∙ polls in
@@ -256,8 +267,10 @@ deferral-steps s n until came d p goes r polls single nothing there deferred fir
     ∙ (ap (λ (ds : QueueViews). next_packet_at s.backlog (at n ds)) (f.devices ∙ i.devices)
     ∙ next-there s.backlog n came p.devices d there found) in
     let l = after-poll n came v f.work packet third in
-    let one : p.settings.wake ≡ s.wake = ap (λ (x : MachineSettings). x.wake) is in
-    let two : p.settings.interrupt ≡ s.interrupt = ap (λ (x : MachineSettings). x.interrupt) is in
+    let one : unwrap_or p.settings.timer_wake p.settings.wake ≡ unwrap_or s.timer_wake s.wake =
+    ap (λ (x : MachineSettings). unwrap_or x.timer_wake x.wake) is in
+    let two : unwrap_or p.settings.timer p.settings.interrupt ≡ unwrap_or s.timer s.interrupt =
+    ap (λ (x : MachineSettings). unwrap_or x.timer x.interrupt) is in
     let three : q.settings.poll ≡ s.poll = ap (λ (x : MachineSettings). x.poll) (q-settings ∙ is) in
     let four : v.settings.packet ≡ s.packet = ap (λ (x : MachineSettings). x.packet) v-settings in
     (l.work, omega (arith, l.ends, f.ends, i.ends, one, two, three, four))

@@ -8,7 +8,7 @@ use Rattle.machine_model.specs.declared.settings.MachineSettings.{MachineSetting
 use Rattle.device_places.specs.Places.{at, changed}
 use Rattle.{machine.specs.Fates.{delivery_of, used_by}}
 use Rattle.machine_model.specs.declared.{processor.ProcessorCounts.ProcessorCounts, tasks.RunnableTask.{RunnableTask, TheVariants.Thread}}
-use Rattle.machine_model.specs.{Application.{ApplicationView, fed, has_place, used}, Kept.polled_by, Tasks.with_application}
+use Rattle.machine_model.specs.{Application.{ApplicationView, fed, has_place, use_ended}, Kept.polled_by, Tasks.with_application}
 use Rattle.machine_model.specs.{Waits.saturated}
 use Rattle.machine_model.specs.declared.processor.{InHand.InHand, Work.{Work, TheVariants.{Nothing, Interrupt, Poll, Packet, Use}}}
 use Rattle.machine_model.specs.{Device.{QueueView, queue_delivered, queue_polled, raised_again, without_next}}
@@ -218,7 +218,7 @@ over-looks n given p nothing =
 pub record Feeds (Q : Option (ℕ × ℕ) → List ℕ → ApplicationView → Type 0) (p : ProcessorView) : Type 0 where
   pub none : Q None [] p.application
   pub gives : (m came : ℕ) → delivery_of p.work p ≡ Some (m, came) → Q (Some (m, came)) [] (fed p.ends came p.settings p.application)
-  pub uses : (came : ℕ) → p.work ≡ Use came → Q None (came ∷ []) (used p.ends came p.application)
+  pub uses : (came : ℕ) → p.work ≡ Use came → Q None (came ∷ []) (use_ended p.ends came p.application)
 
 -- q is p after its work w has ended
 pub record Fed (Q : Option (ℕ × ℕ) → List ℕ → ApplicationView → Type 0) (p : ProcessorView) (w : Work) (q : ProcessorView) : Type 0 where
@@ -271,7 +271,7 @@ feeds-work Q (Packet hand) p counts is f =
     (f.gives hand.device hand.came (ap (λ (w : Work). delivery_of w p) is)) (over-looks hand.device (hand.given + 1) q refl)
 feeds-work Q (Use came) p counts is f =
     let q : ProcessorView =
-    record p { clock = p.ends; work = Nothing; counts = counts; application = used p.ends came p.application } in
+    record p { clock = p.ends; work = Nothing; counts = counts; application = use_ended p.ends came p.application } in
     feeds-over Q (Use came) p q q refl refl refl refl (f.uses came is) (over-none q q refl refl refl refl refl None refl)
 
 pub feeds : (Q : Option (ℕ × ℕ) → List ℕ → ApplicationView → Type 0) (p : ProcessorView) → Feeds Q p → Fed Q p p.work (ends_current p)

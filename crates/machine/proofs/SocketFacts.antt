@@ -12,7 +12,7 @@ use Rattle.machine.specs.Fates as fate
 use Rattle.machine_model.specs.declared.processor.{Work.{TheVariants.{Use}}, Rest.Rest}
 use Rattle.machine_model.specs.declared.processor.{Upcoming.{Upcoming, TheVariants.{Never, Expires}}, ProcessorCounts.ProcessorCounts}
 use Rattle.machine_model.specs.{Devices.QueueViews, Waits.{WaitsView, counted, saturated, no_waits}}
-use Rattle.machine_model.specs.Application.{ApplicationView, fed, has_place, put, refuses, used}
+use Rattle.machine_model.specs.Application.{ApplicationView, fed, has_place, put, refuses, use_ended}
 use Rattle.machine_model.specs.Processor.{ProcessorView, ends_current, happens, is_busy, step, upcoming}
 use Rattle.machine.proofs.{EndFacts.{Fed, feeds}}
 use Rattle.machine.proofs.WorkFacts.{Goes, Life, devices_arrived, expired_at, goes-on, life-arrives, life-happens, life-takes}
@@ -114,7 +114,7 @@ unfolding counting
 counting-more [] wait w = refl
 counting-more (x ∷ xs) wait w = counting-more xs wait (counted x w)
 
-moved-uses : (now came : ℕ) (a : ApplicationView) → Moved now a None (came ∷ []) (used now came a)
+moved-uses : (now came : ℕ) (a : ApplicationView) → Moved now a None (came ∷ []) (use_ended now came a)
 moved-uses now came a = grind (arith, common_steps, counting-more)
 
 pub moved : (s : MachineSettings) (p : ProcessorView) → p.settings ≡ s → s.apart ≡ false

@@ -4,10 +4,9 @@ use Rattle.std.proofs.lemmas.Grind.{common_steps}
 use Rattle.std.proofs.Common.{◌≡◌, ◌∙◌, ℕ, ◌+◌, ◌-◌, ◌<◌, ◌≤◌, ◌^◌, Bool, true, false, Option, Some, None, List, [], ◌∷◌, ◌++◌, refl}
 use Rattle.std.proofs.Common.{ap}
 use Rattle.std.proofs.{Common.{arith}, lemmas.{Bool.{and_left, and_parts, leb-true}}}
-use Rattle.std.specs.{List.AllByRecursion, Prelude.{◌==◌, ◌&&◌, if◌then◌else◌, is_some, not, position}}
+use Rattle.std.specs.{List.AllByRecursion, Prelude.{◌==◌, ◌&&◌, if◌then◌else◌, max, not, position, unwrap_or}}
 use Rattle.machine_model.specs.declared.settings.MachineSettings.{MachineSettings}
 use Rattle.device_places.specs.Places.{at, changed}
-use Rattle.circular_buffer.specs.Buffer.{buffer}
 use Rattle.machine.specs.{Deferrals.TimersAreNear, Lives.{MachineEvent, InTurn, behind, next, packet}, Times.{ClocksNeverFall}}
 use Rattle.machine.specs.Fates.{delivery_of, finds_room, taken_in}
 use Rattle.machine_model.specs.declared.processor.Work.{Work}
@@ -17,10 +16,10 @@ use Rattle.machine_model.specs.declared.{processor.{Upcoming.{Upcoming, TheVaria
 use Rattle.machine_model.specs.{Softirq.{SoftirqView, run_ended, run_next}, Waits.{saturated}}
 use Rattle.machine_model.specs.declared.tasks.RunnableTask.{RunnableTask}
 use Rattle.machine_model.specs.Device.{QueueView, expired, interrupted, queue_polled, raised_again, without_next}
-use Rattle.machine_model.specs.Devices.{QueueViews, asks_at, has_room_at, with_device}
-use Rattle.machine_model.specs.Application.{ApplicationView, fed}
+use Rattle.machine_model.specs.Devices.{QueueViews, asks_at, has_room_at, is_fired_at, with_device}
+use Rattle.machine_model.specs.Application.{ApplicationView, fed, takes_up_packet, use_length}
 use Rattle.machine_model.specs.Processor.{ProcessorView, arrives, begins, disturbed, ends_current, happens, is_busy, is_by, is_due}
-use Rattle.machine_model.specs.Processor.{is_polling, step, takes_up, upcoming}
+use Rattle.machine_model.specs.Processor.{is_polling, step, takes_up, upcoming, wake_cost}
 use Rattle.machine.proofs.TableFacts.{at-kept, map-kept, map-there, map_at}
 use Rattle.machine.proofs.WalkFacts.{Walk, either, enqueued, is_scheduling, nexted, started, stirred, stirred-by, walk-any}
 use Rattle.machine.proofs.EndFacts.{Keeps, Looks, ends, ends-at, feeds}
@@ -81,18 +80,25 @@ pub record Waiting (s : MachineSettings) (t : ℕ) (p : ProcessorView) : Type 0 
   pub socket : Served s t p.application.socket.items
   pub rest : Left s t p.rest
 
+-- the longest time to wake up
+abbrev longest : MachineSettings → ℕ
+longest s = max s.wake (unwrap_or s.timer_wake s.wake)
+
+waking-within : (b : Bool) (s : MachineSettings) → wake_cost b s ≤ longest s
+waking-within b s = grind (arith, common_steps)
+
 -- no work is in progress
 pub record Base (s : MachineSettings) (t : ℕ) (p : ProcessorView) : Type 0 where
   pub waits : Waiting s t p
   pub fits : p.clock < 2 ^ 64
-  pub clock : p.clock ≤ t + s.wake
+  pub clock : p.clock ≤ t + longest s
   pub up : t ≤ p.clock
   -- if no queue asks for an interrupt, no time was spent on waking up
   pub low : position asks_at p.devices ≡ None → p.clock ≡ t
 
 pub record Timed (s : MachineSettings) (t : ℕ) (p : ProcessorView) : Type 0 where
   pub waits : Waiting s t p
-  pub clock : p.clock ≤ t + s.wake
+  pub clock : p.clock ≤ t + longest s
   pub idle : is_busy p.work ≡ false → p.clock ≤ t
   pub ends : is_busy p.work ≡ true → (p.clock ≤ p.ends) × (t ≤ p.ends) × (p.ends < 2 ^ 64)
   pub low : (came : ℕ) → p.work ≡ Use came → p.clock ≤ t
@@ -107,7 +113,7 @@ base-of s t softirq tasks counts p h1 = grind (arith, common_steps)
 
 -- work other than a packet of a poll begins; if it is a use, its begin and its duration are given
 timed-begins : (s : MachineSettings) (t : ℕ) (w : Work) (time : ℕ) (p : ProcessorView) → Waiting s t p → p.clock < 2 ^ 64
-    → p.clock ≤ t + s.wake
+    → p.clock ≤ t + longest s
     → t ≤ p.clock → is_busy w ≡ true → ((hand : InHand) → w ≡ Packet hand → ⊥)
     → ((came : ℕ) → w ≡ Use came → (p.clock ≡ t) × (IsFair s → saturated (came + use_cost s) ≤ saturated (p.clock + time)))
     → Timed s t (begins w time p)
@@ -138,13 +144,13 @@ cell-steady s t = record {
 
 timed-uses : (s : MachineSettings) (t came : ℕ) (more : List ℕ) (p : ProcessorView) → Base s t p → p.application.socket.items ≡ came ∷ more
     → position asks_at p.devices ≡ None
-    → Timed s t (begins (Use came) p.settings.use_time
-    (record p { application = record p.application { socket = buffer more p.application.socket.capacity } }))
+    → Timed s t (begins (Use came) (use_length p.settings p.application)
+    (record p { application = takes_up_packet more p.application }))
 timed-uses s t came more p b is quiet =
     let h = b.waits in
     let items : IsFair s → AllByRecursion (λ x. saturated (x + s.packet) ≤ t) (came ∷ more) = rw is at h.socket in
-    timed-begins s t (Use came) p.settings.use_time
-    (record p { application = record p.application { socket = buffer more p.application.socket.capacity } })
+    timed-begins s t (Use came) (use_length p.settings p.application)
+    (record p { application = takes_up_packet more p.application })
     (record { settings = h.settings; cells = h.cells; socket = λ fair. (items fair).1; rest = h.rest }) b.fits b.clock b.up refl
     (λ hand same. cc same)
     (λ other same. (
@@ -154,7 +160,7 @@ timed-uses s t came more p b is quiet =
     ))
   where
     by : (other : ℕ) → other ≡ came → saturated (came + s.packet) ≤ t → p.clock ≡ t → p.settings.use_time ≡ s.use_time → p.clock < 2 ^ 64
-        → saturated (other + use_cost s) ≤ saturated (p.clock + p.settings.use_time)
+        → saturated (other + use_cost s) ≤ saturated (p.clock + use_length p.settings p.application)
     by other same first clock time fits = omega (arith, same, first, clock, time, fits)
 
 timed-resume : (s : MachineSettings) (t : ℕ) (rest : Rest) (p : ProcessorView) → Base s t p → p.rest ≡ Some rest
@@ -354,7 +360,7 @@ ready-base s t p idle b = record { busy = λ busy. absurd (cc (idle, busy)); idl
 ready-stirred : (s : MachineSettings) (t : ℕ) (p : ProcessorView) → t < 2 ^ 64 → Timed s t p → Ready s t (stirred t p)
 ready-stirred s t p fits h =
     let w = h.waits in
-    let wake : p.settings.wake ≡ s.wake = ap (λ (x : MachineSettings). x.wake) w.settings in
+    let most : longest p.settings ≡ longest s = ap longest w.settings in
     stirred-by (Ready s t) t p (λ busy. record { busy = λ yes. h; idle = λ idle. absurd (cc (busy, idle)) })
     (λ came counts is. ready-base s t _ refl (record {
       waits = record {
@@ -368,12 +374,12 @@ ready-stirred s t p fits h =
       up = omega arith;
       low = λ quiet. refl;
     }))
-    (λ counts idle asks. ready-base s t _ idle (record {
+    (λ n counts idle asks. ready-base s t _ idle (record {
       waits = record { settings = w.settings; cells = w.cells; socket = w.socket; rest = w.rest };
       fits = omega arith;
-      clock = omega (arith, wake);
+      clock = omega (arith, most, waking-within (is_fired_at (at n p.devices)) p.settings);
       up = omega (arith, fits);
-      low = λ quiet. absurd (cc (ap (λ (o : Option ℕ). is_some o) quiet, asks));
+      low = λ quiet. absurd (cc (quiet, asks));
     }))
     (λ idle. ready-base s t _ idle (record {
       waits = record { settings = w.settings; cells = w.cells; socket = w.socket; rest = w.rest };
@@ -414,7 +420,7 @@ unfolding disturbed
 clock-disturbed s t p fits goes h =
     let stirs : p.clock ≤ (stirred t p).clock =
     stirred-by (λ q. p.clock ≤ q.clock) t p (λ busy. omega arith) (λ came counts is. h.low came is)
-    (λ counts idle asks. let low : p.clock ≤ t = h.idle idle in omega (arith, low, fits)) h.idle in
+    (λ n counts idle asks. let low : p.clock ≤ t = h.idle idle in omega (arith, low, fits)) h.idle in
     omega (arith, clock-takes s (stirred t p) (work-stirred s t p goes), stirs)
 
 -- ---- over a processor's life
@@ -531,8 +537,8 @@ rises-arrives s t moment n p fits goes h less none =
     })
     (λ full. record { time = less; timed = r; clock = bounds.1 })
   where
-    by : (b : Bool) → p.clock ≤ moment + s.wake → (b ≡ false → p.clock ≤ moment)
-        → ((if b then p.clock else moment) ≤ moment + s.wake) × (p.clock ≤ (if b then p.clock else moment))
+    by : (b : Bool) → p.clock ≤ moment + longest s → (b ≡ false → p.clock ≤ moment)
+        → ((if b then p.clock else moment) ≤ moment + longest s) × (p.clock ≤ (if b then p.clock else moment))
     by true clock low = (clock, omega arith)
     by false clock low = (omega arith, low refl)
 

@@ -2,7 +2,7 @@
 use Rattle.std.proofs.Common.{◌≡◌, ℕ, zero, suc, ◌+◌, ◌-◌, ◌<◌, ◌≤◌, ◌^◌, Bool, true, false, Option, Some, None, [], ◌∷◌, ◌++◌, refl}
 use Rattle.std.proofs.Common.{arith, length, subst, sym}
 use Rattle.std.proofs.lemmas.{Bool.{leb-true, leb-false}, Grind.common_steps}
-use Rattle.std.specs.{Option.{option_map, option_map_or}, Prelude.{◌==◌, ◌&&◌, ◌||◌, if◌then◌else◌, is_some, nat_le, not}}
+use Rattle.std.specs.{Option.{option_map, option_map_or}, Prelude.{◌==◌, ◌&&◌, if◌then◌else◌, is_some, nat_le, not}}
 use Rattle.machine_model.specs.declared.settings.MachineSettings.{MachineSettings}
 use Rattle.device_places.specs.Places.{at}
 use Rattle.machine_model.specs.declared.devices.Timer.{Timer}

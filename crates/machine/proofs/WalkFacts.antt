@@ -17,8 +17,8 @@ use Rattle.machine_model.specs.{Waits.saturated}
 use Rattle.machine_model.specs.Softirq.{SoftirqView, asked_in, begun, poll_ended, pushed, run_ended, run_next}
 use Rattle.machine_model.specs.Tasks.{after_first, runnable}
 use Rattle.machine_model.specs.Processor.{ProcessorView, begins, begins_run, ends_poll, ends_run, goes_on, interrupts, is_busy}
-use Rattle.machine_model.specs.Processor.{is_polling, leaves_softirq, poll_looks, polls, rests, runs, runs_first, set_aside}
-use Rattle.machine_model.specs.Processor.{takes_up, uses, woken}
+use Rattle.machine_model.specs.Processor.{interrupt_cost, is_polling, leaves_softirq, poll_looks, polls, rests, runs, runs_first, set_aside}
+use Rattle.machine_model.specs.Processor.{takes_up, uses, wake_cost, woken}
 
 -- no work is in progress
 pub record Free (p : ProcessorView) : Type 0 where
@@ -187,7 +187,7 @@ walk-interrupts {Q = Q} w n p free held asks =
     by (is_scheduling n p) p.settings.threaded (w.interrupt n time counts p free held asks)
   where
     time : ℕ
-    time = if is_polling p.settings then p.settings.interrupt else p.settings.interrupt + p.settings.packet
+    time = interrupt_cost (is_fired_at (at n p.devices)) p.settings
 
     counts : ProcessorCounts
     counts = if is_fired_at (at n p.devices) then record p.counts { timers = saturated (p.counts.timers + 1) }
@@ -228,15 +228,19 @@ walk-any h1 p h2 h3 h4 = grind (arith, common_steps, walk-by)
 -- the processor after an interruption, before other work begins
 abbrev pub stirred : ℕ → ProcessorView → ProcessorView
 stirred moment p =
-    let asked = is_some (position asks_at p.devices) in
-    if is_busy p.work then (if asked then set_aside moment p.work p else p) else woken moment asked p
+    let asking = position asks_at p.devices in
+    if is_busy p.work then (if is_some asking then set_aside moment p.work p else p) else woken moment asking p
+
+-- the time to wake the processor by this queue's interrupt
+abbrev pub waking : ℕ → ProcessorView → ℕ
+waking n p = wake_cost (is_fired_at (at n p.devices)) p.settings
 
 -- what has to be shown: the processor is unchanged, a use was interrupted, or time passed
 pub stirred-by : (Q : ProcessorView → Type 0) (moment : ℕ) (p : ProcessorView) → (is_busy p.work ≡ true → Q p)
     → ((came : ℕ) (counts : ProcessorCounts) → p.work ≡ Use came
     → Q (record p { work = Nothing; clock = moment; rest = Some (record { came = came; left = p.ends - moment }); counts = counts }))
-    → ((counts : ProcessorCounts) → is_busy p.work ≡ false → is_some (position asks_at p.devices) ≡ true
-    → Q (record p { clock = saturated (moment + p.settings.wake); counts = counts }))
+    → ((n : ℕ) (counts : ProcessorCounts) → is_busy p.work ≡ false → position asks_at p.devices ≡ Some n
+    → Q (record p { clock = saturated (moment + waking n p); counts = counts }))
     → (is_busy p.work ≡ false → Q (record p { clock = moment })) → Q (stirred moment p)
 stirred-by Q moment p h1 h2 h3 h4 = grind (arith, common_steps)
 

@@ -18,8 +18,7 @@ use Rattle.machine_model.specs.declared.tasks.RunnableTask.TheVariants.{Thread}
 use Rattle.machine_model.specs.declared.processor.{Upcoming.{Upcoming, TheVariants.{Never, Ends, Expires}}}
 use Rattle.machine_model.specs.Kept.{work_given, polled_by}
 use Rattle.machine_model.specs.Softirq.{RunView, SoftirqView, asked_in, polled_run, pushed, run_ended, run_next, softirq_polled}
-use Rattle.machine_model.specs.{Device.{after_packet, expired, raised_again, without_next}}
-use Rattle.{circular_buffer.specs.Buffer.buffer}
+use Rattle.machine_model.specs.{Application.{takes_up_packet, use_length}, Device.{after_packet, expired, raised_again, without_next}}
 use Rattle.machine_model.specs.Devices.{QueueViews, has_room_at, is_missed_at, next_packet_at, schedules_at, with_device}
 use Rattle.machine_model.specs.{Waits.saturated}
 use Rattle.machine_model.specs.Tasks.{is_application, runnable, with_application}
@@ -27,6 +26,7 @@ use Rattle.machine_model.specs.Processor.{ProcessorView, arrives, begins, delive
 use Rattle.machine_model.specs.Processor.{ends_interrupt, ends_poll, happens, is_busy, is_polling, poll_looks, spent, step, takes_up}
 use Rattle.machine_model.specs.Processor.{upcoming}
 use Rattle.machine.proofs.WalkFacts.{Walk, either, idle-is, is_scheduling, looks-by, nexted, polled-by, stirred, stirred-by, walk-any}
+use Rattle.machine.proofs.WalkFacts.{waking}
 use Rattle.machine_model.proofs.ListedFacts.{pushed-run}
 use Rattle.std.proofs.Common.{◌≡◌, ◌∙◌, ℕ, zero, suc, ◌<◌, Bool, true, false, None, refl, sym, ap, arith}
 use Rattle.std.specs.Prelude.{if◌then◌else◌}
@@ -208,8 +208,8 @@ work-walk s = record {
       (record { list = λ single. cc (single, t); none = λ t. free.unasked })
       (λ no. cc ((both (and_left (is_polling s) s.threaded no)).0)) (fits s);
   uses = λ came more p free h none is quiet first.
-      goes-begins s (Use came) p.settings.use_time
-      (record p { application = record p.application { socket = buffer more p.application.socket.capacity } })
+      goes-begins s (Use came) (use_length p.settings p.application)
+      (record p { application = takes_up_packet more p.application })
       (record { settings = h.settings; run = h.run; soft = h.soft; threads = h.threads })
       (record { list = λ t. free.unasked; none = λ t. free.unasked }) (λ no. refl) (fits s);
   stays = λ p free h still settled. goes-free s p free.nothing h free.unasked;
@@ -340,7 +340,7 @@ pub life-stirred : {s : MachineSettings} {P Q R : ProcessorView → Type 0} → 
     → Q (stirred moment p)
 life-stirred {Q = Q} l moment p h =
     stirred-by Q moment p (λ busy. h) (λ came counts is. l.aside moment came counts p is h)
-    (λ counts idle asks. l.moved None (saturated (moment + p.settings.wake)) counts p h)
+    (λ n counts idle asks. l.moved None (saturated (moment + waking n p)) counts p h)
     (λ idle. l.moved None moment p.counts p h)
 
 -- time passes, or queues change

@@ -1,13 +1,14 @@
 -- Laws about deferred interrupts (`napi_defer_hard_irqs`).
-use Rattle.std.specs.Prelude.{◌≡◌, ◌≤◌, ◌<◌, ℕ, ◌+◌, ◌^◌, ◌==◌, ◌&&◌, max, not, is_some, true, false, Some, List, [], ◌∷◌, if◌then◌else◌}
+use Rattle.std.specs.Prelude.{◌≡◌, ◌≤◌, ◌<◌, ℕ, ◌+◌, ◌^◌, true, false, Some, List}
+use Rattle.std.specs.Prelude.{unwrap_or}
 use Rattle.machine_model.specs.declared.settings.MachineSettings.{MachineSettings}
 use Rattle.device_places.specs.Places.{at}
-use Rattle.machine.specs.{Fates.finds_room, Lives.{MachineEvent, InTurn, behind, next, packet}}
+use Rattle.machine.specs.{Lives.{MachineEvent, InTurn, behind}}
 use Rattle.machine_model.specs.{Device.{QueueView, next_packet}, declared.device.Phase.Phase}
 use Rattle.machine_model.specs.declared.device.{NapiState.TheVariants.Idle, Line.TheVariants.Masked}
-use Rattle.machine_model.specs.{Devices.next_packet_at, Processor.{Advances, ProcessorView, is_polling, step, upcoming}}
-use Rattle.machine_model.specs.declared.processor.{Upcoming.{Upcoming, TheVariants.{Ends, Expires}}, Work.Work}
-use Rattle.machine_model.specs.declared.processor.Work.TheVariants.{Nothing, Packet, Poll}
+use Rattle.machine_model.specs.{Processor.{Advances, ProcessorView, is_polling, step, upcoming}}
+use Rattle.machine_model.specs.declared.processor.{Upcoming.{TheVariants.{Ends, Expires}}}
+use Rattle.machine_model.specs.declared.processor.Work.TheVariants.{Nothing, Packet}
 
 -- Law: with no further packets, the events on a processor end.
 abbrev pub EveryRunEnds : Type 0
@@ -27,7 +28,7 @@ pub record IsDeferred (until : ℕ) (phase : Phase) : Type 0 where
 
 -- Law: on an idle processor with polling and without threads, let the next event be that a queue's NAPI timer expires. If
 -- nothing else interferes, the queue's interrupt, its poll and its oldest packet follow at once, and the packet is delivered at
--- most `wake` + `interrupt` + `poll` + `packet` later. By the previous law, its whole wait is at most this sum plus
+-- most `timer-wake` + `timer` + `poll` + `packet` later. By the previous law, its whole wait is at most this sum plus
 -- `gro-flush-timeout`.
 abbrev pub DeferralIsBounded : Type 0
 DeferralIsBounded = (s : MachineSettings) (events : List MachineEvent) (n until came : ℕ) (d : QueueView) → let p = behind s events in
@@ -36,4 +37,4 @@ DeferralIsBounded = (s : MachineSettings) (events : List MachineEvent) (n until 
     → upcoming (step p) ≡ Ends
     → upcoming (step (step p)) ≡ Ends
     → ((step (step (step p))).work ≡ Packet (record { device = n; came = came; given = 0 }))
-    × ((step (step (step p))).ends ≤ until + (s.wake + (s.interrupt + (s.poll + s.packet))))
+    × ((step (step (step p))).ends ≤ until + (unwrap_or s.timer_wake s.wake + (unwrap_or s.timer s.interrupt + (s.poll + s.packet))))

@@ -1,12 +1,11 @@
 -- The fate of packets over a processor's life. Lists are in the order of the events.
-use Rattle.std.specs.Prelude.{◌≡◌, ℕ, ◌+◌, ◌-◌, ◌^◌, ◌==◌, ◌&&◌, not, Bool, true, false, List, [], ◌∷◌, ◌++◌, length, map}
+use Rattle.std.specs.Prelude.{◌≡◌, ℕ, ◌-◌, ◌^◌, ◌==◌, ◌&&◌, not, Bool, true, false, List, [], ◌∷◌, ◌++◌, length, map}
 use Rattle.std.specs.Prelude.{Option, Some, None, if◌then◌else◌, option_map}
 use Rattle.device_places.specs.Places.{at}
 use Rattle.machine_model.specs.declared.settings.MachineSettings.{MachineSettings}
 use Rattle.machine.specs.Lives.{MachineEvent, InTurn, behind, next, packet}
 use Rattle.machine_model.specs.{Device.QueueView, Devices.{has_room_at, next_packet_at, with_device}, Application.has_place}
 use Rattle.machine_model.specs.{Processor.{ProcessorView, is_due, is_polling, upcoming}, Waits.{WaitsView, counted, saturated, no_waits}}
-use Rattle.machine_model.specs.declared.{device.{QueueCounts.QueueCounts, TheConstants.QueueCounts.NONE}}
 use Rattle.machine_model.specs.declared.processor.{Work.Work, Rest.Rest, Upcoming.Upcoming}
 use Rattle.machine_model.specs.declared.processor.Work.TheVariants.{Nothing, Interrupt, Packet, Use}
 use Rattle.machine_model.specs.declared.processor.Upcoming.TheVariants.{Ends}

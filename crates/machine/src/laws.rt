@@ -68,8 +68,8 @@ pub fn timers_are_near()
     ensures { TimersAreNear }
 {}
 
-/// If a queue's NAPI timer expires on an idle processor, its oldest packet is delivered at most `wake` + `interrupt` + `poll` +
-/// `packet` later.
+/// If a queue's NAPI timer expires on an idle processor, its oldest packet is delivered at most `timer-wake` + `timer` +
+/// `poll` + `packet` later.
 pub fn deferral_is_bounded()
     ensures { DeferralIsBounded }
 {}

@@ -19,10 +19,10 @@ use Rattle.machine_model.specs.Devices.{asks_at, is_fired_at, is_missed_at, next
 use Rattle.machine_model.specs.Softirq.{RunView, SoftirqView, asked_in, begun, poll_ended, run_next, softirq_polled, pushed}
 use Rattle.machine_model.specs.Waits.{saturated}
 use Rattle.machine_model.specs.Tasks.{after_first, runnable}
-use Rattle.machine_model.specs.{Application.{has_place, used}, Kept.{IsProcessorKept, polled_by}, Processor.ProcessorView}
+use Rattle.machine_model.specs.{Application.{has_place, use_ended}, Kept.{IsProcessorKept, polled_by}, Processor.ProcessorView}
 use Rattle.machine_model.specs.Processor.{begins, begins_run, delivers, delivers_oldest, disturbed, ends_by, ends_current}
 use Rattle.machine_model.specs.Processor.{ends_interrupt, ends_poll}
-use Rattle.machine_model.specs.Processor.{ends_run, goes_on, happens, interrupts, is_busy, is_by, is_due, is_polling}
+use Rattle.machine_model.specs.Processor.{ends_run, goes_on, happens, interrupt_cost, interrupts, is_busy, is_by, is_due, is_polling}
 use Rattle.machine_model.specs.Processor.{leaves_softirq, poll_looks, polls, rests}
 use Rattle.machine_model.specs.Processor.{runs, runs_first, scheduled, set_aside, spent, step, takes_up, upcoming, uses, woken}
 use Rattle.poll_runs.specs.declared.bench.Next.TheVariants.{Gone, Repoll}
@@ -79,7 +79,7 @@ unfolding base interrupts
 interrupts-less w n p up =
     let polling = is_polling p.settings in
     let again = polling && schedules_at (at n p.devices) in
-    let time = if polling then p.settings.interrupt else p.settings.interrupt + p.settings.packet in
+    let time = interrupt_cost (is_fired_at (at n p.devices)) p.settings in
     let counts = if is_fired_at (at n p.devices) then record p.counts { timers = saturated (p.counts.timers + 1) }
     else record p.counts { interrupts = saturated (p.counts.interrupts + 1) } in
     let q = record p { devices = changed (interrupted polling) n p.devices; counts = counts } in
@@ -401,11 +401,11 @@ ends-less w (Packet packet) p least nothing busy =
 ends-less w (Use came) p least nothing busy = omega (
   arith,
   idle-left w
-      (record p { application = used p.clock came p.application }) nothing,
+      (record p { application = use_ended p.clock came p.application }) nothing,
   same,
 )
   where
-    same : base w (record p { application = used p.clock came p.application }) ≡ base w p
+    same : base w (record p { application = use_ended p.clock came p.application }) ≡ base w p
     same = refl
 
 current-less : (w : ℕ) (p : ProcessorView) → load ≤ w → is_busy p.work ≡ true → left w (ends_current p) < left w p
@@ -478,47 +478,47 @@ current-unasked p asked idle =
 
 -- ---- a timer expires
 
-disturbs-less : (w moment : ℕ) (work : Work) (p : ProcessorView) → p.work ≡ work → (asked : Bool)
-    → left w (if is_busy work then (if asked then set_aside moment work p else p) else woken moment asked p) ≤ left w p
+disturbs-less : (w moment : ℕ) (work : Work) (p : ProcessorView) → p.work ≡ work → (asking : Option ℕ)
+    → left w (if is_busy work then (if is_some asking then set_aside moment work p else p) else woken moment asking p) ≤ left w p
 unfolding left left_by base
-disturbs-less w moment Nothing p is true = omega arith
-disturbs-less w moment Nothing p is false = omega arith
-disturbs-less w moment (Use came) p is true = rw is (set p.rest)
+disturbs-less w moment Nothing p is (Some n) = omega arith
+disturbs-less w moment Nothing p is None = omega arith
+disturbs-less w moment (Use came) p is (Some n) = rw is (set p.rest)
   where
     set : (rest : Option Rest)
         → weights w p.devices + length p.application.socket.items + 2 * entries p.softirq + 2 * threads p.tasks + 1 + 0
         ≤ weights w p.devices + length p.application.socket.items + 2 * entries p.softirq + 2 * threads p.tasks + rest_weight rest + 1
     set None = omega arith
     set (Some rest) = omega arith
-disturbs-less w moment (Use came) p is false = omega arith
-disturbs-less w moment (Interrupt n) p is true = omega arith
-disturbs-less w moment (Interrupt n) p is false = omega arith
-disturbs-less w moment (Poll n) p is true = omega arith
-disturbs-less w moment (Poll n) p is false = omega arith
-disturbs-less w moment (Packet packet) p is true = omega arith
-disturbs-less w moment (Packet packet) p is false = omega arith
+disturbs-less w moment (Use came) p is None = omega arith
+disturbs-less w moment (Interrupt n) p is (Some m) = omega arith
+disturbs-less w moment (Interrupt n) p is None = omega arith
+disturbs-less w moment (Poll n) p is (Some m) = omega arith
+disturbs-less w moment (Poll n) p is None = omega arith
+disturbs-less w moment (Packet packet) p is (Some n) = omega arith
+disturbs-less w moment (Packet packet) p is None = omega arith
 
 disturbs-unasked : (moment : ℕ) (work : Work) (p : ProcessorView) → p.work ≡ work
-    → asked_in p.softirq.run ≡ (if p.settings.threaded then None else polled_by work) → (asked : Bool)
-    → (let r = if is_busy work then (if asked then set_aside moment work p else p) else woken moment asked p in
+    → asked_in p.softirq.run ≡ (if p.settings.threaded then None else polled_by work) → (asking : Option ℕ)
+    → (let r = if is_busy work then (if is_some asking then set_aside moment work p else p) else woken moment asking p in
     r.work ≡ Nothing → asked_in r.softirq.run ≡ None)
-disturbs-unasked moment Nothing p is asked true idle = asked ∙ if-none p.settings.threaded None refl
-disturbs-unasked moment Nothing p is asked false idle = asked ∙ if-none p.settings.threaded None refl
-disturbs-unasked moment (Use came) p is asked true idle = asked ∙ if-none p.settings.threaded None refl
-disturbs-unasked moment (Use came) p is asked false idle = asked ∙ if-none p.settings.threaded None refl
-disturbs-unasked moment (Interrupt n) p is asked true idle = cc (is, idle)
-disturbs-unasked moment (Interrupt n) p is asked false idle = cc (is, idle)
-disturbs-unasked moment (Poll n) p is asked true idle = cc (is, idle)
-disturbs-unasked moment (Poll n) p is asked false idle = cc (is, idle)
-disturbs-unasked moment (Packet packet) p is asked true idle = cc (is, idle)
-disturbs-unasked moment (Packet packet) p is asked false idle = cc (is, idle)
+disturbs-unasked moment Nothing p is asked (Some n) idle = asked ∙ if-none p.settings.threaded None refl
+disturbs-unasked moment Nothing p is asked None idle = asked ∙ if-none p.settings.threaded None refl
+disturbs-unasked moment (Use came) p is asked (Some n) idle = asked ∙ if-none p.settings.threaded None refl
+disturbs-unasked moment (Use came) p is asked None idle = asked ∙ if-none p.settings.threaded None refl
+disturbs-unasked moment (Interrupt n) p is asked (Some m) idle = cc (is, idle)
+disturbs-unasked moment (Interrupt n) p is asked None idle = cc (is, idle)
+disturbs-unasked moment (Poll n) p is asked (Some m) idle = cc (is, idle)
+disturbs-unasked moment (Poll n) p is asked None idle = cc (is, idle)
+disturbs-unasked moment (Packet packet) p is asked (Some n) idle = cc (is, idle)
+disturbs-unasked moment (Packet packet) p is asked None idle = cc (is, idle)
 
 disturbed-less : (w moment : ℕ) (p : ProcessorView)
     → asked_in p.softirq.run ≡ (if p.settings.threaded then None else polled_by p.work) → left w (disturbed moment p) ≤ left w p
 unfolding disturbed
 disturbed-less w moment p asked =
-    let up = is_some (position asks_at p.devices) in
-    let r = if is_busy p.work then (if up then set_aside moment p.work p else p) else woken moment up p in
+    let up = position asks_at p.devices in
+    let r = if is_busy p.work then (if is_some up then set_aside moment p.work p else p) else woken moment up p in
     omega (arith, takes-less w r (disturbs-unasked moment p.work p refl asked up), disturbs-less w moment p.work p refl up)
 
 expires-less : (w : ℕ) (timer : Timer) (p : ProcessorView) → soonest_from 0 p.devices ≡ Some timer

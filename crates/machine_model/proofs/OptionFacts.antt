@@ -1,17 +1,17 @@
 -- The values of options: in their ranges, and as arguments give them.
 use Rattle.std.proofs.Common.{◌≡◌, ◌≤◌, ◌<◌, ◌+◌, ◌-◌, ℕ, zero, suc, List, [], ◌∷◌, length, map, set, slice_index_or, nat_eq}
-use Rattle.std.proofs.Common.{inl, inr, Option, Some, None, Result, Ok, Err, IfOk, IfErr, option_map}
-use Rattle.std.specs.{Prelude.{Bool, true, false, if◌then◌else◌}, Result.{result_ok}}
-use Rattle.std.proofs.lemmas.Bool.{cases_eq}
+use Rattle.std.proofs.Common.{◌⊎◌, inl, inr, Option, Some, None, Result, Ok, Err, IfOk, IfErr, option_map}
+use Rattle.std.specs.{Prelude.{Bool, true, false, ◌&&◌, nat_le, if◌then◌else◌}, Result.{result_ok}}
+use Rattle.std.proofs.lemmas.{Bool.cases_eq, Grind.common_steps}
 use Rattle.std.proofs.lemmas.List.{get_or-map, get_or-set_same, get_or-set_other, get_or_default}
-use Rattle.std.proofs.Common.{◌∙◌, ap, refl, subst, sym, arith, rules}
+use Rattle.std.proofs.Common.{◌∙◌, ap, refl, subst, sym, arith}
 use Rattle.std.specs.List.{AllZip, range_with_len}
 use Rattle.std.proofs.lemmas.List.FromFn.{fill_by_all}
-use Rattle.std.specs.Option.{option_and_then}
+use Rattle.std.specs.Option.{ForSome, option_and_then}
 use Rattle.text_io.specs.Given.{Text, number_within, or_usual}
 use Rattle.machine_model.specs.declared.settings.{MachineOption.MachineOption, MachineSettings.MachineSettings}
 use Rattle.machine_model.specs.declared.settings.TheConstants.{OPTION_COUNT}
-use Rattle.machine_model.specs.Options.{OptionRule, machine_options, option_defaults, flag_number, rule}
+use Rattle.machine_model.specs.Options.{OptionRule, cost_number, machine_options, option_defaults, flag_number, own_cost, rule}
 use Rattle.machine_model.specs.Options.{AreInRange, IsOption, IsOptionInRange, IsRejected, excludes, number_with, values_of, values_with}
 
 -- ---- lists
@@ -43,9 +43,12 @@ pub length_options : length machine_options ≡ OPTION_COUNT
 unfolding machine_options
 length_options = refl
 
+all_defaults : (options : List OptionRule) → AllZip IsOptionInRange options (map (λ (o : OptionRule). o.default) options)
+all_defaults [] = tt
+all_defaults (o ∷ options) = (inr refl, all_defaults options)
+
 pub defaults_in_range : AreInRange option_defaults
-unfolding machine_options
-defaults_in_range = search (rules, arith)
+defaults_in_range = all_defaults machine_options
 
 pub at : {A B : Type 0} (R : A → B → Type 0) (xs : List A) (ys : List B) (k : ℕ) (d : A) (e : B)
     → AllZip R xs ys → k < length xs → R (slice_index_or xs k d) (slice_index_or ys k e)
@@ -80,6 +83,28 @@ option_at xs k d o n l same =
 pub no_option : OptionRule
 no_option = rule [] (λ s. 0) 0 0 0
 
+-- the default of this option is in its range
+abbrev pub is_plain : OptionRule → Bool
+is_plain o = nat_le o.least o.default && nat_le o.default o.most
+
+plain : (o : OptionRule) (value : ℕ) → is_plain o ≡ true → IsOptionInRange o value → (o.least ≤ value) × (value ≤ o.most)
+plain o value is (inl range) = range
+plain o value is (inr usual) = grind (arith, common_steps)
+
+pub plain_at : (values : List ℕ) (k : ℕ) → AreInRange values → k < OPTION_COUNT
+    → is_plain (slice_index_or machine_options k no_option) ≡ true
+    → ((slice_index_or machine_options k no_option).least ≤ slice_index_or values k 0)
+    × (slice_index_or values k 0 ≤ (slice_index_or machine_options k no_option).most)
+plain_at values k h l is =
+    plain (slice_index_or machine_options k no_option) (slice_index_or values k 0) is (in_range_at values k no_option 0 h l)
+
+-- a cost of its own, or that of another option
+pub own_in : (n : ℕ) → ((0 ≤ n) × (n ≤ 1000000000)) ⊎ (n ≡ 4294967295) → ForSome (own_cost n) (λ time. time ≤ 1000000000)
+own_in n h = grind (arith, common_steps)
+
+pub own_is : (n : ℕ) → cost_number (own_cost n) ≡ n
+own_is n = grind (arith, common_steps)
+
 -- values in the order of their options, written out
 pub listed : (values : List ℕ) → AreInRange values → values ≡ map (λ k. slice_index_or values k 0) (range_with_len 0 OPTION_COUNT)
 listed values h =
@@ -94,28 +119,28 @@ flag (suc (suc n)) h = let bad : ⊥ = omega (arith, h) in absurd bad
 -- an option of the table in the program, and the same option of the definition
 
 pub out_at : (values : List ℕ) (i : ℕ) (m : MachineOption) → ((o : OptionRule) → IsOption m (slice_index_or machine_options i o))
-    → i < length values → ¬ ((m.least ≤ slice_index_or values i 0) × (slice_index_or values i 0 ≤ m.most))
+    → i < length values
+    → ¬ (((m.least ≤ slice_index_or values i 0) × (slice_index_or values i 0 ≤ m.most)) ⊎ (slice_index_or values i 0 ≡ m.default))
     → (o : OptionRule) (d : ℕ) → ¬ IsOptionInRange (slice_index_or machine_options (i + 1 - 1) o) (slice_index_or values (i + 1 - 1) d)
 out_at values i m is l out o d =
     let back : i + 1 - 1 ≡ i = omega arith in
     let same = get_or_default values i d 0 l in
     let here : ¬ IsOptionInRange (slice_index_or machine_options i o) (slice_index_or values i d) =
-    λ h. out (omega (arith, same, (is o).least, h.0), omega (arith, same, (is o).most, h.1)) in
+    λ h. elim h [
+      | inl r ↦ out (inl (omega (arith, same, (is o).least, r.0), omega (arith, same, (is o).most, r.1)))
+      | inr e ↦ out (inr (omega (arith, same, (is o).default, e)))
+    ] in
     subst (λ (n : ℕ). ¬ IsOptionInRange (slice_index_or machine_options n o) (slice_index_or values n d)) (sym back) here
 
-default_at : (k : ℕ) (o : OptionRule) → k < OPTION_COUNT
-    → IsOptionInRange (slice_index_or machine_options k o) (slice_index_or machine_options k o).default
-default_at k o l =
-    let defaults = at IsOptionInRange machine_options option_defaults k o 0 defaults_in_range (omega (arith, l, length_options)) in
-    subst (λ (v : ℕ). IsOptionInRange (slice_index_or machine_options k o) v)
-    (get_or-map (λ (o : OptionRule). o.default) machine_options k o 0 (omega (arith, l, length_options))) defaults
+within : (digits low high n : ℕ) (text : Text) → Some n ≡ number_within digits low high text → (low ≤ n) × (n ≤ high)
+within digits low high n text is = grind (arith, common_steps)
 
-pub range_is : (k : ℕ) (o : OptionRule) (m : MachineOption) (n : ℕ) → k < OPTION_COUNT → IsOption m (slice_index_or machine_options k o)
-    → ((m.least ≤ m.default) × (m.default ≤ m.most) → (m.least ≤ n) × (n ≤ m.most)) → IsOptionInRange (slice_index_or machine_options k o) n
-range_is k o m n l is h =
-    let default = default_at k o l in
-    let range = h (omega (arith, is.least, is.default, default.0), omega (arith, is.most, is.default, default.1)) in
-    (omega (arith, is.least, range.0), omega (arith, is.most, range.1))
+-- a number that is given for an option, or its default
+pub range_is : (o : OptionRule) (m : MachineOption) (n : ℕ) (value : Option Text) → IsOption m o
+    → Some n ≡ or_usual m.default (number_within 10 m.least m.most) value → IsOptionInRange o n
+range_is o m n None is e = let same : n ≡ m.default = cc e in inr (omega (arith, is.default, same))
+range_is o m n (Some text) is e =
+    let range = within 10 m.least m.most n text e in inl (omega (arith, is.least, range.0), omega (arith, is.most, range.1))
 
 pub number_is : (m : MachineOption) (o : OptionRule) (value : Text → Option Text) (n : Option ℕ) → IsOption m o
     → n ≡ or_usual m.default (number_within 10 m.least m.most) (value m.name.now) → number_with value o ≡ n

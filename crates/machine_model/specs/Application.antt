@@ -1,5 +1,5 @@
 -- The application, which uses the packets of a socket: on the processor that receives, or on one of its own.
-use Rattle.std.specs.Prelude.{ℕ, ◌+◌, ◌-◌, ◌&&◌, nat_le, nat_lt, Bool, true, false, List, [], ◌∷◌, ◌++◌, length, if◌then◌else◌}
+use Rattle.std.specs.Prelude.{ℕ, ◌+◌, ◌-◌, ◌==◌, ◌&&◌, nat_le, nat_lt, Bool, true, false, List, [], ◌∷◌, ◌++◌, length, if◌then◌else◌}
 use Rattle.{circular_buffer.specs.Buffer.{Buffer, buffer}, machine_model.specs.declared.settings.MachineSettings.MachineSettings}
 use Rattle.machine_model.specs.{declared.application.Activity.Activity, Waits.{WaitsView, counted, saturated, no_waits}}
 use Rattle.machine_model.specs.declared.application.Activity.TheVariants.{Asleep, Waking, Using}
@@ -15,14 +15,30 @@ pub record ApplicationView : Type 0 where
   pub activity : Activity
   pub end : ℕ
   pub wakes : ℕ
+  -- only on the processor that polls: whether it sleeps
+  pub sleeps : Bool
 
 abbrev pub opened_application : MachineSettings → ApplicationView
 opened_application s =
-    record { socket = buffer [] s.socket; refused = 0; waits = no_waits; activity = Asleep; end = 0; wakes = 0 }
+    record { socket = buffer [] s.socket; refused = 0; waits = no_waits; activity = Asleep; end = 0; wakes = 0; sleeps = true }
 
 -- a packet's use ends; `came` is when the packet arrived
 abbrev pub used : ℕ → ℕ → ApplicationView → ApplicationView
 used now came a = record a { waits = counted (now - came) a.waits }
+
+-- ---- on the processor that polls
+
+-- the time of a use; an application that sleeps is woken first
+abbrev pub use_length : MachineSettings → ApplicationView → ℕ
+use_length s a = s.use_time + (if a.sleeps then s.app_wake else 0)
+
+-- it takes this packet, the oldest one, out of the socket, which has these packets after it
+abbrev pub takes_up_packet : List ℕ → ApplicationView → ApplicationView
+takes_up_packet more a = record a { socket = buffer more a.socket.capacity; sleeps = false }
+
+-- a packet's use ends; if the socket is empty, it sleeps
+abbrev pub use_ended : ℕ → ℕ → ApplicationView → ApplicationView
+use_ended now came a = record (used now came a) { sleeps = length a.socket.items == 0 }
 
 -- ---- on its own processor
 

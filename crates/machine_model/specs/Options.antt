@@ -1,6 +1,6 @@
 -- The machine's options: the settings that arguments, or values for C, ask for.
 use Rattle.std.specs.Prelude.{◌≡◌, ◌≤◌, ◌<◌, ◌+◌, ◌-◌, ◌⊎◌, ◌==◌, ◌&&◌, ◌||◌, not, ℕ, [], ◌∷◌, Bool, true, List, Option, Some, None}
-use Rattle.std.specs.Prelude.{codes, if◌then◌else◌}
+use Rattle.std.specs.Prelude.{codes, if◌then◌else◌, unwrap_or}
 use Rattle.std.specs.Prelude.{length, map, slice_index_or}
 use Rattle.std.specs.List.{AllZip}
 use Rattle.text_io.specs.Given.{◌>>=◌, Text, given_by, number_within, or_usual, value_of}
@@ -19,6 +19,13 @@ rule name setting least most default = record { name = name; setting = setting; 
 
 abbrev pub flag_number : Bool → ℕ
 flag_number b = if b then 1 else 0
+
+-- A cost that is another option's unless it is given. Its number is 4294967295 then.
+abbrev pub own_cost : ℕ → Option ℕ
+own_cost number = if number == 4294967295 then None else Some number
+
+abbrev pub cost_number : Option ℕ → ℕ
+cost_number cost = unwrap_or cost 4294967295
 
 -- The options, of which budget, weight and time limit have the kernel's defaults (`net_rx_action`: `netdev_budget`,
 -- NAPI_POLL_WEIGHT, `netdev_budget_usecs`, which is two jiffies at HZ 250). Times are in nanoseconds.
@@ -47,6 +54,8 @@ machine_options =
     ∷ rule (codes "wake") (λ s. s.wake) 0 1000000000 0
     ∷ rule (codes "heedless") (λ s. flag_number s.heedless) 0 1 0
     ∷ rule (codes "rx-gap") (λ s. s.rx_gap) 0 1000000000 0
+    ∷ rule (codes "timer") (λ s. cost_number s.timer) 0 1000000000 4294967295
+    ∷ rule (codes "timer-wake") (λ s. cost_number s.timer_wake) 0 1000000000 4294967295
     ∷ []
 
 -- this is that option; its unit and its description are for readers only
@@ -72,8 +81,9 @@ values_of s = map (λ (o : OptionRule). o.setting s) machine_options
 abbrev pub IsDefault : MachineSettings → Type 0
 IsDefault s = values_of s ≡ option_defaults
 
+-- the value is in the range of the option, or its default
 abbrev pub IsOptionInRange : OptionRule → ℕ → Type 0
-IsOptionInRange o value = (o.least ≤ value) × (value ≤ o.most)
+IsOptionInRange o value = ((o.least ≤ value) × (value ≤ o.most)) ⊎ (value ≡ o.default)
 
 -- there is a value for each option, and it is in the range of that option
 abbrev pub AreInRange : List ℕ → Type 0

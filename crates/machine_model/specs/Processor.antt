@@ -1,14 +1,14 @@
 -- A processor: which work it begins, and what happens when work ends, timers expire and packets arrive.
 use Rattle.std.specs.Prelude.{◌≡◌, ℕ, zero, suc, ◌+◌, ◌-◌, ◌<◌, ◌==◌, ◌||◌, ◌&&◌, not, nat_le, nat_lt, Bool, true, false, List, [], ◌∷◌}
 use Rattle.std.specs.{Prelude.{◌++◌, length, position, slice_get, Option, Some, None, is_some, if◌then◌else◌}, Option.option_map_or}
-use Rattle.circular_buffer.specs.Buffer.{buffer}
+use Rattle.std.specs.Prelude.{unwrap_or}
 use Rattle.device_places.specs.Places.{at, changed}
 use Rattle.{machine_model.specs.declared.settings.MachineSettings.MachineSettings}
 use Rattle.machine_model.specs.Device.{after_packet, queue_delivered, expired, interrupted, queue_polled, raised_again, without_next}
 use Rattle.machine_model.specs.Devices.{QueueViews, asks_at, has_room_at, is_fired_at, is_missed_at, next_packet_at, schedules_at}
 use Rattle.machine_model.specs.Devices.{soonest_from, with_device}
 use Rattle.machine_model.specs.Softirq.{SoftirqView, begun, asked_in, poll_ended, run_ended, is_run_spent, run_next, pushed}
-use Rattle.machine_model.specs.{Application.{ApplicationView, fed, has_place, opened_application, used}, Waits.saturated}
+use Rattle.machine_model.specs.{Application.{ApplicationView, fed, has_place, opened_application, takes_up_packet, use_ended, use_length}, Waits.saturated}
 use Rattle.machine_model.specs.Tasks.{after_first, runnable, with_application}
 use Rattle.machine_model.specs.declared.{devices.Timer.Timer, tasks.RunnableTask.{RunnableTask, TheVariants.{Application, Thread}}}
 use Rattle.machine_model.specs.declared.processor.{ProcessorCounts.ProcessorCounts, TheConstants.ProcessorCounts.NONE, Work.Work}
@@ -48,12 +48,17 @@ abbrev pub scheduled : ℕ → ProcessorView → ProcessorView
 scheduled number p =
     if p.settings.threaded then record p { tasks = p.tasks ++ Thread number ∷ [] } else record p { softirq = pushed number p.softirq }
 
--- an interrupt of the card or of the NAPI timer; without polling it also takes a packet
+-- the time of an interrupt of the card, or of the NAPI timer (`napi_watchdog`); without polling it also takes a packet
+abbrev pub interrupt_cost : Bool → MachineSettings → ℕ
+interrupt_cost is_timer s =
+    let time = if is_timer then unwrap_or s.timer s.interrupt else s.interrupt in if is_polling s then time else time + s.packet
+
 unfoldable pub interrupts : ℕ → ProcessorView → ProcessorView
 interrupts number p =
     let polling = is_polling p.settings in
-    let time = if polling then p.settings.interrupt else p.settings.interrupt + p.settings.packet in
-    let counts = if is_fired_at (at number p.devices) then record p.counts { timers = saturated (p.counts.timers + 1) }
+    let is_timer = is_fired_at (at number p.devices) in
+    let time = interrupt_cost is_timer p.settings in
+    let counts = if is_timer then record p.counts { timers = saturated (p.counts.timers + 1) }
     else record p.counts { interrupts = saturated (p.counts.interrupts + 1) } in
     let q = record p { devices = changed (interrupted polling) number p.devices; counts = counts } in
     begins (Interrupt number) time (if polling && schedules_at (at number p.devices) then scheduled number q else q)
@@ -61,12 +66,11 @@ interrupts number p =
 abbrev pub polls : ℕ → ProcessorView → ProcessorView
 polls number p = begins (Poll number) p.settings.poll p
 
--- the application uses the oldest packet of its socket, if there is one
+-- the application uses the oldest packet of its socket, if there is one; waking up is a part of the use
 abbrev pub uses : List ℕ → ProcessorView → ProcessorView
 uses [] p = p
 uses (came ∷ more) p =
-    let socket = buffer more p.application.socket.capacity in
-    begins (Use came) p.settings.use_time (record p { application = record p.application { socket = socket } })
+    begins (Use came) (use_length p.settings p.application) (record p { application = takes_up_packet more p.application })
 
 -- ---- which work begins: the first that is possible, in this order
 
@@ -174,7 +178,7 @@ ends_by Nothing p = p
 ends_by (Interrupt number) p = if is_polling p.settings then p else ends_interrupt number p
 ends_by (Poll number) p = poll_looks number 0 p
 ends_by (Packet packet) p = poll_looks packet.device (packet.given + 1) (delivers packet.device packet.came p)
-ends_by (Use came) p = record p { application = used p.clock came p.application }
+ends_by (Use came) p = record p { application = use_ended p.clock came p.application }
 
 -- the time that a piece of work took is added to the processor's counts
 abbrev pub spent : Work → ℕ → ProcessorCounts → ProcessorCounts
@@ -195,15 +199,22 @@ set_aside moment (Use came) p =
     record p { work = Nothing; clock = moment; rest = Some (record { came = came; left = p.ends - moment }); counts = counts }
 set_aside moment work p = p
 
-abbrev pub woken : ℕ → Bool → ProcessorView → ProcessorView
-woken moment asked p =
-    let counts = record p.counts { interrupt_time = saturated (p.counts.interrupt_time + p.settings.wake) } in
-    if asked then record p { clock = saturated (moment + p.settings.wake); counts = counts } else record p { clock = moment }
+-- the time to wake an idle processor by an interrupt of the card, or of the NAPI timer
+abbrev pub wake_cost : Bool → MachineSettings → ℕ
+wake_cost is_timer s = if is_timer then unwrap_or s.timer_wake s.wake else s.wake
+
+-- the interrupt of this queue, if one asks for one, wakes an idle processor
+abbrev pub woken : ℕ → Option ℕ → ProcessorView → ProcessorView
+woken moment None p = record p { clock = moment }
+woken moment (Some number) p =
+    let time = wake_cost (is_fired_at (at number p.devices)) p.settings in
+    let counts = record p.counts { interrupt_time = saturated (p.counts.interrupt_time + time) } in
+    record p { clock = saturated (moment + time); counts = counts }
 
 unfoldable pub disturbed : ℕ → ProcessorView → ProcessorView
 disturbed moment p =
-    let asked = is_some (position asks_at p.devices) in
-    takes_up (if is_busy p.work then (if asked then set_aside moment p.work p else p) else woken moment asked p)
+    let asking = position asks_at p.devices in
+    takes_up (if is_busy p.work then (if is_some asking then set_aside moment p.work p else p) else woken moment asking p)
 
 -- ---- time passes
 

@@ -35,6 +35,7 @@ pub(crate) struct Application {
     activity: Activity,
     end: u64,
     wakes: u64,
+    sleeps: bool,
 }
 
 impl Model for Application {
@@ -49,14 +50,14 @@ impl Model for Application {
       activity = a.activity;
       end = a.end;
       wakes = a.wakes;
+      sleeps = a.sleeps;
     } };
 }
 
 impl Application {
-    ghost use Rattle.std.specs.Prelude.{◌≡◌, ◌==◌, IfOk, OnErr, OnOk, length, slice_get, drop};
-    ghost use Rattle.circular_buffer.specs.Buffer.{buffer};
+    ghost use Rattle.std.specs.Prelude.{◌≡◌, ◌==◌, IfNone, IfOk, IfSome, OnErr, OnOk, length, slice_get, drop};
     ghost use Rattle.machine_model.specs.Waits.{summary_of};
-    ghost use Rattle.machine_model.specs.Application.{fed, goes_on, has_place, is_awake, is_use_over, opened_application, used, went_on, woken_by};
+    ghost use Rattle.machine_model.specs.Application.{fed, goes_on, has_place, is_awake, is_use_over, opened_application, takes_up_packet, use_ended, use_length, used, went_on, woken_by};
 
     /// Returns an application with an empty socket.
     pub(crate) fn new(alloc: Global, settings: &MachineSettings) -> Result<Application, AllocError>
@@ -70,6 +71,7 @@ impl Application {
             activity: Activity::Asleep,
             end: 0,
             wakes: 0,
+            sleeps: true,
         })
     }
 
@@ -87,19 +89,42 @@ impl Application {
         self.socket.len() < self.socket.capacity()
     }
 
-    /// Takes the oldest packet out of the socket.
-    pub(crate) fn take(&mut self) -> Option<u64>
-        ensures packet { result ≡ slice_get self.old.socket.items 0 }
-        ensures application { self.new ≡ record self.old {
-          socket = buffer (drop 1 self.old.socket.items) self.old.socket.capacity;
-        } }
+    /// Returns the time of its next use on the processor that polls; if it sleeps, it is woken first.
+    pub(crate) fn use_length(&self, settings: &MachineSettings) -> u32
+        ensures { result ≡ use_length settings.now self.now }
     {
-        self.socket.pop_front()
+        if self.sleeps {
+            settings.use_time + settings.app_wake
+        } else {
+            settings.use_time
+        }
     }
 
-    /// Ends the use of the packet that arrived at `came`. Fails if the allocation for counting its wait fails; then nothing is
-    /// counted.
-    pub(crate) fn use_packet(&mut self, now: u64, came: u64) -> Result<(), AllocError>
+    /// Takes the oldest packet out of the socket, on the processor that polls.
+    pub(crate) fn take(&mut self) -> Option<u64>
+        ensures packet { result ≡ slice_get self.old.socket.items 0 }
+        ensures application { IfSome result (λ came. self.new
+            ≡ takes_up_packet (drop 1 self.old.socket.items) self.old) }
+        ensures kept { IfNone result (self.new ≡ self.old) }
+    {
+        let came = self.socket.pop_front()?;
+        self.sleeps = false;
+        Some(came)
+    }
+
+    /// Ends the use of a packet on the processor that polls. If the socket is empty, the application sleeps. Fails if the
+    /// allocation for counting the packet's wait fails.
+    pub(crate) fn end_use(&mut self, now: u64, came: u64) -> Result<(), AllocError>
+        ensures { OnOk result (self.new ≡ use_ended now came self.old) }
+    {
+        self.use_packet(now, came)?;
+        self.sleeps = self.socket.is_empty();
+        Ok(())
+    }
+
+    // Ends the use of the packet that arrived at `came`. Fails if the allocation for counting its wait fails; then nothing is
+    // counted.
+    fn use_packet(&mut self, now: u64, came: u64) -> Result<(), AllocError>
         ensures used { OnOk result (self.new ≡ used now came self.old) }
         ensures kept { OnErr result (self.new ≡ self.old) }
     {

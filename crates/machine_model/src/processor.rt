@@ -6,7 +6,7 @@ ghost use Rattle.device_places.specs.Places.{at};
 ghost use Rattle.machine_model.specs.Devices.{asks_at};
 ghost use Rattle.machine_model.specs.Kept.{IsProcessorKept, all_scheduled, polled_by};
 ghost use Rattle.machine_model.specs.Machine.{ArrivesAt, FinishesAt, processor_report, queue_report};
-ghost use Rattle.machine_model.specs.Processor.{Advances, begins_run, delivers, disturbed, ends_current, ends_interrupt, ends_poll, ends_run, goes_on, interrupts, is_due, is_polling, leaves_softirq, poll_looks, opened_processor, rests, runs_first, scheduled, set_aside, spent, step, takes_up, upcoming, uses, woken};
+ghost use Rattle.machine_model.specs.Processor.{Advances, begins_run, delivers, disturbed, ends_current, ends_interrupt, ends_poll, ends_run, goes_on, interrupt_cost, interrupts, is_due, is_polling, leaves_softirq, poll_looks, opened_processor, rests, runs_first, scheduled, set_aside, spent, step, takes_up, upcoming, uses, wake_cost, woken};
 ghost use Rattle.machine_model.specs.Shown.{listed};
 ghost use Rattle.machine_model.specs.Waits.{saturated};
 ghost use Rattle.machine_model.specs.declared.processor.Work.TheVariants.{Nothing};
@@ -180,6 +180,33 @@ fn is_polling(settings: &MachineSettings) -> bool
     settings.budget != 0
 }
 
+// Returns the time of an interrupt of a card, or of a NAPI timer. Without polling it also takes a packet.
+fn interrupt_cost(is_timer: bool, settings: &MachineSettings) -> u32
+    ensures { result ≡ interrupt_cost is_timer settings.now }
+{
+    let time = if is_timer {
+        settings.timer.unwrap_or(settings.interrupt)
+    } else {
+        settings.interrupt
+    };
+    if is_polling(settings) {
+        time
+    } else {
+        time + settings.packet
+    }
+}
+
+// Returns the time to wake an idle processor by an interrupt of a card, or of a NAPI timer.
+fn wake_cost(is_timer: bool, settings: &MachineSettings) -> u32
+    ensures { result ≡ wake_cost is_timer settings.now }
+{
+    if is_timer {
+        settings.timer_wake.unwrap_or(settings.wake)
+    } else {
+        settings.wake
+    }
+}
+
 // Returns when work ends that begins at this time and takes this long.
 fn end_after(clock: u64, time: u32) -> u64
     ensures { result ≡ saturated (clock + time) }
@@ -215,10 +242,7 @@ impl Processor {
         let is_timer = self.devices.is_fired(number as usize);
         let schedules = self.devices.schedules(number as usize);
         self.devices.interrupt(number as usize, polling);
-        let mut cost = self.settings.interrupt;
-        if !polling {
-            cost += self.settings.packet;
-        } else if schedules {
+        if polling && schedules {
             self.schedule(number)?;
         }
         if is_timer {
@@ -227,7 +251,7 @@ impl Processor {
             self.counts.interrupts = self.counts.interrupts.saturating_add(1);
         }
         self.work = Work::Interrupt(number);
-        self.ends = end_after(self.clock, cost);
+        self.ends = end_after(self.clock, interrupt_cost(is_timer, &self.settings));
         Ok(())
     }
 
@@ -236,9 +260,10 @@ impl Processor {
         requires { self.old.work ≡ Nothing }
         ensures { self.new ≡ uses self.old.application.socket.items self.old }
     {
+        let length = self.application.use_length(&self.settings);
         if let Some(came) = self.application.take() {
             self.work = Work::Use(came);
-            self.ends = end_after(self.clock, self.settings.use_time);
+            self.ends = end_after(self.clock, length);
         }
     }
 
@@ -471,7 +496,7 @@ impl Processor {
                 self.look(packet.device, packet.given + 1)?;
             }
             Work::Use(came) => {
-                self.application.use_packet(self.clock, came)?;
+                self.application.end_use(self.clock, came)?;
                 self.work = Work::Nothing;
             }
         }
@@ -492,13 +517,13 @@ impl Processor {
         }
     }
 
-    // Advances an idle processor to this time; if it is woken by an interrupt, waking takes some time more.
-    fn wake(&mut self, moment: u64, asked: bool)
-        ensures { self.new ≡ woken moment asked self.old }
+    // Advances an idle processor to this time; if the interrupt of a queue wakes it, that takes some time more.
+    fn wake(&mut self, moment: u64, asking: Option<usize>)
+        ensures { self.new ≡ woken moment asking self.old }
     {
         self.clock = moment;
-        if asked {
-            let wake = self.settings.wake;
+        if let Some(number) = asking {
+            let wake = wake_cost(self.devices.is_fired(number), &self.settings);
             self.clock = end_after(moment, wake);
             let time = self.counts.interrupt_time;
             self.counts.interrupt_time = time.saturating_add(u64::from(wake));
@@ -510,10 +535,10 @@ impl Processor {
     fn disturb(&mut self, moment: u64) -> Result<(), AllocError>
         ensures { OnOk result (self.new ≡ disturbed moment self.old) }
     {
-        let asked = self.devices.lowest_asking().is_some();
+        let asking = self.devices.lowest_asking();
         if self.work == Work::Nothing {
-            self.wake(moment, asked);
-        } else if asked {
+            self.wake(moment, asking);
+        } else if asking.is_some() {
             self.set_aside(moment);
         }
         self.take_up()

@@ -2,6 +2,7 @@
 //! it polls, and what each kind of work costs.
 
 ghost use Rattle.std.specs.Prelude.{◌≤◌};
+ghost use Rattle.std.specs.Option.{ForSome};
 ghost use Rattle.poll_runs.specs.Ranges.{IsWeight, IsWindow};
 
 /// An option of the machine, which sets one of its settings.
@@ -14,7 +15,8 @@ pub struct MachineOption {
     pub least: u32,
     /// The greatest value.
     pub most: u32,
-    /// The value of an option that isn't given.
+    /// The value of an option that isn't given. For `timer` and `timer-wake` it is 4294967295, which stands for the value of
+    /// `interrupt` and of `wake`.
     pub default: u32,
     /// The unit of the value; empty for a number that has none, and for a flag, which is 0 or 1.
     pub unit: &'static str,
@@ -36,7 +38,7 @@ macro_rules! options {
 }
 
 /// The number of options.
-pub const OPTION_COUNT: usize = 23;
+pub const OPTION_COUNT: usize = 25;
 
 /// The options, in the order of the settings: name, least and greatest value, default, unit, and what it is. `scripts/options.py`
 /// reads this table, and writes what other languages, tools and pages have of it.
@@ -56,14 +58,16 @@ pub const OPTIONS: [MachineOption; OPTION_COUNT] = options! {
     ("gro-flush-timeout", 0, 1000000000, 0, "ns", "time until a queue that stays masked is polled again (gro_flush_timeout); 0: none does"),
     ("threaded", 0, 1, 0, "", "1: each queue is polled by a thread of its own (/sys/class/net/DEV/threaded)"),
     ("apart", 0, 1, 0, "", "1: the application has a processor of its own (taskset)"),
-    ("app-wake", 0, 1000000000, 0, "ns", "time from waking that application until it runs"),
-    ("interrupt", 0, 1000000000, 4000, "ns", "time of an interrupt, or of an expired NAPI timer"),
+    ("app-wake", 0, 1000000000, 0, "ns", "time from waking the application until it runs; on the processor that polls it is a part of the use"),
+    ("interrupt", 0, 1000000000, 4000, "ns", "time of an interrupt"),
     ("poll", 0, 1000000000, 1000, "ns", "time of a poll before its first packet"),
     ("packet", 0, 1000000000, 1000, "ns", "time of each packet of a poll"),
     ("use", 0, 1000000000, 2000, "ns", "time that the application takes for a packet"),
     ("wake", 0, 1000000000, 0, "ns", "time to wake an idle processor, which counts as interrupt time"),
     ("heedless", 0, 1, 0, "", "1: the driver unmasks the queue whatever napi_complete_done returns (vmxnet3, tg3, be2net, mana)"),
     ("rx-gap", 0, 1000000000, 0, "ns", "least time between two interrupts of a card (ethtool -C rx-usecs of igb, ixgbe, e1000, e1000e, in us there); not with rx-nsecs or rx-frames"),
+    ("timer", 0, 1000000000, 4294967295, "ns", "time of the interrupt of an expired NAPI timer (napi_watchdog)"),
+    ("timer-wake", 0, 1000000000, 4294967295, "ns", "time to wake an idle processor by an expired NAPI timer, which counts as interrupt time"),
 };
 
 /// The settings of a receiving machine. Times are in nanoseconds.
@@ -105,9 +109,10 @@ pub struct MachineSettings {
     pub threaded: bool,
     /// Whether the application has its own processor.
     pub apart: bool,
-    /// The time from waking that application until it runs, 0 to 1000000000. Used with `apart` only.
+    /// The time from waking the application until it runs, 0 to 1000000000. Without `apart` it is a part of the use of the packet
+    /// that finds the application asleep.
     pub app_wake: u32,
-    /// The time of an interrupt, 0 to 1000000000.
+    /// The time of an interrupt, 0 to 1000000000. It is also that of a NAPI timer's interrupt, unless `timer` is given.
     pub interrupt: u32,
     /// The time of a poll before its first packet, 0 to 1000000000.
     pub poll: u32,
@@ -115,13 +120,18 @@ pub struct MachineSettings {
     pub packet: u32,
     /// The time that the application takes for a packet, 0 to 1000000000.
     pub use_time: u32,
-    /// The time that it takes to wake an idle processor, 0 to 1000000000. It counts as interrupt time.
+    /// The time that it takes to wake an idle processor, 0 to 1000000000. It counts as interrupt time. A NAPI timer takes it too,
+    /// unless `timer_wake` is given.
     pub wake: u32,
     /// Whether the driver unmasks the queue whatever `napi_complete_done` returns, so that a deferred interrupt isn't masked.
     pub heedless: bool,
     /// The least time between two interrupts of a card, 0 to 1000000000 (`ethtool -C rx-usecs` of igb, ixgbe, e1000 and e1000e). Above
     /// 0 it takes the place of `rx_nsecs` and `rx_frames`.
     pub rx_gap: u32,
+    /// The time of the interrupt of an expired NAPI timer, 0 to 1000000000 (`napi_watchdog`); `None` if it is `interrupt`.
+    pub timer: Option<u32>,
+    /// The time that a NAPI timer takes to wake an idle processor, 0 to 1000000000; `None` if it is `wake`.
+    pub timer_wake: Option<u32>,
     ghost processors_in: { (1 ≤ processors) × (processors ≤ 64) },
     ghost queues_in: { (1 ≤ queues) × (queues ≤ 64) },
     ghost ring_in: { (1 ≤ ring) × (ring ≤ 65536) },
@@ -141,10 +151,12 @@ pub struct MachineSettings {
     ghost use_in: { use_time ≤ 1000000000 },
     ghost wake_in: { wake ≤ 1000000000 },
     ghost rx_gap_in: { rx_gap ≤ 1000000000 },
+    ghost timer_in: { ForSome timer (λ time. time ≤ 1000000000) },
+    ghost timer_wake_in: { ForSome timer_wake (λ time. time ≤ 1000000000) },
 }
 
 impl MachineOption {
-    ghost use Rattle.std.specs.Prelude.{◌<◌, ◌↔◌, IsTrue, slice_index_or};
+    ghost use Rattle.std.specs.Prelude.{◌≡◌, ◌<◌, ◌⊎◌, ◌↔◌, IsTrue, slice_index_or};
     ghost use Rattle.machine_model.specs.Options.{IsOption, OptionRule, machine_options};
 
     /// Returns the option at this position of [`OPTIONS`].
@@ -155,17 +167,18 @@ impl MachineOption {
         OPTIONS[i]
     }
 
-    // Returns whether a value is in the range of this option.
+    // Returns whether a value is in the range of this option, or its default.
     fn admits(&self, value: u32) -> bool
-        ensures { IsTrue result ↔ ((self.now.least ≤ value) × (value ≤ self.now.most)) }
+        ensures { IsTrue result ↔ (((self.now.least ≤ value) × (value ≤ self.now.most))
+            ⊎ (value ≡ self.now.default)) }
     {
-        self.least <= value && value <= self.most
+        self.least <= value && value <= self.most || value == self.default
     }
 }
 
 impl MachineSettings {
     ghost use Rattle.std.specs.Prelude.{◌≡◌, IfErr, IfNone, IfOk, IfSome, false};
-    ghost use Rattle.machine_model.specs.Options.{AreInRange, IsFirstOut, IsRejected, excludes, option_defaults, values_of};
+    ghost use Rattle.machine_model.specs.Options.{AreInRange, IsFirstOut, IsRejected, excludes, option_defaults, own_cost, values_of};
 
     // Returns the number of the first value that is out of its range, counted from 1.
     fn first_out(values: &[u32; OPTION_COUNT]) -> Option<u32>
@@ -185,6 +198,13 @@ impl MachineSettings {
         ensures { result ≡ excludes values.now }
     {
         values[22] != 0 && (values[9] != 0 || values[10] != 0)
+    }
+
+    // Returns a cost of its own, or `None` if it is that of another option.
+    fn own_cost(value: u32) -> Option<u32>
+        ensures { result ≡ own_cost value }
+    {
+        if value == u32::MAX { None } else { Some(value) }
     }
 
     // Returns the settings with these values.
@@ -216,6 +236,8 @@ impl MachineSettings {
             wake: values[20],
             heedless: values[21] == 1,
             rx_gap: values[22],
+            timer: MachineSettings::own_cost(values[23]),
+            timer_wake: MachineSettings::own_cost(values[24]),
         }
     }
 
@@ -230,7 +252,8 @@ impl MachineSettings {
         values
     }
 
-    /// Returns the settings with these values, in the order of [`OPTIONS`]; a flag is 0 or 1.
+    /// Returns the settings with these values, in the order of [`OPTIONS`]; a flag is 0 or 1. Each value is in the range of its
+    /// option, or its default.
     ///
     /// # Errors
     ///
@@ -243,7 +266,7 @@ impl MachineSettings {
     {
         match MachineSettings::first_out(values) {
             Some(number) => Err(number),
-            None if MachineSettings::excludes(values) => Err(OPTION_COUNT as u32),
+            None if MachineSettings::excludes(values) => Err(23),
             None => Ok(MachineSettings::of_values(values)),
         }
     }
@@ -276,6 +299,8 @@ impl MachineSettings {
             self.wake,
             u32::from(self.heedless),
             self.rx_gap,
+            self.timer.unwrap_or(u32::MAX),
+            self.timer_wake.unwrap_or(u32::MAX),
         ]
     }
 }

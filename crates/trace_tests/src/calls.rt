@@ -50,6 +50,12 @@ fn values_are_settings(rt: HostRuntime) -> Result<(), Fail> {
     values[22] = 1;
     assert_eq!(rt; MachineSettings::from_values(&values), Err(23));
     assert_eq!(rt; OPTIONS[22].name, "rx-gap");
+    values[22] = 0;
+    values[23] = 1000000001;
+    assert_eq!(rt; MachineSettings::from_values(&values), Err(24));
+    values[23] = u32::MAX;
+    let usual = MachineSettings::from_values(&values).map(|settings| settings.timer);
+    assert_eq!(rt; usual, Ok(None));
     Ok(())
 }
 

@@ -69,6 +69,24 @@ time 0 end 58000 interrupt 12000 poll 7000 use 8000 idle 31000
 total devices 1 arrived 4 dropped 0 polled 4 refused 0 used 4
 ";
 
+const TIMER: &str = "moment,device,bytes\n0,1,60\n9000,1,60\n";
+
+const TIMER_REPORT: &str =
+    "device 1 arrived 2 dropped 0 polled 2 interrupts 1 polls 3 mean 8750 wait50 8000 wait90 9488 wait99 9488 wait999 9488 most 9500
+processor 0 interrupts 1 timers 2 runs 3 polls 3 work 2 squeezed 0 late 0 refused 0 used 2 mean 10750 wait50 10000 wait90 11488 wait99 11488 wait999 11488 most 11500
+time 0 end 28000 interrupt 13000 poll 5000 use 4000 idle 6000
+total devices 1 arrived 2 dropped 0 polled 2 refused 0 used 2
+";
+
+const WOKEN: &str = "moment,device,bytes\n0,1,60\n8000,1,60\n40000,1,60\n";
+
+const WOKEN_REPORT: &str =
+    "device 1 arrived 3 dropped 0 polled 3 interrupts 3 polls 3 mean 6000 wait50 6000 wait90 6000 wait99 6000 wait999 6000 most 6000
+processor 0 interrupts 3 timers 0 runs 3 polls 3 work 3 squeezed 0 late 0 refused 0 used 3 mean 13000 wait50 10992 wait90 16992 wait99 16992 wait999 16992 most 17000
+time 0 end 51000 interrupt 12000 poll 6000 use 12000 idle 21000
+total devices 1 arrived 3 dropped 0 polled 3 refused 0 used 3
+";
+
 // The report as bench/machine.cc computes it.
 const SMALL_SOCKET: &str =
     "device 1 arrived 3 dropped 0 polled 3 interrupts 1 polls 1 mean 8000 wait50 10000 wait90 10992 wait99 10992 wait999 10992 most 11000
@@ -102,7 +120,7 @@ fn machine_of(alloc: Global, words: &[&str]) -> Result<MachineSettings, Fail> {
 
 #[test]
 fn worked_runs_are_reported(rt: HostRuntime) -> Result<(), Fail> {
-    let cases: [(&[&str], &str, &str); 8] = [
+    let cases: [(&[&str], &str, &str); 10] = [
         (&APART, ARRIVALS, REPORT),
         (
             &["--defer-hard-irqs=2", "--gro-flush-timeout=20000"],
@@ -131,6 +149,18 @@ fn worked_runs_are_reported(rt: HostRuntime) -> Result<(), Fail> {
             HEEDLESS,
         ),
         (&["--rx-gap=20000"], GAP, GAP_REPORT),
+        (
+            &[
+                "--timer=3000",
+                "--timer-wake=500",
+                "--wake=2000",
+                "--defer-hard-irqs=1",
+                "--gro-flush-timeout=5000",
+            ],
+            TIMER,
+            TIMER_REPORT,
+        ),
+        (&["--app-wake=3000"], WOKEN, WOKEN_REPORT),
     ];
     for (words, arrivals, expected) in cases {
         let settings = machine_of(rt.alloc(), words)?;

@@ -13,7 +13,7 @@ from collections.abc import Sequence
 
 from fintaqush_tools.errors import Refusal
 from fintaqush_tools.files import check_input, opened
-from fintaqush_tools.machine import OPTIONS, help_of, identifier, values_of
+from fintaqush_tools.machine import OPTIONS, default_of, help_of, identifier, values_of
 from fintaqush_tools.options import Parser, as_options, number, parser_of
 from fintaqush_tools.processes import become, program, ran
 from fintaqush_tools.results import add_json, is_printed, value_of, write_json
@@ -33,7 +33,8 @@ def parser() -> Parser:
 def main(given: Sequence[str]) -> None:
     words = parser().parse_args(given)
     named = {name: getattr(words, name.replace("-", "_")) for name in OPTIONS}
-    options = as_options({name: value for name, value in named.items() if value is not None})
+    chosen = {name: value for name, value in named.items() if value is not None}
+    options = as_options(chosen)
     made = program("napi_machine")
     if not words.json:
         become([made, *options], words.file)
@@ -46,6 +47,6 @@ def main(given: Sequence[str]) -> None:
     report = out.decode("ascii", "replace")
     if not is_printed(words.json):
         print(report, end="")
-    told = {identifier(name): own if (own := named[name]) is not None else OPTIONS[name][2] for name in OPTIONS}
+    told = {identifier(name): chosen.get(name, default_of(name, chosen)) for name in OPTIONS}
     values = {name: value_of(str(value)) for name, value in values_of(report).items()}
     write_json(words.json, "machine", [{"arrivals": path, **told, **values}])

@@ -53,7 +53,18 @@ from fintaqush_tools.combinations import add_words, check_words, choices, fault_
 from fintaqush_tools.commands import traffic
 from fintaqush_tools.errors import Refusal, unfinished, unlink
 from fintaqush_tools.files import WholeFile, check_regular, check_target
-from fintaqush_tools.machine import ARE, COSTS, OPTIONS, VALUES, WAITS, help_of, identifier, option_words, values_of
+from fintaqush_tools.machine import (
+    ARE,
+    COSTS,
+    OPTIONS,
+    VALUES,
+    WAITS,
+    default_of,
+    help_of,
+    identifier,
+    option_words,
+    values_of,
+)
 from fintaqush_tools.options import Parser, Words, number, parser_of, require_end, wrong
 from fintaqush_tools.pictures import COLORS, ENDS, Curve, Picture, check_library, picture_bytes
 from fintaqush_tools.processes import program, ran
@@ -192,7 +203,7 @@ def orders_that_change(
 ) -> Iterator[tuple[str, list[tuple[int, int]], str]]:
     """Yields the combinations whose order changes within the band of costs: lines, and for each line the index pairs of their keys."""
     by_key = {TABLE.key_of({**row, **{name: str(row[name]) for name in VARIED}}): row for row in told_in(rows)}
-    varied = {name for name, values in zip(VARIED, zip(*(key[2:] for key in keys))) if len(set(values)) > 1}
+    varied = set(varied_in([dict(zip(VARIED, key[2:])) for key in keys]))
     groups = grouped(keys, varied - {"load", *COSTS})
     for what, of in ORDERS.items():
         changed = [
@@ -240,9 +251,14 @@ def status_for(rows: Sequence[Row], conditions: Sequence[Condition]) -> int:
 
 
 def varied_in(rows: Sequence[Row]) -> dict[str, list[str]]:
-    """Returns the options that have several values in these rows, with the values in order."""
+    """Returns the options that have several values in these rows, with the values in order; not a cost that is always another one."""
     values = {name: list(dict.fromkeys(str(row[name]) for row in rows)) for name in VARIED}
-    return {name: each for name, each in values.items() if len(each) > 1}
+    several = {name: each for name, each in values.items() if len(each) > 1}
+    return {
+        name: each
+        for name, each in several.items()
+        if name == "load" or any(int(row[name]) != default_of(name, row) for row in rows)
+    }
 
 
 def columns_of(rows: Sequence[Row]) -> list[str]:
@@ -450,10 +466,16 @@ def read_words(given: Sequence[str]) -> Words:
     return words
 
 
+def resolved(key: Key) -> Key:
+    """Returns the key with the value of the other option for each option that has its name."""
+    settings = dict(zip(OPTIONS, key[3:]))
+    return (*key[:3], *(settings.get(value, value) for value in key[3:]))
+
+
 def keys_of(words: Words, arrivals: str) -> tuple[list[Key], list[Key]]:
     """Returns the requested combinations, and those of the band around them if several settings are compared."""
     values = [getattr(words, name.replace("-", "_")) for name in VARIED]
-    keys = list(itertools.product([arrivals], [sum_in(arrivals)], *values))
+    keys = list(map(resolved, itertools.product([arrivals], [sum_in(arrivals)], *values)))
     is_compared = any(len(each) > 1 for name, each in zip(VARIED, values) if name != "load" and name not in COSTS)
     sides = (100 - words.band, 100 + words.band) if words.band and is_compared else ()
     return keys, [band_of(key, side) for side in sides for key in keys]
@@ -464,7 +486,7 @@ def keys_of(words: Words, arrivals: str) -> tuple[list[Key], list[Key]]:
 
 def print_breakings(found: Sequence[breaking.Breaking], words: Words, rate: float, percents: Sequence[int]) -> None:
     """Prints where each combination breaks."""
-    varied = [name for name, values in zip(VARIED, zip(*(each.key[2:] for each in found))) if len(set(values)) > 1]
+    varied = list(varied_in([dict(zip(VARIED, each.key[2:])) for each in found]))
     lines = []
     for each in found:
         holds, broken = each.ends[100]

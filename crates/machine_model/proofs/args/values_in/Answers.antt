@@ -23,7 +23,7 @@ loop-i-preserved c =
       one_more (λ (o : OptionRule) (v : ℕ). IsOptionInRange o v × (number_with value o ≡ Some v)) c.loop-i.values c.loop-i.i n
           (omega (arith, i.0, c.loop-i-test.true)) i.1
           (λ o. (
-            range_is c.loop-i.i o m n c.loop-i-test.true (c.at-option.ensures o) c.in_ok-values.ensures.range,
+            range_is _ m n (value m.name.now) (c.at-option.ensures o) c.in_ok-values.ensures.number,
             number_is m _ value _ (c.at-option.ensures o) c.in_ok-values.ensures.number,
           )),
     )

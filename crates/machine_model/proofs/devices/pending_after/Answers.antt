@@ -1,4 +1,4 @@
-use Rattle.std.proofs.Common.{◌≡◌, ◌∙◌, ap, get_or, sym}
+use Rattle.std.proofs.Common.{sym}
 use Rattle.device_places.proofs.PlaceFacts.{at-index}
 use Rattle.machine_model.proofs.PendingFacts.{pending-changed}
 use Rattle.machine_model.proofs.devices.pending_after.Goals as goal

@@ -11,7 +11,7 @@ schedule-requires-clause-few c =
     let up : asks_at (at c.args.number ds) ≡ true = rw (← c.self.view_is) at c.requires.asks in
     let own : schedules_at (at c.args.number ds) ≡ true = sym c.schedules-schedules.ensures ∙ c.if-schedules.true in
     let more : all_scheduled ds + 1 ≤ all_scheduled c.interrupt.new.self =
-    rw (c.interrupt.ensures.devices, c.if-not-polling.false) (rw own at (scheduled-interrupted true c.args.number ds up)) in
+    rw (c.interrupt.ensures.devices, c.if-polling.true) (rw own at (scheduled-interrupted true c.args.number ds up)) in
     omega (arith, c.self.invariant.few, more)
 
 pub schedule-requires-clause-room : goal.schedule-requires-clause-room
@@ -20,11 +20,11 @@ schedule-requires-clause-room c =
     let up : asks_at (at c.args.number ds) ≡ true = rw (← c.self.view_is) at c.requires.asks in
     let own : schedules_at (at c.args.number ds) ≡ true = sym c.schedules-schedules.ensures ∙ c.if-schedules.true in
     let more : all_scheduled ds + 1 ≤ all_scheduled c.interrupt.new.self =
-    rw (c.interrupt.ensures.devices, c.if-not-polling.false) (rw own at (scheduled-interrupted true c.args.number ds up)) in
+    rw (c.interrupt.ensures.devices, c.if-polling.true) (rw own at (scheduled-interrupted true c.args.number ds up)) in
     omega (arith, c.self.invariant.few, more, scheduled-most c.interrupt.new.self, c.interrupt.ensures.few)
 
-pub invariant_of-self-else-schedules : goal.invariant_of-self-else-schedules
-invariant_of-self-else-schedules c =
+pub invariant_of-self-else-polling : goal.invariant_of-self-else-polling
+invariant_of-self-else-polling c =
     let i = c.self.inside in
     let up : asks_at (at c.args.number i.devices) ≡ true = rw (← c.self.view_is) at c.requires.asks in
     rw c.interrupt.ensures.devices
