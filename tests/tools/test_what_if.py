@@ -16,6 +16,10 @@ from tooltest import HAS_MACHINE, MACHINE, NO_WORDS, START, TOP, InFolder, proce
 HEADER = "moment,device,bytes\n"
 
 
+def percent(lines: list[dict[str, int]], name: str) -> str:
+    return f"{100 * sum(line[name] for line in lines) / sum(line['end'] for line in lines):.2f}"
+
+
 @HAS_MACHINE
 class WhatIf(InFolder):
     def setUp(self) -> None:
@@ -37,10 +41,9 @@ class WhatIf(InFolder):
         told: dict[str, int | str] = {name: of["total"][0][name] for name in ("arrived", "dropped", "refused", "used")}
         for end, kind in (("delivered", "device"), ("used", "processor")):
             told.update({f"{end}_{name}": max(line[wait] for line in of[kind]) for name, wait in (("p50", "wait50"), ("p99", "wait99"), ("p999", "wait999"))})
-        told.update({f"{name}_percent": f"{100 * sum(line[name] for line in of['time']) / sum(line['end'] for line in of['time']):.2f}"
-                     for name in ("interrupt", "poll", "use", "idle")})
+        told.update({f"{name}_percent": percent(of["time"], name) for name in ("interrupt", "poll", "use", "idle")})
         if of["application"]:
-            told["use_percent"] = f"{100 * sum(line['use'] for line in of['application']) / sum(line['end'] for line in of['application']):.2f}"
+            told["use_percent"] = percent(of["application"], "use")
         told.update({name: sum(line[name] for line in of["processor"]) for name in ("interrupts", "timers", "runs", "polls", "squeezed", "late")})
         queues = [(line["device"] - 1) % len(of["processor"]) for line in of["device"]]
         told["used_per_second"] = of["total"][0]["used"] * 10**9 // max(line["end"] for line in of["time"] + of["application"])

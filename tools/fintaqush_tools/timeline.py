@@ -408,9 +408,9 @@ class Timeline:
         self.unmatched += waiting.deliver(work, is_empty, began)
         self.reads.deliver(began, time, work)
 
-    def settle(self) -> Timeline:
-        """Chooses the instances that count: those of the named devices, else all of them; a processor's backlog only if nothing else polls.
-        Instances that took no packet are those of transmit queues."""
+    def chosen(self) -> list[Polls]:
+        """Returns the polls of the instances that count: those of the named devices, else all of them; a processor's backlog only if nothing else
+        polls. Instances that took no packet are those of transmit queues."""
         receives = {device for (device, _), polls in self.of.items() if polls.receives}
         self.transmit, self.left_out = Counter[str](), Counter[str]()
         chosen, names = [], {device for (device, _), polls in self.of.items() if polls.polls}
@@ -422,6 +422,10 @@ class Timeline:
             else:
                 chosen.append(polls)
         self.devices = sorted(names - set(self.left_out))
+        return chosen
+
+    def settle(self) -> Timeline:
+        chosen = self.chosen()
         self.polls = [poll for each in chosen for poll in each.polls]
         self.places = [cpu for each in chosen for cpu in each.on]
         self.handlers: defaultdict[str, list[int]] = defaultdict(list)
