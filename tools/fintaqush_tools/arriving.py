@@ -16,9 +16,8 @@ from fintaqush_tools.timeline import HANDLERS, SOON
 
 BY_PAIR, BY_POLL, BY_STACK = "net_dev_xmit", "napi_gro_receive_entry", "netif_receive_skb"
 KINDS = {BY_PAIR: BY_PAIR, BY_POLL: BY_POLL, "napi_gro_frags_entry": BY_POLL, BY_STACK: BY_STACK}  # of each event
-TAKEN = re.compile(
-    r"dev=(\S+) .*\bhash=0x([0-9a-f]{1,8}) .*\blen=(\d{1,10}) .*\bmac_header_valid=([01]) mac_header=(-?\d{1,5})\b"
-)
+LENGTHS = r".*\blen=(\d{1,10}) .*\bmac_header_valid=([01]) mac_header=(-?\d{1,5})\b"
+TAKEN = re.compile(rf"dev=(\S+) .*\bhash=0x([0-9a-f]{{1,8}}) {LENGTHS}")
 RECEIVED = re.compile(r"dev=(\S+) .*\blen=(\d{1,10})")
 LINK_HEADER = 14  # bytes of the Ethernet header, which is removed before a packet is received
 MOST_PACKET = 65535  # bytes

@@ -139,9 +139,8 @@ class Instances:
             if is_most and each.queue is None and (device, queue) not in taken:
                 each.queue = queue
                 taken.add((device, queue))
-        yield from sorted(
-            self.of.values(), key=lambda it: (it.device, not it.receives, it.queue is None, it.queue or 0)
-        )
+        order = sorted(self.of.values(), key=lambda it: (it.device, not it.receives, it.queue is None, it.queue or 0))
+        yield from order
 
 
 class Routes:

@@ -26,9 +26,8 @@ EARLY = 100_000  # ns: an arrival's event comes after the arrival, by at most th
 
 def agree(pairs: Sequence[tuple[float, float]]) -> bool:
     """Returns whether, in each pair, the first time may be an arrival and the second a later event of the same packet."""
-    return sum(time > later for time, later in pairs) * 50 <= len(pairs) and all(
-        time <= later + EARLY for time, later in pairs
-    )
+    early = sum(time > later for time, later in pairs)
+    return early * 50 <= len(pairs) and all(time <= later + EARLY for time, later in pairs)
 
 
 class Received:
@@ -290,9 +289,8 @@ class Receiving:
         found = []
         for number in polls:
             work = self.work[number]
-            found += [
-                (came[at + each], number, work - 1 - each) for each in range(max(0, -at), min(work, len(came) - at))
-            ]
+            places = range(max(0, -at), min(work, len(came) - at))
+            found += [(came[at + each], number, work - 1 - each) for each in places]
             at += work
         times = [(self.sent[packet], self.ended[poll]) for packet, poll, _ in found]
         return found if at <= len(came) and agree(times) else []

@@ -15,9 +15,8 @@ Names = Iterable[str]
 Handler = list[Any]  # its name, its beginning, and whether napi_watchdog ran in it
 
 HANDLER = re.compile(r"irq=(\d{1,9})(?: name=(.*))?")
-SWITCH = re.compile(
-    r"prev_comm=.* prev_pid=(\d{1,9}) prev_prio=-?\d+ prev_state=(\S+) ==> next_comm=(.*) next_pid=(\d{1,9}) "
-)
+STATE = r"prev_prio=-?\d+ prev_state=(\S+)"
+SWITCH = re.compile(rf"prev_comm=.* prev_pid=(\d{{1,9}}) {STATE} ==> next_comm=(.*) next_pid=(\d{{1,9}}) ")
 SHORT_SWITCH = re.compile(r".*:(\d{1,9}) \[-?\d+\] (\S+) ==> (.*):(\d{1,9}) \[-?\d+\]")  # trace-cmd's form
 EXPIRES = re.compile(r"hrtimer=(\S+) .*\bexpires=(\d{1,20})")
 EXPIRED = re.compile(r"hrtimer=(\S+) .*\bnow=(\d{1,20})")

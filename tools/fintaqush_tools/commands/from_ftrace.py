@@ -102,9 +102,10 @@ def check_number(devices: Sequence[str], most: int) -> None:
         raise Refusal(f"{len(devices)} devices, and {have} at most {most}: name fewer pairs, or some by --device")
 
 
-def source_of(
-    counts: Counts, names: set[str], words: Words, head: Head, most: int
-) -> tuple[str, list[str], dict[str, int]]:
+Source = tuple[str, list[str], dict[str, int]]
+
+
+def source_of(counts: Counts, names: set[str], words: Words, head: Head, most: int) -> Source:
     """Returns the kind of event that counts as an arrival, the names of the devices in order, and for each name in such an event the number
     of the receiving device. `counts` has the packets of each kind and device, `names` other devices that may belong to a pair.
     """
@@ -355,9 +356,8 @@ class Trace:
         lists = {events[polling.last].cpu for polling in self.pollings if not polling.thread}
         if self.left_out:
             front = f"{self.in_front} waited when the first of these rows came, and stand in front"
-            self.notes.append(
-                f"rows that aren't in {self.first}:{self.last}: {self.left_out}; of their packets {front}"
-            )
+            where = f"{self.first}:{self.last}"
+            self.notes.append(f"rows that aren't in {where}: {self.left_out}; of their packets {front}")
         if len(lists) > 1:
             alone = "each with a poll list of its own: the trace has one list"
             self.notes.append(f"runs on {len(lists)} processors, {alone}")

@@ -162,17 +162,15 @@ class Picture:
 
     def ends(self, points: Sequence[Point]) -> list[Point]:
         """Combines points per pixel: the lowest of their first values, and the highest of their last ones."""
-        return [
-            (at, min(each[1] for each in found), max(each[-1] for each in found)) for at, found in self.bins(points)
-        ]
+        every = self.bins(points)
+        return [(at, min(each[1] for each in found), max(each[-1] for each in found)) for at, found in every]
 
     def sums(self, points: Sequence[Point]) -> tuple[str, list[Curve]]:
         """Returns the work of the runs, and of the squeezed ones, summed per pixel if there isn't a pixel per run."""
         label = "packets"
         if not self.has_room(points):
-            points = [
-                (at, sum(run[1] for run in found), sum(run[2] for run in found)) for at, found in self.bins(points)
-            ]
+            every = self.bins(points)
+            points = [(at, sum(run[1] for run in found), sum(run[2] for run in found)) for at, found in every]
             step, unit = (self.span[1] - self.span[0]) / self.width, "ms" if self.axis == "ms" else "rows"
             label = f"packets in {step:.3g} {unit}"
         squeezed = [(point[0], point[2]) for point in points if point[2]]
