@@ -189,8 +189,7 @@ class Steps(InFolder):
             last.update((device["device"], device) for device in step["devices"])
         self.assertEqual([[str(last[int(line[1])][name]) for name in ("arrived", "dropped", "polled", "left")] for line in wanted],
                          [[line[4], line[6], line[8], line[12]] for line in wanted])
-        done = run("steps", trace, "--out", "x.html", "--rows", "13914:13920", folder=self.folder)
-        self.assertIn("has no row 13914: it has 13913 rows", done.stderr)
+        self.fails("has no row 13914: it has 13913 rows", "steps", trace, "--out", "x.html", "--rows", "13914:13920", folder=self.folder)
 
     def test_two_settings(self) -> None:
         """A row that only one of the settings adds is a step of both."""
