@@ -16,15 +16,18 @@ from fintaqush_tools.timeline import HANDLERS, SOON
 
 BY_PAIR, BY_POLL, BY_STACK = "net_dev_xmit", "napi_gro_receive_entry", "netif_receive_skb"
 KINDS = {BY_PAIR: BY_PAIR, BY_POLL: BY_POLL, "napi_gro_frags_entry": BY_POLL, BY_STACK: BY_STACK}  # of each event
-LENGTHS = r".*\blen=(\d{1,10}) .*\bmac_header_valid=([01]) mac_header=(-?\d{1,5})\b"
-TAKEN = re.compile(rf"dev=(\S+) .*\bhash=0x([0-9a-f]{{1,8}}) {LENGTHS}")
+TAKEN = re.compile(
+    r"dev=(\S+) .*\bhash=0x([0-9a-f]{1,8}) .*\blen=(\d{1,10}) .*\bmac_header_valid=([01]) mac_header=(-?\d{1,5})\b"
+)
 RECEIVED = re.compile(r"dev=(\S+) .*\blen=(\d{1,10})")
 LINK_HEADER = 14  # bytes of the Ethernet header, which is removed before a packet is received
 MOST_PACKET = 65535  # bytes
-WHEN = "a packet's moment is when the poll that took it began, or the interrupt that asked for this poll"
-NOT_KNOWN = "its arrival and a longer wait in the ring aren't recorded, nor is a packet that the card dropped"
-MERGED = "GRO may have merged several packets to one, and what the card dropped isn't recorded"
-HOW = {BY_POLL: f"{WHEN} ({BY_POLL}): {NOT_KNOWN}", BY_STACK: f"{WHEN} ({BY_STACK}): {MERGED}"}
+HOW = {
+    BY_POLL: "a packet's moment is when the poll that took it began, or the interrupt that asked for this poll (napi_gro_receive_entry): its arrival "
+    "and a longer wait in the ring aren't recorded, nor is a packet that the card dropped",
+    BY_STACK: "a packet's moment is when the poll that took it began, or the interrupt that asked for this poll (netif_receive_skb): GRO may have merged "
+    "several packets to one, and what the card dropped isn't recorded",
+}
 
 
 def size_in(event: Event, size: int) -> int:

@@ -69,15 +69,8 @@ FAULT = re.compile(r"arrivals fault (?!10 )\d+ \w+ row \d+$")
 HEADER, TRACE = b"moment,device,bytes", b"moment,device,event"
 MOST_CURVES = len(COLORS)
 SHORT = {"p50": "used_p50", "p99": "used_p99", "p999": "used_p999"}  # names for --fail-if
-TAKEN = (
-    "--arrivals",
-    "--out",
-    "--seed",
-    "--help",
-    "-h",
-    "--version",
-    "--manual",
-)  # options of traffic that are set here
+# Options of traffic that are set here.
+TAKEN = ("--arrivals", "--out", "--seed", "--help", "-h", "--version", "--manual")
 making = threading.Lock()
 
 
@@ -565,8 +558,10 @@ def check_arrivals(words: Words) -> None:
             made = "arrivals are made by --arrivals of from-pcap, from-ftrace or traffic"
             raise Refusal(f"{shown(words.arrivals)}: a trace, whose runs are given; {made}")
     if any(int(each) > 1 for each in words.queues) and not has_flows(words.arrivals):
-        how = "moment,device,bytes,flow, as from-pcap, from-ftrace and traffic write it by --flows"
-        raise Refusal(f"{shown(words.arrivals)}: there is no column flow, which --queues above 1 needs: {how}")
+        raise Refusal(
+            f"{shown(words.arrivals)}: there is no column flow, which --queues above 1 needs: moment,device,bytes,flow, as from-pcap, from-ftrace and "
+            "traffic write it by --flows"
+        )
 
 
 def main(given: Sequence[str]) -> int:
