@@ -190,9 +190,10 @@ def values_in_file(path: str, device: str | None) -> Values:
             return reader(objects)
         if ROW_VALUES.keys() & set(first.strip().split(",")):
             return values_of_rows(list(csv.DictReader(io.StringIO(first + "".join(lines)))))
-    what = "neither results (--json FILE of a tool, or CSV of what-if or sweep) nor a file of fintaqush record"
-    how = "a trace is replayed with two settings by: fintaqush compare TRACE OPTION .. -- OPTION .."
-    raise Refusal(f"{what}; {how}")
+    raise Refusal(
+        "neither results (--json FILE of a tool, or CSV of what-if or sweep) nor a file of fintaqush record; a trace is replayed with two "
+        "settings by: fintaqush compare TRACE OPTION .. -- OPTION .."
+    )
 
 
 def values_in_files(paths: Sequence[str], device: str | None) -> Values:

@@ -11,12 +11,12 @@ from typing import Any, Optional
 from fintaqush_tools.instances import Place, Routes
 from fintaqush_tools.recording import BACKLOG, MOST_KNOWN, NET_RX, POLLED, SENT, SOFTIRQ, Event, fields_in, is_by_thread
 
-Names = Iterable[str]
 Handler = list[Any]  # its name, its beginning, and whether napi_watchdog ran in it
 
 HANDLER = re.compile(r"irq=(\d{1,9})(?: name=(.*))?")
-STATE = r"prev_prio=-?\d+ prev_state=(\S+)"
-SWITCH = re.compile(rf"prev_comm=.* prev_pid=(\d{{1,9}}) {STATE} ==> next_comm=(.*) next_pid=(\d{{1,9}}) ")
+SWITCH = re.compile(
+    r"prev_comm=.* prev_pid=(\d{1,9}) prev_prio=-?\d+ prev_state=(\S+) ==> next_comm=(.*) next_pid=(\d{1,9}) "
+)
 SHORT_SWITCH = re.compile(r".*:(\d{1,9}) \[-?\d+\] (\S+) ==> (.*):(\d{1,9}) \[-?\d+\]")  # trace-cmd's form
 EXPIRES = re.compile(r"hrtimer=(\S+) .*\bexpires=(\d{1,20})")
 EXPIRED = re.compile(r"hrtimer=(\S+) .*\bnow=(\d{1,20})")
@@ -97,6 +97,7 @@ class Reads:
         self.forget()
 
     def forget(self) -> None:
+        """Forgets all reads."""
         # For each task in a call: when the call began, and what was taken then.
         self.called: dict[int, tuple[int, int]] = {}
         # For each task that slept since its last read: when it last did, and whether in a call.
@@ -213,7 +214,11 @@ class Timeline:
     """Sums up the times of a recording."""
 
     def __init__(
-        self, routes: Routes | None = None, polled: Names = (), irq: str | None = None, interrupts: Names = ()
+        self,
+        routes: Optional[Routes] = None,
+        polled: Iterable[str] = (),
+        irq: str | None = None,
+        interrupts: Iterable[str] = (),
     ) -> None:
         """`polled` are the devices whose polls count; `interrupts` are their interrupts, if known: other cards' interrupts don't request their polls."""
         self.irq, self.polled, self.interrupts = irq, set(polled), set(interrupts)
@@ -245,6 +250,7 @@ class Timeline:
             look(self.on[event.cpu], event)
 
     def look_at(self, name: str) -> Optional[Callable[[Processor, Event], None]]:
+        """Returns what handles the events of this name."""
         if name.startswith("hrtimer_"):
             return self.timer
         if name.startswith("sys_enter_"):

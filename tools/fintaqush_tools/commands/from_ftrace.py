@@ -376,11 +376,13 @@ def told_of(what: str, counter: Mapping[str, int], have: str = "no") -> list[str
 class SameProcessor:
     """Packets that the processor sent which polls them. It has the sender until its next softirq begins, so they arrive then."""
 
+    waiting: defaultdict[tuple[int, str], list[int]]
+    entered: dict[int, int]
+
     def __init__(self, words: Words) -> None:
         self.pairs, self.peers = words.pair or words.pairs, dict[str, str]()
-        # By processor and receiver, the indices of packets that it hasn't polled yet.
-        self.waiting = defaultdict[tuple[int, str], list[int]](list)
-        self.entered = dict[int, int]()  # for each processor, when its softirq began
+        self.waiting = defaultdict(list)  # by processor and receiver, the indices of packets that it hasn't polled yet
+        self.entered = {}  # for each processor, when its softirq began
 
     def peer_of(self, sender: str) -> str:
         """Returns the other end of a sender's pair, or an empty text."""
@@ -412,11 +414,13 @@ class SameProcessor:
 class Arriving:
     """The packets of a recording, by the kind of event."""
 
+    unsent: Counter[str]
+    dropped: Counter[str]
+
     def __init__(self, events: Iterable[Event], words: Words) -> None:
         self.words, self.count = words, 0
         self.packets = {kind: Packets() for kind in dict.fromkeys(KINDS.values())}
-        self.unsent, self.dropped, self.same = Counter[str](), Counter[str](), SameProcessor(words)
-        begins = PollBegins()
+        self.unsent, self.dropped, begins, self.same = Counter(), Counter(), PollBegins(), SameProcessor(words)
         for event in events:
             self.count += 1
             kind = KINDS.get(event.name)
@@ -489,20 +493,21 @@ def convert(words: Words) -> None:
     lost: list[str] = []
     head: Head = {}
     found = events_in(words.recording, lost, head)
-    first = next(found, None)  # the head is known after the first event
-    words.pairs = head.get("pair", "va*:vb*").split()
-    events: Iterable[Event] = [] if first is None else chain([first], found)
     if words.arrivals:
-        lines, notes, told = Arriving(events, words).text(head)
+        first = next(found, None)  # the head is known after the first event
+        words.pairs = head.get("pair", "va*:vb*").split()
+        rows, notes, told = Arriving([] if first is None else chain([first], found), words).text(head)
         check_lost(lost)
-        write_files(words, told, notes, csv=lines)
+        write_files(words, told, notes, csv=rows)
         return
-    if first is None:
+    events = list(found)
+    words.pairs = head.get("pair", "va*:vb*").split()
+    if not events:
         raise Refusal("there is no event in it")
-    trace = Trace(list(events), words, head)
+    trace = Trace(events, words, head)
     told = f"{len(trace.devices)} devices, {len(trace.rows)} rows, of which {len(trace.work)} poll"
-    rows = lines_of([HEADERS[1], *trace.rows])
-    write_files(words, told, lost + trace.notes, work=lines_of(trace.work), csv=rows)
+    text = lines_of([HEADERS[1], *trace.rows])
+    write_files(words, told, lost + trace.notes, work=lines_of(trace.work), csv=text)
 
 
 def parser() -> Parser:
