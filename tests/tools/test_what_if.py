@@ -289,16 +289,6 @@ class WhatIf(InFolder):
         self.assertEqual([row["budget"] for row in parts], ["1", "3", "2", "4"])
         self.assertIn("exists: --resume continues it", run("what-if", self.arrivals, "--out", out).stderr)
 
-    def test_parts_of_a_job_array_are_one_table(self) -> None:
-        """docs/TOOLS.md combines those of sweep in the same way; existing rows need no program."""
-        words = ["--budget", "1,2,300", "--load", "1,2"]
-        for part in range(1, 5):
-            self.rows(*words, "--part", f"{part}/4", "--out", self.folder / f"rows-{part}.csv")
-        parts = [(self.folder / f"rows-{part}.csv").read_text().splitlines(True) for part in range(1, 5)]
-        out = self.write("all.csv", "".join(parts[0][:1] + [line for lines in parts for line in lines[1:]]))
-        none = self.program("none", "exit 1")
-        self.assertEqual(self.rows(*words, "--resume", "--out", out, "--binary", none), self.rows(*words))
-
     @skip_without("matplotlib")
     def test_the_picture(self) -> None:
         for name, begins in (("x.png", b"\x89PNG"), ("x.svg", b"<?xml"), ("x.html", b"<!DOCTYPE html>")):

@@ -513,11 +513,11 @@ def convert(words: Words) -> None:
 def parser() -> Parser:
     parser = parser_of(__doc__)
     parser.add_argument("recording", help="the text, also as .gz; - for standard input")
-    add_files(parser, "NAME.csv, NAME.work and NAME.notes")
     what = "two ends of a veth pair; * stands for a number in each; may be given many times"
     parser.many("--pair", "A:B", f"{what} (where none is given: that of fintaqush record, or va*:vb*)")
     what = "a device that receives and isn't in a pair; may be given many times (those of fintaqush record, or all)"
     parser.many("--device", "NAME", what)
+    add_files(parser, "NAME.csv, NAME.work and NAME.notes")
     parser.flag("--flows", "with --arrivals: add a column with the hash of each packet's flow, for several queues")
     return parser
 

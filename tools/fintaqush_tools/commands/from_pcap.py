@@ -340,7 +340,6 @@ def convert(words: Words) -> None:
 def parser() -> Parser:
     parser = parser_of(__doc__)
     parser.add_argument("capture", help="the capture, or tcpdump's text; - for standard input")
-    add_files(parser, "NAME.csv and NAME.notes")
     parser.many("--to", "WHO", "a device: an interface, or a link address; may be given many times")
     what = f"count what arrives ({IN}), or also what goes out, as an arrival ({BOTH})"
     parser.add_argument("-Q", dest="way", choices=(IN, BOTH), default=IN, help=what)
@@ -349,6 +348,7 @@ def parser() -> Parser:
     parser.flag("--flows", what)
     what = "the first N packets of the capture"
     parser.add_argument("-c", dest="count", type=number(1, 10**9), metavar="N", help=what)
+    add_files(parser, "NAME.csv and NAME.notes")
     add_delay(parser)
     return parser
 

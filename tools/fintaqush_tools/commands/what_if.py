@@ -394,7 +394,7 @@ def parser() -> Parser:
         how: dict[str, Any] = {"type": choices(number(low, high)), "default": [str(default)], "metavar": "N,.."}
         parser.add_argument(f"--{name}", help=help_of(name), **how)
     what = f"warn if an order changes with costs N %% lower or higher ({DOUBT}; 0 with --out or --part); advise prints that of a recording"
-    parser.add_argument("--band", type=number(0, 90), metavar="N", help=what)
+    parser.number("--band", 0, 90, None, what)
     form = parser.add_mutually_exclusive_group()
     for name, what in (("table", "a table with units (on a terminal)"), ("csv", "CSV (elsewhere)")):
         form.add_argument(f"--{name}", dest="form", action="store_const", const=name, help=what)
@@ -403,8 +403,7 @@ def parser() -> Parser:
     parser.add_argument("--until", type=breaking.limit, metavar="drops|p99=US", help=what)
     what = "make arrivals by fintaqush traffic with these options, in one argument"
     parser.add_argument("--traffic", metavar="OPTIONS", help=what)
-    what = "with --traffic: repeat with the seeds 1 to N (5)"
-    parser.add_argument("--seeds", type=number(1, 1000), metavar="N", help=what)
+    parser.number("--seeds", 1, 1000, None, "with --traffic: repeat with the seeds 1 to N (5)")
     add_fail_if(parser, [*SHORT, *VALUES], [*SHORT, *WAITS])
     parser.add_argument("--plot", metavar="FILE", help="a picture, .png, .svg or .html")
     add_words(parser, "napi_machine", {"metavar": "FILE", "help": "a CSV file of rows with all options and results"})
