@@ -238,9 +238,11 @@ def devices_of(counted: Mapping[Kind, int], wanted: list[str], way: str) -> tupl
         return by_packets(counted), [], lambda kind: [kind.interface]
     own = own_address(counted) if way == IN else ""
     name = own or "the interface of the capture"
-    note = "the capture doesn't tell what goes out, so all of it arrives; --to names the addresses that receive"
-    if own:
-        note = f"each packet with one receiver comes from {own} or goes to it, so what it sends goes out"
+    note = (
+        f"each packet with one receiver comes from {own} or goes to it, so what it sends goes out"
+        if own
+        else "the capture doesn't tell what goes out, so all of it arrives; --to names the addresses that receive"
+    )
     return [name], [note], lambda kind: [] if own and kind.sender == own else [name]
 
 
