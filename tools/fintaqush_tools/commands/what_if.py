@@ -519,17 +519,13 @@ def made_traffic(words: str, seeds: int) -> list[str]:
     return names
 
 
-def numeric(text: object) -> float:
-    return float(str(text)) if "." in str(text) else int(str(text))
-
-
 def spread(rows: Sequence[dict[str, Any]], settings: Iterable[str], values: Iterable[str]) -> dict[str, Any]:
     """Combines rows with the same settings into one: for each value the median (of an even number the lower one), the minimum and the maximum."""
     row = {name: rows[0][name] for name in settings}
     row["status"] = max(int(each["status"]) for each in rows)
     row["fault"] = next((each["fault"] for each in rows if each["fault"]), "")
     for name in values:
-        of = sorted((each[name] for each in rows), key=numeric)
+        of = sorted((each[name] for each in rows), key=lambda value: Fraction(str(value)))
         row.update({name: of[(len(of) - 1) // 2], f"{name}_least": of[0], f"{name}_most": of[-1]})
     return row
 
