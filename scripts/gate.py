@@ -19,6 +19,7 @@ from collections.abc import Callable, Sequence
 from typing import Any
 import concurrent.futures
 import functools
+import operator
 import os
 import re
 import shutil
@@ -269,7 +270,7 @@ def keep(crate: Crate, out: str, times: dict[str, int]) -> None:
 def prove_all(room: str, names: Sequence[str]) -> tuple[int, int]:
     """Runs `rt ci` on a copy of these crates and those below them, or of all, and keeps the libraries that it builds."""
     asked = [*dict.fromkeys(below for crate in named(names) for below in crate.all)]
-    listed = {crate.name for crate in asked}
+    listed = set(map(operator.attrgetter("name"), asked))
     times = {crate: (crate.sources, crate.times())[1] for crate in asked}
 
     def left_out(folder: str, files: list[str]) -> set[str]:

@@ -21,7 +21,7 @@ def clauses_of(path: pathlib.Path) -> Iterator[tuple[str, set[str]]]:
     names: set[str] | None = None
     indent, of_all = "", (path.parent / "main.rt").exists()
     for line in path.read_text().splitlines():
-        if not line.startswith(" ") and (place := OWNER.match(line)):
+        if place := OWNER.match(line):
             owner, of_trait = place[1] or place[2], bool(re.match(r"pub trait|(?:unsafe )?impl(?:<.*?>)? .* for ", line))
         elif line == "}":
             owner = None

@@ -262,6 +262,11 @@ def assurance(page: pathlib.Path) -> Iterator[str]:
         for count in re.findall(r"\b[Ss]ome (\d+) edits", (TOP / name).read_text()) or ["0"]:
             if abs(edits - int(count)) * 10 > edits:
                 yield f"{name} says that there are some {count} must-fail edits, and there are {edits}"
+    yield from unproved()
+
+
+def unproved() -> Iterator[str]:
+    """The axioms, the unsafe code and the weaker atomic operations of the crates."""
     for name in listed("crates/*.antt", "crates/*.rt"):
         text = (TOP / name).read_text().replace(SENT, "", 1)
         if name.endswith(".antt") and re.search(r"^\s*axiom\b|\bPrim\.Axiom\b|\bpostulate\b", text, re.M):

@@ -60,6 +60,14 @@ def site(script: pathlib.Path, pages: list[pathlib.Path]) -> Iterator[str]:
             yield f"a folder that is filled is overwritten: status {again.returncode}"
 
 
+def references_of_c(made: pathlib.Path, calls: set[str]) -> Iterator[str]:
+    shown = "".join(path.read_text() for path in made.glob("group__*.html"))
+    yield from (f"reference/c lacks {name}" for name in sorted(calls) if not re.search(rf'class="memtitle">.*{name}\(\)', shown))
+    text = (TOP / "include/fintaqush.hpp").read_text()
+    classes = [name for name in re.findall(r"^class (?:\[\[nodiscard\]\] )?(\w+)", text, re.M) if f"detail::{name}" not in text]
+    yield from (f"reference/c lacks {name}" for name in classes if not list(made.glob(f"classfintaqush_1_1{name}*.html")))
+
+
 def references(made: pathlib.Path, texts: dict[pathlib.Path, str]) -> Iterator[str]:
     """What the references of all calls lack: a call of the header, a class of fintaqush.hpp, a public type of the Rust crate, a facade, and a
     name that a clause cites, with its definition."""
@@ -70,11 +78,7 @@ def references(made: pathlib.Path, texts: dict[pathlib.Path, str]) -> Iterator[s
     if not is_missing("cargo", "the reference of Rust in the site") and not (made / "reference/rust").is_dir():
         yield "there is no reference/rust"
     if (made / "reference/c").is_dir():
-        shown = "".join(path.read_text() for path in (made / "reference/c").glob("group__*.html"))
-        yield from (f"reference/c lacks {name}" for name in sorted(calls) if not re.search(rf'class="memtitle">.*{name}\(\)', shown))
-        text = (TOP / "include/fintaqush.hpp").read_text()
-        classes = [name for name in re.findall(r"^class (?:\[\[nodiscard\]\] )?(\w+)", text, re.M) if f"detail::{name}" not in text]
-        yield from (f"reference/c lacks {name}" for name in classes if not list((made / "reference/c").glob(f"classfintaqush_1_1{name}*.html")))
+        yield from references_of_c(made / "reference/c", calls)
     if (made / "reference/rust").is_dir():
         exported = re.findall(r"\b[A-Z]\w+", " ".join(re.findall(r"^pub use ([^;]*);", (TOP / "bindings/rust/src/lib.rs").read_text(), re.M)))
         yield from (f"reference/rust lacks {name}" for name in exported if name not in (made / "reference/rust/fintaqush/index.html").read_text())

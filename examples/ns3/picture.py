@@ -15,7 +15,7 @@ PANELS = (("latency, 99th percentile, ms", lambda row: float(row["p99_us"]) / 10
           ("the processor's time for the application, %", lambda row: float(row["use%"])))
 
 
-def main(table, picture):
+def main(table: str, picture: str) -> None:
     with open(table, encoding="utf-8") as file:
         names = file.readline().split()
         rows = [dict(zip(names, line.split())) for line in file]

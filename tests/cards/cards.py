@@ -78,10 +78,8 @@ class Card:
 
 
 FEW = "one of some 170 interrupts is 0.6 %"
-STARTS = (
-    "a poll that wakes the program takes 2.4 µs longer, and the machine has one cost for all polls; one that starts a "
-    "timer takes another 2.5 µs"
-)
+LONGER = "a poll that wakes the program takes 2.4 µs longer, and the machine has one cost for all polls"
+STARTS = f"{LONGER}; one that starts a timer takes another 2.5 µs"
 THREAD = "waking NAPI's thread takes 4.1 µs, which is no cost of the machine"
 LAZY, LAZIER = (2, 100_000), (2, 500_000)
 CARDS = (
@@ -360,12 +358,9 @@ def main(what: str, argument: str = "") -> bool:
     if what == "files":
         print(*sorted({path for _, path, _, _ in sources()}), sep="\n")
         return False
-    if what == "fetch":
-        return not emulation.fetch()
-    if what == "fetched":
-        return not emulation.is_fetched()
-    if what == "memory":
-        return not emulation.has_memory()
+    asked = {"fetch": emulation.fetch, "fetched": emulation.is_fetched, "memory": emulation.has_memory}
+    if what in asked:
+        return not asked[what]()
     if what == "sources":
         return check_sources(argument)
     if what == "page":

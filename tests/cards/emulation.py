@@ -24,10 +24,7 @@ MAC = "52:54:00:00:00:01"
 # ns: eth1 sends a frame of its ring each so often, eth2 all of its ring so long after the first.
 PERIOD, LATER = 20_000, 5_000_000
 PROCESSOR = "max,-erms,-fsrm"
-KERNEL = (
-    "console=ttyS0 net.ifnames=0 card={} tsc_early_khz=1000000 pmtmr=0 tsc=reliable mitigations=off nokaslr "
-    "norandmaps audit=0 quiet"
-)
+KERNEL = "console=ttyS0 net.ifnames=0 card={} tsc_early_khz=1000000 pmtmr=0 tsc=reliable mitigations=off nokaslr norandmaps audit=0 quiet"
 SENDER = "virtio-net-pci,netdev=h{0},mac=52:54:00:00:00:1{0},tx=timer,romfile=,x-txtimer={1},x-txburst={2}"
 
 
@@ -120,9 +117,7 @@ def record(model: str, driver: str, settings: Sequence[Setting], folder: Path) -
     make_image(root, settings, folder)
     command = ["nice", "-n", os.environ.get("NICE", "10"), *command_of(root, model, driver, folder)]
     try:
-        done = subprocess.run(
-            command, stdin=subprocess.DEVNULL, capture_output=True, text=True, timeout=MOST_SECONDS, check=False
-        )
+        done = subprocess.run(command, stdin=subprocess.DEVNULL, capture_output=True, text=True, timeout=MOST_SECONDS, check=False)
     except subprocess.TimeoutExpired:
         raise Late(f"the guest took more than {MOST_SECONDS} s") from None
     unpack = ["tar", "-x", "-C", str(folder), "--strip-components=1", "-f", str(folder / "disk")]

@@ -21,15 +21,8 @@ PORT = 9000
 BEGAN = 1767225600 * 10**9  # 2026-01-01, at which the guest's clock begins
 MOST_DRIFT = 1000  # ns, within a recording
 # What is kept of a recording's head.
-HEAD = (
-    "kernel",
-    "clock",
-    f"device.{DEVICE}.driver",
-    f"device.{DEVICE}.ethtool.ring.rx",
-    f"device.{DEVICE}.ethtool.coalesce.rx-usecs",
-    f"device.{DEVICE}.ethtool.feature.large-receive-offload",
-    "sysctl.net.core.gro_normal_batch",
-)
+OF_DEVICE = ("driver", "ethtool.ring.rx", "ethtool.coalesce.rx-usecs", "ethtool.feature.large-receive-offload")
+HEAD = ("kernel", "clock", *(f"device.{DEVICE}.{key}" for key in OF_DEVICE), "sysctl.net.core.gro_normal_batch")
 
 
 def frames_in(path: Path) -> Iterator[Frame]:
@@ -87,11 +80,9 @@ class Seen:
 
     def measured(self, packet: float) -> Measured:
         values = predicting.measured_of(self.receiving, self.head, packet=packet)
-        pairs: dict[str, Sequence[tuple[int, float]]] = {
-            "delivered_p50": self.receiving.delivered(packet),
-            "used_p50": self.receiving.used(),
-        }
-        for name, some in pairs.items():
+        pairs: list[tuple[str, Sequence[tuple[int, float]]]]
+        pairs = [("delivered_p50", self.receiving.delivered(packet)), ("used_p50", self.receiving.used())]
+        for name, some in pairs:
             if some:
                 known = known_median(sorted(end - time for time, end in some))
                 values |= {f"{name}_low": round(known[0]), f"{name}_high": round(known[1])}

@@ -237,13 +237,13 @@ class FromFtrace(Arrivals):
         refused: list[tuple[str | bytes, str]] = [
                 (b"", "it is empty"), (event + "CPU:1 [LOST 7 EVENTS]\n" + event, "line 2 of the recording: the kernel lost 7 events, so results would be wrong"),
                 (event + "CPU:1 [7 EVENTS DROPPED]\n", "the kernel lost 7 events"), (text.replace("\nlost 0\n", "\nlost 12\n"), "the kernel lost 12 events"),
+                ("# nothing\n", "there is no packet in it"), (event.replace("va1", "x"), "no device of --pair is recorded; these are: x"),
                 (event[:-20], "line 1: "), (event + event[:30], "it is cut: line 2 isn't whole"), (text[:-9], "isn't whole"), (text[:900], "its head has no end"),
                 (text[: text.rindex("\n", 0, -2) + 1], "it is cut: 622 of 623 events are there"), (without, "there is no packet in it: record the event net/net_dev_xmit"),
                 (without.replace("\nlost 0", "\nmissing net/net_dev_xmit\nlost 0"), "the kernel that recorded it has no event net/net_dev_xmit"),
                 (b"PERFILE2 and more", "this is the file of `perf record`: take the text of `perf script --ns`"),
                 (b"\x17\x08\x44tracing6", "this is the file of `trace-cmd record`"), (b"\xd4\xc3\xb2\xa1\x02\0\x04\0", "this is a capture, which fintaqush from-pcap reads"),
                 (b"\x0a\x0d\x0d\x0a\x1c\0\0\0", "this is a capture"), (b"ns,device,bytes\n0,1,60\n", "line 1: no line of ftrace"),
-                ("# nothing\n", "there is no packet in it"), (event.replace("va1", "x"), "no device of --pair is recorded; these are: x"),
                 (gzip.compress(text.encode())[:-700], "it isn't whole"), (b"\x1f\x8bxx", "it isn't whole"), (text.replace("recording 1", "recording 7"), "another version")]
         for changed, why in refused:
             self.write("recorded", "")

@@ -139,18 +139,20 @@ def timer_wakes_in(events: Sequence[Found], device: str) -> Iterator[int]:
                 yield after[1][0] - due[expired[1]] - (after[0][0] - began)
 
 
+def said_by(events: Sequence[Found], program: str, said: str) -> list[int]:
+    return [event[0] for event in events if event[2] == program and re.match(said, event[4])]
+
+
 def woken_uses_in(events: Sequence[Found], device: str, program: str, call: str) -> Iterator[int]:
     """Yields the time from the end of a poll of one packet, for which the program slept, to the program's next call."""
     polls = [(time, work) for work, time in timing.polls_of(events, device)]
-    own = [(time, said) for time, _, task, _, said in events if task == program]
-    sleeps = [time for time, said in own if f"prev_comm={program} " in said and "prev_state=S " in said]
-    reads = [time for time, said in own if said.startswith(f"sys_{call} -> 0x")]
-    calls = [time for time, said in own if said.startswith(f"sys_{call}(")]
+    sleeps, reads, calls = (said_by(events, program, said) for said in
+                            (rf".*prev_comm={program} .*prev_state=S ", rf"sys_{call} -> 0x", rf"sys_{call}\("))
     for slept in sleeps:
-        read = next((time for time in reads if time > slept), None)
-        again = next((time for time in calls if read and time > read), None)
+        read = next((time for time in reads if time > slept), 0)
+        again = next((time for time in calls if read and time > read), 0)
         between = [(time, work) for time, work in polls if again and slept < time < again]
-        if again and read and sum(work for _, work in between) == 1 and between[-1][1] == 1 and between[-1][0] < read:
+        if again and sum(work for _, work in between) == 1 and between[-1][1] == 1 and between[-1][0] < read:
             yield again - between[-1][0]
 
 
@@ -193,7 +195,3 @@ class Recorded(unittest.TestCase):
         self.same(found["timer"], list(timers_in(events)), "timer")
         uses = [max(0, each - found["use"].value) for each in woken_uses_in(events, "vb7", "server", "recvmsg")]
         self.same(found["app-wake"], uses, "app-wake")
-
-
-if __name__ == "__main__":
-    unittest.main()

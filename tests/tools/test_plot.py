@@ -135,8 +135,7 @@ class Plot(InFolder):
                          ("fintaqush plot: plot.png exists and isn't overwritten; --force replaces it\n", 1, "old\n"))
         cases: list[list[object]] = [["--force"], ["--out", old]]
         for words in cases:
-            done = run("plot", TOP / "examples/bursts.csv", *words, folder=self.folder, SERIES="/bin/false")
-            self.assertIn("/bin/false ended with status 1", done.stderr)
+            self.fails("/bin/false ended with status 1", "plot", TOP / "examples/bursts.csv", *words, folder=self.folder, SERIES="/bin/false")
 
     def test_a_missing_library_is_told_before_any_work(self) -> None:
         old = self.write("picture.svg", "old")
@@ -158,8 +157,7 @@ class Plot(InFolder):
         for wrong, why in (("--buget", "'--buget' is no option: is --budget meant, a whole number, 1..=65535?\n"),
                            ("--unit", "'--unit' is no option\n")):
             for more in (NO_WORDS, ["--raise"]):
-                done = run("plot", TOP / "examples/bursts.csv", wrong, "3", *more)
-                self.assertEqual((done.stderr, done.returncode), (f"fintaqush plot: usage fault 64: {why}", 1))
+                self.fails(f"fintaqush plot: usage fault 64: {why}", "plot", TOP / "examples/bursts.csv", wrong, "3", *more)
         self.assertIn("the series hasn't all rows", run("plot", TOP / "examples/bursts.csv", "--every", "2", "--raise", "--json").stderr)
         self.assertIn("--beside: No closing quotation", run("plot", TOP / "examples/bursts.csv", "--beside", "'").stderr)
         self.assertEqual(run("plot").returncode, 64)
@@ -232,8 +230,7 @@ class Plot(InFolder):
     def test_a_missing_folder_is_refused_before_anything_runs(self) -> None:
         trace = TOP / "examples/bursts.csv"
         for tool, words in (("plot", NO_WORDS), ("raise", NO_WORDS), ("compare", ["--"])):
-            done = run(tool, trace, "--out", "none/x.png", *words, folder=self.folder, PROGRAM="/none", SERIES="/none")
-            self.assertEqual((done.stderr, done.returncode), (f"fintaqush {tool}: none: there is no such folder\n", 1))
+            self.fails(f"fintaqush {tool}: none: there is no such folder\n", tool, trace, "--out", "none/x.png", *words, folder=self.folder, PROGRAM="/none", SERIES="/none")
 
     @skip_without("matplotlib")
     def test_every_example(self) -> None:

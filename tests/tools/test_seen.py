@@ -1,7 +1,6 @@
 """Tests of what tests/cards.sh reads from a recording of an emulated card: events and arrivals with known times."""
 
 import sys
-import unittest
 
 from tooltest import TOP, InFolder
 
@@ -48,7 +47,3 @@ class Seen(InFolder):
         """Of 100 waits the rank of the median has a deviation of 5, so it is 9.8 to each side: from the 41st wait to the 60th."""
         self.assertEqual(seen.known_median(range(100)), (40, 59))
         self.assertEqual([seen.known_median(each) for each in ([7], [1, 5])], [(7, 7), (1, 5)])
-
-
-if __name__ == "__main__":
-    unittest.main()

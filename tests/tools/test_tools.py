@@ -378,8 +378,7 @@ class FromPcap(InFolder):
         self.assertIn("no row: packets that don't come in, 1\n", notes)
 
     def test_refusals(self) -> None:
-        done = run("from-pcap", "none.pcap", "made", folder=self.folder)
-        self.assertEqual((done.stderr, done.returncode), ("fintaqush from-pcap: none.pcap: there is no such file\n", 1))
+        self.fails("fintaqush from-pcap: none.pcap: there is no such file\n", "from-pcap", "none.pcap", "made", folder=self.folder)
         for text, why in (("", "no packet arrives"), ("what\n", "line 1: not in the format of `tcpdump -tt -n -e`"), (self.TEXT * 60000, "more than")):
             self.fails(why if why != "more than" else "and a trace has at most 100000", "from-pcap", "-", self.folder / "made", text=text)
             self.assertEqual(self.names(), [])

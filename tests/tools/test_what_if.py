@@ -16,6 +16,10 @@ from tooltest import HAS_MACHINE, MACHINE, NO_WORDS, START, TOP, InFolder, proce
 HEADER = "ns,device,bytes\n"
 
 
+def percent(lines: list[dict[str, int]], name: str) -> str:
+    return f"{100 * sum(line[name] for line in lines) / sum(line['end'] for line in lines):.2f}"
+
+
 @HAS_MACHINE
 class WhatIf(InFolder):
     def setUp(self) -> None:
@@ -37,10 +41,9 @@ class WhatIf(InFolder):
         told: dict[str, int | str] = {name: of["total"][0][name] for name in ("arrived", "dropped", "refused", "used")}
         for end, kind in (("delivered", "device"), ("used", "processor")):
             told.update({f"{end}_{name}": max(line[wait] for line in of[kind]) for name, wait in (("p50", "wait50"), ("p99", "wait99"), ("p999", "wait999"))})
-        told.update({f"{name}_percent": f"{100 * sum(line[name] for line in of['time']) / sum(line['end'] for line in of['time']):.2f}"
-                     for name in ("interrupt", "poll", "use", "idle")})
+        told.update({f"{name}_percent": percent(of["time"], name) for name in ("interrupt", "poll", "use", "idle")})
         if of["application"]:
-            told["use_percent"] = f"{100 * sum(line['use'] for line in of['application']) / sum(line['end'] for line in of['application']):.2f}"
+            told["use_percent"] = percent(of["application"], "use")
         told.update({name: sum(line[name] for line in of["processor"]) for name in ("interrupts", "timers", "runs", "polls", "squeezed", "late")})
         queues = [(line["device"] - 1) % len(of["processor"]) for line in of["device"]]
         told["used_per_second"] = of["total"][0]["used"] * 10**9 // max(line["end"] for line in of["time"] + of["application"])
@@ -285,16 +288,6 @@ class WhatIf(InFolder):
         parts = [row for part in ("1/2", "2/2") for row in self.rows("--budget", "1,2,3,4", "--part", part)]
         self.assertEqual([row["budget"] for row in parts], ["1", "3", "2", "4"])
         self.assertIn("exists: --resume continues it", run("what-if", self.arrivals, "--out", out).stderr)
-
-    def test_parts_of_a_job_array_are_one_table(self) -> None:
-        """docs/TOOLS.md combines those of sweep in the same way; existing rows need no program."""
-        words = ["--budget", "1,2,300", "--load", "1,2"]
-        for part in range(1, 5):
-            self.rows(*words, "--part", f"{part}/4", "--out", self.folder / f"rows-{part}.csv")
-        parts = [(self.folder / f"rows-{part}.csv").read_text().splitlines(True) for part in range(1, 5)]
-        out = self.write("all.csv", "".join(parts[0][:1] + [line for lines in parts for line in lines[1:]]))
-        none = self.program("none", "exit 1")
-        self.assertEqual(self.rows(*words, "--resume", "--out", out, "--binary", none), self.rows(*words))
 
     @skip_without("matplotlib")
     def test_the_picture(self) -> None:

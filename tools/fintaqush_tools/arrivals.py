@@ -6,7 +6,7 @@ from array import array
 from collections.abc import Iterable, Iterator
 from itertools import islice
 from operator import le
-from typing import Any
+from typing import Any, Optional
 
 from fintaqush_tools.errors import Refusal
 
@@ -53,9 +53,10 @@ def seconds(whole: str, fraction: str) -> int:
     return int(whole) * SECOND + int(fraction.ljust(9, "0"))
 
 
-def arrivals_text(
-    rows: Iterable[tuple[int, ...]], span: tuple[int, int] | None = None, with_flows: bool = False
-) -> Iterator[str]:
+Span = Optional[tuple[int, int]]  # the first and the last of some rows
+
+
+def arrivals_text(rows: Iterable[tuple[int, ...]], span: Span = None, with_flows: bool = False) -> Iterator[str]:
     """Formats rows (time, device, size) or (time, device, size, flow) as lines, only those of the span if one is given; times begin at 0."""
     yield HEADER_WITH_FLOWS if with_flows else HEADER
     start = None

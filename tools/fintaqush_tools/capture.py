@@ -98,9 +98,8 @@ def ends_of(link: Link, ends: bytes) -> Ends:
 def flow_number(ends: bytes, ports: bytes) -> int:
     """Returns the number of a flow, from the text that tcpdump prints of its addresses and ports."""
     half = len(ends) // 2
-    sender, to = (
-        socket.inet_ntop(socket.AF_INET if half == 4 else socket.AF_INET6, end) for end in (ends[:half], ends[half:])
-    )
+    family = socket.AF_INET if half == 4 else socket.AF_INET6
+    sender, to = (socket.inet_ntop(family, end) for end in (ends[:half], ends[half:]))
     if not ports:
         return zlib.crc32(f"{sender} > {to}".encode())
     first, second = struct.unpack(">HH", ports)

@@ -34,9 +34,8 @@ def arrivals_within(capture: str, head: Head, device: str) -> list[int]:
     address = head.get(f"device.{device}.address", "")
     real, monotonic = head.get("began.realtime", ""), head.get("began.monotonic", "")
     if not address or not is_number(real) or not is_number(monotonic):
-        raise Refusal(
-            "it has neither the device's address nor both clocks, which a capture is aligned by: record again"
-        )
+        lacks = "it has neither the device's address nor both clocks, which a capture is aligned by"
+        raise Refusal(f"{lacks}: record again")
     times = times_in(capture, address)
     if not times:
         raise Refusal(f"{shown(capture)}: no packet to {address}, the address of {shown(device)}, is in it")

@@ -27,21 +27,30 @@ SOON = 10_000  # ns from such an arrival to the softirq that its interrupt reque
 class CardTimes:
     """Collects times of the polls of some devices, by default of all, and of the programs that read."""
 
+    takes: list[int]
+    woken_uses: list[int]
+    taken: dict[int, int]
+    sleeps: dict[int, int]
+    woken: dict[int, int]
+
     def __init__(self, polled: Iterable[str] = ()) -> None:
         self.polled = set(polled)
-        self.takes = list[int]()  # from one packet that a poll passes to GRO to the next one
-        # From the end of a poll of one packet, for which a program slept, to its next read.
-        self.woken_uses = list[int]()
-        self.taken = dict[int, int]()  # by processor: when the poll that it makes last passed a packet to GRO
-        self.sleeps = dict[int, int]()  # by task that sleeps: how many packets polls had delivered by then
-        self.woken = dict[int, int]()  # by task that read the only packet since then: the end of that packet's poll
+        self.takes = []  # from one packet that a poll passes to GRO to the next one
+        self.woken_uses = (
+            []
+        )  # from the end of a poll of one packet, for which a program slept, to the program's next read
+        self.taken = {}  # by processor: when the poll that it makes last passed a packet to GRO
+        self.sleeps = {}  # by task that sleeps: how many packets polls had delivered by then
+        self.woken = {}  # by task that read the only packet since then: the end of that packet's poll
         self.delivered, self.poll_end, self.poll_on, self.was_lone = 0, 0, -1, False
 
     def add(self, event: Event) -> None:
+        """Processes the next event of the recording."""
         if look := self.look_at(event.name):
             look(event)
 
     def look_at(self, name: str) -> Optional[Callable[[Event], None]]:
+        """Returns what handles the events of this name."""
         if name.startswith("sys_"):
             return self.end_read if name.startswith("sys_exit_") else self.begin_read
         return {

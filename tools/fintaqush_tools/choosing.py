@@ -5,7 +5,7 @@ from __future__ import annotations
 import os
 from collections.abc import Collection, Iterator, Mapping, Sequence
 from concurrent.futures import ThreadPoolExecutor
-from typing import Any
+from typing import Any, Optional
 
 from fintaqush_tools import predicting
 from fintaqush_tools.bands import ALIKE, Costs, Doubt, Interval
@@ -111,6 +111,8 @@ class Choice:
     """The best setting for a goal. Of settings that are equally good the one with the fewest changes is the best; one that moves the program to
     another processor only if no other is as good, because what the program meets there isn't predicted."""
 
+    best: Optional[Tried]
+
     def __init__(self, words: Words, end: str, predictions: Predictions, tried: Sequence[Options]) -> None:
         self.goal, self.end, self.predictions = words.goal, end, predictions
         self.tried = list(zip(tried, predictions.of_all(tried)))
@@ -120,8 +122,9 @@ class Choice:
         self.order = sorted(self.tried, key=lambda pair: (*self.key(pair[1]), *self.changes_of(pair[0])))
         allowed = [pair for pair in self.order if self.is_allowed(pair[1])]
         safe = next((pair for pair in allowed if self.is_safe(pair[0])), None)
-        best, self.has_room = safe or next(iter(allowed), None), safe is not None
-        self.best = self.fewest_changes(best, allowed) if best else None
+        self.best, self.has_room = safe or next(iter(allowed), None), safe is not None
+        if self.best:
+            self.best = self.fewest_changes(self.best, allowed)
 
     def fewest_changes(self, best: Tried, allowed: Sequence[Tried]) -> Tried:
         """Returns the setting with the fewest changes among those that are as good as the best one: within 3 % of it, with the costs as they are

@@ -3,8 +3,9 @@ subcommand that is asked for."""
 
 from __future__ import annotations
 
+import os
+
 from fintaqush_tools import errors
-from fintaqush_tools.places import TEMPLATES, version
 from fintaqush_tools.progress import Program, say
 
 TYPE_CHECKING = False  # `typing` is slow to import
@@ -12,7 +13,7 @@ if TYPE_CHECKING:
     from collections.abc import Sequence
     from types import ModuleType
 
-with open(f"{TEMPLATES}/usage.txt", encoding="utf-8") as file:
+with open(f"{os.path.dirname(__file__)}/usage.txt", encoding="utf-8") as file:
     USAGE = file.read()
 # By task: each subcommand, and what it does.
 BLOCKS = [text.splitlines() for text in USAGE.split("\n\n") if ":\n  " in text]
@@ -48,6 +49,8 @@ def about(asked: str) -> int:
     elif asked == "--names":  # for scripts
         print(*sorted(MODULES), sep="\n")
     elif asked in ("--version", "version"):
+        from fintaqush_tools.places import version
+
         print(f"fintaqush of Fintaqush {version()}")
     elif asked == "--manual":
         from fintaqush_tools import manual

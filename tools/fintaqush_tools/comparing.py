@@ -66,9 +66,8 @@ def values_of(report: Iterable[Mapping[str, Any]]) -> dict[str, dict[str, Any]]:
             names = [name for name in line if name not in ("version", "tool", "line", "device", "flags")]
             told.update({f"{line['line']} {name}" if name in told else name: line[name] for name in names})
         elif line["line"] == "total":
-            values["total"] = {
-                name: value for name, value in line.items() if name not in ("version", "tool", "line", "devices")
-            }
+            names = [name for name in line if name not in ("version", "tool", "line", "devices")]
+            values["total"] = {name: line[name] for name in names}
         elif line["line"] == "list":
             values["list"] = {"devices": len(line["devices"])}
     return values
@@ -97,9 +96,8 @@ def values_of_row(row: Mapping[str, Any]) -> dict[str, Value]:
 
 def values_of_rows(rows: Sequence[Mapping[str, Any]]) -> Values:
     """Returns the values of combinations, each named by the options that vary. Those that a tool rejected have none."""
-    own = [
-        name for name in rows[0] if name not in NO_OPTION | ROW_VALUES.keys() and not name.endswith(("_least", "_most"))
-    ]
+    others = NO_OPTION | ROW_VALUES.keys()
+    own = [name for name in rows[0] if name not in others and not name.endswith(("_least", "_most"))]
     varied = [name for name in own if len({str(row.get(name)) for row in rows}) > 1]
     whole = [row for row in rows if str(row.get("status", 0)) == "0"]
     return {", ".join(f"{name} {row.get(name)}" for name in varied): values_of_row(row) for row in whole}
@@ -192,9 +190,10 @@ def values_in_file(path: str, device: str | None) -> Values:
             return reader(objects)
         if ROW_VALUES.keys() & set(first.strip().split(",")):
             return values_of_rows(list(csv.DictReader(io.StringIO(first + "".join(lines)))))
-    what = "neither results (--json FILE of a tool, or CSV of what-if or sweep) nor a file of fintaqush record"
-    how = "a trace is replayed with two settings by: fintaqush compare TRACE OPTION .. -- OPTION .."
-    raise Refusal(f"{what}; {how}")
+    raise Refusal(
+        "neither results (--json FILE of a tool, or CSV of what-if or sweep) nor a file of fintaqush record; a trace is replayed with two "
+        "settings by: fintaqush compare TRACE OPTION .. -- OPTION .."
+    )
 
 
 def values_in_files(paths: Sequence[str], device: str | None) -> Values:

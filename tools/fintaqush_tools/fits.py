@@ -47,9 +47,8 @@ def cost_of(times: Sequence[float], source: str, less: float = 0) -> Cost | None
     ordered = sorted(max(0, each - less) for each in times)
     count, half = len(ordered), WIDE / 2 * sqrt(len(ordered))
     low, high = ordered[max(0, int(count / 2 - half) - 1)], ordered[min(count - 1, int(count / 2 + half))]
-    return Cost(
-        median(ordered), low, high, count, source, middle=(ordered[count // 4], ordered[min(count - 1, 3 * count // 4)])
-    )
+    middle = ordered[count // 4], ordered[min(count - 1, 3 * count // 4)]
+    return Cost(median(ordered), low, high, count, source, middle=middle)
 
 
 def line_over(points: Sequence[Point]) -> tuple[float, float]:

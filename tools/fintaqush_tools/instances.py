@@ -139,9 +139,8 @@ class Instances:
             if is_most and each.queue is None and (device, queue) not in taken:
                 each.queue = queue
                 taken.add((device, queue))
-        yield from sorted(
-            self.of.values(), key=lambda it: (it.device, not it.receives, it.queue is None, it.queue or 0)
-        )
+        order = sorted(self.of.values(), key=lambda it: (it.device, not it.receives, it.queue is None, it.queue or 0))
+        yield from order
 
 
 class Routes:
@@ -149,14 +148,19 @@ class Routes:
     backlog of the processor that receives the packet later. `pairs` has the device at which each sender's packets arrive.
     """
 
+    only: dict[str, Place]
+    by_queue: dict[tuple[str, int], Place]
+    queues: dict[str, int]
+    backlogs: dict[int, Place]
+    moved: set[str]
+
     STARTED = re.compile(r"dev=(\S+) queue_mapping=(\d+) skbaddr=(\S+)")
     SENT = re.compile(r"dev=\S+ skbaddr=(\S+)")
     STACKED = re.compile(r"dev=(\S+) skbaddr=(\S+)")
 
     def __init__(self, head: Head, pairs: Mapping[str, str]) -> None:
         self.receivers, self.are_known = dict(pairs), False
-        self.only, self.queues, self.moved = dict[str, Place](), dict[str, int](), set[str]()
-        self.by_queue = dict[tuple[str, int], Place]()
+        self.only, self.by_queue, self.queues, self.moved = {}, {}, {}, set()
         own: dict[str, list[NapiInstance]] = {}
         for each in instances_in(head):
             self.are_known = True

@@ -30,20 +30,10 @@ Picture = dict[str, Any]
 ENDS = (".png", ".svg", ".html")
 # On the page text has a contrast of at least 4.5 and curves of at least 3; colour-blind readers can distinguish the first eight colours.
 SHADES = """
-blue #0063a6 #6cb4ff
-orange #b85000 #ffa45c
-green #00805c #4fd6a8
-purple #9b4b86 #e3a6d3
-brown #7a5c00 #e0c060
-sky #2b83ba #9ad8f8
-red #c22a1e #ff8577
-black #1c1c1c #ededed
-grey #757575 #a3a3a3
-pale #8fa3bd #6f86a6
-page #ffffff #16181c
-text #1d1d1d #ececec
-quiet #555555 #b9b9b9
-grid #dddddd #3a3d44
+blue #0063a6 #6cb4ff  orange #b85000 #ffa45c  green #00805c #4fd6a8  purple #9b4b86 #e3a6d3
+brown #7a5c00 #e0c060  sky #2b83ba #9ad8f8  red #c22a1e #ff8577  black #1c1c1c #ededed
+grey #757575 #a3a3a3  pale #8fa3bd #6f86a6  page #ffffff #16181c  text #1d1d1d #ececec
+quiet #555555 #b9b9b9  grid #dddddd #3a3d44
 """.split()
 LIGHT, DARK = dict(zip(SHADES[::3], SHADES[1::3])), dict(zip(SHADES[::3], SHADES[2::3]))
 COLORS = tuple(SHADES[: 8 * 3 : 3])

@@ -46,37 +46,61 @@ class Receiving:
     `routes` finds the instance of a sent packet; without it all polls count as those of one instance. Times are in ns.
     """
 
-    span: Optional[tuple[int, int]] = None
-    known: Optional[dict[Place, list[tuple[int, int, int]]]] = None
+    span: tuple[int, int] | None
+    sent: array[int]
+    sent_on: array[int]
+    sent_by: list[str]
+    sent_to: list[Optional[Place]]
+    sending: set[str]
+    unplaced: dict[str, int]
+    moved: Counter[int]
+    ended: array[int]
+    begun: array[int]
+    work: array[int]
+    on: array[int]
+    places: list[Place]
+    run: array[int]
+    entries: defaultdict[int, array[int]]
+    timers: Counter[int]
+    reads: list[tuple[int, int]]
+    reading: dict[int, int]
+    mark: dict[Marked, int]
+    received: dict[str, list[Received]]
+    taken: defaultdict[int, list[Received]]
+    packets_of: Counter[Place]
+    known: Optional[dict[Place, list[tuple[int, int, int]]]]
+    looks: dict[str, Optional[Callable[[Event], None]]]
 
     def __init__(
         self, polled: set[str], senders: set[str], receivers: Iterable[str] = (), routes: Optional[Routes] = None
     ) -> None:
-        self.polled, self.senders = polled, senders
+        self.polled, self.senders, self.span = polled, senders, None
         self.routes = routes or Routes({}, {sender: "" for sender in senders})
-        self.receivers, self.begins = set(receivers), PollBegins()
-        self.received: dict[str, list[Received]] = {BY_POLL: [], BY_STACK: []}
+        self.receivers, self.begins, self.received = set(receivers), PollBegins(), {BY_POLL: [], BY_STACK: []}
         # When each packet was sent, and 1 unless a full ring dropped it.
-        self.sent, self.has_come = array("Q"), bytearray()
+        self.sent, self.has_come = (array("Q"), bytearray())
         # The processor, the device and the tasks that sent it; the instance that gets it, if that is known.
-        self.sent_on, self.sent_by, self.sending = array("H"), list[str](), set[str]()
-        self.sent_to = list[Optional[Place]]()
+        self.sent_on, self.sent_by, self.sending, self.sent_to = (array("H"), [], set(), [])
         self.flows = array("L")  # of a card's packets: the hash of the flow, or 0
         # The packets whose instance isn't known yet; how many packets a backlog received since its last poll.
-        self.unplaced, self.moved, self.taken = dict[str, int](), Counter[int](), defaultdict[int, list[Received]](list)
+        self.unplaced, self.moved, self.taken = {}, Counter(), defaultdict(list)
         # For each poll.
-        self.ended, self.begun, self.work = array("Q"), array("Q"), array("L")
-        self.on, self.is_thread = array("H"), bytearray()
+        self.ended, self.begun, self.work, self.on, self.is_thread = (
+            array("Q"),
+            array("Q"),
+            array("L"),
+            array("H"),
+            bytearray(),
+        )
         # Its instance, and the number of its softirq among the entries on its processor, or 0.
-        self.places, self.run, self.packets_of = list[Place](), array("L"), Counter[Place]()
+        self.places, self.run, self.packets_of = [], array("L"), Counter()
         # By processor: when its softirqs began; its NAPI timers.
-        self.entries, self.timers = defaultdict[int, "array[int]"](lambda: array("Q")), Counter[int]()
-        # For each read its end, and the beginning of the next read by that task.
-        self.reads, self.reading = list[tuple[int, int]](), dict[int, int]()
-        self.mark, self.tasks = dict[Marked, int](), Tasks()
-        self.looks = dict[str, Optional[Callable[[Event], None]]]()
+        self.entries, self.timers = (defaultdict(lambda: array("Q")), Counter())
+        self.reads, self.reading = [], {}  # for each read its end, and the beginning of the next read by that task
+        self.mark, self.tasks, self.known, self.looks = {}, Tasks(), None, {}
 
     def add(self, event: Event) -> None:
+        """Processes the next event of the recording."""
         self.span = (self.span[0] if self.span else event.time, event.time)
         if self.receivers:
             self.begins.look(event)
@@ -88,6 +112,7 @@ class Receiving:
             look(event)
 
     def look_at(self, name: str) -> Optional[Callable[[Event], None]]:
+        """Returns what handles the events of this name."""
         if name.startswith("sys_"):
             return self.end_read if name.startswith("sys_exit_") else self.begin_read
         return {

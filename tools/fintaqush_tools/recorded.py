@@ -71,26 +71,27 @@ class Recording:
 
     def check_head(self) -> None:
         """Fails if the head shows that the recording can't be predicted, before its events are read."""
-        own, events = self.own_instances(), self.head.get("events", "").split()
+        own = self.own_instances()
         if not own and instances_in(self.head):
             raise Refusal(f"no poll of {shown(self.polled)} took a packet: record while packets arrive")
         if self.sender and self.capture:
             raise Refusal("--capture is for a card: the arrivals at the end of a veth pair are in the recording")
         if self.capture and len(own) > 1:
-            raise Refusal(
-                f"{len(own)} instances of {shown(self.polled)} poll, and a capture doesn't say which of them gets a packet"
-            )
+            why = "a capture doesn't say which of them gets a packet"
+            raise Refusal(f"{len(own)} instances of {shown(self.polled)} poll, and {why}")
         if own and not self.sender and not self.capture and f"received.{self.device}" not in self.head:
             raise Refusal(NO_ARRIVAL)
-        if not self.sender or len(own) < 2:
-            return
-        if self.polled == BACKLOG and STACK not in events:
+        if self.sender and len(own) > 1:
+            self.check_instances(own)
+
+    def check_instances(self, own: list[NapiInstance]) -> None:
+        """Fails if it isn't recorded which of several instances gets a packet of a pair."""
+        if self.polled == BACKLOG and STACK not in self.head.get("events", "").split():
             why = "which of them gets a packet isn't recorded: it is if RPS is set, or GRO is off, when the recording begins"
             raise Refusal(f"the backlogs of {len(own)} processors poll, and {why}")
         if self.polled != BACKLOG and any(each.queue is None for each in own):
-            raise Refusal(
-                f"{len(own)} instances of {shown(self.polled)} poll, and which of them has which queue isn't known: record for longer, or more packets"
-            )
+            why = "which of them has which queue isn't known: record for longer, or more packets"
+            raise Refusal(f"{len(own)} instances of {shown(self.polled)} poll, and {why}")
 
     def check(self) -> None:
         """Fails if the recording can't be predicted."""

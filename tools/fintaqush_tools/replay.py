@@ -16,7 +16,7 @@ from fintaqush_tools import builds, errors
 from fintaqush_tools.builds import build, child, crates, kit, write
 from fintaqush_tools.errors import Refusal
 from fintaqush_tools.files import write_whole
-from fintaqush_tools.places import IS_CHECKOUT, TOP, usage_text, version
+from fintaqush_tools.places import IS_CHECKOUT, TEMPLATES, TOP, usage_text, version
 from fintaqush_tools.progress import say, show
 from fintaqush_tools.reports import lines_of
 from fintaqush_tools.settings import RANGES, judge
@@ -42,30 +42,6 @@ PACKED = {  # by what the file begins with
     rb"\xff\xfe|m\x00": "in UTF-16: iconv -f UTF-16LE -t UTF-8",
     rb"\xfe\xff|\x00m": "in UTF-16: iconv -f UTF-16BE -t UTF-8",
 }
-CAUSES = {  # by the error's number and the line after it: the first that fits
-    "1 .*[;\t]": "the fields have {others} between them, and need commas",
-    "1 ": f"the first line has to be {HEADER}, in lower case and without spaces, or {HEADER},2 for version 2",
-    "2 [ \t]+$": "a line of spaces is a row; an empty line is none",
-    "2 .*[;\t]": "a row has four fields with commas between them, not {others}",
-    "2 ": "a row has four fields, and this one has {fields}",
-    "3 ": "moment, device and value are one to twenty digits, without sign, space or fraction",
-    "4 .*,busy,": f"a busy row needs the header of version 2: {HEADER},2",
-    "4 ": "the event is none of open rx tx done softirq kthread disable enable threaded, and busy in version 2, "
-    "in lower case and without spaces",
-    "5 .*,softirq,": "softirq has device 0 and value 0",
-    "5 .*,open,": "open has a device of 1..=16 and a value of 1..=65536, its places",
-    "5 .*,(rx|tx),": "rx and tx have a device of 1..=16 and a value of 1..=65535 bytes",
-    "5 .*,done,": "done has a device of 1..=16 and a value of 0..=65536 packets",
-    "5 .*,busy,": "busy has a device of 1..=16 and a value of 1..=65535 rounds",
-    "5 .*,threaded,": "threaded has a device of 1..=16 and a value of 0 or 1",
-    "5 .*,(kthread|disable|enable),": "it has a device of 1..=16 and the value 0",
-    "5 ": "its moment, device or value is out of range",
-    "6 ": "the device has to be opened by an open row before this one",
-    "7 ": "the device was opened by a row before this one",
-    "8 ": "a disable follows an open or an enable of its device, and an enable follows a disable",
-    "9 ": "a trace has at most 100000 rows: replay the first ones alone",
-    "12 ": "the disable is pending still: a softirq or kthread row has to finish the polling before the enable",
-}
 
 
 def for_bash(name: str) -> str:
@@ -76,8 +52,10 @@ def for_bash(name: str) -> str:
 
 def cause_of(fault: int, line: str, fields: int) -> str:
     """Returns the likely cause of a fault at a line with so many fields."""
-    known = (why for pattern, why in CAUSES.items() if re.match(pattern, f"{fault} {line}"))
-    why = next(known, "see the faults in docs/FORMATS.md")
+    with open(f"{TEMPLATES}/causes.txt", encoding="utf-8") as file:
+        known = [each.rstrip("\n").split(" => ") for each in file if not each.startswith("#")]
+    some = (why for pattern, why in known if re.match(pattern, f"{fault} {line}"))
+    why = next(some, "see the faults in docs/FORMATS.md")
     return why.format(fields=fields, others="semicolons" if ";" in line else "tabs")
 
 

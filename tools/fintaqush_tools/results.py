@@ -36,9 +36,8 @@ def json_target(name: str) -> str:
         raise argparse.ArgumentTypeError(str(error)) from None
     if is_other:
         why = "exists and isn't JSON, so it isn't replaced"
-        raise argparse.ArgumentTypeError(
-            f"{shown(name)} {why}; --json comes last, or before another option, if no file is meant"
-        )
+        how = "--json comes last, or before another option, if no file is meant"
+        raise argparse.ArgumentTypeError(f"{shown(name)} {why}; {how}")
     return name
 
 

@@ -22,11 +22,13 @@ REAL_TIME = 100  # a lower priority is that of a real-time task, which no other 
 class Tasks:
     """The tasks of each processor. `end` has to be called before shares are asked for."""
 
+    running: dict[int, tuple[int, Task]]
+    times: defaultdict[int, Counter[Task]]
+    history: defaultdict[int, tuple[array[int], list[Task]]]
+
     def __init__(self) -> None:
-        self.running, self.times = dict[int, tuple[int, Task]](), defaultdict[int, Counter[Task]](Counter)
-        self.first, self.last = 0, 0
-        # By processor, when each task began, and the task.
-        self.history = defaultdict[int, tuple["array[int]", list[Task]]](lambda: (array("Q"), []))
+        self.running, self.times, self.first, self.last = {}, defaultdict(Counter), 0, 0
+        self.history = defaultdict(lambda: (array("Q"), []))  # by processor, when each task began, and the task
 
     def switch(self, event: Event, first: int) -> Task:
         """Handles a switch; `first` is when the recording began. Returns the next task."""
@@ -50,8 +52,10 @@ class Tasks:
     def idle(self) -> dict[int, float]:
         """Returns the share of the time in which each processor was idle, of those on which a task was switched."""
         whole = max(1, self.last - self.first)
-        idle = {cpu: [time for (_, number, _), time in of.items() if not number] for cpu, of in self.times.items()}
-        return {cpu: sum(times) / whole for cpu, times in idle.items()}
+        return {
+            processor: sum(time for (_, number, _), time in times.items() if not number) / whole
+            for processor, times in self.times.items()
+        }
 
     def others(self, processor: int, known: Collection[int], names: Collection[str]) -> dict[str, float]:
         """Returns the shares of a processor's time that other tasks had, which can disturb: tasks that don't poll and that aren't in `known`

@@ -91,10 +91,11 @@ def add_condition(parser: Parser, read: Any, when: str) -> None:
     parser.many("--fail-if", "CONDITION", what, type=read)
 
 
+Result = tuple[str, Mapping[str, Any]]  # its name, and its values
+
+
 def status_of(
-    conditions: Sequence[Condition],
-    results: Sequence[tuple[str, Mapping[str, Any]]],
-    before: Sequence[Mapping[str, Any]] = (),
+    conditions: Sequence[Condition], results: Sequence[Result], before: Sequence[Mapping[str, Any]] = ()
 ) -> int:
     """Returns the exit status for results (name, values), and prints a line for each condition that holds, with the first such result.
     `before` has the values that relative limits compare each of them with."""

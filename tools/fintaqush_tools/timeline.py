@@ -11,7 +11,6 @@ from typing import Any, Optional
 from fintaqush_tools.instances import Place, Routes
 from fintaqush_tools.recording import BACKLOG, MOST_KNOWN, NET_RX, POLLED, SENT, SOFTIRQ, Event, fields_in, is_by_thread
 
-Names = Iterable[str]
 Handler = list[Any]  # its name, its beginning, and whether napi_watchdog ran in it
 
 HANDLER = re.compile(r"irq=(\d{1,9})(?: name=(.*))?")
@@ -98,6 +97,7 @@ class Reads:
         self.forget()
 
     def forget(self) -> None:
+        """Forgets all reads."""
         # For each task in a call: when the call began, and what was taken then.
         self.called: dict[int, tuple[int, int]] = {}
         # For each task that slept since its last read: when it last did, and whether in a call.
@@ -214,7 +214,11 @@ class Timeline:
     """Sums up the times of a recording."""
 
     def __init__(
-        self, routes: Routes | None = None, polled: Names = (), irq: str | None = None, interrupts: Names = ()
+        self,
+        routes: Optional[Routes] = None,
+        polled: Iterable[str] = (),
+        irq: str | None = None,
+        interrupts: Iterable[str] = (),
     ) -> None:
         """`polled` are the devices whose polls count; `interrupts` are their interrupts, if known: other cards' interrupts don't request their polls."""
         self.irq, self.polled, self.interrupts = irq, set(polled), set(interrupts)
@@ -246,6 +250,7 @@ class Timeline:
             look(self.on[event.cpu], event)
 
     def look_at(self, name: str) -> Optional[Callable[[Processor, Event], None]]:
+        """Returns what handles the events of this name."""
         if name.startswith("hrtimer_"):
             return self.timer
         if name.startswith("sys_enter_"):
@@ -408,9 +413,9 @@ class Timeline:
         self.unmatched += waiting.deliver(work, is_empty, began)
         self.reads.deliver(began, time, work)
 
-    def settle(self) -> Timeline:
-        """Chooses the instances that count: those of the named devices, else all of them; a processor's backlog only if nothing else polls.
-        Instances that took no packet are those of transmit queues."""
+    def chosen(self) -> list[Polls]:
+        """Returns the polls of the instances that count: those of the named devices, else all of them; a processor's backlog only if nothing else
+        polls. Instances that took no packet are those of transmit queues."""
         receives = {device for (device, _), polls in self.of.items() if polls.receives}
         self.transmit, self.left_out = Counter[str](), Counter[str]()
         chosen, names = [], {device for (device, _), polls in self.of.items() if polls.polls}
@@ -422,6 +427,10 @@ class Timeline:
             else:
                 chosen.append(polls)
         self.devices = sorted(names - set(self.left_out))
+        return chosen
+
+    def settle(self) -> Timeline:
+        chosen = self.chosen()
         self.polls = [poll for each in chosen for poll in each.polls]
         self.places = [cpu for each in chosen for cpu in each.on]
         self.handlers: defaultdict[str, list[int]] = defaultdict(list)

@@ -29,8 +29,7 @@ def add_words(parser: Parser) -> None:
 
 def add_delay(parser: Parser) -> None:
     """Adds the option for the runs of a trace that has only packets."""
-    what = "time from the first waiting packet to the softirq row, in --unit (1)"
-    parser.number("--delay", 0, 10**9, 1, what)
+    parser.number("--delay", 0, 10**9, 1, "time from the first waiting packet to the softirq row, in --unit (1)")
 
 
 def add_files(parser: Parser, files: str) -> None:

@@ -149,9 +149,8 @@ class Instance:
         try:
             self.write("buffer_size_kb", str(megabytes * 1024))
         except OSError as error:
-            raise Refusal(
-                f"no buffers of {megabytes} MB for each processor: {error.strerror}; take less by --buffer"
-            ) from None
+            why = f"{error.strerror}; take less by --buffer"
+            raise Refusal(f"no buffers of {megabytes} MB for each processor: {why}") from None
         if processors:
             mask = sum(1 << each for each in set(processors))
             groups = [f"{mask >> low & 0xffffffff:08x}" for low in range(0, max(processors) + 1, 32)]

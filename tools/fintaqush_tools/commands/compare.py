@@ -46,9 +46,8 @@ def table(first: Replayed, second: Replayed, headings: Sequence[str]) -> list[st
     """Returns the lines of the table, which has only the values that differ, and the devices without a difference."""
     lines, same = [["", "", *headings, "change"]], []
     for who in sorted(first, key=lambda who: (who == "total", who == "list", len(who), who)):
-        changed = [
-            (who, name, value, second[who][name]) for name, value in first[who].items() if second[who][name] != value
-        ]
+        old, new = first[who], second[who]
+        changed = [(who, name, value, new[name]) for name, value in old.items() if new[name] != value]
         if not changed:
             same.append(who)
         for who_, name, before, after in changed:
@@ -99,9 +98,8 @@ ANYWHERE = ("device", "json", "out")  # options that may be on both sides of --,
 
 def add_both(parser: Parser) -> None:
     """Adds what may be on both sides of --."""
-    parser.add_argument(
-        "files", nargs="*", metavar="FILE", help="results, recordings, or a trace; - for standard input"
-    )
+    what = "results, recordings, or a trace; - for standard input"
+    parser.add_argument("files", nargs="*", metavar="FILE", help=what)
     parser.add_argument("--device", metavar="NAME", help="one of several recorded devices")
     add_fail_if_changed(parser)
     add_json(parser, "the changes")
@@ -137,9 +135,7 @@ def sides_of(options: Parser, given: Sequence[str]) -> tuple[Words, Words, list[
     if sides and (words.raised or given_settings(words) or given_settings(after)):
         options.error("the options of a replay are for a trace, and two files are compared as they are")
     if not sides and (len(words.files) != 1 or place == len(given)):
-        options.error(
-            "two files, or files before and after --, or a trace with the options of the second replay after --"
-        )
+        options.error("two files, or files before and after --, or a trace with options of the second replay after --")
     return words, after, sides
 
 

@@ -18,7 +18,7 @@ from typing import Any
 
 from fintaqush_tools.errors import Refusal
 from fintaqush_tools.files import read_bytes
-from fintaqush_tools.options import Parser, add_binary, add_settings, number, parser_of, settings_of
+from fintaqush_tools.options import Parser, add_binary, add_settings, parser_of, settings_of
 from fintaqush_tools.processes import program, run_program
 from fintaqush_tools.reports import ROWS, objects_of
 from fintaqush_tools.results import add_json, is_printed, write_json
@@ -102,8 +102,7 @@ def check_arrivals(name: str, report: Sequence[Mapping[str, Any]]) -> None:
 def parser() -> Parser:
     parser = parser_of(__doc__)
     parser.add_argument("name", help="the name of the files, without the extension")
-    what = "print at most N differing rows of each kind (10)"
-    parser.add_argument("--lines", type=number(0, 10**6), default=10, metavar="N", help=what)
+    parser.number("--lines", 0, 10**6, 10, "print at most N differing rows of each kind (10)")
     add_json(parser)
     add_settings(parser)
     add_binary(parser)

@@ -102,9 +102,10 @@ def check_number(devices: Sequence[str], most: int) -> None:
         raise Refusal(f"{len(devices)} devices, and {have} at most {most}: name fewer pairs, or some by --device")
 
 
-def source_of(
-    counts: Counts, names: set[str], words: Words, head: Head, most: int
-) -> tuple[str, list[str], dict[str, int]]:
+Source = tuple[str, list[str], dict[str, int]]
+
+
+def source_of(counts: Counts, names: set[str], words: Words, head: Head, most: int) -> Source:
     """Returns the kind of event that counts as an arrival, the names of the devices in order, and for each name in such an event the number
     of the receiving device. `counts` has the packets of each kind and device, `names` other devices that may belong to a pair.
     """
@@ -355,9 +356,8 @@ class Trace:
         lists = {events[polling.last].cpu for polling in self.pollings if not polling.thread}
         if self.left_out:
             front = f"{self.in_front} waited when the first of these rows came, and stand in front"
-            self.notes.append(
-                f"rows that aren't in {self.first}:{self.last}: {self.left_out}; of their packets {front}"
-            )
+            where = f"{self.first}:{self.last}"
+            self.notes.append(f"rows that aren't in {where}: {self.left_out}; of their packets {front}")
         if len(lists) > 1:
             alone = "each with a poll list of its own: the trace has one list"
             self.notes.append(f"runs on {len(lists)} processors, {alone}")
@@ -376,11 +376,13 @@ def told_of(what: str, counter: Mapping[str, int], have: str = "no") -> list[str
 class SameProcessor:
     """Packets that the processor sent which polls them. It has the sender until its next softirq begins, so they arrive then."""
 
+    waiting: defaultdict[tuple[int, str], list[int]]
+    entered: dict[int, int]
+
     def __init__(self, words: Words) -> None:
         self.pairs, self.peers = words.pair or words.pairs, dict[str, str]()
-        # By processor and receiver, the indices of packets that it hasn't polled yet.
-        self.waiting = defaultdict[tuple[int, str], list[int]](list)
-        self.entered = dict[int, int]()  # for each processor, when its softirq began
+        self.waiting = defaultdict(list)  # by processor and receiver, the indices of packets that it hasn't polled yet
+        self.entered = {}  # for each processor, when its softirq began
 
     def peer_of(self, sender: str) -> str:
         """Returns the other end of a sender's pair, or an empty text."""
@@ -412,11 +414,13 @@ class SameProcessor:
 class Arriving:
     """The packets of a recording, by the kind of event."""
 
+    unsent: Counter[str]
+    dropped: Counter[str]
+
     def __init__(self, events: Iterable[Event], words: Words) -> None:
         self.words, self.count = words, 0
         self.packets = {kind: Packets() for kind in dict.fromkeys(KINDS.values())}
-        self.unsent, self.dropped, self.same = Counter[str](), Counter[str](), SameProcessor(words)
-        begins = PollBegins()
+        self.unsent, self.dropped, begins, self.same = Counter(), Counter(), PollBegins(), SameProcessor(words)
         for event in events:
             self.count += 1
             kind = KINDS.get(event.name)
@@ -489,30 +493,31 @@ def convert(words: Words) -> None:
     lost: list[str] = []
     head: Head = {}
     found = events_in(words.recording, lost, head)
-    first = next(found, None)  # the head is known after the first event
-    words.pairs = head.get("pair", "va*:vb*").split()
-    events: Iterable[Event] = [] if first is None else chain([first], found)
     if words.arrivals:
-        lines, notes, told = Arriving(events, words).text(head)
+        first = next(found, None)  # the head is known after the first event
+        words.pairs = head.get("pair", "va*:vb*").split()
+        rows, notes, told = Arriving([] if first is None else chain([first], found), words).text(head)
         check_lost(lost)
-        write_files(words, told, notes, csv=lines)
+        write_files(words, told, notes, csv=rows)
         return
-    if first is None:
+    events = list(found)
+    words.pairs = head.get("pair", "va*:vb*").split()
+    if not events:
         raise Refusal("there is no event in it")
-    trace = Trace(list(events), words, head)
+    trace = Trace(events, words, head)
     told = f"{len(trace.devices)} devices, {len(trace.rows)} rows, of which {len(trace.work)} poll"
-    rows = lines_of([HEADERS[1], *trace.rows])
-    write_files(words, told, lost + trace.notes, work=lines_of(trace.work), csv=rows)
+    text = lines_of([HEADERS[1], *trace.rows])
+    write_files(words, told, lost + trace.notes, work=lines_of(trace.work), csv=text)
 
 
 def parser() -> Parser:
     parser = parser_of(__doc__)
     parser.add_argument("recording", help="the text, also as .gz; - for standard input")
-    add_files(parser, "NAME.csv, NAME.work and NAME.notes")
     what = "two ends of a veth pair; * stands for a number in each; may be given many times"
     parser.many("--pair", "A:B", f"{what} (where none is given: that of fintaqush record, or va*:vb*)")
     what = "a device that receives and isn't in a pair; may be given many times (those of fintaqush record, or all)"
     parser.many("--device", "NAME", what)
+    add_files(parser, "NAME.csv, NAME.work and NAME.notes")
     parser.flag("--flows", "with --arrivals: add a column with the hash of each packet's flow, for several queues")
     return parser
 

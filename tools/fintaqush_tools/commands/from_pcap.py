@@ -171,9 +171,12 @@ def packets_in(words: Words, cut: list[str]) -> tuple[Packets, Counter[str]]:
         return found
 
 
+Counted = tuple[Packets, Counter[str]]  # packets, and how many others of each kind there are
+
+
 def packets_of(
     lines: Iterable[str], count: int | None, with_flows: bool = False, is_both_ways: bool = False
-) -> tuple[Packets, Counter[str]]:
+) -> Counted:
     """Returns the packets, at most `count`, and the number of lines without a row, by kind."""
     packets, seen = Packets(), 0
     without: Counter[str] = Counter()
@@ -221,9 +224,10 @@ def by_packets(counted: Mapping[Kind, int]) -> list[str]:
     return sorted(of, key=lambda name: (-of[name], name))
 
 
-def devices_of(
-    counted: Mapping[Kind, int], wanted: list[str], way: str
-) -> tuple[list[str], list[str], Callable[[Kind], list[str]]]:
+Arrives = Callable[[Kind], list[str]]
+
+
+def devices_of(counted: Mapping[Kind, int], wanted: list[str], way: str) -> tuple[list[str], list[str], Arrives]:
     """Returns the devices' names in order, notes on them, and a function that returns the names at which packets of a kind arrive."""
     has_interfaces = any(kind.interface for kind in counted)
     if wanted and has_interfaces:
@@ -234,15 +238,18 @@ def devices_of(
         return by_packets(counted), [], lambda kind: [kind.interface]
     own = own_address(counted) if way == IN else ""
     name = own or "the interface of the capture"
-    note = "the capture doesn't tell what goes out, so all of it arrives; --to names the addresses that receive"
-    if own:
-        note = f"each packet with one receiver comes from {own} or goes to it, so what it sends goes out"
+    note = (
+        f"each packet with one receiver comes from {own} or goes to it, so what it sends goes out"
+        if own
+        else "the capture doesn't tell what goes out, so all of it arrives; --to names the addresses that receive"
+    )
     return [name], [note], lambda kind: [] if own and kind.sender == own else [name]
 
 
-def places_of(
-    words: Words, counted: Mapping[Kind, int], without: Counter[str]
-) -> tuple[list[str], list[str], dict[Kind, list[int]]]:
+Places = Mapping[Kind, list[int]]
+
+
+def places_of(words: Words, counted: Mapping[Kind, int], without: Counter[str]) -> tuple[list[str], list[str], Places]:
     """Returns the devices' names, the notes on them, and for each kind the numbers of the devices at which its packets arrive."""
     wanted = [name.lower() if ":" in name else name for name in words.to]
     names, notes, arrives = devices_of(counted, wanted, words.way)
@@ -335,7 +342,6 @@ def convert(words: Words) -> None:
 def parser() -> Parser:
     parser = parser_of(__doc__)
     parser.add_argument("capture", help="the capture, or tcpdump's text; - for standard input")
-    add_files(parser, "NAME.csv and NAME.notes")
     parser.many("--to", "WHO", "a device: an interface, or a link address; may be given many times")
     what = f"count what arrives ({IN}), or also what goes out, as an arrival ({BOTH})"
     parser.add_argument("-Q", dest="way", choices=(IN, BOTH), default=IN, help=what)
@@ -344,6 +350,7 @@ def parser() -> Parser:
     parser.flag("--flows", what)
     what = "the first N packets of the capture"
     parser.add_argument("-c", dest="count", type=number(1, 10**9), metavar="N", help=what)
+    add_files(parser, "NAME.csv and NAME.notes")
     add_delay(parser)
     return parser
 

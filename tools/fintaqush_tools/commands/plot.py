@@ -23,7 +23,7 @@ from typing import Any, Optional
 
 from fintaqush_tools.errors import Refusal
 from fintaqush_tools.files import WholeFile, check_target, read_bytes
-from fintaqush_tools.options import Parser, Words, add_force, add_raise, number, pair, parser_of, require_end, wrong
+from fintaqush_tools.options import Parser, Words, add_force, add_raise, pair, parser_of, require_end, wrong
 from fintaqush_tools.pictures import ENDS, Curve, check_library, picture_bytes
 from fintaqush_tools.processes import program, run_program
 from fintaqush_tools.results import add_json, is_printed, write_json
@@ -162,17 +162,15 @@ class Picture:
 
     def ends(self, points: Sequence[Point]) -> list[Point]:
         """Combines points per pixel: the lowest of their first values, and the highest of their last ones."""
-        return [
-            (at, min(each[1] for each in found), max(each[-1] for each in found)) for at, found in self.bins(points)
-        ]
+        every = self.bins(points)
+        return [(at, min(each[1] for each in found), max(each[-1] for each in found)) for at, found in every]
 
     def sums(self, points: Sequence[Point]) -> tuple[str, list[Curve]]:
         """Returns the work of the runs, and of the squeezed ones, summed per pixel if there isn't a pixel per run."""
         label = "packets"
         if not self.has_room(points):
-            points = [
-                (at, sum(run[1] for run in found), sum(run[2] for run in found)) for at, found in self.bins(points)
-            ]
+            every = self.bins(points)
+            points = [(at, sum(run[1] for run in found), sum(run[2] for run in found)) for at, found in every]
             step, unit = (self.span[1] - self.span[0]) / self.width, "ms" if self.axis == "ms" else "rows"
             label = f"packets in {step:.3g} {unit}"
         squeezed = [(point[0], point[2]) for point in points if point[2]]
@@ -313,13 +311,13 @@ def parser() -> Parser:
     parser.add_argument("--beside", metavar="OPTIONS", help="a second replay with these options, below the first")
     add_raise(parser)
     what = "the device whose limit is drawn (the one with the most such rows)"
-    parser.add_argument("--limit-of", type=number(1, MOST_DEVICES), metavar="N", help=what)
+    parser.number("--limit-of", 1, MOST_DEVICES, None, what)
     parser.add_argument("--rows", type=pair(":", "100:200", low=0), metavar="A:B", help="only these rows")
-    parser.add_argument("--time", action="store_true", help="times on the axis instead of rows")
+    parser.flag("--time", "times on the axis instead of rows")
     parser.add_argument("--size", type=size_of, default=(720, 220), help="the size of a panel in pixels (720x220)")
-    parser.add_argument("--waits", action="store_true", help="draw how many rows the packets of each run had waited")
+    parser.flag("--waits", "draw how many rows the packets of each run had waited")
     what = "a dark .png (an .svg and an .html follow the reader's mode)"
-    parser.add_argument("--dark", action="store_true", help=what)
+    parser.flag("--dark", what)
     add_json(parser, "what is drawn")
     return parser
 

@@ -13,7 +13,7 @@ from __future__ import annotations
 from collections.abc import Sequence
 
 from fintaqush_tools.files import check_target, read_bytes, write_out
-from fintaqush_tools.options import Parser, add_out, add_binary, add_settings, number, parser_of, settings_of
+from fintaqush_tools.options import Parser, add_out, add_binary, add_settings, parser_of, settings_of
 from fintaqush_tools.progress import say
 from fintaqush_tools.trace import raised, records_of
 
@@ -22,8 +22,7 @@ def parser() -> Parser:
     parser = parser_of(__doc__)
     parser.add_argument("trace", help="the trace; - for standard input")
     add_settings(parser)
-    what = "add at most N runs after a row (until the list is empty)"
-    parser.add_argument("--restarts", type=number(0, 99999), metavar="N", help=what)
+    parser.number("--restarts", 0, 99999, None, "add at most N runs after a row (until the list is empty)")
     add_out(parser, "trace")
     add_binary(parser, "napi_series")
     return parser

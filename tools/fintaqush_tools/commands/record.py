@@ -72,9 +72,8 @@ def program_filter(named: str) -> tuple[str, list[int]]:
             return " || ".join(f"common_pid == {thread}" for thread in threads), [int(named)]
         named = observed.text_in(f"/proc/{named}/comm")
     if not re.fullmatch(r"[ !#-~]+", named):
-        raise Refusal(
-            f"--program {shown(named)}: a name of printable ASCII characters without quotes, or a process's number"
-        )
+        what = "a name of printable ASCII characters without quotes, or a process's number"
+        raise Refusal(f"--program {shown(named)}: {what}")
     return f'comm == "{named[:15]}"', [pid for pid, _ in sorted(observed.tasks_named(lambda name: name == named[:15]))]
 
 
@@ -199,9 +198,10 @@ class Body:
         file.writelines(each for _, each in sorted(waiting, key=lambda each: each[0]))
 
 
-def recorded(
-    words: Words, folder: str, sources: Sources, tell: Callable[[str], None]
-) -> tuple[dict[str, Any], dict[str, str], Body]:
+Recorded = tuple[dict[str, Any], dict[str, str], Body]
+
+
+def recorded(words: Words, folder: str, sources: Sources, tell: Callable[[str], None]) -> Recorded:
     """Records. Returns the head's values on the recording, and the body."""
     with Instance(folder) as instance, open(words.scratch, "wb") as scratch:
         clock = instance.set_clock()
@@ -236,9 +236,10 @@ def polled_of(words: Words, body: Body) -> list[str]:
     return [name for name in words.device if name in polled] or [BACKLOG] * (BACKLOG in polled)
 
 
-def head_of(
-    words: Words, head: Mapping[str, Any], others: Mapping[str, str], body: Body, pids: Sequence[int]
-) -> list[str]:
+Values = Mapping[str, Any]  # of a recording's head
+
+
+def head_of(words: Words, head: Values, others: Values, body: Body, pids: Sequence[int]) -> list[str]:
     """Returns the lines before the trace; `others` are the settings and the counts."""
     ends = zip(words.sender, words.device) if len(words.sender) == len(words.device) else ()
     told = {**head, "buffer": words.buffer, "lines": body.lines, "device": " ".join(words.device)}
@@ -271,9 +272,8 @@ def find_senders(words: Words) -> list[str]:
 def sources_of(words: Words, settings: Mapping[str, str], program: str) -> Sources:
     if not words.sender:
         return Sources(program, words.device)
-    by_rps = {
-        key.rpartition(".rx-")[0] for key, value in settings.items() if key.endswith(".rps_cpus") and value.strip("0,")
-    }
+    moving = [key for key, value in settings.items() if key.endswith(".rps_cpus") and value.strip("0,")]
+    by_rps = {key.rpartition(".rx-")[0] for key in moving}
     without_gro = {key for key, value in settings.items() if value == "off"}
     offload = "ethtool.feature.generic-receive-offload"
     moved = [it for it in words.device if f"device.{it}" in by_rps or f"device.{it}.{offload}" in without_gro]

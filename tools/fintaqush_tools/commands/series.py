@@ -10,7 +10,7 @@ from __future__ import annotations
 
 from collections.abc import Sequence
 
-from fintaqush_tools.options import Parser, add_raise, add_settings, number, parser_of, settings_of
+from fintaqush_tools.options import Parser, add_raise, add_settings, parser_of, settings_of
 from fintaqush_tools.processes import become, program
 from fintaqush_tools.trace import raise_option
 
@@ -18,13 +18,12 @@ from fintaqush_tools.trace import raise_option
 def parser() -> Parser:
     parser = parser_of(__doc__)
     parser.add_argument("file", nargs="?", metavar="TRACE", help="the trace; - or none: standard input")
-    parser.add_argument("--every", type=number(1, 99999), metavar="N", help="only each Nth row, 1 to 99999 (1)")
+    parser.number("--every", 1, 99999, None, "only each Nth row, 1 to 99999 (1)")
     add_raise(parser)
     text = "with --raise: add at most N runs after a row (until the list is empty)"
-    parser.add_argument("--restarts", type=number(0, 99999), metavar="N", help=text)
-    parser.add_argument("--polls", action="store_true", help="a line for each poll before the line of its softirq row")
-    text = "print the rows of the trace, with the added runs, in place of the series"
-    parser.add_argument("--rows", action="store_true", help=text)
+    parser.number("--restarts", 0, 99999, None, text)
+    parser.flag("--polls", "a line for each poll before the line of its softirq row")
+    parser.flag("--rows", "print the rows of the trace, with the added runs, in place of the series")
     add_settings(parser)
     return parser
 

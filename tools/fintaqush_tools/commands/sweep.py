@@ -135,7 +135,7 @@ def parser() -> Parser:
         parser.add_argument(f"--{name}", type=values, default=[usual], help=f"as {example} ({usual})")
     add_raise(parser)
     what = "with --raise: add at most N runs after a row (until the list is empty)"
-    parser.add_argument("--restarts", type=number(1, 99999), metavar="N", help=what)
+    parser.number("--restarts", 1, 99999, None, what)
     add_fail_if(parser, TOLD[:-1])
     add_json(parser, "the rows")
     add_words(parser, "napi_serial or napi_replay", {"default": "sweep.csv", "help": "the file of rows (sweep.csv)"})

@@ -80,15 +80,8 @@ FAULT = re.compile(r"arrivals fault (?!10 )\d+ \w+ row \d+$")
 HEADER, TRACE = b"ns,device,bytes", b"moment,device,event"
 MOST_CURVES = len(COLORS)
 SHORT = {"p50": "used_p50", "p99": "used_p99", "p999": "used_p999"}  # names for --fail-if
-TAKEN = (
-    "--arrivals",
-    "--out",
-    "--seed",
-    "--help",
-    "-h",
-    "--version",
-    "--manual",
-)  # options of traffic that are set here
+# Options of traffic that are set here.
+TAKEN = ("--arrivals", "--out", "--seed", "--help", "-h", "--version", "--manual")
 making = threading.Lock()
 
 
@@ -417,7 +410,7 @@ def parser() -> Parser:
         how: dict[str, Any] = {"type": choices(number(low, high)), "default": [str(default)], "metavar": "N,.."}
         parser.add_argument(f"--{name}", help=help_of(name), **how)
     what = f"warn if an order changes with costs N %% lower or higher ({DOUBT}; 0 with --out or --part); advise prints that of a recording"
-    parser.add_argument("--band", type=number(0, 90), metavar="N", help=what)
+    parser.number("--band", 0, 90, None, what)
     form = parser.add_mutually_exclusive_group()
     for name, what in (("table", "a table with units (on a terminal)"), ("csv", "CSV (elsewhere)")):
         form.add_argument(f"--{name}", dest="form", action="store_const", const=name, help=what)
@@ -426,8 +419,7 @@ def parser() -> Parser:
     parser.add_argument("--until", type=breaking.limit, metavar="drops|p99=US", help=what)
     what = "make arrivals by fintaqush traffic with these options, in one argument"
     parser.add_argument("--traffic", metavar="OPTIONS", help=what)
-    what = "with --traffic: repeat with the seeds 1 to N (5)"
-    parser.add_argument("--seeds", type=number(1, 1000), metavar="N", help=what)
+    parser.number("--seeds", 1, 1000, None, "with --traffic: repeat with the seeds 1 to N (5)")
     add_fail_if(parser, [*SHORT, *VALUES], [*SHORT, *WAITS])
     parser.add_argument("--plot", metavar="FILE", help="a picture, .png, .svg or .html")
     add_words(parser, "napi_machine", {"metavar": "FILE", "help": "a CSV file of rows with all options and results"})
@@ -549,17 +541,13 @@ def made_traffic(words: str, seeds: int) -> list[str]:
     return names
 
 
-def numeric(text: object) -> float:
-    return float(str(text)) if "." in str(text) else int(str(text))
-
-
 def spread(rows: Sequence[dict[str, Any]], settings: Iterable[str], values: Iterable[str]) -> dict[str, Any]:
     """Combines rows with the same settings into one: for each value the median (of an even number the lower one), the minimum and the maximum."""
     row = {name: rows[0][name] for name in settings}
     row["status"] = max(int(each["status"]) for each in rows)
     row["fault"] = next((each["fault"] for each in rows if each["fault"]), "")
     for name in values:
-        of = sorted((each[name] for each in rows), key=numeric)
+        of = sorted((each[name] for each in rows), key=lambda value: Fraction(str(value)))
         row.update({name: of[(len(of) - 1) // 2], f"{name}_least": of[0], f"{name}_most": of[-1]})
     return row
 
