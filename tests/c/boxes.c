@@ -70,6 +70,8 @@ static void rings(void) {
                 while (filled && fq_ring_put(&ring, 1, 60) == FQ_OK) continue;
                 want(fq_ring_poll(&out, 64, packets, 64, &count) == FQ_OK, "a poll of a split ring");
                 ended(how < 2 ? &ring.handle : &out.handle, how % 2 ? ABANDON : FREE, "the first end");
+                if (how < 2) want(fq_ring_poll(&out, 64, packets, 64, &count) == FQ_OK, "a poll without an input");
+                else want(fq_ring_put(&ring, 1, 60) < FQ_NOT_ALLOWED, "a put without a poll end");
                 ended(how < 2 ? &out.handle : &ring.handle, how % 2 ? ABANDON : FREE, "the second end");
                 nothing_is_left("of a split ring");
             }

@@ -3,7 +3,7 @@ use crate::answers::{Sched, TryBusy, TryPrep};
 use crate::busy::Busy;
 use crate::calls;
 use crate::card::Card;
-use crate::fault::unexpected;
+use crate::fault::{made, set_by, unexpected};
 use crate::handle::Handle;
 use crate::packets::Answers;
 use crate::polling::Polling;
@@ -181,10 +181,10 @@ impl Caller {
 
     /// Sets whether the instance is scheduled on its own thread from now on (`dev_set_threaded`). Allowed in any state.
     pub fn set_threaded(&mut self, threaded: bool) {
-        match calls::caller_set_threaded(self.at.raw(), threaded) {
-            sys::FQ_OK => {}
-            said => unexpected("caller_set_threaded", said),
-        }
+        made(
+            "caller_set_threaded",
+            calls::caller_set_threaded(self.at.raw(), threaded),
+        )
     }
 }
 
@@ -217,17 +217,13 @@ impl Granted {
 
 // Queues a granted instance on the list or for its thread.
 fn hand(at: &mut Handle<sys::fq_caller>, kind: Kind) {
-    match calls::caller_hand(at.raw(), kind.number()) {
-        sys::FQ_OK => {}
-        said => unexpected("caller_hand", said),
-    }
+    made("caller_hand", calls::caller_hand(at.raw(), kind.number()))
 }
 
 // Queues a granted instance as its state word says.
 fn hand_again(at: &mut Handle<sys::fq_caller>) -> Next {
-    let mut next = sys::FQ_NEXT_GONE;
-    match calls::caller_hand_again(at.raw(), &mut next) {
-        sys::FQ_OK => Next::of("caller_hand_again", next),
-        said => unexpected("caller_hand_again", said),
-    }
+    let next = set_by("caller_hand_again", 0, |next| {
+        calls::caller_hand_again(at.raw(), next)
+    });
+    Next::of("caller_hand_again", next)
 }

@@ -3,7 +3,7 @@ use crate::answers::TryTake;
 use crate::caller::Caller;
 use crate::calls;
 use crate::card::Card;
-use crate::fault::unexpected;
+use crate::fault::{made, unexpected};
 use crate::handle::Handle;
 use crate::packets::Counts;
 use crate::sys;
@@ -82,10 +82,11 @@ impl Control<Off> {
     /// [`open`](Control::open): packets that arrived while the instance was disabled are polled only after the next request.
     /// Without one, a masked card with a full ring would wait forever.
     pub fn enable(mut self, threaded: bool) -> Control<On> {
-        match calls::control_step(self.at.raw(), true, threaded) {
-            sys::FQ_OK => Control::of(self.at),
-            said => unexpected("control_step", said),
-        }
+        made(
+            "control_step",
+            calls::control_step(self.at.raw(), true, threaded),
+        );
+        Control::of(self.at)
     }
 
     /// Opens the device of a driver: enables the instance, and requests a poll once by this caller, with [`mask`](Card::mask)
@@ -109,10 +110,8 @@ impl Control<Off> {
 impl Control<On> {
     /// Marks a disable as pending (the first step of `napi_disable`): from now on requests for a poll fail.
     pub fn mark(mut self) -> Control<Marked> {
-        match calls::control_mark(self.at.raw()) {
-            sys::FQ_OK => Control::of(self.at),
-            said => unexpected("control_mark", said),
-        }
+        made("control_mark", calls::control_mark(self.at.raw()));
+        Control::of(self.at)
     }
 
     /// Disables the instance (`napi_disable`): marks it, and retries until its owner has released it. Between attempts it

@@ -1,6 +1,6 @@
 //! The driver of up to 64 devices on one thread.
 use crate::calls;
-use crate::fault::{unexpected, Fault};
+use crate::fault::{set_by, unexpected, Fault};
 use crate::handle::Handle;
 use crate::list::RunReport;
 use crate::packets::Weight;
@@ -217,11 +217,10 @@ impl Driver {
 
     /// Returns what has to be done now. An action that isn't reported is returned again.
     pub fn next(&mut self) -> Todo {
-        let mut todo = Todo::NONE;
-        match calls::driver_next_sized(self.at.raw(), &mut todo.raw) {
-            sys::FQ_OK => todo,
-            said => unexpected("driver_next", said),
-        }
+        let raw = set_by("driver_next", Todo::NONE.raw, |raw| {
+            calls::driver_next_sized(self.at.raw(), raw)
+        });
+        Todo { raw }
     }
 
     /// Reports that an action was done, with the packets of a look or a fetch. Nothing is reported if it fails: with

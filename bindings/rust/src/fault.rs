@@ -124,10 +124,15 @@ pub(crate) fn unexpected(call: &str, status: u32) -> ! {
     )
 }
 
-// Returns what a call sets, which returns FQ_OK and nothing else.
-pub(crate) fn set_by<T>(call: &str, mut to: T, make: impl FnOnce(&mut T) -> u32) -> T {
-    match make(&mut to) {
-        sys::FQ_OK => to,
-        said => unexpected(call, said),
+// Panics unless a call that can't fail returned FQ_OK.
+pub(crate) fn made(call: &str, said: u32) {
+    if said != sys::FQ_OK {
+        unexpected(call, said)
     }
+}
+
+// Returns what such a call sets.
+pub(crate) fn set_by<T>(call: &str, mut to: T, make: impl FnOnce(&mut T) -> u32) -> T {
+    made(call, make(&mut to));
+    to
 }

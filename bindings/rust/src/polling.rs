@@ -3,7 +3,7 @@ use crate::answers::{Completed, End, TryDone};
 use crate::caller::{Caller, Granted};
 use crate::calls;
 use crate::card::{Look, Poll};
-use crate::fault::unexpected;
+use crate::fault::{made, unexpected};
 use crate::handle::Handle;
 use crate::packets::{Answers, Batch, Counts, Packet, Weight};
 use crate::sys;
@@ -52,10 +52,8 @@ impl Polling {
 
     /// Queues the instance at the end of the list again (`net_rx_action`, after a poll of the whole weight).
     pub fn requeue(mut self) -> Caller {
-        match calls::caller_requeue(self.at.raw()) {
-            sys::FQ_OK => Caller { at: self.at },
-            said => unexpected("caller_requeue", said),
-        }
+        made("caller_requeue", calls::caller_requeue(self.at.raw()));
+        Caller { at: self.at }
     }
 
     /// Ends the poll as the kernel does (`__napi_poll`). After a full poll, which used its whole weight, the instance is
