@@ -70,38 +70,6 @@ fn asked_by(settings: &FqSettings) -> Result<ReplaySettings, u32>
     }
 }
 
-// Returns the report of a trace.
-fn report_of(alloc: Global, settings: &ReplaySettings, trace: &[u8]) -> Result<Vec<u8>, ReplayFault>
-    ensures report { IfOk result (λ text. replay_of settings.now trace.now ≡ Ok text.items) }
-    ensures fault { IfErr result
-        (λ fault. IsOutside fault ⊎ (replay_of settings.now trace.now ≡ Err fault)) }
-{
-    let mut text = Vec::new(alloc);
-    match replay_serial(alloc, trace, &mut text, settings) {
-        Ok(()) => Ok(text),
-        Err(fault) => Err(fault),
-    }
-}
-
-// Returns a trace with the runs that the kernel adds.
-fn raised_of(
-    alloc: Global,
-    settings: &ReplaySettings,
-    restarts: Option<u32>,
-    trace: &[u8],
-) -> Result<Vec<u8>, ReplayFault>
-    ensures raised { IfOk result
-        (λ text. raised_trace settings.now restarts trace.now ≡ Ok text.items) }
-    ensures fault { IfErr result
-        (λ fault. IsOutside fault ⊎ (raised_trace settings.now restarts trace.now ≡ Err fault)) }
-{
-    let mut text = Vec::new(alloc);
-    match raise_trace(alloc, trace, &mut text, settings, restarts) {
-        Ok(()) => Ok(text),
-        Err(fault) => Err(fault),
-    }
-}
-
 // Returns the report of a trace; or with a number of restarts, the trace with the runs that the kernel adds.
 fn text_of(
     alloc: Global,
@@ -114,9 +82,14 @@ fn text_of(
     ensures fault { IfErr result (λ fault. IsOutside fault
         ⊎ (computed_by restarts settings.now trace.now ≡ Err fault)) }
 {
-    match restarts {
-        None => report_of(alloc, settings, trace),
-        Some(_) => raised_of(alloc, settings, restarts, trace),
+    let mut text = Vec::new(alloc);
+    let computed = match restarts {
+        None => replay_serial(alloc, trace, &mut text, settings),
+        Some(_) => raise_trace(alloc, trace, &mut text, settings, restarts),
+    };
+    match computed {
+        Ok(()) => Ok(text),
+        Err(fault) => Err(fault),
     }
 }
 

@@ -1,6 +1,6 @@
 use Rattle.std.{proofs.{Common.{refl, rules}, lemmas.List.Elements.All-weaker}, specs.Arc.arc_value}
 use Rattle.napi_c.proofs.NewCallers.{seat_weaker}
-use Rattle.napi_c.specs.Shared.{LeadsToFreshSeat, LeadsToNewSeat, LeadsToRestingSeat, LeadsToUnthreadedSeat}
+use Rattle.napi_c.specs.Shared.{LeadsToNewSeat, LeadsToRestingSeat}
 use Rattle.napi_c.proofs.shared.give.Goals as goal
 
 pub returns-then-given-clause-made : goal.returns-then-given-clause-made
@@ -9,19 +9,5 @@ returns-then-given-clause-made c ok =
       n,
       rw (c.fill.ensures (search rules)) (refl, search rules),
       All-weaker (LeadsToNewSeat n) (LeadsToRestingSeat n) (λ h new. seat_weaker _ _ (λ s is. (is.instance, is.rests)) h.held.body new) _
-          (c.give_seats-given.ensures (search rules)),
-    )
-
-pub returns-then-given-clause-fresh : goal.returns-then-given-clause-fresh
-returns-then-given-clause-fresh c ok =
-    let n = (arc_value c.args.opened.napi).napi in
-    All-weaker (LeadsToNewSeat n) LeadsToFreshSeat (λ h new. seat_weaker _ _ (λ s is. is.fresh) h.held.body new) _
-    (c.give_seats-given.ensures (search rules))
-
-pub returns-then-given-clause-unthreaded : goal.returns-then-given-clause-unthreaded
-returns-then-given-clause-unthreaded c ok =
-    let n = (arc_value c.args.opened.napi).napi in (
-      rw (c.fill.ensures (search rules)) c.args.opened.control_new,
-      All-weaker (LeadsToNewSeat n) LeadsToUnthreadedSeat (λ h new. seat_weaker _ _ (λ s is. is.unthreaded) h.held.body new) _
           (c.give_seats-given.ensures (search rules)),
     )
