@@ -26,7 +26,7 @@ ended_of closed rx ctx totals three nothing was are in_order =
       totals_are = are ∙ ap (λ (l : List Packet). totals_of (record { put = put_list rx; received = l })) received;
     }
 
--- where the ends of a ring have met, it holds at most its capacity
+-- if the ends of a ring have met, it holds at most its capacity
 pub few_held : (rx rx_after : RxIn) (ctx ctx_after : RxCtx) → IsOneRing rx ctx → Meets rx ctx rx_after ctx_after
     → length (held_of (ring_of rx ctx)) ≤ capacity_of rx
 few_held rx rx_after ctx ctx_after one met =

@@ -147,5 +147,5 @@ pub record HasRun {D : Type 0} (answer : D → ℕ → Act) (after : D → ℕ �
   pub calls_are : own_list closed.worker.value.pass ≡ left.calls
   pub controls_are : own_list closed.control.value.pass ≡ left.controls
   pub ended : IsEnded closed left.put totals
-  -- its ring holds at most this many packets
+  -- the ring holds at most its capacity
   pub few : totals.left ≤ places

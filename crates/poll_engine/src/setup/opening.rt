@@ -183,7 +183,7 @@ fn end<D: Drop>(placed: Placed, loose: Loose<D>) -> Finished<D>
         asked,
     } = loose;
     let (closed, mut ctx) = placed.close(handles, poller, thread);
-    // Only where the ends meet it is known that the ring holds at most its capacity.
+    // The ends meet, so it is known that the ring holds at most its capacity.
     beside(&mut rx, &mut ctx);
     let totals = finish(rx, ctx);
     Finished {
