@@ -119,6 +119,16 @@ class WhatIf(InFolder):
             self.assertNotEqual(small.pop(name), usual.pop(name))
         self.assertEqual(small, usual)
 
+    def test_a_timer_costs_what_an_interrupt_does(self) -> None:
+        """Unless its cost is given; a cost that is always that of an interrupt is no column."""
+        deferral = ("--defer-hard-irqs", "2", "--gro-flush-timeout", "20000")
+        usual, dear = self.rows("--interrupt", "4000,9000", *deferral)
+        self.assertNotIn("timer", usual)
+        one, other = self.rows("--timer", "4000,9000", *deferral)
+        self.assertEqual((one.pop("timer"), usual.pop("interrupt"), one), ("4000", "4000", usual))
+        self.assertLess(float(one["interrupt_percent"]), float(other["interrupt_percent"]))
+        self.assertLess(float(other["interrupt_percent"]), float(dear["interrupt_percent"]))
+
     def test_a_load_moves_the_moments(self) -> None:
         """At half the load a time is doubled, at 1.5 it is two thirds, rounded down; no temporary file is left."""
         before = set(os.listdir("/tmp"))
@@ -295,7 +305,8 @@ class WhatIf(InFolder):
             self.rows("--budget", "1,300", "--load", "0.5,1,2", "--plot", self.folder / name)
             self.assertTrue((self.folder / name).read_bytes().startswith(begins))
         text = (self.folder / "x.svg").read_text()
-        for told in ("arrivals.csv: load 0.5, 1, 2; budget 1, 300", "Costs are given, in ns: interrupt 4000, poll 1000, packet 1000, use 2000, wake 0, app-wake 0.",
+        costs = "interrupt 4000, poll 1000, packet 1000, use 2000, wake 0, app-wake 0, timer 4000, timer-wake 0"
+        for told in ("arrivals.csv: load 0.5, 1, 2; budget 1, 300", f"Costs are given, in ns: {costs}.",
                      "99th percentile of waits", "dropped and refused, %", "share, %", "budget 1<", "budget 300<", "load (times the arrivals)"):
             self.assertIn(told, text.replace("&apos;", "'"))
 

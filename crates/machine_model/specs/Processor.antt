@@ -8,7 +8,8 @@ use Rattle.machine_model.specs.Device.{after_packet, queue_delivered, expired, i
 use Rattle.machine_model.specs.Devices.{QueueViews, asks_at, has_room_at, is_fired_at, is_missed_at, next_packet_at, schedules_at}
 use Rattle.machine_model.specs.Devices.{soonest_from, with_device}
 use Rattle.machine_model.specs.Softirq.{SoftirqView, begun, asked_in, poll_ended, run_ended, is_run_spent, run_next, pushed}
-use Rattle.machine_model.specs.{Application.{ApplicationView, fed, has_place, opened_application, takes_up_packet, use_ended, use_length}, Waits.saturated}
+use Rattle.machine_model.specs.{Application.{ApplicationView, fed, has_place, opened_application}, Waits.saturated}
+use Rattle.machine_model.specs.Application.{takes_up_packet, use_ended, use_length}
 use Rattle.machine_model.specs.Tasks.{after_first, runnable, with_application}
 use Rattle.machine_model.specs.declared.{devices.Timer.Timer, tasks.RunnableTask.{RunnableTask, TheVariants.{Application, Thread}}}
 use Rattle.machine_model.specs.declared.processor.{ProcessorCounts.ProcessorCounts, TheConstants.ProcessorCounts.NONE, Work.Work}
