@@ -337,6 +337,17 @@ def options(program: str) -> list[str]:
     return wrong
 
 
+def about(program: str) -> list[str]:
+    """What `--help` and `--version` print, each as the only argument. Nothing is read then."""
+    version = re.findall(r'^#define FQ_VERSION "(.*)"', (TOP / "include/fintaqush.h").read_text(encoding="ascii"), re.M)[0]
+    printed, said, status = ran(program, ["--help"], "what\n")
+    wrong = [] if printed.startswith("usage: napi_machine ") and (said, status) == ("", 0) else [f"--help: {printed!r}, {said!r}, {status}"]
+    if (printed := ran(program, ["--version"], "what\n")) != (f"napi_machine {version}\n", "", 0):
+        wrong.append(f"--version: {printed}")
+    others = [["--help", "--ring", "1"], ["--ring", "1", "--version"], ["--help", "--help"], ["--helper"], ["--version="]]
+    return wrong + [f"{each}: accepted" for each in others if ran(program, each, "") != ("", "usage fault 64\n", 64)]
+
+
 def ends(program: str) -> list[str]:
     """A pipe that gives some bytes at a time, and a terminal, on which one Ctrl-D ends the text."""
     wrong: list[str] = []
@@ -515,7 +526,7 @@ def simulated(report: str, waited: str) -> list[str]:
 
 
 CHECKS: dict[str, Callable[..., list[str]]] = {"examples": examples, "random": random_arrivals, "one_queue": one_queue, "faults": faults, "texts": texts,
-          "options": options, "ends": ends, "queue": queue, "livelock": livelock, "recorded": recorded,
+          "options": options, "ends": ends, "about": about, "queue": queue, "livelock": livelock, "recorded": recorded,
           "simulator": simulator, "simulated": simulated}
 
 if __name__ == "__main__":

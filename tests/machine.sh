@@ -28,6 +28,7 @@ check 'with one queue no budget changes more than runs and squeezes' of_machine 
 check 'its faults' of_machine faults "$program"
 check 'its texts' of_machine texts "$program"
 check 'its options' of_machine options "$program"
+check 'its help and its version' of_machine about "$program"
 check 'its ends' of_machine ends "$program"
 check 'the simulator of docs/GUIDE.md counts the same' of_machine simulator "$program"
 check 'the mean of M/D/1' of_machine queue "$program"
