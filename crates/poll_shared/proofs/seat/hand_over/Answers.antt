@@ -1,4 +1,4 @@
-use Rattle.std.proofs.Common.{[], ◌∷◌, ◌∙◌}
+use Rattle.std.proofs.Common.{[], ◌∷◌}
 use Rattle.napi_model.specs.declared.event.Operation.TheVariants.{Look, Hand}
 use Rattle.{napi_calls.proofs.Making.more, poll_shared.proofs.TriesFacts.handed-by}
 use Rattle.poll_shared.proofs.seat.hand_over.Goals as goal
@@ -9,6 +9,3 @@ returns-clause-made c =
     let x = c.look-seen.result in
     rw c.if-not-thread.false
     (Look x ∷ Hand k ∷ [], more (Hand k) [] c.look-seen.ensures.event c.hand-2.ensures.event, handed-by x k c.kind_for-kind.ensures)
-
-pub returns-clause-packets : goal.returns-clause-packets
-returns-clause-packets c = c.hand-2.ensures.packets ∙ c.look-seen.ensures.packets
