@@ -9,7 +9,8 @@ pub returns-in-Machine-clause-output : goal.returns-in-Machine-clause-output
 returns-in-Machine-clause-output g c =
     subst (λ a. IfErr c.run_machine.result (LeavesBy OutputFailed (λ bytes text. AnswersMachine a bytes (Ok text))
     (g.R.Read.remaining c.args.input)
-    (g.W.Write.contents c.args.output.now) (g.W.Write.contents c.run_machine.new.writer))) (sym c.in-Machine.is) c.run_machine.ensures.output
+    (g.W.Write.contents c.args.output.now) (g.W.Write.contents c.run_machine.new.writer)))
+    (sym c.in-Machine.is) c.run_machine.ensures.output
 
 pub returns-in-Help-clause-written : goal.returns-in-Help-clause-written
 returns-in-Help-clause-written g c =
