@@ -465,14 +465,15 @@ class Recorded(InFolder):
         self.assertEqual((process.returncode, self.names(), (self.folder / "made").read_text()), (1, ["made"], "old\n"))
 
     def test_a_recording_that_is_larger_than_its_buffers(self) -> None:
-        """They are emptied meanwhile, each time that one is half full: 16000 packets are some 3 MB of events, of which a processor's buffer holds one."""
-        process = self.start("--buffer", "1", seconds="6")
-        self.send(400, 40, 40, 0.01)
+        """They are emptied meanwhile, each time that one is half full: 16000 packets are some 3 MB of events, of which a processor's buffer holds one.
+        They are sent slowly, so that a busy machine can empty the buffer in time."""
+        process = self.start("--buffer", "1", seconds="20")
+        self.send(400, 40, 40, 0.025)
         _, said = process.communicate(timeout=100)
         self.assertEqual((said, process.returncode), ("", 0))
         head, body = self.head()
         self.assertEqual((head["buffer"], head[f"sent.{self.ends[0]}"], len(re.findall(r" net_dev_xmit: dev=fqa", body))), ("1", "16000", 16000))
-        self.assertTrue(0 < float(head["recorder.seconds"]) < 6)
+        self.assertTrue(0 < float(head["recorder.seconds"]) < 20)
 
     def test_a_buffer_that_is_too_small(self) -> None:
         """If it isn't emptied until the end, the recording ends early: the file is written, the exit status is 1, and the last line says which buffer
