@@ -27,7 +27,7 @@ from fintaqush_tools import advice, predicting, verifying
 from fintaqush_tools.errors import Refusal
 from fintaqush_tools.receiving import Receiving
 from fintaqush_tools.recorded import Recording
-from fintaqush_tools.recording import events_of
+from fintaqush_tools.recording import Texts
 
 COSTS = {"interrupt": 1700, "poll": 2600, "packet": 410, "wake": 3300, "use": 5200, "app-wake": 2450, "read": 900}
 HEAD: dict[str, object] = {"clock": "tsc", "seconds": "1.000000", "events": "napi/napi_poll", "lost": 0, "device": "vb1", "netns": "receiver", "sender": "va1",
@@ -596,8 +596,7 @@ class Seen(unittest.TestCase):
 
     def seen(self, text: str, polled: str = "vb1") -> Any:
         seen = Receiving({polled}, {"va1"})
-        for event in events_of(text.splitlines(True), []):
-            seen.add(event)
+        Texts([seen], []).add(text)
         return seen
 
     def test_packets_polls_and_reads(self) -> None:

@@ -34,11 +34,11 @@ def others_in(tasks: Tasks, spans: Iterable[Span], known: Collection[int]) -> Co
     """Returns how long tasks had the processors in these spans, other than idle tasks, those that poll, and those with known numbers."""
     taken: Counter[str] = Counter()
     for processor, begin, end in spans:
-        times, running = tasks.history[processor]
+        times, switches = tasks.history[processor]
         place = max(0, bisect.bisect_right(times, begin) - 1)
         while place < len(times) and times[place] < end:
             until = times[place + 1] if place + 1 < len(times) else end
-            name, number, _ = running[place]
+            name, number, _ = switches[place].next
             if number and number not in known and not KERNEL_TASKS.match(name):
                 taken[name] += max(0, min(end, until) - max(begin, times[place]))
             place += 1

@@ -5,20 +5,19 @@ and the other tasks on their processors.
 from __future__ import annotations
 
 import bisect
-import re
 from array import array
 from collections import Counter, defaultdict
-from collections.abc import Callable, Collection, Iterable, Sequence
+from collections.abc import Collection, Iterable, Sequence
 from typing import Optional, Union
 
 from fintaqush_tools.arriving import BY_PAIR, BY_POLL, BY_STACK, KINDS, PollBegins, packet_of
 from fintaqush_tools.instances import ANY, Place, Routes
-from fintaqush_tools.recording import NET_RX, POLLED, SENT, SOFTIRQ, Event, fields_in, is_by_thread
+from fintaqush_tools.recording import NET_RX, POLLED, SENT, SOFTIRQ, Event, Look, fields_by, is_by_thread
 from fintaqush_tools.tasks import Tasks
 
 Marked = Union[int, tuple[str, int]]  # a processor, or a thread
 
-TIMER = re.compile(r"hrtimer=\S+ function=(\w+)")
+TIMER = fields_by(r"hrtimer=\S+ function=(\w+)")
 FULL = 64  # packets, the weight of a poll
 MOST_UNREAD = 64  # packets that may wait for the program when a recording begins
 EARLY = 100_000  # ns: an arrival's event comes after the arrival, by at most this
@@ -46,7 +45,7 @@ class Receiving:
     `routes` finds the instance of a sent packet; without it all polls count as those of one instance. Times are in ns.
     """
 
-    span: tuple[int, int] | None
+    span: tuple[int, int]
     sent: array[int]
     sent_on: array[int]
     sent_by: list[str]
@@ -69,12 +68,11 @@ class Receiving:
     taken: defaultdict[int, list[Received]]
     packets_of: Counter[Place]
     known: Optional[dict[Place, list[tuple[int, int, int]]]]
-    looks: dict[str, Optional[Callable[[Event], None]]]
 
     def __init__(
         self, polled: set[str], senders: set[str], receivers: Iterable[str] = (), routes: Optional[Routes] = None
     ) -> None:
-        self.polled, self.senders, self.span = polled, senders, None
+        self.polled, self.senders, self.span = polled, senders, (0, 0)
         self.routes = routes or Routes({}, {sender: "" for sender in senders})
         self.receivers, self.begins, self.received = set(receivers), PollBegins(), {BY_POLL: [], BY_STACK: []}
         # When each packet was sent, and 1 unless a full ring dropped it.
@@ -97,25 +95,11 @@ class Receiving:
         # By processor: when its softirqs began; its NAPI timers.
         self.entries, self.timers = (defaultdict(lambda: array("Q")), Counter())
         self.reads, self.reading = [], {}  # for each read its end, and the beginning of the next read by that task
-        self.mark, self.tasks, self.known, self.looks = {}, Tasks(), None, {}
+        self.mark, self.tasks, self.known = {}, Tasks(), None
 
-    def add(self, event: Event) -> None:
-        """Processes the next event of the recording."""
-        self.span = (self.span[0] if self.span else event.time, event.time)
-        if self.receivers:
-            self.begins.look(event)
-        try:
-            look = self.looks[event.name]
-        except KeyError:
-            look = self.looks[event.name] = self.look_at(event.name)
-        if look:
-            look(event)
-
-    def look_at(self, name: str) -> Optional[Callable[[Event], None]]:
+    def looks_at(self, name: str) -> list[Look]:
         """Returns what handles the events of this name."""
-        if name.startswith("sys_"):
-            return self.end_read if name.startswith("sys_exit_") else self.begin_read
-        return {
+        looks: dict[str, Look] = {
             **dict.fromkeys(KINDS, self.add_received),
             BY_PAIR: self.add_packet,
             "net_dev_start_xmit": self.routes.start,
@@ -124,7 +108,11 @@ class Receiving:
             "softirq_exit": self.mark_softirq,
             "hrtimer_expire_entry": self.count_timer,
             "sched_switch": self.switch,
-        }.get(name)
+        }
+        if name.startswith("sys_"):
+            return [self.end_read if name.startswith("sys_exit_") else self.begin_read]
+        own = [looks[name]] if name in looks else []
+        return [*self.begins.looks_at(name), *own] if self.receivers else own
 
     def mark_softirq(self, event: Event) -> None:
         if int(event.parts(SOFTIRQ)[0]) != NET_RX:
@@ -134,13 +122,13 @@ class Receiving:
             self.entries[event.cpu].append(event.time)
 
     def count_timer(self, event: Event) -> None:
-        found = fields_in(TIMER, event.said)
+        found = TIMER[event.said]
         self.timers[event.cpu] += found is not None and found[0] == "napi_watchdog"
 
     def switch(self, event: Event) -> None:
-        name, number, _ = self.tasks.switch(event, self.span[0] if self.span else 0)
-        if name.startswith("napi/"):
-            self.mark["thread", number] = event.time
+        found = self.tasks.switch(event)
+        if found.is_napi:
+            self.mark["thread", found.next[1]] = event.time
 
     def end_read(self, event: Event) -> None:
         self.reading[event.pid] = event.time
@@ -204,7 +192,7 @@ class Receiving:
     def settle(self) -> str:
         """Ends the reading, and leaves out the polls of instances that took no packet. If no sender's packets are known, uses the received ones
         as arrivals. Returns the kind of event, or nothing."""
-        self.tasks.end(*(self.span or (0, 0)))
+        self.tasks.end(*self.span)
         self.leave_out({place for place in set(self.places) if place != ANY and not self.packets_of[place]})
         kind = next((kind for kind, packets in self.received.items() if packets), "")
         if self.senders or not kind:
