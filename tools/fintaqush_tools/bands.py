@@ -4,7 +4,8 @@ are varied.
 The doubt of the costs is twice the change of all costs by which the recorded setting's median waits would have been
 predicted, at least 15 % and at most 50 %. A band holds the predictions with all costs lower and higher by the doubt, or at the ends of a cost's confidence interval if
 that is wider; and the prediction plus twice what was missed at the recorded setting: times and few packets by the
-difference, all else by the ratio. Both of its ends are 3 % further, because recordings of one setting differ.
+difference, all else by the ratio. Waits have half of NAPI's timeout, or of the card's least time between interrupts, if arrivals are inferred
+from polls that waited for it. Both of its ends are 3 % further, because recordings of one setting differ.
 
 Twice, because what the model lacks may take longer with another setting; tests/tools/test_bands.py counts how many
 recorded values are within.
@@ -72,10 +73,12 @@ class Doubt:
         rows: Sequence[Compared],
         higher: Mapping[str, float],
         intervals: Mapping[str, Interval] | None = None,
+        arrivals: int = 0,
     ) -> None:
         """`rows` compare the recorded setting with its prediction, and `higher` is predicted with costs `DOUBT` % higher.
         `intervals` has the ends of each cost; without those of polls and packets only their sum is known, of which each
-        has the half in `costs`."""
+        has the half in `costs`. `arrivals` is by how many ns an arrival may be off."""
+        self.arrivals = arrivals
         self.rows = {row[0]: row for row in rows}
         self.percent = doubt_of(rows, higher)
         self.sides = []
@@ -105,6 +108,8 @@ class Doubt:
         """Returns the band of a predicted value; `others` are its predictions with the costs of `sides`. `timeout` is that
         of NAPI's timer in ns, if polls wait for it."""
         ends = [value, *others, self.moved(name, value)]
+        if name in WAITS:
+            ends = [min(ends) - self.arrivals, max(ends) + self.arrivals]
         if timeout and self.lacks_timer:
             late = (
                 max(ends) + LATE

@@ -7,7 +7,7 @@ from __future__ import annotations
 import bisect
 from array import array
 from collections import Counter, defaultdict
-from collections.abc import Collection, Iterable, Sequence
+from collections.abc import Collection, Iterable, Mapping, Sequence
 from typing import Optional, Union
 
 from fintaqush_tools.arriving import BY_PAIR, BY_POLL, BY_STACK, KINDS, PollBegins, packet_of
@@ -20,6 +20,7 @@ Marked = Union[int, tuple[str, int]]  # a processor, or a thread
 TIMER = fields_by(r"hrtimer=\S+ function=(\w+)")
 FULL = 64  # packets, the weight of a poll
 MOST_UNREAD = 64  # packets that may wait for the program when a recording begins
+SLACK = 1.1  # by which the time between two interrupts may exceed the least one that a card keeps
 EARLY = 100_000  # ns: an arrival's event comes after the arrival, by at most this
 
 
@@ -40,9 +41,36 @@ class Received:
         self.time, self.device, self.cpu, self.flow, self.place = time, device, cpu, flow, ANY
 
 
+class Held:
+    """Finds when packets may have come that waited in a card's ring until a timer of NAPI or of the card ended. They count as spread evenly over
+    the time since the poll before, because neither their arrival nor the card's interrupt is recorded."""
+
+    before: dict[Place, tuple[int, int, int]]
+
+    def __init__(self, options: Mapping[str, int]) -> None:
+        """`options` are the machine's for the recorded settings."""
+        flush = options.get("gro-flush-timeout", 0) * (not options.get("heedless", 0))
+        self.deferrals = options.get("defer-hard-irqs", 0) if flush else 0
+        self.delay, self.gap = options.get("rx-nsecs", 0), options.get("rx-gap", 0)
+        self.doubt = max(flush if self.deferrals else 0, self.gap) // 2  # ns by which an arrival may be off
+        # For each instance: the end of its last poll, how often its interrupt is still deferred, and when a poll last began that wasn't deferred.
+        self.before = {}
+
+    def spread(self, place: Place, packets: Sequence[Received], work: int, ended: int) -> None:
+        """Changes the arrivals of the packets that a poll took."""
+        end, left, asked = self.before.get(place, (0, 0, 0))
+        begun = packets[0].time if packets else ended
+        is_held = left > 0 or begun - asked <= SLACK * self.gap
+        since = end if is_held else max(end, begun - self.delay)  # the first packet starts a card's timer
+        for number, packet in enumerate(packets if end else ()):
+            packet.time = since + int((begun - since) * (number + is_held / 2) / len(packets))
+        self.before[place] = ended, self.deferrals if work else max(0, left - 1), asked if left else begun
+
+
 class Receiving:
     """The instances that poll `polled`, with packets of the devices `senders`; if no sender is known, packets that `receivers` receive.
-    `routes` finds the instance of a sent packet; without it all polls count as those of one instance. Times are in ns.
+    `routes` finds the instance of a sent packet; without it all polls count as those of one instance. `options` are the machine's for the
+    recorded settings. Times are in ns.
     """
 
     span: tuple[int, int]
@@ -70,9 +98,14 @@ class Receiving:
     known: Optional[dict[Place, list[tuple[int, int, int]]]]
 
     def __init__(
-        self, polled: set[str], senders: set[str], receivers: Iterable[str] = (), routes: Optional[Routes] = None
+        self,
+        polled: set[str],
+        senders: set[str],
+        receivers: Iterable[str] = (),
+        routes: Optional[Routes] = None,
+        options: Optional[Mapping[str, int]] = None,
     ) -> None:
-        self.polled, self.senders, self.span = polled, senders, (0, 0)
+        self.polled, self.senders, self.span, self.held = polled, senders, (0, 0), Held(options or {})
         self.routes = routes or Routes({}, {sender: "" for sender in senders})
         self.receivers, self.begins, self.received = set(receivers), PollBegins(), {BY_POLL: [], BY_STACK: []}
         # When each packet was sent, and 1 unless a full ring dropped it.
@@ -174,7 +207,9 @@ class Receiving:
             is_own = work > 0
         if is_own:
             place = (device, napi) if self.receivers else self.routes.of_poll(device, napi)
-            for packet in self.taken.pop(event.cpu, ()):
+            taken = self.taken.pop(event.cpu, [])
+            self.held.spread(place, taken, work, event.time)
+            for packet in taken:
                 packet.place = place
             self.packets_of[device, napi] += work
             self.ended.append(event.time)

@@ -3,6 +3,7 @@
 from __future__ import annotations
 
 from fintaqush_tools import predicting
+from fintaqush_tools.advice import options_of
 from fintaqush_tools.captured import arrivals_within
 from fintaqush_tools.errors import Refusal
 from fintaqush_tools.instances import ANY, NapiInstance, Routes, instances_in
@@ -36,7 +37,8 @@ class Recording:
         self.capture = words.capture
         self.check_head()
         pairs = {self.sender: self.device} if self.sender else {}
-        self.seen = Receiving({self.polled}, set(pairs), () if pairs else {self.device}, Routes(self.head, pairs))
+        receivers, routes = set[str]() if pairs else {self.device}, Routes(self.head, pairs)
+        self.seen = Receiving({self.polled}, set(pairs), receivers, routes, options_of(self.head, self.device, 0))
 
     def read(self, times: Timeline | None = None) -> Recording:
         """Reads the events, also for `times`, which costs are estimated from. Fails if the recording can't be predicted."""

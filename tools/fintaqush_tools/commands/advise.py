@@ -90,13 +90,15 @@ def as_keys(options: Options) -> dict[str, int]:
     return {identifier(name): value for name, value in options.items()}
 
 
-def named(options: Options, varied: Sequence[str]) -> str:
-    """Describes a setting by the kernel's names of the options that vary."""
+def named(options: Options, varied: Sequence[str], spare: int) -> str:
+    """Describes a setting by the kernel's names of the options that vary. A ring has `spare` entries more than packets."""
     parts = []
     for name in varied:
         value = options.get(name, 0)
         if name == "ring" and options.get("backlog"):
             parts.append(f"netdev_max_backlog {value - 1}")
+        elif name == "ring":
+            parts.append(f"ring {value + spare}")
         elif name == "layout":
             parts.append(LAYOUTS[value])
         elif name == "apart":
@@ -106,9 +108,9 @@ def named(options: Options, varied: Sequence[str]) -> str:
     return ", ".join(parts)
 
 
-def several(settings: Sequence[Options], varied: Sequence[str]) -> str:
+def several(settings: Sequence[Options], varied: Sequence[str], spare: int) -> str:
     """Describes the first of several settings with equal results, and how many others there are."""
-    return named(settings[0], varied) + (f"; {len(settings) - 1} more" if len(settings) > 1 else "")
+    return named(settings[0], varied, spare) + (f"; {len(settings) - 1} more" if len(settings) > 1 else "")
 
 
 def varied_in(tried: Sequence[Options]) -> list[str]:
@@ -259,7 +261,12 @@ class Advice:
         if self.told["apart"] and "app-wake" in ends:
             ends["app-wake-apart"] = ends.pop("app-wake")
         higher = predictions.of(self.options, with_costs(self.costs, 100 + DOUBT))
-        return Doubt(self.costs, self.check, higher, {name: end for name, end in ends.items() if self.costs.get(name)})
+        known_ends = {name: end for name, end in ends.items() if self.costs.get(name)}
+        return Doubt(self.costs, self.check, higher, known_ends, self.arrivals_doubt())
+
+    def arrivals_doubt(self) -> int:
+        """Returns by how many ns an arrival may be off, if arrivals are inferred from polls."""
+        return self.recording.seen.held.doubt if self.recording.by and not self.words.capture else 0
 
     def note_tasks(self) -> None:
         """Finds the tasks that disturbed the processors that poll, and that on which the program reads."""
@@ -287,6 +294,11 @@ class Advice:
             self.notes.append(
                 f"arrivals are when polls took the packets ({recording.by}), so waits in the card's ring before the interrupt aren't in these values; "
                 "--capture takes those of a capture with the card's timestamps"
+            )
+        if doubt := self.arrivals_doubt():
+            self.notes.append(
+                "packets that waited for NAPI's timer, or for the end of the card's least time between interrupts, count as spread evenly over the time "
+                f"since the poll before, so a wait may be off by {us(doubt)} us"
             )
         if moving := len(recording.layout.moving()):
             self.notes.append(
@@ -477,7 +489,7 @@ class Advice:
         alike: dict[tuple[str, ...], list[Options]] = {}
         for options, values in choice.order:
             alike.setdefault(tuple(columns_of(values, self.end)), []).append(options)
-        rows = [[several(each, self.varied), *cells] for cells, each in list(alike.items())[:SHOWN]]
+        rows = [[several(each, self.varied, self.machine.spare), *cells] for cells, each in list(alike.items())[:SHOWN]]
         yield from table(rows, "setting")
         if not choice.best:
             yield "no setting keeps to the limits"
@@ -485,7 +497,7 @@ class Advice:
         if self.best == self.options:
             yield f"advice: change nothing, since no setting is notably better for {GOALS[choice.goal]}"
         else:
-            yield f"advice: {named(self.best, self.varied)}"
+            yield f"advice: {named(self.best, self.varied, self.machine.spare)}"
         ends = zip(*(columns_of(values, self.end) for values in self.ends()))
         rows = [
             ["now", *columns_of(choice.tried[0][1], self.end)],

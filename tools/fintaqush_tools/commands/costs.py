@@ -154,7 +154,8 @@ def wakes_of(times: Timeline) -> Told:
     """Returns the time from a packet until an idle processor polls."""
     if not times.came:
         return {}, [
-            "wake: not known: record net/net_dev_xmit of the other end of a veth pair, and name the pair by --pair"
+            "wake: not known: no arrival is in it: record net/net_dev_xmit of the other end of a veth pair (--pair names both ends); of a card, fintaqush "
+            "advise --capture takes it from a capture, as a part of the interrupt"
         ]
     if times.unmatched > (1 - MATCHED) * times.came:
         return {}, [f"wake: not known: of {times.came} packets {times.unmatched} don't match those that polls took"]
