@@ -262,7 +262,7 @@ class Advice:
             ends["app-wake-apart"] = ends.pop("app-wake")
         higher = predictions.of(self.options, with_costs(self.costs, 100 + DOUBT))
         known_ends = {name: end for name, end in ends.items() if self.costs.get(name)}
-        return Doubt(self.costs, self.check, higher, known_ends, self.arrivals_doubt())
+        return Doubt(self.costs, self.check, higher, known_ends, self.arrivals_doubt(), self.told["apart"])
 
     def arrivals_doubt(self) -> int:
         """Returns by how many ns an arrival may be off, if arrivals are inferred from polls."""
