@@ -509,9 +509,14 @@ class Advise(InFolder):
     def test_what_is_set_and_not_modelled(self) -> None:
         told = self.told(file_of(quiet(), **{"sysctl.net.core.busy_read": 50, "device.vb1.ethtool.coalesce.adaptive-rx": "on", "udp.RcvbufErrors": "3 10",
                                                "device.vb1.rx-0.rps_cpus": "00000008"}))
-        for each in ("busy polling is on", "adaptive coalescing is on", "7 packets were dropped at a full socket (see net.core.rmem_max and SO_RCVBUF), which isn't",
-                     "RPS moves packets on"):
+        for each in ("busy polling is on", "adaptive coalescing is on", "RPS moves packets on"):
             self.assertTrue(any(note.startswith(each) for note in told["notes"]), each)
+        self.assertIn("7 datagrams were delivered and then dropped at a full socket: the program reads too slowly, ", told["blame"][0])
+
+    def test_nothing_to_verify(self) -> None:
+        done = self.advised(file_of(quiet()), "--goal", "drops", "--verify")
+        self.assertIn("advice: change nothing", done.stdout)
+        self.assertIn("--verify recorded nothing, because the advice changes nothing", done.stderr)
 
     def test_a_verdict(self) -> None:
         """80 polls of 2600 ns and 410 per packet take 0.34 of 7.9 ms with 1 or 7 packets, and 0.27 with 1 or 3. Each setting is recorded three times

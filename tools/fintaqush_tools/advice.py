@@ -103,9 +103,6 @@ def unmodelled_in(head: Head, device: str) -> Iterator[str]:
     own = drivers.options_of(head, device) if head.get("polled") != BACKLOG else {}
     if lacking := [f"--{name} {value}" for name, value in own.items() if value and name not in OPTIONS]:
         yield f"this napi_machine lacks {' '.join(lacking)} of {drivers.name_in(head, device)}"
-    before, after = map(int, head.get("udp.RcvbufErrors", "0 0").split())
-    if after > before:
-        yield f"{after - before} packets were dropped at a full socket (see net.core.rmem_max and SO_RCVBUF)"
     if head.get("polled", "").split() == [device] and re.search(
         "[1-9a-f]", head.get(f"device.{device}.rx-0.rps_cpus", "0")
     ):

@@ -1,4 +1,5 @@
-"""Which part of the packets' waits passed while another task had the processor: for advise. It explains a recording and predicts nothing."""
+"""Which part of the packets' waits passed while another task had the processor, and what a full socket dropped: for advise. It explains a recording
+and predicts nothing."""
 
 from __future__ import annotations
 
@@ -8,6 +9,7 @@ from collections.abc import Collection, Iterable, Iterator, Sequence
 
 from fintaqush_tools.layout import Layout
 from fintaqush_tools.receiving import Receiving
+from fintaqush_tools.recording import Head
 from fintaqush_tools.tasks import KERNEL_TASKS, Tasks
 from fintaqush_tools.texts import shown
 
@@ -51,6 +53,16 @@ def told(waits: Sequence[tuple[int, list[Span]]], tasks: Tasks, known: Collectio
     taken = others_in(tasks, (span for _, spans in waits for span in spans), known)
     names = ", ".join(f"{shown(name)} {100 * time / whole:.0f} %" for name, time in taken.most_common(NAMED))
     return sum(taken.values()) / whole, names
+
+
+def lines_of_socket(head: Head) -> Iterator[str]:
+    """Yields a line about packets that were delivered and then dropped, because the socket's buffer was full."""
+    before, after = map(int, head.get("udp.RcvbufErrors", "0 0").split())
+    if after > before:
+        yield (
+            f"{after - before} datagrams were delivered and then dropped at a full socket: the program reads too slowly, or the buffer is too small "
+            "(SO_RCVBUF, net.core.rmem_max), and no setting that is tried here changes that"
+        )
 
 
 def lines_of(seen: Receiving, layout: Layout, known: Collection[int]) -> Iterator[str]:

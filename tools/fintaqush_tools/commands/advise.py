@@ -58,6 +58,7 @@ from fintaqush_tools.options import Parser, Words, add_binary, number, parser_of
 from fintaqush_tools.pictures import ENDS, Curve, Picture, check_library, picture_bytes
 from fintaqush_tools.predicting import TOLD, Compared, check_lines, objects_in, told_value, us
 from fintaqush_tools.processes import program
+from fintaqush_tools.progress import say
 from fintaqush_tools.recorded import Recording, arrivals_in
 from fintaqush_tools.recording import BACKLOG
 from fintaqush_tools.results import add_json, is_printed, write_json
@@ -273,7 +274,7 @@ class Advice:
         recording = self.recording
         self.others = {processor: recording.disturbing(processor) for processor in recording.layout.processors}
         self.others_apart = {}
-        self.blame = []
+        self.blame = list(blame.lines_of_socket(recording.head))
         if not timeout_of(self.options):  # with deferral packets wait for the timer, whatever runs meanwhile
             self.blame += blame.lines_of(recording.seen, recording.layout, recording.program_pids())
         if self.told["apart"]:
@@ -485,7 +486,8 @@ class Advice:
 
     def advice_lines(self, choice: Choice) -> Iterator[str]:
         yield f"costs may be {self.doubt.percent} % lower or higher (--band {self.doubt.percent} of what-if)"
-        yield f"{len(choice.tried)} settings on {self.packets} packets, the best for {GOALS[choice.goal]} first:"
+        count = len(choice.tried)
+        yield f"{count} setting{'s' * (count > 1)} on {self.packets} packets, the best for {GOALS[choice.goal]} first:"
         alike: dict[tuple[str, ...], list[Options]] = {}
         for options, values in choice.order:
             alike.setdefault(tuple(columns_of(values, self.end)), []).append(options)
@@ -629,6 +631,8 @@ def print_verified(advice: Advice) -> bool:
     have to rise."""
     choice, told = advice.choice, dict[str, Any](verified=None, verdict=None)
     if not (advice.words.verify and choice and choice.best and advice.changes):
+        if advice.words.verify and choice and choice.best:
+            say("--verify recorded nothing, because the advice changes nothing")
         write_json(advice.words.json, "advise", [{**advice.object(), **told}])
         return True
     rows, packets, verdict = verified(advice)
