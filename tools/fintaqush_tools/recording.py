@@ -21,6 +21,7 @@ from fintaqush_tools.texts import is_number, shown
 Head = dict[str, str]  # of a file of fintaqush record
 
 MOST_LINE = 4096  # characters
+NO_LINE = "no line of ftrace, `trace-cmd report` or `perf script`"
 HEAD = "fintaqush-recording 1"
 TRACE = "\ntrace\n"  # ends the head
 CAPTURE = "this is a capture, which fintaqush from-pcap reads"
@@ -46,12 +47,12 @@ LINE = re.compile(
 LOST = re.compile(r"\[LOST (\d+) EVENTS\]|\[(\d+) EVENTS DROPPED\]|PERF_RECORD_LOST lost (\d+)")
 # The lines of a call chain, which perf writes after an event.
 NO_EVENT = re.compile(r"\s*(#.*|cpus=\d+|version = .*|CPU:? ?\d+ is empty|[0-9a-f]{4,16} .* \(.*\))?$")
-# A line as fintaqush record writes it: the task with its processor and flags, the time in ns, the name, and what the event says. Each line
-# that it matches `LINE` matches too, with the same fields.
+# A line as fintaqush record writes it: the task with its processor and flags, which `FRONT` splits; the time in ns; the name; and what the event
+# says. `LINE` finds the same in each of them.
 QUICK = re.compile(
-    r"^(.{15}\S-\d{1,9} +\[\d{1,6}\] \S+) +(\d{1,10})\.(\d{9}): (\w+: |sys_\w+(?: -> |(?=\()))(.{0,4000})\n", re.M
+    r"^([^\[\n]+\[\d{1,6}\] \S+) +(\d{1,10})\.(\d{9}): (\w+: |sys_\w+(?: -> |(?=\()))(.{0,4000})\n", re.M
 )
-FRONT = re.compile(r"\s*(.*)-(\d+) +\[(\d+)\] (\S+)")
+FRONT = re.compile(r"\s*(\S.*?)(?:-|\s+(?:\d{1,9}/)?)(\d{1,9})\s+(?:\([\s\d-]+\)\s+)?\[(\d+)\] (\S+)")
 
 MOST_KNOWN = 1 << 14  # texts of an event whose fields are kept, because most texts come again and again
 PIECE = 1 << 16  # characters that are read at once; what is made of more doesn't stay in a processor's cache
@@ -170,7 +171,8 @@ class Threads(dict[str, tuple[str, int, str, int]]):
 
     def __missing__(self, text: str) -> tuple[str, int, str, int]:
         found = FRONT.fullmatch(text)
-        assert found, text
+        if not found:
+            raise Refusal(f"{NO_LINE}: {text.strip()[:60]!r}")
         task, pid, cpu, flags = found.groups()
         front = self.named(task, int(pid)), int(cpu), flags, int(pid)
         if task != "<...>" and len(self) < MOST_KNOWN:
@@ -276,7 +278,7 @@ def is_event(number: int, line: str, is_found: bool, lost: list[str], has_head: 
         lost.append(f"line {number} of the recording: the kernel lost {loss[1] or loss[2] or loss[3]} events")
         return False
     if not is_found and not NO_EVENT.match(line):
-        raise Refusal(f"line {number}: no line of ftrace, `trace-cmd report` or `perf script`: {line.strip()[:60]!r}")
+        raise Refusal(f"line {number}: {NO_LINE}: {line.strip()[:60]!r}")
     return is_found
 
 
