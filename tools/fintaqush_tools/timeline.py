@@ -145,16 +145,20 @@ class Reads:
 
     def take(self, event: Event, called: tuple[int, int] | None, slept: int | None, taken: int, packets: int) -> None:
         """Matches the packets that are read with those that were delivered first."""
-        known = [self.delivered.popleft() for _ in range(min(packets, len(self.delivered)))]
-        self.ahead += [(event.time, slept is not None)] * (packets - len(known))
-        if len(known) == packets:
-            last = self.last
-            if last and (last[0], *last[2:4]) == (event.pid, event.cpu, packets) and known[-1][0] <= last[1]:
-                self.uses.append((event.time - last[1] - (taken - last[4])) / packets)
-            if called and slept is None and known[-1][0] <= called[0]:
-                self.calls.append((event.time - called[0] - (taken - called[1])) / packets)
-        if packets == 1 and known and known[0][1] and slept is not None and slept <= known[0][0]:
-            self.wakes.append(event.time - known[0][0])
+        time, last, delivered = event.time, self.last, self.delivered
+        if len(delivered) < packets:
+            self.ahead += [(time, slept is not None)] * (packets - len(delivered))
+            delivered.clear()
+            return
+        for _ in range(packets):
+            end, is_lone = delivered.popleft()
+        if last and end <= last[1] and last[0] == event.pid and last[2] == event.cpu and last[3] == packets:
+            self.uses.append((time - last[1] - (taken - last[4])) / packets)
+        if slept is not None:
+            if packets == 1 and is_lone and slept <= end:
+                self.wakes.append(time - end)
+        elif called and end <= called[0]:
+            self.calls.append((time - called[0] - (taken - called[1])) / packets)
 
 
 @dataclass
