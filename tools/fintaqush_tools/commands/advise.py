@@ -220,6 +220,10 @@ class Advice:
     def compare(self, predictions: Predictions) -> None:
         """Compares the recorded setting with its prediction. If only the wait to the end of use is predicted badly,
         waits end with the delivery."""
+        recording = self.recording
+        self.measured_on = predicting.measured_on(
+            recording.seen, recording.head, self.costs["packet"], recording.layout
+        )
         self.judge(predictions)
         if self.grade != "poor" or self.end != "used":
             return
@@ -233,13 +237,10 @@ class Advice:
 
     def judge(self, predictions: Predictions) -> None:
         """Compares each processor too, and grades the fit by the worst one."""
-        recording, words = self.recording, self.words
+        words = self.words
         self.check = self.compared(self.measured, predictions.of(self.options))
         self.check_on: dict[int, list[Compared]] = {}
         self.judged = predicting.judged_for(words.goal, self.end, words.p99_below is not None)
-        self.measured_on = predicting.measured_on(
-            recording.seen, recording.head, self.costs["packet"], recording.layout
-        )
         if len(self.processors) > 1:
             for (processor, measured), values in zip(self.measured_on.items(), predictions.on(self.options)):
                 self.check_on[processor] = self.compared(measured, values)
