@@ -661,6 +661,10 @@ class Seen(unittest.TestCase):
         self.assertEqual(self.spread({**deferral, "heedless": 1}, *polls)[1], [1110, 1110])
         self.assertEqual(self.spread({"rx-nsecs": 100}, (1000, 1010, 1), (1110, 1120, 2), (1150, 1160, 1)), [[1000], [1010, 1060], [1120]])
         self.assertEqual(self.spread({"rx-gap": 100}, (1000, 1010, 1), (1100, 1120, 2), (1500, 1510, 1)), [[1000], [1032, 1077], [1500]])
+        held, by_card = Held(deferral), Received(1110, "eth0", 0, 0, by_card=True)
+        for packet, ended in ((Received(1000, "eth0", 0, 0), 1010), (by_card, 1120)):
+            held.spread(("eth0", "a0"), [packet], 1, ended)
+        self.assertEqual(by_card.time, 1110)
         self.assertEqual([Held(each).doubt for each in (deferral, {**deferral, "heedless": 1}, {"rx-nsecs": 100}, {"rx-gap": 90})], [50, 0, 0, 45])
 
     def test_reads_that_are_no_packets(self) -> None:

@@ -54,11 +54,12 @@ class PollBegins:
     that, or during the poll."""
 
     handlers: dict[int, int]
-    ended: dict[int, tuple[int, int]]
+    ended: dict[int, tuple[int, int, bool]]
     began: dict[int, int]
+    by_card: dict[int, bool]
 
     def __init__(self) -> None:
-        self.handlers, self.ended, self.began = {}, {}, {}  # by processor
+        self.handlers, self.ended, self.began, self.by_card = {}, {}, {}, {}  # by processor
 
     def looks_at(self, name: str) -> list[Look]:
         """Returns what handles the events of this name."""
@@ -91,11 +92,12 @@ class PollBegins:
 
     def end_handler(self, event: Event) -> None:
         if event.cpu in self.handlers:
-            self.ended[event.cpu] = self.handlers.pop(event.cpu), event.time
+            self.ended[event.cpu] = self.handlers.pop(event.cpu), event.time, event.name == "irq_handler_exit"
 
     def begin(self, event: Event) -> None:
-        asked, ended = self.ended.pop(event.cpu, (0, 0))
-        self.began[event.cpu] = asked if ended and event.time - ended <= SOON else event.time
+        asked, ended, by_card = self.ended.pop(event.cpu, (0, 0, False))
+        is_soon = ended > 0 and event.time - ended <= SOON
+        self.began[event.cpu], self.by_card[event.cpu] = asked if is_soon else event.time, is_soon and by_card
 
     def of(self, event: Event) -> int:
         return self.began.get(event.cpu, event.time)

@@ -32,13 +32,13 @@ def agree(pairs: Sequence[tuple[float, float]]) -> bool:
 
 
 class Received:
-    """A packet that a poll took: when it arrived by that poll, its device, its processor, the hash of its flow, and the
-    instance once it is known."""
+    """A packet that a poll took: when it arrived by that poll, its device, its processor, the hash of its flow, whether a card's interrupt
+    asked for the poll, and the instance once it is known."""
 
-    __slots__ = ("time", "device", "cpu", "flow", "place")
+    __slots__ = ("time", "device", "cpu", "flow", "by_card", "place")
 
-    def __init__(self, time: int, device: str, cpu: int, flow: int) -> None:
-        self.time, self.device, self.cpu, self.flow, self.place = time, device, cpu, flow, ANY
+    def __init__(self, time: int, device: str, cpu: int, flow: int, by_card: bool = False) -> None:
+        self.time, self.device, self.cpu, self.flow, self.by_card, self.place = time, device, cpu, flow, by_card, ANY
 
 
 class Held:
@@ -60,11 +60,14 @@ class Held:
         """Changes the arrivals of the packets that a poll took."""
         end, left, asked = self.before.get(place, (0, 0, 0))
         begun = packets[0].time if packets else ended
-        is_held = left > 0 or begun - asked <= SLACK * self.gap
+        by_timer = left > 0 and not (
+            packets and packets[0].by_card
+        )  # some drivers unmask the card before the timer ends
+        is_held = by_timer or begun - asked <= SLACK * self.gap
         since = end if is_held else max(end, begun - self.delay)  # the first packet starts a card's timer
         for number, packet in enumerate(packets if end else ()):
             packet.time = since + int((begun - since) * (number + is_held / 2) / len(packets))
-        self.before[place] = ended, self.deferrals if work else max(0, left - 1), asked if left else begun
+        self.before[place] = ended, self.deferrals if work else max(0, left - 1), asked if by_timer else begun
 
 
 class Receiving:
@@ -194,7 +197,8 @@ class Receiving:
                 self.moved[event.cpu] += 1
         name, _, flow = packet_of(event)
         if name in self.receivers:
-            packet = Received(self.begins.of(event), name, event.cpu, flow)
+            by_card = self.begins.by_card.get(event.cpu, False)
+            packet = Received(self.begins.of(event), name, event.cpu, flow, by_card)
             self.received[KINDS[event.name]].append(packet)
             self.taken[event.cpu].append(packet)
 

@@ -212,10 +212,12 @@ class Texts:
         self.lost, self.line, self.has_head, self.count = lost, first, first > 1, 0
         self.threads, self.span = Threads(), (0, 0)
         self.readers: list[Reader] = [self.threads, *readers]
-        self.looks, self.names = Known(self.looks_at), Known(name_of)
+        self.looks = Known(self.looks_at)
 
-    def looks_at(self, name: str) -> list[Look]:
-        return [look for reader in self.readers for look in reader.looks_at(name)]
+    def looks_at(self, word: str) -> tuple[str, list[Look]]:
+        """Returns the name of an event by the word before what it says, and what handles it."""
+        name = name_of(word)
+        return name, [look for reader in self.readers for look in reader.looks_at(name)]
 
     def add(self, text: str) -> None:
         """Passes the events of the next text on. If all its lines are as fintaqush record writes them, it is parsed at once, which is much faster."""
@@ -234,10 +236,10 @@ class Texts:
         self.span = self.span[0] or time, time
 
     def add_quick(self, found: Iterable[tuple[str, ...]], first: int) -> None:
-        threads, names, looks, new = self.threads, self.names, self.looks, tuple.__new__
+        threads, looks, new = self.threads, self.looks, tuple.__new__
         for number, (front, whole, fraction, word, said) in enumerate(found, first):
-            name = names[word]
-            if handles := looks[name]:
+            name, handles = looks[word]
+            if handles:
                 task, cpu, flags, pid = threads[front]
                 event = new(Event, (number, task, cpu, flags, int(whole + fraction), name, said.strip(), pid))
                 for handle in handles:
@@ -250,7 +252,7 @@ class Texts:
                 self.count += 1
                 event = event_of(number, found, self.threads)
                 self.reach(event.time)
-                for handle in self.looks[event.name]:
+                for handle in self.looks[f"{event.name}: "][1]:
                     handle(event)
 
     def end(self) -> None:
