@@ -565,7 +565,7 @@ def convert(words: Words) -> None:
     events, arriving = Events(), list[Arriving]()
 
     def readers(head: Head) -> Sequence[Reader]:
-        words.pairs = head.get("pair", "va*:vb*").split()
+        words.pairs = head.get("pair", "" if head else "va*:vb*").split()
         if not words.arrivals:
             return [events]
         arriving.append(Arriving(words))
