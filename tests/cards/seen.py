@@ -11,7 +11,7 @@ from fintaqush_tools.commands import costs
 from fintaqush_tools.fits import WIDE
 from fintaqush_tools.instances import ANY
 from fintaqush_tools.receiving import Receiving
-from fintaqush_tools.recording import Head, check_lost, events_in
+from fintaqush_tools.recording import Event, Head, Look, check_lost, read
 
 Frame = tuple[int, int]  # when it came to the card, by QEMU's virtual clock in ns, and its number
 Measured = dict[str, float]
@@ -63,15 +63,19 @@ class Seen:
 
     def __init__(self, folder: Path, setting: emulation.Setting, frames: Iterable[Frame]) -> None:
         self.path = folder / f"{setting.file}.rec"
-        self.receiving, self.interrupts = Receiving({DEVICE}, {"card"}), 0
-        self.head: Head = {}
+        self.receiving, self.interrupts, self.span = Receiving({DEVICE}, {"card"}), 0, (0, 0)
         stamps = rows_in(folder / f"{setting.file}.stamps")
         self.add_arrivals(frames, stamps, {row[0] for row in rows_in(folder / f"{setting.file}.read")})
         lost: list[str] = []
-        for event in events_in(str(self.path), lost, self.head):
-            self.receiving.add(event)
-            self.interrupts += event.name == "irq_handler_entry" and f"name={DEVICE}" in event.said
+        self.head: Head = read(str(self.path), lost, lambda _: [self.receiving, self])
         check_lost(lost)
+
+    def looks_at(self, name: str) -> list[Look]:
+        """Returns what handles the events of this name."""
+        return [self.count_interrupt] if name == "irq_handler_entry" else []
+
+    def count_interrupt(self, event: Event) -> None:
+        self.interrupts += f"name={DEVICE}" in event.said
 
     def add_arrivals(self, frames: Iterable[Frame], stamps: list[tuple[int, ...]], read: set[int]) -> None:
         ahead = ahead_of(stamps)

@@ -34,7 +34,7 @@ from fintaqush_tools.errors import Refusal  # noqa: E402
 import rig  # noqa: E402
 from judging import Judged, Skipped, judge, read_kept, write_kept  # noqa: E402
 from fintaqush_tools.receiving import Receiving  # noqa: E402
-from fintaqush_tools.recording import BACKLOG, check_lost, events_in  # noqa: E402
+from fintaqush_tools.recording import BACKLOG, check_lost, read  # noqa: E402
 from rig import Setting, Traffic  # noqa: E402
 
 TIMES = 3  # that each setting is recorded
@@ -99,12 +99,10 @@ def options_of(setting: Setting) -> dict[str, int]:
 
 def seen_in(setting: Setting, recorded: rig.Recorded) -> tuple[Receiving, dict[str, str]]:
     """What a recording shows, with its head."""
-    head: dict[str, str] = {}
     lost: list[str] = []
     names = range(1, setting.devices + 1)
     seen = Receiving({BACKLOG} if setting.poller == "backlog" else {f"vb{number}" for number in names}, {f"va{number}" for number in names})
-    for event in events_in(str(recorded.path), lost, head):
-        seen.add(event)
+    head = read(str(recorded.path), lost, lambda _: [seen])
     check_lost(lost)
     return seen, head
 

@@ -199,6 +199,15 @@ class FromFtrace(Arrivals):
         alone = self.of_a_card("softirq_entry", "softirq_exit", "irq_handler_entry", "irq_handler_exit", "napi_poll", "netif_receive_skb")
         self.assertEqual(self.made("from-ftrace", alone)[0], ["0,1,60", "1000,1,60", "5000,1,100", "96000,1,100"])
 
+    def test_another_pair_on_the_machine(self) -> None:
+        """A file of fintaqush record names its devices, so packets of a pair that is called as in the examples aren't its arrivals."""
+        sent = "".join(f"            prog-7       [002] .....     5.{time:09}: net_dev_xmit: dev=va1 skbaddr=0 len=99 rc=0\n" for time in (1, 7))
+        body = self.of_a_card() + sent
+        lines = body.count("\n")
+        self.assertEqual({row.split(",")[2] for row in self.made("from-ftrace", body)[0]}, {"99"})
+        head = f"fintaqush-recording 1\ndevice eth0\nlost 0\nlines {lines}\ntrace\n"
+        self.assertEqual({row.split(",")[2] for row in self.made("from-ftrace", head + body)[0]}, {"60", "100"})
+
     def test_flows_of_a_card(self) -> None:
         """A flow is the hash, by which the machine selects one of two queues: of 10, 7, 10 and 0 the second one has one packet."""
         self.write("recorded", self.of_a_card())

@@ -139,6 +139,13 @@ class Bands(unittest.TestCase):
             self.assertAlmostEqual(of.band("polls", 100, [90, 110], timeout)[0], polls)
         self.assertEqual(doubt.band("dropped", 100, [100], 60_000), (97, 103))
 
+    def test_what_a_recording_cannot_show(self) -> None:
+        """An arrival may be off; one in a hundred packets may be 30 us later; another processor for the program may double the costs."""
+        doubt = Doubt({"packet": 1000, "timer": 1}, [], {}, arrivals=50_000, apart=0)
+        for name, low, high in (("delivered_p50", 48_500, 154_500), ("used_p99", 48_500, 185_400), ("polls", 97_000, 103_000)):
+            self.assertEqual([round(end) for end in doubt.band(name, 100_000, [])], [low, high])
+        self.assertEqual([[costs["packet"] for costs in doubt.sides_of({"apart": apart})] for apart in (0, 1)], [[800, 1200], [800, 1200, 2000]])
+
 
 class Layouts(unittest.TestCase):
     """Which processor polls which packets, of two instances."""
@@ -295,3 +302,7 @@ class Choices(unittest.TestCase):
         """Settings without drops are alike whatever their waits."""
         self.assertEqual(self.chosen("drops", ("-", 900), ("xA", 0), ("xy", 0), ("x", 0)), "x")
         self.assertEqual(self.chosen("drops", ("-", 0), ("x", 0)), "-")
+
+    def test_drops_that_the_costs_leave_open(self) -> None:
+        """With higher costs x loses packets, of which more changes save all."""
+        self.assertEqual(self.chosen("drops", ("-", 900, (800, 950)), ("x", 0, (0, 200)), ("xy", 0, (0, 0)), ("xyz", 0, (0, 0))), "xy")

@@ -16,7 +16,7 @@ from fintaqush_tools.card_costs import CardTimes
 from fintaqush_tools.commands import costs
 from fintaqush_tools.fits import Cost
 from fintaqush_tools.options import Words
-from fintaqush_tools.recording import events_of
+from fintaqush_tools.recording import Texts
 from fintaqush_tools.timeline import Timeline
 
 Found = tuple[int, int, str, int, str]  # time, processor, task, its number, text
@@ -45,8 +45,7 @@ def event_lines(*events: tuple[int, str], cpu: int = 1) -> list[str]:
 
 def times_of(*lines: str) -> CardTimes:
     times = CardTimes(["eth0"])
-    for event in events_of(lines, []):
-        times.add(event)
+    Texts([times], []).add("".join(lines))
     return times
 
 

@@ -69,7 +69,7 @@ class Costs(InFolder):
         self.assertIn("interrupt 2100 ns (2100 to 2100): 200 handlers of eth0-rx-0 (200), half of them from 2100 to 2100\n", told)
         self.assertIn("poll 1500 ns (1500 to 1500), packet 330 ns (330 to 330): 600 polls of 0 to 64 packets by softirqs, of which 30 lie far off and "
                       "are left out; the line explains 100 %", told)
-        self.assertIn("wake: not known: record net/net_dev_xmit", told)
+        self.assertIn("wake: not known: no arrival is in it: record net/net_dev_xmit", told)
         self.assertTrue(told.endswith("use: not known: no read of a program is recorded (fintaqush record --program)\n--interrupt 2100 --poll 1500 --packet 330\n"))
 
     def test_costs_that_vary(self) -> None:

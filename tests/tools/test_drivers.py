@@ -7,7 +7,8 @@ from unittest import mock
 
 import tooltest
 
-from fintaqush_tools import drivers, observed
+from fintaqush_tools import advice, drivers, observed
+from fintaqush_tools.commands.advise import named
 from fintaqush_tools.drivers import DRIVERS, GAP
 from fintaqush_tools.recording import Head
 
@@ -77,6 +78,18 @@ class Drivers(unittest.TestCase):
         for batch, wanted in (("1", 1), ("64", 64), ("200", 64), ("", 8)):
             head = {**head_of("e1000"), "sysctl.net.core.gro_normal_batch": batch}
             self.assertEqual(self.options(head, "gro-batch"), (wanted,))
+
+    def test_a_ring_holds_fewer_packets_than_entries(self) -> None:
+        """ethtool counts entries; igb keeps one of them free, a driver that isn't known none."""
+        sizes = {"ethtool.ring.rx": "256", "ethtool.ring.most.rx": "600"}
+        for driver, spare in (("igb", 1), ("qlcnic", 0)):
+            head = head_of(driver, 0, sizes)
+            now = advice.options_of(head, "eth0", 0)
+            self.assertEqual(advice.rings_of(head, "eth0", now), [256 - spare, 512 - spare, 600 - spare])
+            machine = advice.Machine(head, "eth0", 0)
+            changes = machine.changes({**now, "ring": 512 - spare}, now)
+            self.assertEqual([machine.line_of(each) for each in changes], ["ethtool -G eth0 rx 512"])
+            self.assertIn("ring 512", named({"ring": 512 - spare}, ["ring"], machine.spare))
 
     def test_an_unknown_driver_has_no_options(self) -> None:
         self.assertEqual(drivers.options_of(head_of("qlcnic", 20), "eth0"), {})

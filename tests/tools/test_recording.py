@@ -8,14 +8,21 @@ import unittest
 from tooltest import HERE
 
 from fintaqush_tools.errors import Refusal
-from fintaqush_tools.recording import LINE, Event, Threads, event_of, events_of
+from fintaqush_tools.recording import LINE, Event, Events, Texts, Threads, event_of
 
 SWITCH = "sched_switch: prev_comm=a prev_pid=1 prev_prio=120 prev_state=S ==> next_comm=server [x] next_pid=25933 next_prio=120"
 
 
+def events_of(text: str, lost: list[str]) -> Events:
+    """Returns the events of a text."""
+    events = Events()
+    Texts([events], lost).add(text)
+    return events
+
+
 class Lines(unittest.TestCase):
     def events(self, *lines: str) -> list[Event]:
-        return list(events_of([f"{line}\n" for line in lines], []))
+        return events_of("".join(f"{line}\n" for line in lines), [])
 
     def test_both_ways_give_the_same(self) -> None:
         """For all kept recordings."""
@@ -28,8 +35,10 @@ class Lines(unittest.TestCase):
             for number, line in enumerate(lines, 1):
                 found = LINE.match(line)
                 assert found, line
-                matched.append(event_of(number, found, threads, {}))
-            self.assertEqual(list(events_of(lines, [])), matched, path)
+                event = event_of(number, found, threads)
+                threads.switch(event)
+                matched.append(event)
+            self.assertEqual(events_of("".join(lines), []), matched, path)
 
     def test_by_hand(self) -> None:
         """A name that ftrace doesn't know is that of the last switch to the thread; calls and their returns have names of their own."""
@@ -47,10 +56,10 @@ class Lines(unittest.TestCase):
         """Stamps in microseconds, brackets in a name and other tools' forms are left to the pattern; lost events are no events."""
         lines = ["a-1 [000] ..... 1.000001: softirq_entry: vec=3", "a [b]-1 [000] ..... 1.000000002: softirq_entry: vec=3", "a 1/1 [000] 1.000000003: irq:softirq_entry: vec=3"]
         lost: list[str] = []
-        events = list(events_of([f"{line}\n" for line in [*lines, "CPU:0 [LOST 7 EVENTS]"]], lost))
+        events = events_of("".join(f"{line}\n" for line in [*lines, "CPU:0 [LOST 7 EVENTS]"]), lost)
         self.assertEqual([(each.task, each.time, each.name, each.said) for each in events],
                          [("a", 1_000_001_000, "softirq_entry", "vec=3"), ("a [b]", 1_000_000_002, "softirq_entry", "vec=3"), ("a", 1_000_000_003, "softirq_entry", "vec=3")])
         self.assertEqual(lost, ["line 4 of the recording: the kernel lost 7 events"])
         for wrong in ("a-x [000] ..... 1.000000001: napi_poll: x\n", "a-1 [0x0] ..... 1.000000001: napi_poll: x\n"):
             with self.assertRaises(Refusal):
-                list(events_of([lines[1] + "\n", wrong], []))
+                events_of(f"{lines[1]}\n{wrong}", [])

@@ -289,7 +289,13 @@ class FromPcap(InFolder):
                                                                                                   (1100, 90))), "10100,0,softirq,0"])
         self.assertEqual(notes[0], "device 1 is 02:00:00:00:00:01, 6 packets")
         self.assertIn("no row: packets that don't come in, 6", notes)
-        self.assertIn("each packet with one receiver comes from 02:00:00:00:00:01 or goes to it, so what it sends goes out", notes)
+        self.assertIn("each packet with one receiver comes from 02:00:00:00:00:01 or goes to it, so what it sends to others goes out", notes)
+
+    @HAS_TCPDUMP
+    def test_the_loopback_device(self) -> None:
+        """What it sends to itself arrives."""
+        rows, _ = self.made([(100 * place, 1, 1, 60 + place) for place in range(3)])
+        self.assertEqual([row.split(",")[2:] for row in rows[2:5]], [["rx", "60"], ["rx", "61"], ["rx", "62"]])
 
     @HAS_TCPDUMP
     def test_who_receives_may_be_named(self) -> None:

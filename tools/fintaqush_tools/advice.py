@@ -79,7 +79,7 @@ def options_of(head: Head, device: str, is_apart: int, processors: int = 1) -> d
     else:
         options.update(
             {
-                "ring": of_device("ethtool.ring.rx", VETH_RING),
+                "ring": of_device("ethtool.ring.rx", VETH_RING) - drivers.spare_of(head, device),
                 "defer-hard-irqs": of_device("napi_defer_hard_irqs", 0),
                 "gro-flush-timeout": of_device("gro_flush_timeout", 0),
                 "threaded": min(1, of_device("threaded", 0)),
@@ -103,9 +103,6 @@ def unmodelled_in(head: Head, device: str) -> Iterator[str]:
     own = drivers.options_of(head, device) if head.get("polled") != BACKLOG else {}
     if lacking := [f"--{name} {value}" for name, value in own.items() if value and name not in OPTIONS]:
         yield f"this napi_machine lacks {' '.join(lacking)} of {drivers.name_in(head, device)}"
-    before, after = map(int, head.get("udp.RcvbufErrors", "0 0").split())
-    if after > before:
-        yield f"{after - before} packets were dropped at a full socket (see net.core.rmem_max and SO_RCVBUF)"
     if head.get("polled", "").split() == [device] and re.search(
         "[1-9a-f]", head.get(f"device.{device}.rx-0.rps_cpus", "0")
     ):
@@ -114,11 +111,12 @@ def unmodelled_in(head: Head, device: str) -> Iterator[str]:
 
 def rings_of(head: Head, device: str, options: Mapping[str, int]) -> list[int]:
     """Returns the sizes of ring or backlog that can be set."""
-    now = options["ring"]
-    if options.get("backlog"):
-        return sorted({within_range("ring", (now - 1) * times + 1) for times in LARGER})
-    most = number_in(head, f"device.{device}.ethtool.ring.most.rx", now)
-    return sorted({min(most, now * times) for times in LARGER})
+    more = -1 if options.get("backlog") else drivers.spare_of(head, device)  # than packets, in the setting
+    now = options["ring"] + more
+    most = (
+        OPTIONS["ring"][1] if options.get("backlog") else number_in(head, f"device.{device}.ethtool.ring.most.rx", now)
+    )
+    return sorted({within_range("ring", min(most, now * times) - more) for times in LARGER})
 
 
 def candidates(
@@ -208,7 +206,7 @@ class Machine:
     def __init__(self, head: Head, device: str, processor: int | None, idle: Mapping[int, float] | None = None) -> None:
         """`idle` has the share of the recording in which each processor was idle."""
         self.head, self.device, self.netns, self.processor = head, device, head.get("netns", ""), processor
-        self.idle = dict(idle or {})
+        self.idle, self.spare = dict(idle or {}), drivers.spare_of(head, device)
         self.pids = [int(each) for each in head.get("program.pids", "").split()]
         self.interrupts: dict[str, int] = {}  # the processor of each interrupt with layout MOVED
         self.queues = 0  # that have packets with layout SPREAD
@@ -238,7 +236,7 @@ class Machine:
         if is_new("ring") and chosen.get("backlog"):
             changes.append(Change("sysctl", "netdev_max_backlog", chosen["ring"] - 1, now["ring"] - 1))
         elif is_new("ring"):
-            changes.append(Change("ring", "rx", chosen["ring"], now["ring"]))
+            changes.append(Change("ring", "rx", chosen["ring"] + self.spare, now["ring"] + self.spare))
         for name in filter(is_new, COALESCING):
             usecs = drivers.usecs_in(self.head, self.device)
             changes.append(Change("coalesce", "rx-usecs", usecs_of(chosen[name]), usecs))

@@ -4,22 +4,21 @@ take from a card, or those that the network stack receives.
 
 from __future__ import annotations
 
-import re
 from collections import Counter
 from collections.abc import Iterable, Mapping
 
 from fintaqush_tools.errors import Refusal
 from fintaqush_tools.options import Words
-from fintaqush_tools.recording import NET_RX, SENT, SOFTIRQ, Event, Head
+from fintaqush_tools.recording import NET_RX, SENT, SOFTIRQ, SWITCH, Event, Head, Look, fields_by
 from fintaqush_tools.texts import shown
 from fintaqush_tools.timeline import HANDLERS, SOON
 
 BY_PAIR, BY_POLL, BY_STACK = "net_dev_xmit", "napi_gro_receive_entry", "netif_receive_skb"
 KINDS = {BY_PAIR: BY_PAIR, BY_POLL: BY_POLL, "napi_gro_frags_entry": BY_POLL, BY_STACK: BY_STACK}  # of each event
-TAKEN = re.compile(
+TAKEN = fields_by(
     r"dev=(\S+) .*\bhash=0x([0-9a-f]{1,8}) .*\blen=(\d{1,10}) .*\bmac_header_valid=([01]) mac_header=(-?\d{1,5})\b"
 )
-RECEIVED = re.compile(r"dev=(\S+) .*\blen=(\d{1,10})")
+RECEIVED = fields_by(r"dev=(\S+) .*\blen=(\d{1,10})")
 LINK_HEADER = 14  # bytes of the Ethernet header, which is removed before a packet is received
 MOST_PACKET = 65535  # bytes
 WHEN = "a packet's time is when the poll that took it began, or the interrupt that asked for this poll"
@@ -52,29 +51,51 @@ class PollBegins:
     """For each processor, when the current poll began, or the interrupt that requested it. A packet that the poll takes arrived before
     that, or during the poll."""
 
-    def __init__(self) -> None:  # by processor
-        self.handlers, self.ended, self.began = dict[int, int](), dict[int, tuple[int, int]](), dict[int, int]()
+    handlers: dict[int, int]
+    ended: dict[int, tuple[int, int, bool]]
+    began: dict[int, int]
+    by_card: dict[int, bool]
 
-    def look(self, event: Event) -> None:
-        kind, _, end = event.name.rpartition("_")
-        if event.name in ("softirq_entry", "softirq_exit"):
-            if int(event.parts(SOFTIRQ)[0]) == NET_RX:
-                self.begin(event) if end == "entry" else self.began.pop(event.cpu, None)
-        elif event.name == "napi_poll":
-            self.began[event.cpu] = event.time
-        elif event.name == "sched_switch":
-            if "next_comm=napi/" in event.said:
-                self.begin(event)
-            else:
-                self.began.pop(event.cpu, None)
-        elif kind in HANDLERS and end == "entry":
-            self.handlers[event.cpu] = event.time
-        elif kind in HANDLERS and event.cpu in self.handlers:
-            self.ended[event.cpu] = self.handlers.pop(event.cpu), event.time
+    def __init__(self) -> None:
+        self.handlers, self.ended, self.began, self.by_card = {}, {}, {}, {}  # by processor
+
+    def looks_at(self, name: str) -> list[Look]:
+        """Returns what handles the events of this name."""
+        kind, _, end = name.rpartition("_")
+        looks: dict[str, Look] = {
+            "softirq_entry": self.softirq,
+            "softirq_exit": self.softirq,
+            "napi_poll": self.poll,
+            "sched_switch": self.switch,
+        }
+        if kind in HANDLERS:
+            return [self.begin_handler if end == "entry" else self.end_handler]
+        return [looks[name]] if name in looks else []
+
+    def softirq(self, event: Event) -> None:
+        if int(event.parts(SOFTIRQ)[0]) == NET_RX:
+            self.begin(event) if event.name == "softirq_entry" else self.began.pop(event.cpu, None)
+
+    def poll(self, event: Event) -> None:
+        self.began[event.cpu] = event.time
+
+    def switch(self, event: Event) -> None:
+        if event.parts(SWITCH).is_napi:
+            self.begin(event)
+        else:
+            self.began.pop(event.cpu, None)
+
+    def begin_handler(self, event: Event) -> None:
+        self.handlers[event.cpu] = event.time
+
+    def end_handler(self, event: Event) -> None:
+        if event.cpu in self.handlers:
+            self.ended[event.cpu] = self.handlers.pop(event.cpu), event.time, event.name == "irq_handler_exit"
 
     def begin(self, event: Event) -> None:
-        asked, ended = self.ended.pop(event.cpu, (0, 0))
-        self.began[event.cpu] = asked if ended and event.time - ended <= SOON else event.time
+        asked, ended, by_card = self.ended.pop(event.cpu, (0, 0, False))
+        is_soon = ended > 0 and event.time - ended <= SOON
+        self.began[event.cpu], self.by_card[event.cpu] = asked if is_soon else event.time, is_soon and by_card
 
     def of(self, event: Event) -> int:
         return self.began.get(event.cpu, event.time)
@@ -114,11 +135,11 @@ def by_device(counted: Mapping[tuple[str, int], int]) -> Counter[str]:
     return of
 
 
-def why_no_packet(head: Head, count: int) -> str:
+def why_no_packet(head: Head, has_events: bool) -> str:
     """Returns the reason why a recording has no arrivals."""
     if "net/net_dev_xmit" in head.get("missing", "").split():
         return "the kernel that recorded it has no event net/net_dev_xmit, so there is no packet in it"
-    if not count:
+    if not has_events:
         return "there is no event in it, so there is no packet in it"
     return (
         "there is no packet in it: record the event net/net_dev_xmit while the other end of a veth pair sends, or of a card "

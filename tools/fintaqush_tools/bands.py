@@ -4,7 +4,8 @@ are varied.
 The doubt of the costs is twice the change of all costs by which the recorded setting's median waits would have been
 predicted, at least 15 % and at most 50 %. A band holds the predictions with all costs lower and higher by the doubt, or at the ends of a cost's confidence interval if
 that is wider; and the prediction plus twice what was missed at the recorded setting: times and few packets by the
-difference, all else by the ratio. Both of its ends are 3 % further, because recordings of one setting differ.
+difference, all else by the ratio. A setting that moves the program has costs up to `MOVED` % higher. Waits have half of NAPI's timeout, or of the card's least time between interrupts, if arrivals are inferred
+from polls that waited for it. Both of its ends are 3 % further, because recordings of one setting differ.
 
 Twice, because what the model lacks may take longer with another setting; tests/tools/test_bands.py counts how many
 recorded values are within.
@@ -25,10 +26,12 @@ TIMERS = ("timer", "timer-wake")  # costs that the recording may lack, and the m
 VARIED = {*COSTS, *TIMERS, "app-wake-apart"}
 DOUBT = 20  # % of the costs, if no recording says more
 LEAST, MOST = 15, 50  # % of the costs; those of three like recordings differed by 15 %
+MOVED = 100  # % by which costs were higher with the program on another processor
 TIMES = 2  # how much further than at the recorded setting a prediction may be off
 ALIKE = 0.03  # relative difference between recordings of one setting
 # If no NAPI timer was recorded: ns that its handler may take longer than an interrupt's, of which 3 to 6 us were
-# measured; and by which its polls may be late, because waking a processor after a long idle time took 16 to 40 us.
+# measured; and by which its polls may be late, because waking a processor after a long idle time took 16 to 40 us. One
+# in a hundred packets may always be so late.
 TIMER, LATE = 5_000, 30_000
 POLLS = ("polls", "runs", "timers")  # which a late timer makes fewer
 LIKE = {"lost": "dropped", "kernel_percent": "poll_percent"}  # predicted values whose error is that of another one
@@ -72,10 +75,14 @@ class Doubt:
         rows: Sequence[Compared],
         higher: Mapping[str, float],
         intervals: Mapping[str, Interval] | None = None,
+        arrivals: int = 0,
+        apart: int | None = None,
     ) -> None:
         """`rows` compare the recorded setting with its prediction, and `higher` is predicted with costs `DOUBT` % higher.
         `intervals` has the ends of each cost; without those of polls and packets only their sum is known, of which each
-        has the half in `costs`."""
+        has the half in `costs`. `arrivals` is by how many ns an arrival may be off. `apart` is whether the program had a
+        processor of its own."""
+        self.arrivals, self.apart, self.elsewhere = arrivals, apart, with_costs(costs, 100 + MOVED)
         self.rows = {row[0]: row for row in rows}
         self.percent = doubt_of(rows, higher)
         self.sides = []
@@ -91,6 +98,12 @@ class Doubt:
             for what, name, other in (("packets", "poll", "packet"), ("polls", "packet", "poll")):
                 self.sides.append((f"{what} that cost nothing", {**costs, name: 2 * costs[name], other: 0}))
 
+    def sides_of(self, options: Mapping[str, int]) -> list[dict[str, int]]:
+        """Returns the other costs that a setting may have. They are up to `MOVED` % higher if it moves the program: then the processors that deliver
+        and read a packet wait for each other's caches, which the recording doesn't show."""
+        is_moved = self.apart is not None and options.get("apart", 0) != self.apart
+        return [costs for _, costs in self.sides] + [self.elsewhere] * is_moved
+
     def moved(self, name: str, value: float) -> float:
         """Returns a predicted value if it is missed further than at the recorded setting."""
         row = self.rows.get(LIKE.get(name, name))
@@ -105,6 +118,8 @@ class Doubt:
         """Returns the band of a predicted value; `others` are its predictions with the costs of `sides`. `timeout` is that
         of NAPI's timer in ns, if polls wait for it."""
         ends = [value, *others, self.moved(name, value)]
+        if name in WAITS:
+            ends = [min(ends) - self.arrivals, max(ends) + self.arrivals + LATE * name.endswith("p99")]
         if timeout and self.lacks_timer:
             late = (
                 max(ends) + LATE

@@ -1,4 +1,5 @@
-"""Which part of the packets' waits passed while another task had the processor: for advise. It explains a recording and predicts nothing."""
+"""Which part of the packets' waits passed while another task had the processor, and what a full socket dropped: for advise. It explains a recording
+and predicts nothing."""
 
 from __future__ import annotations
 
@@ -8,6 +9,7 @@ from collections.abc import Collection, Iterable, Iterator, Sequence
 
 from fintaqush_tools.layout import Layout
 from fintaqush_tools.receiving import Receiving
+from fintaqush_tools.recording import Head
 from fintaqush_tools.tasks import KERNEL_TASKS, Tasks
 from fintaqush_tools.texts import shown
 
@@ -34,11 +36,11 @@ def others_in(tasks: Tasks, spans: Iterable[Span], known: Collection[int]) -> Co
     """Returns how long tasks had the processors in these spans, other than idle tasks, those that poll, and those with known numbers."""
     taken: Counter[str] = Counter()
     for processor, begin, end in spans:
-        times, running = tasks.history[processor]
+        times, switches = tasks.history[processor]
         place = max(0, bisect.bisect_right(times, begin) - 1)
         while place < len(times) and times[place] < end:
             until = times[place + 1] if place + 1 < len(times) else end
-            name, number, _ = running[place]
+            name, number, _ = switches[place].next
             if number and number not in known and not KERNEL_TASKS.match(name):
                 taken[name] += max(0, min(end, until) - max(begin, times[place]))
             place += 1
@@ -51,6 +53,16 @@ def told(waits: Sequence[tuple[int, list[Span]]], tasks: Tasks, known: Collectio
     taken = others_in(tasks, (span for _, spans in waits for span in spans), known)
     names = ", ".join(f"{shown(name)} {100 * time / whole:.0f} %" for name, time in taken.most_common(NAMED))
     return sum(taken.values()) / whole, names
+
+
+def lines_of_socket(head: Head) -> Iterator[str]:
+    """Yields a line about packets that were delivered and then dropped, because the socket's buffer was full."""
+    before, after = map(int, head.get("udp.RcvbufErrors", "0 0").split())
+    if after > before:
+        yield (
+            f"{after - before} datagrams were delivered and then dropped at a full socket: the program reads too slowly, or the buffer is too small "
+            "(SO_RCVBUF, net.core.rmem_max), and no setting that is tried here changes that"
+        )
 
 
 def lines_of(seen: Receiving, layout: Layout, known: Collection[int]) -> Iterator[str]:

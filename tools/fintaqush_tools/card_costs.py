@@ -8,16 +8,15 @@ kind were recorded; `known_costs` returns all of a recording, with a line about 
 from __future__ import annotations
 
 import bisect
-import re
-from collections.abc import Callable, Iterable, Sequence
+from collections.abc import Iterable, Sequence
 from dataclasses import replace
 from typing import Optional
 
 from fintaqush_tools.fits import FEWEST, Cost, cost_of
-from fintaqush_tools.recording import POLLED, Event, Head, fields_in
-from fintaqush_tools.timeline import RETURNED, TIMER, Timeline, switched
+from fintaqush_tools.recording import POLLED, SWITCH, Event, Head, Look, fields_by
+from fintaqush_tools.timeline import RETURNED, TIMER, Timeline
 
-GIVEN = re.compile(r"dev=(\S+) ")
+GIVEN = fields_by(r"dev=(\S+) ")
 TO_GRO = {"napi_gro_receive_entry", "napi_gro_frags_entry"}  # a driver passes a packet to GRO
 QUIET = 200_000  # ns without a poll before an arrival, after which the card and the processor are idle
 SLOW = 100_000  # ns: a wake-up that takes longer waits for the scheduler, if another task had the processor
@@ -42,31 +41,27 @@ class CardTimes:
         self.taken = {}  # by processor: when the poll that it makes last passed a packet to GRO
         self.sleeps = {}  # by task that sleeps: how many packets polls had delivered by then
         self.woken = {}  # by task that read the only packet since then: the end of that packet's poll
-        self.delivered, self.poll_end, self.poll_on, self.was_lone = 0, 0, -1, False
+        self.delivered, self.poll_end, self.poll_on, self.was_lone, self.span = 0, 0, -1, False, (0, 0)
 
-    def add(self, event: Event) -> None:
-        """Processes the next event of the recording."""
-        if look := self.look_at(event.name):
-            look(event)
-
-    def look_at(self, name: str) -> Optional[Callable[[Event], None]]:
+    def looks_at(self, name: str) -> list[Look]:
         """Returns what handles the events of this name."""
         if name.startswith("sys_"):
-            return self.end_read if name.startswith("sys_exit_") else self.begin_read
-        return {
+            return [self.end_read if name.startswith("sys_exit_") else self.begin_read]
+        looks: dict[str, Look] = {
             **dict.fromkeys(TO_GRO, self.take),
             "netif_receive_skb": self.end_batch,
             "napi_poll": self.poll,
             "sched_switch": self.switch,
-        }.get(name)
+        }
+        return [looks[name]] if name in looks else []
 
     def end_batch(self, event: Event) -> None:
         """GRO passes its batch to the stack."""
         self.taken.pop(event.cpu, None)
 
     def take(self, event: Event) -> None:
-        found = GIVEN.match(event.said)
-        if found and (not self.polled or found[1] in self.polled):
+        found = GIVEN[event.said]
+        if found and (not self.polled or found[0] in self.polled):
             if event.cpu in self.taken:
                 self.takes.append(event.time - self.taken[event.cpu])
             self.taken[event.cpu] = event.time
@@ -79,14 +74,14 @@ class CardTimes:
             self.poll_end, self.poll_on, self.was_lone = event.time, event.cpu, int(work) == 1
 
     def switch(self, event: Event) -> None:
-        task, is_sleep, *_ = switched(event)
-        if is_sleep:
-            self.sleeps[task] = self.delivered
+        found = event.parts(SWITCH)
+        if found.is_sleep:
+            self.sleeps[found.last[1]] = self.delivered
 
     def end_read(self, event: Event) -> None:
         """A read returns, perhaps of the only packet since the program slept."""
-        found, before = fields_in(RETURNED, event.said), self.sleeps.pop(event.pid, None)
-        if not found or not 0 < int(found[0], 16) < 1 << 31 or before is None:
+        before = self.sleeps.pop(event.pid, None)
+        if before is None or not RETURNED[event.said]:
             return
         if self.delivered - before == 1 and self.was_lone and event.cpu == self.poll_on:
             self.woken[event.pid] = self.poll_end

@@ -17,6 +17,8 @@ Options = dict[str, int]
 Values = dict[str, Any]
 Tried = tuple[Options, Values]  # a setting and its results
 
+MOST_COMPARED = 32  # settings that lose equally few packets
+
 GOALS = {
     "p99": "the 99th percentile of waits",
     "p50": "the median wait",
@@ -100,7 +102,7 @@ class Predictions:
 
     def sides_of(self, options: Options) -> list[Values]:
         """Returns the results with the other costs that the recording may have."""
-        return [self.of(options, costs) for _, costs in self.doubt.sides]
+        return [self.of(options, costs) for costs in self.doubt.sides_of(options)]
 
     def band(self, name: str, options: Options, values: Values, sides: Sequence[Values]) -> Interval:
         """Returns the band of a value of a setting; `values` and `sides` are its results."""
@@ -123,6 +125,9 @@ class Choice:
         allowed = [pair for pair in self.order if self.is_allowed(pair[1])]
         safe = next((pair for pair in allowed if self.is_safe(pair[0])), None)
         self.best, self.has_room = safe or next(iter(allowed), None), safe is not None
+        if self.best and self.goal == "drops":
+            least = [pair for pair in allowed if pair[1]["lost"] <= self.best[1]["lost"]]
+            self.best = min(least[:MOST_COMPARED], key=self.most_lost)
         if self.best:
             self.best = self.fewest_changes(self.best, allowed)
 
@@ -134,10 +139,14 @@ class Choice:
         near = [pair for pair in allowed if self.value(pair[1]) <= most]
         for pair in sorted(near, key=lambda pair: (*self.changes_of(pair[0]), *self.key(pair[1]))):
             others = self.predictions.sides_of(pair[0])
-            is_alike = self.is_alike(pair[1], best[1]) or any(map(self.is_alike, others, sides))
-            if is_alike and (not self.has_room or self.is_safe(pair[0])):
+            alike = map(self.is_alike, (pair[1], *others), (best[1], *sides))
+            if (all(alike) if self.goal == "drops" else any(alike)) and (not self.has_room or self.is_safe(pair[0])):
                 return pair
         return best
+
+    def most_lost(self, pair: Tried) -> int:
+        """Returns how many packets a setting may lose with the other costs."""
+        return max((int(values["lost"]) for values in self.predictions.sides_of(pair[0])), default=0)
 
     def is_alike(self, values: Values, best: Values) -> bool:
         return self.value(values) <= self.value(best) * (1 + ALIKE)

@@ -178,18 +178,18 @@ def of_recording(path: str, device: str | None) -> Values:
 
 def values_in_file(path: str, device: str | None) -> Values:
     """Returns the values of a file: results as JSON or as CSV of what-if and sweep, or a recording."""
-    with opened(path) as lines:
-        first = next(lines)
+    with opened(path) as texts:
+        first = next(texts)
         if first.startswith(HEAD.split()[0]):
             return of_recording(path, device)
         if first.startswith("{"):
-            objects = objects_in(first + "".join(lines))
+            objects = objects_in(first + "".join(texts))
             reader = READERS.get(objects[0]["tool"])
             if not reader:
                 raise Refusal(f"results of {shown(objects[0]['tool'])}, which aren't compared")
             return reader(objects)
-        if ROW_VALUES.keys() & set(first.strip().split(",")):
-            return values_of_rows(list(csv.DictReader(io.StringIO(first + "".join(lines)))))
+        if ROW_VALUES.keys() & set(first.partition("\n")[0].strip().split(",")):
+            return values_of_rows(list(csv.DictReader(io.StringIO(first + "".join(texts)))))
     raise Refusal(
         "neither results (--json FILE of a tool, or CSV of what-if or sweep) nor a file of fintaqush record; a trace is replayed with two "
         "settings by: fintaqush compare TRACE OPTION .. -- OPTION .."

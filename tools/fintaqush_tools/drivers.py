@@ -119,6 +119,12 @@ def options_of(head: Head, device: str) -> dict[str, int]:
     }
 
 
+def spare_of(head: Head, device: str) -> int:
+    """Returns how many packets less than its entries the recorded device's ring holds."""
+    driver = driver_in(head, device)
+    return driver.spare if driver else 0
+
+
 def coalescing_of(head: Head, device: str, choices: Sequence[int]) -> list[dict[str, int]]:
     """Returns the machine's option for each of these rx-usecs, without those that the recorded device's driver doesn't take, or
     whose effect isn't known. What an unknown driver takes isn't known, so they are all a card's timer."""

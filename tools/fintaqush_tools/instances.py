@@ -9,7 +9,7 @@ from dataclasses import dataclass, field
 from typing import Optional
 
 from fintaqush_tools.errors import Refusal
-from fintaqush_tools.recording import BACKLOG, Event, Head
+from fintaqush_tools.recording import BACKLOG, Event, Head, fields_by
 from fintaqush_tools.texts import shown
 
 Place = tuple[str, str]  # the device of an instance, and the address of its napi_struct
@@ -154,9 +154,8 @@ class Routes:
     backlogs: dict[int, Place]
     moved: set[str]
 
-    STARTED = re.compile(r"dev=(\S+) queue_mapping=(\d+) skbaddr=(\S+)")
-    SENT = re.compile(r"dev=\S+ skbaddr=(\S+)")
-    STACKED = re.compile(r"dev=(\S+) skbaddr=(\S+)")
+    STARTED = fields_by(r"dev=(\S+) queue_mapping=(\d+) skbaddr=(\S+)")
+    NAMED = fields_by(r"dev=(\S+) skbaddr=(\S+)")
 
     def __init__(self, head: Head, pairs: Mapping[str, str]) -> None:
         self.receivers, self.are_known = dict(pairs), False
@@ -185,15 +184,15 @@ class Routes:
     def of_sent(self, sender: str, event: Event) -> tuple[Place | None, str]:
         """Returns the instance that gets a sent packet, and the packet's address; no instance if only its reception shows that."""
         device = self.receivers[sender]
-        if not self.are_known:
-            return ANY, ""
-        (packet,) = event.parts(self.SENT)
+        if not self.are_known or device in self.only:
+            return self.only.get(device, ANY), ""
+        _, packet = event.parts(self.NAMED)
         queue = self.queues.pop(packet, -1)
-        return self.only.get(device) or self.by_queue.get((device, queue)), packet
+        return self.by_queue.get((device, queue)), packet
 
     def of_received(self, event: Event) -> tuple[Place | None, str]:
         """Returns the backlog that a received packet was in, if a backlog gets its device's packets, and the packet's address."""
-        device, packet = event.parts(self.STACKED)
+        device, packet = event.parts(self.NAMED)
         return (self.backlogs.get(event.cpu), packet) if device in self.moved else (None, packet)
 
     def of_poll(self, device: str, napi: str) -> Place:

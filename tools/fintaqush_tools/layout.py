@@ -24,6 +24,7 @@ class Layout:
 
     def __init__(self, seen: Receiving) -> None:
         self.seen, self.own_packets = seen, 0
+        self.known: dict[float, dict[int, list[float]]] = {}  # by the cost of a packet, what `waits` returns
         self.processors = sorted(set(seen.on))
         self.deliveries = seen.known = seen.deliveries()
         cpus = self.cpus_of_packets()
@@ -132,14 +133,13 @@ class Layout:
 
     def waits(self, cost: float) -> dict[int, list[float]]:
         """Returns the sorted waits to delivery of each device; none if packets and polls don't match. `cost` is that of a packet in ns."""
-        seen = self.seen
-        waits: defaultdict[int, list[float]] = defaultdict(list)
-        if not all(self.deliveries.values()):
-            return waits
-        for matched in self.deliveries.values():
-            for packet, poll, after in matched:
-                waits[self.devices[packet]].append(seen.delivery(packet, poll, after, cost) - seen.sent[packet])
-        return {device: sorted(each) for device, each in waits.items()}
+        if cost not in self.known:
+            seen, waits = self.seen, defaultdict[int, list[float]](list)
+            for matched in self.deliveries.values() if all(self.deliveries.values()) else ():
+                for packet, poll, after in matched:
+                    waits[self.devices[packet]].append(seen.delivery(packet, poll, after, cost) - seen.sent[packet])
+            self.known[cost] = {device: sorted(each) for device, each in waits.items()}
+        return self.known[cost]
 
     def shares(self) -> dict[int, float]:
         """Returns the share of the packets that each processor has."""

@@ -5,22 +5,22 @@ and the other tasks on their processors.
 from __future__ import annotations
 
 import bisect
-import re
 from array import array
 from collections import Counter, defaultdict
-from collections.abc import Callable, Collection, Iterable, Sequence
+from collections.abc import Collection, Iterable, Mapping, Sequence
 from typing import Optional, Union
 
 from fintaqush_tools.arriving import BY_PAIR, BY_POLL, BY_STACK, KINDS, PollBegins, packet_of
 from fintaqush_tools.instances import ANY, Place, Routes
-from fintaqush_tools.recording import NET_RX, POLLED, SENT, SOFTIRQ, Event, fields_in, is_by_thread
+from fintaqush_tools.recording import NET_RX, POLLED, SENT, SOFTIRQ, Event, Look, fields_by, is_by_thread
 from fintaqush_tools.tasks import Tasks
 
 Marked = Union[int, tuple[str, int]]  # a processor, or a thread
 
-TIMER = re.compile(r"hrtimer=\S+ function=(\w+)")
+TIMER = fields_by(r"hrtimer=\S+ function=(\w+)")
 FULL = 64  # packets, the weight of a poll
 MOST_UNREAD = 64  # packets that may wait for the program when a recording begins
+SLACK = 1.1  # by which the time between two interrupts may exceed the least one that a card keeps
 EARLY = 100_000  # ns: an arrival's event comes after the arrival, by at most this
 
 
@@ -32,21 +32,51 @@ def agree(pairs: Sequence[tuple[float, float]]) -> bool:
 
 
 class Received:
-    """A packet that a poll took: when it arrived by that poll, its device, its processor, the hash of its flow, and the
-    instance once it is known."""
+    """A packet that a poll took: when it arrived by that poll, its device, its processor, the hash of its flow, whether a card's interrupt
+    asked for the poll, and the instance once it is known."""
 
-    __slots__ = ("time", "device", "cpu", "flow", "place")
+    __slots__ = ("time", "device", "cpu", "flow", "by_card", "place")
 
-    def __init__(self, time: int, device: str, cpu: int, flow: int) -> None:
-        self.time, self.device, self.cpu, self.flow, self.place = time, device, cpu, flow, ANY
+    def __init__(self, time: int, device: str, cpu: int, flow: int, by_card: bool = False) -> None:
+        self.time, self.device, self.cpu, self.flow, self.by_card, self.place = time, device, cpu, flow, by_card, ANY
+
+
+class Held:
+    """Finds when packets may have come that waited in a card's ring until a timer of NAPI or of the card ended. They count as spread evenly over
+    the time since the poll before, because neither their arrival nor the card's interrupt is recorded."""
+
+    before: dict[Place, tuple[int, int, int]]
+
+    def __init__(self, options: Mapping[str, int]) -> None:
+        """`options` are the machine's for the recorded settings."""
+        flush = options.get("gro-flush-timeout", 0) * (not options.get("heedless", 0))
+        self.deferrals = options.get("defer-hard-irqs", 0) if flush else 0
+        self.delay, self.gap = options.get("rx-nsecs", 0), options.get("rx-gap", 0)
+        self.doubt = max(flush if self.deferrals else 0, self.gap) // 2  # ns by which an arrival may be off
+        # For each instance: the end of its last poll, how often its interrupt is still deferred, and when a poll last began that wasn't deferred.
+        self.before = {}
+
+    def spread(self, place: Place, packets: Sequence[Received], work: int, ended: int) -> None:
+        """Changes the arrivals of the packets that a poll took."""
+        end, left, asked = self.before.get(place, (0, 0, 0))
+        begun = packets[0].time if packets else ended
+        by_timer = left > 0 and not (
+            packets and packets[0].by_card
+        )  # some drivers unmask the card before the timer ends
+        is_held = by_timer or begun - asked <= SLACK * self.gap
+        since = end if is_held else max(end, begun - self.delay)  # the first packet starts a card's timer
+        for number, packet in enumerate(packets if end else ()):
+            packet.time = since + int((begun - since) * (number + is_held / 2) / len(packets))
+        self.before[place] = ended, self.deferrals if work else max(0, left - 1), asked if by_timer else begun
 
 
 class Receiving:
     """The instances that poll `polled`, with packets of the devices `senders`; if no sender is known, packets that `receivers` receive.
-    `routes` finds the instance of a sent packet; without it all polls count as those of one instance. Times are in ns.
+    `routes` finds the instance of a sent packet; without it all polls count as those of one instance. `options` are the machine's for the
+    recorded settings. Times are in ns.
     """
 
-    span: tuple[int, int] | None
+    span: tuple[int, int]
     sent: array[int]
     sent_on: array[int]
     sent_by: list[str]
@@ -69,12 +99,16 @@ class Receiving:
     taken: defaultdict[int, list[Received]]
     packets_of: Counter[Place]
     known: Optional[dict[Place, list[tuple[int, int, int]]]]
-    looks: dict[str, Optional[Callable[[Event], None]]]
 
     def __init__(
-        self, polled: set[str], senders: set[str], receivers: Iterable[str] = (), routes: Optional[Routes] = None
+        self,
+        polled: set[str],
+        senders: set[str],
+        receivers: Iterable[str] = (),
+        routes: Optional[Routes] = None,
+        options: Optional[Mapping[str, int]] = None,
     ) -> None:
-        self.polled, self.senders, self.span = polled, senders, None
+        self.polled, self.senders, self.span, self.held = polled, senders, (0, 0), Held(options or {})
         self.routes = routes or Routes({}, {sender: "" for sender in senders})
         self.receivers, self.begins, self.received = set(receivers), PollBegins(), {BY_POLL: [], BY_STACK: []}
         # When each packet was sent, and 1 unless a full ring dropped it.
@@ -97,25 +131,11 @@ class Receiving:
         # By processor: when its softirqs began; its NAPI timers.
         self.entries, self.timers = (defaultdict(lambda: array("Q")), Counter())
         self.reads, self.reading = [], {}  # for each read its end, and the beginning of the next read by that task
-        self.mark, self.tasks, self.known, self.looks = {}, Tasks(), None, {}
+        self.mark, self.tasks, self.known = {}, Tasks(), None
 
-    def add(self, event: Event) -> None:
-        """Processes the next event of the recording."""
-        self.span = (self.span[0] if self.span else event.time, event.time)
-        if self.receivers:
-            self.begins.look(event)
-        try:
-            look = self.looks[event.name]
-        except KeyError:
-            look = self.looks[event.name] = self.look_at(event.name)
-        if look:
-            look(event)
-
-    def look_at(self, name: str) -> Optional[Callable[[Event], None]]:
+    def looks_at(self, name: str) -> list[Look]:
         """Returns what handles the events of this name."""
-        if name.startswith("sys_"):
-            return self.end_read if name.startswith("sys_exit_") else self.begin_read
-        return {
+        looks: dict[str, Look] = {
             **dict.fromkeys(KINDS, self.add_received),
             BY_PAIR: self.add_packet,
             "net_dev_start_xmit": self.routes.start,
@@ -124,7 +144,11 @@ class Receiving:
             "softirq_exit": self.mark_softirq,
             "hrtimer_expire_entry": self.count_timer,
             "sched_switch": self.switch,
-        }.get(name)
+        }
+        if name.startswith("sys_"):
+            return [self.end_read if name.startswith("sys_exit_") else self.begin_read]
+        own = [looks[name]] if name in looks else []
+        return [*self.begins.looks_at(name), *own] if self.receivers else own
 
     def mark_softirq(self, event: Event) -> None:
         if int(event.parts(SOFTIRQ)[0]) != NET_RX:
@@ -134,13 +158,13 @@ class Receiving:
             self.entries[event.cpu].append(event.time)
 
     def count_timer(self, event: Event) -> None:
-        found = fields_in(TIMER, event.said)
+        found = TIMER[event.said]
         self.timers[event.cpu] += found is not None and found[0] == "napi_watchdog"
 
     def switch(self, event: Event) -> None:
-        name, number, _ = self.tasks.switch(event, self.span[0] if self.span else 0)
-        if name.startswith("napi/"):
-            self.mark["thread", number] = event.time
+        found = self.tasks.switch(event)
+        if found.is_napi:
+            self.mark["thread", found.next[1]] = event.time
 
     def end_read(self, event: Event) -> None:
         self.reading[event.pid] = event.time
@@ -173,7 +197,8 @@ class Receiving:
                 self.moved[event.cpu] += 1
         name, _, flow = packet_of(event)
         if name in self.receivers:
-            packet = Received(self.begins.of(event), name, event.cpu, flow)
+            by_card = self.begins.by_card.get(event.cpu, False)
+            packet = Received(self.begins.of(event), name, event.cpu, flow, by_card)
             self.received[KINDS[event.name]].append(packet)
             self.taken[event.cpu].append(packet)
 
@@ -186,7 +211,9 @@ class Receiving:
             is_own = work > 0
         if is_own:
             place = (device, napi) if self.receivers else self.routes.of_poll(device, napi)
-            for packet in self.taken.pop(event.cpu, ()):
+            taken = self.taken.pop(event.cpu, [])
+            self.held.spread(place, taken, work, event.time)
+            for packet in taken:
                 packet.place = place
             self.packets_of[device, napi] += work
             self.ended.append(event.time)
@@ -204,7 +231,7 @@ class Receiving:
     def settle(self) -> str:
         """Ends the reading, and leaves out the polls of instances that took no packet. If no sender's packets are known, uses the received ones
         as arrivals. Returns the kind of event, or nothing."""
-        self.tasks.end(*(self.span or (0, 0)))
+        self.tasks.end(*self.span)
         self.leave_out({place for place in set(self.places) if place != ANY and not self.packets_of[place]})
         kind = next((kind for kind, packets in self.received.items() if packets), "")
         if self.senders or not kind:

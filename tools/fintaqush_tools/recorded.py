@@ -3,13 +3,14 @@
 from __future__ import annotations
 
 from fintaqush_tools import predicting
+from fintaqush_tools.advice import options_of
 from fintaqush_tools.captured import arrivals_within
 from fintaqush_tools.errors import Refusal
 from fintaqush_tools.instances import ANY, NapiInstance, Routes, instances_in
 from fintaqush_tools.layout import Layout
 from fintaqush_tools.options import Words
 from fintaqush_tools.receiving import Receiving
-from fintaqush_tools.recording import BACKLOG, check_lost, events_in, head_of
+from fintaqush_tools.recording import BACKLOG, check_lost, head_of, read
 from fintaqush_tools.texts import shown
 from fintaqush_tools.timeline import Timeline
 from fintaqush_tools.tracing import STACK
@@ -35,15 +36,13 @@ class Recording:
         self.capture = words.capture
         self.check_head()
         pairs = {self.sender: self.device} if self.sender else {}
-        self.seen = Receiving({self.polled}, set(pairs), () if pairs else {self.device}, Routes(self.head, pairs))
+        receivers, routes = set[str]() if pairs else {self.device}, Routes(self.head, pairs)
+        self.seen = Receiving({self.polled}, set(pairs), receivers, routes, options_of(self.head, self.device, 0))
 
     def read(self, times: Timeline | None = None) -> Recording:
         """Reads the events, also for `times`, which costs are estimated from. Fails if the recording can't be predicted."""
         lost: list[str] = []
-        for event in events_in(self.path, lost):
-            self.seen.add(event)
-            if times:
-                times.add(event)
+        read(self.path, lost, lambda _: [self.seen, *([times] if times else [])])
         check_lost(lost)
         self.by = self.seen.settle()
         self.check()

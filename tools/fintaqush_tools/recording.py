@@ -1,4 +1,4 @@
-"""Reads recordings line by line: the text of ftrace, of `trace-cmd report` or of `perf script`, and the files of fintaqush record."""
+"""Reads recordings: the text of ftrace, of `trace-cmd report` or of `perf script`, and the files of fintaqush record."""
 
 from __future__ import annotations
 
@@ -8,8 +8,8 @@ import io
 import itertools
 import re
 import zlib
-from collections.abc import Generator, Iterable, Iterator
-from typing import IO, Any, NamedTuple, Optional
+from collections.abc import Callable, Iterable, Iterator, Sequence
+from typing import IO, Any, NamedTuple, Optional, Protocol, TypeVar
 
 from fintaqush_tools import files
 from fintaqush_tools.arrivals import seconds
@@ -21,7 +21,9 @@ from fintaqush_tools.texts import is_number, shown
 Head = dict[str, str]  # of a file of fintaqush record
 
 MOST_LINE = 4096  # characters
+NO_LINE = "no line of ftrace, `trace-cmd report` or `perf script`"
 HEAD = "fintaqush-recording 1"
+TRACE = "\ntrace\n"  # ends the head
 CAPTURE = "this is a capture, which fintaqush from-pcap reads"
 # Recognized by their first bytes.
 OTHERS = {
@@ -42,33 +44,52 @@ LINE = re.compile(
     r"(?:(?P<flags>\S+)\s+)?(?P<seconds>\d{1,10})\.(?P<fraction>\d{6,9}):\s+(?:\d+\s+)?"
     r"(?:(?:\w+:)?(?P<name>\w+):(?!\w)|sys_(?P<call>\w+)(?P<is_exit> ->|(?=\()))\s*(?P<said>.*)"
 )
-SENT = re.compile(r"dev=(\S+) .*\blen=(\d{1,10}) rc=(\w+)")
-POLLED = re.compile(r"napi poll on napi struct (\S+) for (?:network )?device (\S+) work (\d{1,9}) budget (\d{1,9})")
-SOFTIRQ = re.compile(r"vec=(\d{1,9})")
 LOST = re.compile(r"\[LOST (\d+) EVENTS\]|\[(\d+) EVENTS DROPPED\]|PERF_RECORD_LOST lost (\d+)")
 # The lines of a call chain, which perf writes after an event.
 NO_EVENT = re.compile(r"\s*(#.*|cpus=\d+|version = .*|CPU:? ?\d+ is empty|[0-9a-f]{4,16} .* \(.*\))?$")
+# A line as fintaqush record writes it: the task with its processor and flags, which `FRONT` splits; the time in ns; the name; and what the event
+# says. `LINE` finds the same in each of them.
+QUICK = re.compile(
+    r"^([^\[\n]+\[\d{1,6}\] \S+) +(\d{1,10})\.(\d{9}): (\w+: |sys_\w+(?: -> |(?=\()))(.{0,4000})\n", re.M
+)
+FRONT = re.compile(r"\s*(\S.*?)(?:-|\s+(?:\d{1,9}/)?)(\d{1,9})\s+(?:\([\s\d-]+\)\s+)?\[(\d+)\] (\S+)")
 
-
-NEXT = re.compile(r".*next_comm=(.*) next_pid=(\d{1,9}) ")
 MOST_KNOWN = 1 << 14  # texts of an event whose fields are kept, because most texts come again and again
-PIECE = 1 << 18  # characters that are read at once
+PIECE = 1 << 16  # characters that are read at once; what is made of more doesn't stay in a processor's cache
+MOST_HEAD = 1 << 24  # characters
 
+Parsed = TypeVar("Parsed")
 Fields = Optional[tuple[str, ...]]
-known: dict[str, dict[str, Fields]] = {}  # for each pattern, the fields of texts
 
 
-def fields_in(pattern: re.Pattern[str], text: str) -> Fields:
-    """Returns the fields of a text, or None if the pattern doesn't match it."""
-    try:
-        return known[pattern.pattern][text]
-    except KeyError:
-        fields = known.setdefault(pattern.pattern, {})
-    if len(fields) >= MOST_KNOWN:
-        fields.clear()
-    found = pattern.match(text)
-    fields[text] = found.groups() if found else None
-    return fields[text]
+class Known(dict[str, Parsed]):
+    """What texts say, by `parse`, and kept, because most of them come again and again."""
+
+    def __init__(self, parse: Callable[[str], Parsed]) -> None:
+        super().__init__()
+        self.parse = parse
+
+    def __missing__(self, text: str) -> Parsed:
+        if len(self) >= MOST_KNOWN:
+            self.clear()
+        self[text] = parsed = self.parse(text)
+        return parsed
+
+
+def fields_by(pattern: str) -> Known[Fields]:
+    """Returns the fields of texts by a pattern, or None for a text that it doesn't match."""
+    match = re.compile(pattern).match
+
+    def parse(text: str) -> Fields:
+        found = match(text)
+        return found.groups() if found else None
+
+    return Known(parse)
+
+
+SENT = fields_by(r"dev=(\S+) (?:\S+ )*?len=(\d{1,10}) rc=(\w+)")
+POLLED = fields_by(r"napi poll on napi struct (\S+) for (?:network )?device (\S+) work (\d{1,9}) budget (\d{1,9})")
+SOFTIRQ = fields_by(r"vec=(\d{1,9})")
 
 
 class Event(NamedTuple):
@@ -83,133 +104,204 @@ class Event(NamedTuple):
     said: str
     pid: int = 0
 
-    def parts(self, *patterns: re.Pattern[str]) -> tuple[str, ...]:
-        """Returns the fields of the event, by the patterns of its kind, of which the first that matches counts."""
-        for pattern in patterns:
-            found = fields_in(pattern, self.said)
-            if found is not None:
-                return found
+    def parts(self, texts: Known[Optional[Parsed]]) -> Parsed:
+        """Returns what the event says, by the texts of its kind. Fails if its text has an unknown form."""
+        parsed = texts[self.said]
+        if parsed is not None:
+            return parsed
         raise Refusal(f"line {self.line}: {self.name} says {shown(self.said[:80])!r}, an unknown format")
 
 
-class Processors(dict[str, int]):
-    """The numbers of processors by their text in a line, as 003]."""
-
-    def __missing__(self, text: str) -> int:
-        if text[-1] != "]" or not is_number(text[:-1], 10**6):
-            raise ValueError
-        self[text] = int(text[:-1])
-        return self[text]
+Look = Callable[[Event], None]
 
 
-class Threads(dict[str, tuple[str, int]]):
-    """The names and numbers of threads by their text in a line. Ftrace keeps only a few names, and writes `<...>` for the others: these are of the
-    last switch to the thread."""
+class Reader(Protocol):
+    """What handles the events of a recording. `span` is when the first and the last of all events were, known after the last one."""
 
-    names: dict[str, str]
+    span: tuple[int, int]
+
+    def looks_at(self, name: str) -> list[Look]:
+        """Returns what handles the events of this name, in this order."""
+
+
+Task = tuple[str, int, int]  # its name, its number and its priority
+
+
+class Switch(NamedTuple):
+    """What a task switch says: the task that leaves the processor, whether it sleeps, the next task, and whether that is a NAPI thread."""
+
+    last: Task
+    is_sleep: bool
+    next: Task
+    is_napi: bool
+
+
+SWITCHED = re.compile(
+    r"prev_comm=(.*) prev_pid=(\d{1,9}) prev_prio=(-?\d{1,9}) prev_state=(\S+) ==> next_comm=(.*) next_pid=(\d{1,9}) next_prio=(-?\d{1,9})"
+)
+SHORT = re.compile(r"(.*):(\d{1,9}) \[(-?\d{1,9})\] (\S+) ==> (.*):(\d{1,9}) \[(-?\d{1,9})\]")  # trace-cmd's form
+
+
+def switch_in(text: str) -> Optional[Switch]:
+    """Parses the text of a task switch; None if it has an unknown form."""
+    found = SWITCHED.match(text) or SHORT.match(text)
+    if not found:
+        return None
+    task, pid, priority, state, name, number, other = found.groups()
+    is_sleep, following = not state.startswith("R"), (name, int(number), int(other))
+    return Switch((task, int(pid), int(priority)), is_sleep, following, name.startswith("napi/"))
+
+
+SWITCH = Known(switch_in)
+
+
+class Threads(dict[str, tuple[str, int, str, int]]):
+    """The name of a thread, its processor, its flags and its number by their text in a line. Ftrace keeps only a few names, and writes `<...>` for
+    the others: these are of the last switch to the thread."""
+
+    names: dict[int, str]
 
     def __init__(self) -> None:
         super().__init__()
-        self.names = {}
+        self.names, self.span = {}, (0, 0)
 
-    def __missing__(self, text: str) -> tuple[str, int]:
-        task, _, pid = text.rpartition("-")
-        if not is_number(pid.rstrip()):
-            raise ValueError
-        return self.of(task.lstrip(), pid.rstrip(), text)
+    def looks_at(self, name: str) -> list[Look]:
+        """Returns what handles the events of this name."""
+        return [self.switch] if name == "sched_switch" else []
 
-    def of(self, task: str, pid: str, text: str = "") -> tuple[str, int]:
-        """Returns the name and the number of a thread, and keeps them unless the name may change."""
-        if task == "<...>":
-            return self.names.get(pid, task), int(pid)
-        if text and len(self) < MOST_KNOWN:
-            self[text] = task, int(pid)
-        return task, int(pid)
+    def __missing__(self, text: str) -> tuple[str, int, str, int]:
+        found = FRONT.fullmatch(text)
+        if not found:
+            raise Refusal(f"{NO_LINE}: {text.strip()[:60]!r}")
+        task, pid, cpu, flags = found.groups()
+        front = self.named(task, int(pid)), int(cpu), flags, int(pid)
+        if task != "<...>" and len(self) < MOST_KNOWN:
+            self[text] = front
+        return front
 
-    def switch(self, said: str) -> None:
-        """Handles what a task switch says."""
-        named = fields_in(NEXT, said)
-        if named:
-            self.names[named[1]] = named[0]
+    def named(self, task: str, pid: int) -> str:
+        """Returns the name of a thread."""
+        return self.names.get(pid, task) if task == "<...>" else task
+
+    def switch(self, event: Event) -> None:
+        found = SWITCH[event.said]
+        if found:
+            self.names[found.next[1]] = found.next[0]
 
 
-def event_of(number: int, found: re.Match[str], threads: Threads, forms: dict[str, tuple[str, str]]) -> Event:
-    """Returns the event of a line that the pattern of all forms matches, and keeps its form: by the word before what an event says, its name, and
-    the mark after which that begins."""
+def event_of(number: int, found: re.Match[str], threads: Threads) -> Event:
+    """Returns the event of a line that the pattern of all forms matches."""
     task, pid, cpu, flags, whole, fraction, name, call, is_exit, said = found.groups()
-    # Ftrace writes `sys_read(..` and `sys_read -> ..`.
-    word = f"{name}:" if name else f"sys_{call}" + ("" if is_exit else said.split(None, 1)[0])
-    mark = "" if name else " ->" if is_exit else f"sys_{call}"
     name = name or ("sys_exit_" if is_exit else "sys_enter_") + call
-    if len(forms) < MOST_KNOWN:
-        forms[word] = name, mark
-    if name == "sched_switch":
-        threads.switch(said)
-    return Event(
-        number, threads.of(task, pid)[0], int(cpu), flags or "", seconds(whole, fraction), name, said.rstrip(), int(pid)
-    )
+    time, own = seconds(whole, fraction), threads.named(task, int(pid))
+    return Event(number, own, int(cpu), flags or "", time, name, said.rstrip(), int(pid))
 
 
-def events_of(lines: Iterable[str], lost: list[str], first: int = 1) -> Generator[Event, None, int]:
-    """Yields the events of these lines, and returns their number; `first` is the number of the first line. If the kernel lost events, a note is
-    added to `lost`. Lines with times in ns, as fintaqush record writes them, are split at spaces, which is five times faster than the pattern.
-    """
-    threads, forms, cpus, new, count = Threads(), dict[str, tuple[str, str]](), Processors(), tuple.__new__, 0
-    for number, line in enumerate(lines, first):
-        try:
-            front, _, rest = line.partition("[")
-            cpu, flags, stamp, word, said = rest.split(None, 4)
-            name, mark = forms[word]
-            task, pid = threads[front]
-            if stamp[-11] != "." or said[-1] != "\n":
-                raise ValueError
-            said = line[line.index(mark) + len(mark) :].strip() if mark else said.rstrip()
-            event = new(Event, (number, task, cpus[cpu], flags, int(stamp[:-11] + stamp[-10:-1]), name, said, pid))
-        except (KeyError, ValueError, IndexError):
-            found = LINE.match(line)
-            if not is_event(number, line, found is not None, lost, first > 1) or not found:
-                continue
-            event = event_of(number, found, threads, forms)
+def name_of(word: str) -> str:
+    """Returns the name of an event by the word before what it says: ftrace writes `sys_read(..` and `sys_read -> ..`."""
+    if word.endswith(": "):
+        return word[:-2]
+    return word.replace("sys_", "sys_exit_", 1)[:-4] if word.endswith("> ") else word.replace("sys_", "sys_enter_", 1)
+
+
+class Texts:
+    """Passes the events of texts, one after the other and each of whole lines, to the readers that handle events of their names."""
+
+    def __init__(self, readers: Sequence[Reader], lost: list[str], first: int = 1) -> None:
+        """If the kernel lost events, a note is added to `lost`. `first` is the number of the first line."""
+        self.lost, self.line, self.has_head, self.count = lost, first, first > 1, 0
+        self.threads, self.span = Threads(), (0, 0)
+        self.readers: list[Reader] = [self.threads, *readers]
+        self.looks = Known(self.looks_at)
+
+    def looks_at(self, word: str) -> tuple[str, list[Look]]:
+        """Returns the name of an event by the word before what it says, and what handles it."""
+        name = name_of(word)
+        return name, [look for reader in self.readers for look in reader.looks_at(name)]
+
+    def add(self, text: str) -> None:
+        """Passes the events of the next text on. If all its lines are as fintaqush record writes them, it is parsed at once, which is much faster."""
+        found, first = QUICK.findall(text), self.line
+        self.line += text.count("\n")
+        if text.endswith("\n") and first + len(found) == self.line:
+            self.count += len(found)
+            self.reach(int(found[0][1] + found[0][2]))
+            self.add_quick(found, first)
+            self.reach(int(found[-1][1] + found[-1][2]))
         else:
-            if name == "sched_switch":
-                threads.switch(said)
-        count += 1
-        yield event
-    return count
+            self.add_slow(text, first)
+
+    def reach(self, time: int) -> None:
+        """Handles the time of an event, if no other one has come since then."""
+        self.span = self.span[0] or time, time
+
+    def add_quick(self, found: Iterable[tuple[str, ...]], first: int) -> None:
+        threads, looks, new = self.threads, self.looks, tuple.__new__
+        for number, (front, whole, fraction, word, said) in enumerate(found, first):
+            name, handles = looks[word]
+            if handles:
+                task, cpu, flags, pid = threads[front]
+                event = new(Event, (number, task, cpu, flags, int(whole + fraction), name, said.strip(), pid))
+                for handle in handles:
+                    handle(event)
+
+    def add_slow(self, text: str, first: int) -> None:
+        for number, line in enumerate(re.findall(r"[^\n]*\n|[^\n]+", text), first):
+            found = LINE.match(line)
+            if is_event(number, line, found is not None, self.lost, self.has_head) and found:
+                self.count += 1
+                event = event_of(number, found, self.threads)
+                self.reach(event.time)
+                for handle in self.looks[f"{event.name}: "][1]:
+                    handle(event)
+
+    def end(self) -> None:
+        for reader in self.readers:
+            reader.span = self.span
+
+
+class Events(list[Event]):
+    """A reader that keeps all events."""
+
+    span = (0, 0)
+
+    def looks_at(self, _name: str) -> list[Look]:
+        """Returns what handles the events of any name."""
+        return [self.append]
 
 
 def is_event(number: int, line: str, is_found: bool, lost: list[str], has_head: bool) -> bool:
-    """Returns whether a line is an event. Fails if it is cut or of no known form."""
+    """Returns whether a line is an event. Fails if it is cut, too long or of no known form."""
+    if len(line) > MOST_LINE:
+        raise Refusal(f"line {number}: longer than any line of ftrace")
     if not line.endswith("\n") and (has_head or not is_found):
         raise Refusal(f"it is cut: line {number} isn't whole")
     if ("LOST" in line or "DROPPED" in line) and (loss := LOST.search(line)):
         lost.append(f"line {number} of the recording: the kernel lost {loss[1] or loss[2] or loss[3]} events")
         return False
     if not is_found and not NO_EVENT.match(line):
-        raise Refusal(f"line {number}: no line of ftrace, `trace-cmd report` or `perf script`: {line.strip()[:60]!r}")
+        raise Refusal(f"line {number}: {NO_LINE}: {line.strip()[:60]!r}")
     return is_found
 
 
-def lines_of(file: IO[str]) -> Iterator[str]:
-    """Yields the lines of an open text; one that is too long fails. The text is read in pieces, which is faster than by lines."""
-    number, rest = 0, ""
+def texts_of(file: IO[str]) -> Iterator[str]:
+    """Yields an open text in pieces of whole lines."""
+    number, rest = 1, ""
     with Progress("reading", lambda: share_of(file)):
         while piece := file.read(PIECE):
-            lines = (rest + piece).split("\n")
-            if max(map(len, lines)) >= MOST_LINE:
-                place = next(place for place, line in enumerate(lines, number + 1) if len(line) >= MOST_LINE)
-                raise Refusal(f"line {place}: longer than any line of ftrace")
-            rest = lines.pop()
-            number += len(lines)
-            for line in lines:
-                yield line + "\n"
+            text, end, rest = (rest + piece).rpartition("\n")
+            number += text.count("\n") + len(end)
+            if len(rest) >= MOST_LINE:
+                raise Refusal(f"line {number}: longer than any line of ftrace")
+            if end:
+                yield text + end
     if rest:
         yield rest
 
 
 @contextlib.contextmanager
 def opened(recording: str) -> Iterator[Iterator[str]]:
-    """Opens a file, also as .gz, or standard input for `-`, and yields its lines. Fails if it isn't a text of events."""
+    """Opens a file, also as .gz, or standard input for `-`, and yields its text in pieces. Fails if it isn't a text of events."""
     check_input(recording)
     try:
         with files.opened(recording) as plain:
@@ -222,50 +314,50 @@ def opened(recording: str) -> Iterator[Iterator[str]]:
                 if begin.startswith(magic):
                     raise Refusal(what)
             with io.TextIOWrapper(file, encoding="utf-8", errors="replace") as text:
-                yield lines_of(text)
+                yield texts_of(text)
     except (EOFError, zlib.error, gzip.BadGzipFile) as error:
         raise Refusal(f"it isn't whole: {error}") from None
 
 
-def head_in(lines: Iterator[str]) -> Head:
-    """Parses the head of fintaqush record's file, from the lines after the first one."""
-    head: Head = {}
-    for line in lines:
-        key, _, value = line.rstrip("\n").partition(" ")
-        if key == "trace" and not value:
-            return head
-        head[key] = value
-    raise Refusal("it is cut: its head has no end")
-
-
-def parts_of(lines: Iterator[str]) -> tuple[Head, Iterator[str]]:
-    """Returns the head, empty for text of other tools, and the lines of the trace."""
-    first = next(lines)
-    if first.rstrip("\n") == HEAD:
-        head = head_in(lines)
-        return head, lines
-    if first.startswith(HEAD.split()[0]):
+def parts_of(texts: Iterator[str]) -> tuple[Head, Iterator[str]]:
+    """Returns the head of fintaqush record's file, empty for text of other tools, and the text of the trace."""
+    text = next(texts)
+    first = text.partition("\n")[0]
+    if first != HEAD and first.startswith(HEAD.split()[0]):
         raise Refusal(f"{first.strip()[:60]!r}: another version of fintaqush record wrote it; this one reads version 1")
-    return {}, itertools.chain([first], lines)
+    if first != HEAD:
+        return {}, itertools.chain([text], texts)
+    while TRACE not in text:
+        more = next(texts, "")
+        if not more or len(text) > MOST_HEAD:
+            raise Refusal("it is cut: its head has no end")
+        text += more
+    head, _, text = text.partition(TRACE)
+    pairs = (line.partition(" ") for line in head.split("\n")[1:])
+    return {key: value for key, _, value in pairs}, itertools.chain([text] if text else [], texts)
 
 
 def head_of(recording: str) -> Head:
     """Returns the head of fintaqush record's file, by its keys; text of other tools has none."""
-    with opened(recording) as lines:
-        return parts_of(lines)[0]
+    with opened(recording) as texts:
+        return parts_of(texts)[0]
 
 
-def events_in(recording: str, lost: list[str], head: Head | None = None) -> Iterator[Event]:
-    """Yields the events of a file, also as .gz, or of standard input for `-`. Fills `head` with the file's head, if a dictionary is given."""
-    with opened(recording) as lines:
-        found, lines = parts_of(lines)
-        if head is not None:
-            head.update(found)
-        if is_number(found.get("lost", "0")) and int(found.get("lost", "0")):
-            lost.append(f"the kernel lost {found['lost']} events")
-        count = yield from events_of(lines, lost, len(found) + 3 if found else 1)
-        if found and found.get("lines") != str(count):
-            raise Refusal(f"it is cut: {count} of {shown(found.get('lines', 'an unknown number of'))} events are there")
+def read(recording: str, lost: list[str], readers: Callable[[Head], Sequence[Reader]]) -> Head:
+    """Reads a file, also as .gz, or standard input for `-`, passes its events to the readers, which `readers` makes for its head, and returns the head."""
+    with opened(recording) as pieces:
+        head, pieces = parts_of(pieces)
+        if is_number(head.get("lost", "0")) and int(head.get("lost", "0")):
+            lost.append(f"the kernel lost {head['lost']} events")
+        texts = Texts(readers(head), lost, len(head) + 3 if head else 1)
+        for piece in pieces:
+            texts.add(piece)
+        texts.end()
+        if head and head.get("lines") != str(texts.count):
+            raise Refusal(
+                f"it is cut: {texts.count} of {shown(head.get('lines', 'an unknown number of'))} events are there"
+            )
+    return head
 
 
 def check_lost(lost: list[str]) -> None:

@@ -7,13 +7,8 @@ from array import array
 from collections import Counter, defaultdict
 from collections.abc import Collection
 
-from fintaqush_tools.recording import Event
+from fintaqush_tools.recording import SWITCH, Event, Switch, Task
 
-Task = tuple[str, int, int]  # its name, its number and its priority
-
-SWITCH = re.compile(
-    r"prev_comm=(.*) prev_pid=(\d{1,9}) prev_prio=(\d{1,3}) .*==> next_comm=(.*) next_pid=(\d{1,9}) next_prio=(\d{1,3})"
-)
 # Tasks that poll, or that take negligible time.
 KERNEL_TASKS = re.compile(r"swapper|ksoftirqd/|napi/|migration/|rcu|cpuhp/|idle_inject/")
 REAL_TIME = 100  # a lower priority is that of a real-time task, which no other task disturbs
@@ -22,32 +17,30 @@ REAL_TIME = 100  # a lower priority is that of a real-time task, which no other 
 class Tasks:
     """The tasks of each processor. `end` has to be called before shares are asked for."""
 
-    running: dict[int, tuple[int, Task]]
     times: defaultdict[int, Counter[Task]]
-    history: defaultdict[int, tuple[array[int], list[Task]]]
+    history: defaultdict[int, tuple[array[int], list[Switch]]]
 
     def __init__(self) -> None:
-        self.running, self.times, self.first, self.last = {}, defaultdict(Counter), 0, 0
-        self.history = defaultdict(lambda: (array("Q"), []))  # by processor, when each task began, and the task
+        self.times, self.first, self.last = defaultdict(Counter), 0, 0
+        self.history = defaultdict(lambda: (array("Q"), []))  # by processor, the time of each switch, and the switch
 
-    def switch(self, event: Event, first: int) -> Task:
-        """Handles a switch; `first` is when the recording began. Returns the next task."""
-        last, process, priority, following, thread, next_priority = event.parts(SWITCH)
-        task = following, int(thread), int(next_priority)
-        since, _ = self.running.get(event.cpu, (first, task))
-        self.times[event.cpu][last, int(process), int(priority)] += event.time - since
-        self.running[event.cpu] = event.time, task
-        times, tasks = self.history[event.cpu]
+    def switch(self, event: Event) -> Switch:
+        """Handles a switch, and returns it."""
+        found = event.parts(SWITCH)
+        times, switches = self.history[event.cpu]
         times.append(event.time)
-        tasks.append(task)
-        return task
+        switches.append(found)
+        return found
 
     def end(self, first: int, last: int) -> None:
         """Ends the recording, which lasted from `first` to `last`."""
         self.first, self.last = first, last
-        for processor, (since, task) in self.running.items():
-            self.times[processor][task] += max(0, last - since)
-            self.running[processor] = last, task
+        for processor, (times, switches) in self.history.items():
+            since, taken = first, self.times[processor]
+            for time, found in zip(times, switches):
+                taken[found.last] += time - since
+                since = time
+            taken[switches[-1].next] += max(0, last - since)
 
     def idle(self) -> dict[int, float]:
         """Returns the share of the time in which each processor was idle, of those on which a task was switched."""

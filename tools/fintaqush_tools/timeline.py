@@ -4,23 +4,31 @@ from __future__ import annotations
 
 import re
 from collections import Counter, defaultdict, deque
-from collections.abc import Callable, Iterable
+from collections.abc import Iterable, Mapping
 from dataclasses import dataclass, field
+from functools import partial
 from typing import Any, Optional
 
 from fintaqush_tools.instances import Place, Routes
-from fintaqush_tools.recording import BACKLOG, MOST_KNOWN, NET_RX, POLLED, SENT, SOFTIRQ, Event, fields_in, is_by_thread
-
-Handler = list[Any]  # its name, its beginning, and whether napi_watchdog ran in it
-
-HANDLER = re.compile(r"irq=(\d{1,9})(?: name=(.*))?")
-SWITCH = re.compile(
-    r"prev_comm=.* prev_pid=(\d{1,9}) prev_prio=-?\d+ prev_state=(\S+) ==> next_comm=(.*) next_pid=(\d{1,9}) "
+from fintaqush_tools.recording import (
+    BACKLOG,
+    NET_RX,
+    POLLED,
+    SENT,
+    SOFTIRQ,
+    SWITCH,
+    Event,
+    Known,
+    Look,
+    fields_by,
+    is_by_thread,
 )
-SHORT_SWITCH = re.compile(r".*:(\d{1,9}) \[-?\d+\] (\S+) ==> (.*):(\d{1,9}) \[-?\d+\]")  # trace-cmd's form
-EXPIRES = re.compile(r"hrtimer=(\S+) .*\bexpires=(\d{1,20})")
-EXPIRED = re.compile(r"hrtimer=(\S+) .*\bnow=(\d{1,20})")
-RETURNED = re.compile(r"(?:.*\b)?0x([0-9a-f]{1,16})$")
+
+Handler = list[Any]  # its name, its beginning, and whether it may request polls
+
+HANDLER = fields_by(r"irq=(\d{1,9})(?: name=(.*))?")
+EXPIRES = fields_by(r"hrtimer=(\S+) .*\bexpires=(\d{1,20})")
+EXPIRED = fields_by(r"hrtimer=(\S+) .*\bnow=(\d{1,20})")
 WATCHDOG = "napi_watchdog"
 TIMER = f"the timer of {WATCHDOG}"
 # Interrupts between processors, which may start a softirq or a thread; and all interrupts with an entry and an exit event.
@@ -32,41 +40,14 @@ SAME_CLOCK = 1_000_000  # ns
 EARLY = 100_000  # ns by which a poll may precede its sender's event, which follows the sending
 
 
-Switched = tuple[int, bool, str, int, bool]
-switches: dict[str, Switched] = {}  # what task switches say, which they say again and again
+def returned_in(text: str) -> int:
+    """Returns the number that a call returns; 0 if it is none, an error or no size."""
+    found = re.match(r"(?:.*\b)?0x([0-9a-f]{1,16})$", text)
+    value = int(found[1], 16) if found else 0
+    return value if value < 1 << 31 else 0
 
 
-def switched(event: Event) -> Switched:
-    """Returns the task that leaves a processor, whether it sleeps, the next task's name and number, and whether it is a NAPI thread."""
-    try:
-        return switches[event.said]
-    except KeyError:
-        task, state, name, pid = event.parts(SWITCH, SHORT_SWITCH)
-    if len(switches) >= MOST_KNOWN:
-        switches.clear()
-    switches[event.said] = int(task), not state.startswith("R"), name, int(pid), name.startswith("napi/")
-    return switches[event.said]
-
-
-class Taken:
-    """How much time of a processor an activity takes in all; it may be nested."""
-
-    def __init__(self) -> None:
-        self.depth, self.since, self.total = 0, 0, 0
-
-    def begin(self, time: int) -> None:
-        if self.depth == 0:
-            self.since = time
-        self.depth += 1
-
-    def end(self, time: int) -> None:
-        if self.depth:
-            self.depth -= 1
-            if self.depth == 0:
-                self.total += time - self.since
-
-    def until(self, time: int) -> int:
-        return self.total + (time - self.since if self.depth else 0)
+RETURNED = Known(returned_in)
 
 
 @dataclass
@@ -74,9 +55,13 @@ class Processor:
     """What is currently running on a processor."""
 
     handlers: list[Handler] = field(default_factory=list)  # those that began
-    ended: tuple[str, int, int] | None = None  # the name, the duration and the end of the last handler
-    by_handlers: Taken = field(default_factory=Taken)
-    above_tasks: Taken = field(default_factory=Taken)
+    ended: tuple[
+        str, int, int
+    ] | None = None  # the name, the duration and the end of the last handler that may request polls
+    since: int = 0  # the beginning of the outermost handler
+    by_handlers: int = 0  # ns that handlers took, until the last one began
+    by_softirqs: int = 0  # ns that NET_RX took without the handlers in it, until it last began
+    entered: tuple[int, int] | None = None  # the beginning of NET_RX, and what handlers had taken until then
     softirq: tuple[int, int] | None = None  # the beginning of the next poll's time there, and what was taken until then
     thread: tuple[int, int] | None = None  # the same, of a thread
     full: tuple[str, int, int] | None = None  # the last poll, if it was full: device, end, what was taken until then
@@ -86,12 +71,22 @@ class Processor:
     before: tuple[str, int, int] = ("", 0, 0)  # the one before it
     due: int | None = None  # expiry of the last NAPI timer
 
+    def handled(self, time: int) -> int:
+        """Returns how long handlers took until this time."""
+        return self.by_handlers + (time - self.since if self.handlers else 0)
+
+    def above_tasks(self, time: int) -> int:
+        """Returns how long handlers and NET_RX took until this time."""
+        handled = self.handled(time)
+        within = time - self.entered[0] - handled + self.entered[1] if self.entered else 0
+        return handled + self.by_softirqs + within
+
 
 class Reads:
     """The reads of a program: it reads packets in the order of their delivery."""
 
-    def __init__(self, tasks: Iterable[int] = ()) -> None:
-        self.tasks, self.is_by_recv = set(tasks), False
+    def __init__(self, processors: Mapping[int, Processor]) -> None:
+        self.processors, self.tasks, self.is_by_recv = processors, set[int](), False
         # For each packet that waits for its read: when its poll ended, and whether the poll delivered only that packet.
         self.delivered: deque[tuple[int, bool]] = deque()
         self.forget()
@@ -118,9 +113,9 @@ class Reads:
         self.ahead.clear()
         self.delivered.extend([(time, work == 1)] * (work - len(known)))
 
-    def enter(self, processor: Processor, event: Event) -> None:
+    def enter(self, event: Event) -> None:
         self.tasks.add(event.pid)
-        self.called[event.pid] = event.time, processor.above_tasks.until(event.time)
+        self.called[event.pid] = event.time, self.processors[event.cpu].above_tasks(event.time)
 
     def leave_processor(self, task: int, time: int, is_sleep: bool) -> None:
         if is_sleep and task in self.tasks:
@@ -128,38 +123,42 @@ class Reads:
         if self.last and self.last[0] == task:
             self.last = None
 
-    def leave(self, processor: Processor, event: Event) -> None:
+    def leave(self, event: Event) -> None:
         """Handles the return of a read."""
         by_recv = event.name.startswith("sys_exit_recv")
-        found, called = fields_in(RETURNED, event.said), self.called.pop(event.pid, None)
+        size, called = RETURNED[event.said], self.called.pop(event.pid, None)
         if by_recv and not self.is_by_recv and self.count:  # its reads by other calls weren't packets
             self.forget()
         self.is_by_recv = self.is_by_recv or by_recv
-        if self.is_by_recv and not by_recv or not found or not 0 < int(found[0], 16) < 1 << 31:
+        if self.is_by_recv and not by_recv or not size:
             return
-        packets = int(found[0], 16) if event.name.endswith("recvmmsg") else 1
+        packets = size if event.name.endswith("recvmmsg") else 1
         self.count += packets
         self.on[event.cpu] += 1
         slept, is_in_call = self.slept.pop(event.pid, (None, False))
         while is_in_call and slept is not None and self.delivered and self.delivered[0][0] < slept:
             self.delivered.popleft()  # a read that sleeps finds no packet, so these weren't for it
             self.unmatched += 1
-        taken = processor.above_tasks.until(event.time)
+        taken = self.processors[event.cpu].above_tasks(event.time)
         self.take(event, called, slept, taken, packets)
         self.last = event.pid, event.time, event.cpu, packets, taken
 
     def take(self, event: Event, called: tuple[int, int] | None, slept: int | None, taken: int, packets: int) -> None:
         """Matches the packets that are read with those that were delivered first."""
-        known = [self.delivered.popleft() for _ in range(min(packets, len(self.delivered)))]
-        self.ahead += [(event.time, slept is not None)] * (packets - len(known))
-        if len(known) == packets:
-            last = self.last
-            if last and (last[0], *last[2:4]) == (event.pid, event.cpu, packets) and known[-1][0] <= last[1]:
-                self.uses.append((event.time - last[1] - (taken - last[4])) / packets)
-            if called and slept is None and known[-1][0] <= called[0]:
-                self.calls.append((event.time - called[0] - (taken - called[1])) / packets)
-        if packets == 1 and known and known[0][1] and slept is not None and slept <= known[0][0]:
-            self.wakes.append(event.time - known[0][0])
+        time, last, delivered = event.time, self.last, self.delivered
+        if len(delivered) < packets:
+            self.ahead += [(time, slept is not None)] * (packets - len(delivered))
+            delivered.clear()
+            return
+        for _ in range(packets):
+            end, is_lone = delivered.popleft()
+        if last and end <= last[1] and last[0] == event.pid and last[2] == event.cpu and last[3] == packets:
+            self.uses.append((time - last[1] - (taken - last[4])) / packets)
+        if slept is not None:
+            if packets == 1 and is_lone and slept <= end:
+                self.wakes.append(time - end)
+        elif called and end <= called[0]:
+            self.calls.append((time - called[0] - (taken - called[1])) / packets)
 
 
 @dataclass
@@ -222,8 +221,8 @@ class Timeline:
     ) -> None:
         """`polled` are the devices whose polls count; `interrupts` are their interrupts, if known: other cards' interrupts don't request their polls."""
         self.irq, self.polled, self.interrupts = irq, set(polled), set(interrupts)
-        self.routes, self.reads = routes or Routes({}, {}), Reads()
         self.on: defaultdict[int, Processor] = defaultdict(Processor)
+        self.routes, self.reads, self.span = routes or Routes({}, {}), Reads(self.on), (0, 0)
         self.is_coarse, self.has_tasks, self.has_handlers = True, False, False
         self.of: defaultdict[Place, Polls] = defaultdict(Polls)
         # Wake-ups by packets and by timers, on a processor that slept; and on one that ran another task.
@@ -231,64 +230,60 @@ class Timeline:
         self.due: dict[str, int] = {}  # for each timer
         self.waiting: defaultdict[Place, Waiting] = defaultdict(Waiting)
         self.unplaced: dict[str, tuple[int, int]] = {}  # packets whose instance isn't known yet
-        self.came = self.dropped = self.given = self.unmatched = self.strays = self.first = self.last = 0
+        self.came = self.dropped = self.given = self.unmatched = self.strays = 0
         self.sent_on, self.tasks = Counter[int](), defaultdict[int, Counter[str]](Counter)
-        # By the name of an event: what handles it.
-        self.looks: dict[str, Optional[Callable[[Processor, Event], None]]] = {}
 
-    def add(self, event: Event) -> None:
-        time = event.time
-        if self.is_coarse and time % 1000:
-            self.is_coarse = False
-        self.first = self.first or time
-        self.last = time
-        try:
-            look = self.looks[event.name]
-        except KeyError:
-            look = self.looks[event.name] = self.look_at(event.name)
-        if look:
-            look(self.on[event.cpu], event)
-
-    def look_at(self, name: str) -> Optional[Callable[[Processor, Event], None]]:
+    def looks_at(self, name: str) -> list[Look]:
         """Returns what handles the events of this name."""
+        kind = name.rpartition("_")[0]
         if name.startswith("hrtimer_"):
-            return self.timer
-        if name.startswith("sys_enter_"):
-            return self.reads.enter
-        if name.startswith("sys_exit_"):
-            return self.reads.leave
-        if name.rpartition("_")[0] in HANDLERS:
-            return self.handler
-        return {
+            return [self.timer]
+        if name.startswith("sys_"):
+            return [self.reads.leave if name.startswith("sys_exit_") else self.reads.enter]
+        self.has_handlers = self.has_handlers or kind in HANDLERS
+        begin: Look = partial(self.begin_handler, kind, kind in BETWEEN)
+        looks: dict[str, Look] = {
+            **{f"{each}_entry": begin for each in HANDLERS},
+            **{f"{each}_exit": self.end_handler for each in HANDLERS},
+            "irq_handler_entry": self.begin_interrupt,
+            "irq_handler_exit": self.end_interrupt,
             "softirq_entry": self.softirq,
             "softirq_exit": self.softirq,
             "napi_poll": self.poll,
             "sched_switch": self.switch,
             "net_dev_xmit": self.packet,
-            "net_dev_start_xmit": lambda _, event: self.routes.start(event),
+            "net_dev_start_xmit": self.routes.start,
             "netif_receive_skb": self.receive,
-        }.get(name)
+        }
+        return [looks[name]] if name in looks else []
 
-    def handler(self, processor: Processor, event: Event) -> None:
-        """Handles the beginning or end of a handler: of a card's interrupt, of one between processors, or of the local timer."""
-        kind, _, end = event.name.rpartition("_")
-        self.has_handlers = True
-        if end == "entry":
-            name = (event.parts(HANDLER)[1] or "") if kind == "irq_handler" else kind
-            processor.handlers.append([name, event.time, False])
-            processor.by_handlers.begin(event.time)
-            processor.above_tasks.begin(event.time)
-        elif processor.handlers:
-            name, began, has_expired = processor.handlers.pop()
-            processor.by_handlers.end(event.time)
-            processor.above_tasks.end(event.time)
-            if kind == "irq_handler" and name == self.irq:
-                self.of["", ""].handlers[name].append(event.time - began)
-            is_own = kind == "irq_handler" and (not self.interrupts or name in self.interrupts)
-            if is_own or has_expired or name in BETWEEN:
-                processor.ended = (TIMER if has_expired else name, event.time - began, event.time)
+    def begin_handler(self, name: str, may_request: bool, event: Event) -> None:
+        """Handles the beginning of a handler: of a card's interrupt, of one between processors, or of the local timer."""
+        processor = self.on[event.cpu]
+        if not processor.handlers:
+            processor.since = event.time
+        processor.handlers.append([name, event.time, may_request])
 
-    def timer(self, processor: Processor, event: Event) -> None:
+    def end_handler(self, event: Event) -> None:
+        processor = self.on[event.cpu]
+        if processor.handlers:
+            name, began, may_request = processor.handlers.pop()
+            if not processor.handlers:
+                processor.by_handlers += event.time - processor.since
+            if may_request:
+                processor.ended = name, event.time - began, event.time
+
+    def begin_interrupt(self, event: Event) -> None:
+        name = event.parts(HANDLER)[1] or ""
+        self.begin_handler(name, not self.interrupts or name in self.interrupts, event)
+
+    def end_interrupt(self, event: Event) -> None:
+        handlers = self.on[event.cpu].handlers
+        if handlers and handlers[-1][0] == self.irq:
+            self.of["", ""].handlers[handlers[-1][0]].append(event.time - handlers[-1][1])
+        self.end_handler(event)
+
+    def timer(self, event: Event) -> None:
         """Handles NAPI's timer: it is set, or expires in the current handler."""
         if WATCHDOG not in event.said:
             return
@@ -296,24 +291,27 @@ class Timeline:
             timer, expires = event.parts(EXPIRES)
             self.due[timer] = int(expires)
         elif event.name == "hrtimer_expire_entry":
+            processor = self.on[event.cpu]
             timer, stamp = event.parts(EXPIRED)
             now = int(stamp)
             due = self.due.pop(timer, now)
             processor.due = due if abs(now - event.time) < SAME_CLOCK else event.time - max(0, now - due)
             if processor.handlers:
-                processor.handlers[-1][2] = True
+                processor.handlers[-1][::2] = TIMER, True
 
-    def softirq(self, processor: Processor, event: Event) -> None:
+    def softirq(self, event: Event) -> None:
         """Handles NET_RX: it begins, requested by the last handler, or ends."""
         if int(event.parts(SOFTIRQ)[0]) != NET_RX:
             return
+        processor, time = self.on[event.cpu], event.time
+        handled = processor.handled(time)
+        if processor.entered:
+            processor.by_softirqs += time - processor.entered[0] - handled + processor.entered[1]
         if event.name == "softirq_entry":
-            processor.softirq = event.time, processor.by_handlers.until(event.time)
-            self.begin(processor, event.time)
-            processor.above_tasks.begin(event.time)
+            processor.softirq = processor.entered = time, handled
+            self.begin(processor, time)
         else:
-            processor.softirq, processor.ended = None, None
-            processor.above_tasks.end(event.time)
+            processor.softirq = processor.entered = processor.ended = None
 
     @staticmethod
     def begin(processor: Processor, time: int) -> None:
@@ -321,19 +319,20 @@ class Timeline:
         asked = processor.ended if processor.ended and time - processor.ended[2] <= SOON else None
         processor.is_first, processor.by, processor.ended = True, asked, None
 
-    def switch(self, processor: Processor, event: Event) -> None:
-        task, is_sleep, name, pid, is_napi = switched(event)
-        time, last = event.time, processor.task
+    def switch(self, event: Event) -> None:
+        processor, time, found = self.on[event.cpu], event.time, event.parts(SWITCH)
+        last, reads, (name, pid, _) = processor.task, self.reads, found.next
         self.has_tasks = True
         if last[0]:
             self.tasks[event.cpu][last[0]] += time - last[2]
-        self.reads.leave_processor(task, time, is_sleep)
+        if reads.last or found.last[1] in reads.tasks:
+            reads.leave_processor(found.last[1], time, found.is_sleep)
         processor.before, processor.task, processor.thread = last, (name, pid, time), None
-        if is_napi:
-            processor.thread = time, processor.above_tasks.until(time)
+        if found.is_napi:
+            processor.thread = time, processor.above_tasks(time)
             self.begin(processor, time)
 
-    def packet(self, _: Processor, event: Event) -> None:
+    def packet(self, event: Event) -> None:
         """Handles a sent packet, which arrives at a device."""
         sender, _size, code = event.parts(SENT)
         if sender not in self.routes.receivers:
@@ -349,7 +348,7 @@ class Timeline:
         else:
             self.unplaced[packet] = event.time, event.cpu
 
-    def receive(self, _: Processor, event: Event) -> None:
+    def receive(self, event: Event) -> None:
         """Handles a packet that the current poll of a backlog took."""
         if not self.unplaced:
             return
@@ -357,12 +356,13 @@ class Timeline:
         if place and packet in self.unplaced:
             self.waiting[place].packets.append(self.unplaced.pop(packet))
 
-    def poll(self, processor: Processor, event: Event) -> None:
+    def poll(self, event: Event) -> None:
         napi, device, packets, budget = event.parts(POLLED)
-        work, by_thread = int(packets), is_by_thread(event)
+        processor, work, by_thread = self.on[event.cpu], int(packets), is_by_thread(event)
+        self.is_coarse = self.is_coarse and not event.time % 1000
         is_full = work >= int(budget)
         began = processor.thread if by_thread else processor.softirq
-        mark = event.time, (processor.above_tasks if by_thread else processor.by_handlers).until(event.time)
+        mark = event.time, processor.above_tasks(event.time) if by_thread else processor.handled(event.time)
         if began and by_thread:
             processor.thread = mark
         elif began:
@@ -451,5 +451,5 @@ class Timeline:
 
     def shares(self, cpu: int | None) -> dict[str, float]:
         """Returns each task's share of the recording on a processor."""
-        whole = self.last - self.first
+        whole = self.span[1] - self.span[0]
         return {name: took / whole for name, took in self.tasks[cpu].most_common()} if whole and cpu is not None else {}

@@ -58,6 +58,7 @@ from fintaqush_tools.options import Parser, Words, add_binary, number, parser_of
 from fintaqush_tools.pictures import ENDS, Curve, Picture, check_library, picture_bytes
 from fintaqush_tools.predicting import TOLD, Compared, check_lines, objects_in, told_value, us
 from fintaqush_tools.processes import program
+from fintaqush_tools.progress import say
 from fintaqush_tools.recorded import Recording, arrivals_in
 from fintaqush_tools.recording import BACKLOG
 from fintaqush_tools.results import add_json, is_printed, write_json
@@ -90,13 +91,15 @@ def as_keys(options: Options) -> dict[str, int]:
     return {identifier(name): value for name, value in options.items()}
 
 
-def named(options: Options, varied: Sequence[str]) -> str:
-    """Describes a setting by the kernel's names of the options that vary."""
+def named(options: Options, varied: Sequence[str], spare: int) -> str:
+    """Describes a setting by the kernel's names of the options that vary. A ring has `spare` entries more than packets."""
     parts = []
     for name in varied:
         value = options.get(name, 0)
         if name == "ring" and options.get("backlog"):
             parts.append(f"netdev_max_backlog {value - 1}")
+        elif name == "ring":
+            parts.append(f"ring {value + spare}")
         elif name == "layout":
             parts.append(LAYOUTS[value])
         elif name == "apart":
@@ -106,9 +109,9 @@ def named(options: Options, varied: Sequence[str]) -> str:
     return ", ".join(parts)
 
 
-def several(settings: Sequence[Options], varied: Sequence[str]) -> str:
+def several(settings: Sequence[Options], varied: Sequence[str], spare: int) -> str:
     """Describes the first of several settings with equal results, and how many others there are."""
-    return named(settings[0], varied) + (f"; {len(settings) - 1} more" if len(settings) > 1 else "")
+    return named(settings[0], varied, spare) + (f"; {len(settings) - 1} more" if len(settings) > 1 else "")
 
 
 def varied_in(tried: Sequence[Options]) -> list[str]:
@@ -217,6 +220,10 @@ class Advice:
     def compare(self, predictions: Predictions) -> None:
         """Compares the recorded setting with its prediction. If only the wait to the end of use is predicted badly,
         waits end with the delivery."""
+        recording = self.recording
+        self.measured_on = predicting.measured_on(
+            recording.seen, recording.head, self.costs["packet"], recording.layout
+        )
         self.judge(predictions)
         if self.grade != "poor" or self.end != "used":
             return
@@ -230,13 +237,10 @@ class Advice:
 
     def judge(self, predictions: Predictions) -> None:
         """Compares each processor too, and grades the fit by the worst one."""
-        recording, words = self.recording, self.words
+        words = self.words
         self.check = self.compared(self.measured, predictions.of(self.options))
         self.check_on: dict[int, list[Compared]] = {}
         self.judged = predicting.judged_for(words.goal, self.end, words.p99_below is not None)
-        self.measured_on = predicting.measured_on(
-            recording.seen, recording.head, self.costs["packet"], recording.layout
-        )
         if len(self.processors) > 1:
             for (processor, measured), values in zip(self.measured_on.items(), predictions.on(self.options)):
                 self.check_on[processor] = self.compared(measured, values)
@@ -259,14 +263,19 @@ class Advice:
         if self.told["apart"] and "app-wake" in ends:
             ends["app-wake-apart"] = ends.pop("app-wake")
         higher = predictions.of(self.options, with_costs(self.costs, 100 + DOUBT))
-        return Doubt(self.costs, self.check, higher, {name: end for name, end in ends.items() if self.costs.get(name)})
+        known_ends = {name: end for name, end in ends.items() if self.costs.get(name)}
+        return Doubt(self.costs, self.check, higher, known_ends, self.arrivals_doubt(), self.told["apart"])
+
+    def arrivals_doubt(self) -> int:
+        """Returns by how many ns an arrival may be off, if arrivals are inferred from polls."""
+        return self.recording.seen.held.doubt if self.recording.by and not self.words.capture else 0
 
     def note_tasks(self) -> None:
         """Finds the tasks that disturbed the processors that poll, and that on which the program reads."""
         recording = self.recording
         self.others = {processor: recording.disturbing(processor) for processor in recording.layout.processors}
         self.others_apart = {}
-        self.blame = []
+        self.blame = list(blame.lines_of_socket(recording.head))
         if not timeout_of(self.options):  # with deferral packets wait for the timer, whatever runs meanwhile
             self.blame += blame.lines_of(recording.seen, recording.layout, recording.program_pids())
         if self.told["apart"]:
@@ -287,6 +296,11 @@ class Advice:
             self.notes.append(
                 f"arrivals are when polls took the packets ({recording.by}), so waits in the card's ring before the interrupt aren't in these values; "
                 "--capture takes those of a capture with the card's timestamps"
+            )
+        if doubt := self.arrivals_doubt():
+            self.notes.append(
+                "packets that waited for NAPI's timer, or for the end of the card's least time between interrupts, count as spread evenly over the time "
+                f"since the poll before, so a wait may be off by {us(doubt)} us"
             )
         if moving := len(recording.layout.moving()):
             self.notes.append(
@@ -473,11 +487,12 @@ class Advice:
 
     def advice_lines(self, choice: Choice) -> Iterator[str]:
         yield f"costs may be {self.doubt.percent} % lower or higher (--band {self.doubt.percent} of what-if)"
-        yield f"{len(choice.tried)} settings on {self.packets} packets, the best for {GOALS[choice.goal]} first:"
+        count = len(choice.tried)
+        yield f"{count} setting{'s' * (count > 1)} on {self.packets} packets, the best for {GOALS[choice.goal]} first:"
         alike: dict[tuple[str, ...], list[Options]] = {}
         for options, values in choice.order:
             alike.setdefault(tuple(columns_of(values, self.end)), []).append(options)
-        rows = [[several(each, self.varied), *cells] for cells, each in list(alike.items())[:SHOWN]]
+        rows = [[several(each, self.varied, self.machine.spare), *cells] for cells, each in list(alike.items())[:SHOWN]]
         yield from table(rows, "setting")
         if not choice.best:
             yield "no setting keeps to the limits"
@@ -485,7 +500,7 @@ class Advice:
         if self.best == self.options:
             yield f"advice: change nothing, since no setting is notably better for {GOALS[choice.goal]}"
         else:
-            yield f"advice: {named(self.best, self.varied)}"
+            yield f"advice: {named(self.best, self.varied, self.machine.spare)}"
         ends = zip(*(columns_of(values, self.end) for values in self.ends()))
         rows = [
             ["now", *columns_of(choice.tried[0][1], self.end)],
@@ -617,6 +632,8 @@ def print_verified(advice: Advice) -> bool:
     have to rise."""
     choice, told = advice.choice, dict[str, Any](verified=None, verdict=None)
     if not (advice.words.verify and choice and choice.best and advice.changes):
+        if advice.words.verify and choice and choice.best:
+            say("--verify recorded nothing, because the advice changes nothing")
         write_json(advice.words.json, "advise", [{**advice.object(), **told}])
         return True
     rows, packets, verdict = verified(advice)

@@ -26,8 +26,7 @@ the time that the processor slept, so the recorded gro_flush_timeout is printed 
 
 from __future__ import annotations
 
-from collections.abc import Callable, Iterator, Mapping, Sequence
-from functools import partial
+from collections.abc import Iterator, Mapping, Sequence
 from statistics import median
 from typing import Any, Optional
 
@@ -47,11 +46,11 @@ from fintaqush_tools.machine import COSTS
 from fintaqush_tools.options import Parser, Words, parser_of
 from fintaqush_tools.progress import say
 from fintaqush_tools.instances import Routes
-from fintaqush_tools.recording import BACKLOG, Event, Head, check_lost, events_in
+from fintaqush_tools.recording import BACKLOG, Head, Look, check_lost, read
 from fintaqush_tools.results import add_json, is_printed, write_json
 from fintaqush_tools.texts import as_rows, shown
 from fintaqush_tools.thresholds import add_fail_if, status_of
-from fintaqush_tools.timeline import TIMER, Processor, Timeline
+from fintaqush_tools.timeline import TIMER, Timeline
 
 Told = tuple[dict[str, Cost], list[str]]  # costs by their names, and lines about them
 
@@ -64,16 +63,6 @@ WEAK = (
 ORDER = ("interrupt", "timer", "poll", "packet", "take", "wake", "timer-wake", "use", "app-wake")
 
 
-Look = Optional[Callable[[Processor, Event], None]]
-
-
-def in_both(own: Look, of_card: Callable[[Event], None], processor: Processor, event: Event) -> None:
-    """Handles an event in a Timeline and in CardTimes."""
-    if own:
-        own(processor, event)
-    of_card(event)
-
-
 class Times(Timeline):
     """The times of a recording, with those of cards and of NAPI's timer."""
 
@@ -81,10 +70,9 @@ class Times(Timeline):
         super().__init__(routes, polled, irq, interrupts)
         self.card = CardTimes(polled)
 
-    def look_at(self, name: str) -> Look:
+    def looks_at(self, name: str) -> list[Look]:
         """Returns what handles the events of this name."""
-        own, of_card = super().look_at(name), self.card.look_at(name)
-        return partial(in_both, own, of_card) if of_card else own
+        return [*super().looks_at(name), *self.card.looks_at(name)]
 
 
 def polls_of(times: Timeline, head: Head) -> Told:
@@ -166,7 +154,8 @@ def wakes_of(times: Timeline) -> Told:
     """Returns the time from a packet until an idle processor polls."""
     if not times.came:
         return {}, [
-            "wake: not known: record net/net_dev_xmit of the other end of a veth pair, and name the pair by --pair"
+            "wake: not known: no arrival is in it: record net/net_dev_xmit of the other end of a veth pair (--pair names both ends); of a card, fintaqush "
+            "advise --capture takes it from a capture, as a part of the interrupt"
         ]
     if times.unmatched > (1 - MATCHED) * times.came:
         return {}, [f"wake: not known: of {times.came} packets {times.unmatched} don't match those that polls took"]
@@ -321,15 +310,16 @@ def timeline_of(words: Words, head: Head) -> Times:
 def times_in(words: Words) -> tuple[Times, Head]:
     """Returns the times of a recording, and its head."""
     lost: list[str] = []
-    head: Head = {}
-    times = None
-    for event in events_in(words.recording, lost, head):
-        times = times or timeline_of(words, head)
-        times.add(event)
+    made: list[Times] = []
+
+    def readers(head: Head) -> list[Times]:
+        made.append(timeline_of(words, head))
+        return made
+
+    head = read(words.recording, lost, readers)
     check_lost(lost)
-    times = times or timeline_of(words, head)
-    times.settle()
-    return times, head
+    made[0].settle()
+    return made[0], head
 
 
 def timeline_for(head: Head, devices: Sequence[str]) -> Times:

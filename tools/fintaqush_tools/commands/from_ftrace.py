@@ -25,7 +25,6 @@ import re
 from collections import Counter, defaultdict, deque
 from collections.abc import Iterable, Iterator, Mapping, MutableSequence, Sequence
 from dataclasses import dataclass
-from itertools import chain
 from typing import Optional, Union
 
 from fintaqush_tools import arrivals
@@ -35,8 +34,8 @@ from fintaqush_tools.arriving import by_device, chosen_kind, packet_of, receiver
 from fintaqush_tools.errors import Refusal
 from fintaqush_tools.files import check_input, check_target
 from fintaqush_tools.options import Parser, Words, parser_of
-from fintaqush_tools.recording import NET_RX, POLLED, SENT, SOFTIRQ, Event, Head, check_lost, events_in, is_by_thread
-from fintaqush_tools.texts import lines_of, shown
+from fintaqush_tools.recording import NET_RX, POLLED, SENT, SOFTIRQ, Event, Events, Head, Look, Reader, check_lost, is_by_thread, read
+from fintaqush_tools.texts import shown
 from fintaqush_tools.trace import HEADERS, MOST_DEVICES, MOST_ROWS, TICKS, add_files, check_flows, write_files
 
 Counts = defaultdict[str, Counter[str]]  # packets of each device, by the kind of event
@@ -175,7 +174,7 @@ class Trace:
         self.tick, span = SECOND // TICKS[words.unit], words.rows
         counts = received_in(events)
         if not counts:
-            raise Refusal(why_no_packet(head, len(events)))
+            raise Refusal(why_no_packet(head, bool(events)))
         self.kind, self.devices, self.arrives_at = source_of(counts, names_of(events), words, head, MOST_DEVICES)
         self.pollings, strays = group_polls(events)
         self.rows, self.work, self.notes = list[str](), list[str](), list[str]()
@@ -379,8 +378,9 @@ class SameProcessor:
     waiting: defaultdict[tuple[int, str], list[int]]
     entered: dict[int, int]
 
-    def __init__(self, words: Words) -> None:
-        self.pairs, self.peers = words.pair or words.pairs, dict[str, str]()
+    def __init__(self, words: Words, times: MutableSequence[int]) -> None:
+        """`times` are when the packets of pairs arrive."""
+        self.pairs, self.peers, self.times = words.pair or words.pairs, dict[str, str](), times
         self.waiting = defaultdict(list)  # by processor and receiver, the indices of packets that it hasn't polled yet
         self.entered = {}  # for each processor, when its softirq began
 
@@ -396,19 +396,25 @@ class SameProcessor:
         """Stores the index of a packet that was just sent."""
         self.waiting[event.cpu, self.peer_of(sender)].append(place)
 
-    def look(self, event: Event, times: MutableSequence[int]) -> None:
-        """Handles a softirq's beginning or end; a poll moves the packets that waited for it when the softirq began."""
-        if event.name in ("softirq_entry", "softirq_exit") and int(event.parts(SOFTIRQ)[0]) == NET_RX:
+    def looks_at(self, name: str) -> list[Look]:
+        """Returns what handles the events of this name."""
+        looks: dict[str, Look] = {"softirq_entry": self.softirq, "softirq_exit": self.softirq, "napi_poll": self.poll}
+        return [looks[name]] if name in looks else []
+
+    def softirq(self, event: Event) -> None:
+        if int(event.parts(SOFTIRQ)[0]) == NET_RX:
             self.entered.pop(event.cpu, None)
             if event.name == "softirq_entry":
                 self.entered[event.cpu] = event.time
-        elif event.name == "napi_poll":
-            _, device, work, _ = event.parts(POLLED)
-            entered = 0 if is_by_thread(event) else self.entered.get(event.cpu, 0)
-            for cpu, peer in [key for key in self.waiting if int(work) and key[1] == device]:
-                for place in self.waiting.pop((cpu, peer)):
-                    if cpu == event.cpu:
-                        times[place] = max(times[place], entered)
+
+    def poll(self, event: Event) -> None:
+        """Moves the packets that waited for a poll when its softirq began."""
+        _, device, work, _ = event.parts(POLLED)
+        entered = 0 if is_by_thread(event) else self.entered.get(event.cpu, 0)
+        for cpu, peer in [key for key in self.waiting if int(work) and key[1] == device]:
+            for place in self.waiting.pop((cpu, peer)):
+                if cpu == event.cpu:
+                    self.times[place] = max(self.times[place], entered)
 
 
 class Arriving:
@@ -417,21 +423,23 @@ class Arriving:
     unsent: Counter[str]
     dropped: Counter[str]
 
-    def __init__(self, events: Iterable[Event], words: Words) -> None:
-        self.words, self.count = words, 0
+    def __init__(self, words: Words) -> None:
+        self.words, self.span = words, (0, 0)
         self.packets = {kind: Packets() for kind in dict.fromkeys(KINDS.values())}
-        self.unsent, self.dropped, begins, self.same = Counter(), Counter(), PollBegins(), SameProcessor(words)
-        for event in events:
-            self.count += 1
-            kind = KINDS.get(event.name)
-            if kind == BY_PAIR:
-                self.add_sent(event)
-            elif kind is None:
-                begins.look(event)
-                self.same.look(event, self.packets[BY_PAIR].times)
-            else:
-                name, size, flow = packet_of(event)
-                self.packets[kind].add(begins.of(event), (name, flow if words.flows else 0), size)
+        self.unsent, self.dropped, self.begins = Counter(), Counter(), PollBegins()
+        self.same = SameProcessor(words, self.packets[BY_PAIR].times)
+
+    def looks_at(self, name: str) -> list[Look]:
+        """Returns what handles the events of this name."""
+        kind = KINDS.get(name)
+        if kind:
+            return [self.add_sent if kind == BY_PAIR else self.add_received]
+        return [*self.begins.looks_at(name), *self.same.looks_at(name)]
+
+    def add_received(self, event: Event) -> None:
+        """Adds a packet that a poll took, or that the stack received."""
+        name, size, flow = packet_of(event)
+        self.packets[KINDS[event.name]].add(self.begins.of(event), (name, flow if self.words.flows else 0), size)
 
     def add_sent(self, event: Event) -> None:
         """Adds a packet of a pair, which arrives at the other end or is dropped there."""
@@ -448,7 +456,7 @@ class Arriving:
         words, held = self.words, {kind: packets for kind, packets in self.packets.items() if packets.times}
         counts = {kind: by_device(packets.counted()) for kind, packets in held.items()}
         if not counts:
-            raise Refusal(why_no_packet(head, self.count))
+            raise Refusal(why_no_packet(head, self.span[1] > 0))
         kind, devices, arrives_at = source_of(defaultdict(Counter, counts), set(), words, head, arrivals.MOST_DEVICES)
         packets, of = self.packets[kind], counts.get(kind, Counter())
         if words.flows:
@@ -491,17 +499,21 @@ def convert(words: Words) -> None:
     for end in ("work", "notes", "csv"):
         check_target(f"{words.name}.{end}", words.force)
     lost: list[str] = []
-    head: Head = {}
-    found = events_in(words.recording, lost, head)
+    events, arriving = Events(), list[Arriving]()
+
+    def readers(head: Head) -> Sequence[Reader]:
+        words.pairs = head.get("pair", "" if head else "va*:vb*").split()
+        if not words.arrivals:
+            return [events]
+        arriving.append(Arriving(words))
+        return arriving
+
+    head = read(words.recording, lost, readers)
     if words.arrivals:
-        first = next(found, None)  # the head is known after the first event
-        words.pairs = head.get("pair", "va*:vb*").split()
-        rows, notes, told = Arriving([] if first is None else chain([first], found), words).text(head)
+        rows, notes, told = arriving[0].text(head)
         check_lost(lost)
         write_files(words, told, notes, csv=rows)
         return
-    events = list(found)
-    words.pairs = head.get("pair", "va*:vb*").split()
     if not events:
         raise Refusal("there is no event in it")
     trace = Trace(events, words, head)

@@ -239,11 +239,11 @@ def devices_of(counted: Mapping[Kind, int], wanted: list[str], way: str) -> tupl
     own = own_address(counted) if way == IN else ""
     name = own or "the interface of the capture"
     note = (
-        f"each packet with one receiver comes from {own} or goes to it, so what it sends goes out"
+        f"each packet with one receiver comes from {own} or goes to it, so what it sends to others goes out"
         if own
         else "the capture doesn't tell what goes out, so all of it arrives; --to names the addresses that receive"
     )
-    return [name], [note], lambda kind: [] if own and kind.sender == own else [name]
+    return [name], [note], lambda kind: [] if own and kind.sender == own and not kind.receivers([own]) else [name]
 
 
 Places = Mapping[Kind, list[int]]
