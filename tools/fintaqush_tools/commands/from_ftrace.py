@@ -34,8 +34,21 @@ from fintaqush_tools.arriving import by_device, chosen_kind, packet_of, receiver
 from fintaqush_tools.errors import Refusal
 from fintaqush_tools.files import check_input, check_target
 from fintaqush_tools.options import Parser, Words, parser_of
-from fintaqush_tools.recording import NET_RX, POLLED, SENT, SOFTIRQ, Event, Events, Head, Look, Reader, check_lost, is_by_thread, read
-from fintaqush_tools.texts import shown
+from fintaqush_tools.recording import (
+    NET_RX,
+    POLLED,
+    SENT,
+    SOFTIRQ,
+    Event,
+    Events,
+    Head,
+    Look,
+    Reader,
+    check_lost,
+    is_by_thread,
+    read,
+)
+from fintaqush_tools.texts import lines_of, shown
 from fintaqush_tools.trace import HEADERS, MOST_DEVICES, MOST_ROWS, TICKS, add_files, check_flows, write_files
 
 Counts = defaultdict[str, Counter[str]]  # packets of each device, by the kind of event
