@@ -730,6 +730,11 @@ FQ_CHECKED static inline enum fq_status fq_driver_step(struct fq_driver *FQ_REST
     return fq_driver_step_sized(driver, todo);
 }
 
+/* Ends the run in progress, for a program with a clock of its own (netdev_budget_usecs): a fetch that is due already is still made, and
+ * then FQ_TODO_ENDED follows, whose report says that the run was squeezed. Returns FQ_OK; FQ_NOT_DUE if no run is in progress;
+ * FQ_BAD_HANDLE. The status may be ignored if the handle is right. Since 1.1. */
+FQ_NONNULL enum fq_status fq_driver_end_run(struct fq_driver *driver);
+
 /* The states of a device. */
 enum fq_device_state FQ_NUMBER {
     FQ_DEVICE_CLOSED = 0,  /* closed, and its card is masked */

@@ -762,6 +762,10 @@ public:
     // act: a device that always has packets keeps the driver from sleeping.
     Status interrupt(std::uint32_t device) { return Status(fq_driver_interrupt(at_.raw(), device)); }
 
+    // Ends the run in progress, by a clock of the caller: a fetch that is due already is still made, and then the run has ended and is
+    // squeezed. Returns FQ_OK; FQ_NOT_DUE if no run is in progress.
+    Status end_run() { return fq_driver_end_run(at_.raw()); }
+
     // Returns what has to be done now. An action that isn't reported is returned again.
     [[nodiscard]] Todo next() {
         Todo todo;

@@ -155,10 +155,11 @@ static void random_calls(uint32_t devices, uint32_t budget, uint32_t weight, uin
     for (uint32_t i = 0; i < DEVICES; i++) cards[i] = (struct card){true, false, 0, 0};
     for (calls = 0; calls < 200000; calls++) {
         const uint32_t device = below(devices);
-        switch (below(8)) {
+        switch (below(9)) {
         case 0: arrives(&cards[device]); break;
         case 1: interrupts(&driver, device); break;
         case 2: (void)!(below(64) ? fq_driver_open(&driver, device) : fq_driver_stop(&driver, device)); break;
+        case 3: fq_driver_end_run(&driver); break;
         default: (void)one_thing(&driver, devices); break;
         }
         if (below(32) == 0) rests(&driver, devices);
@@ -212,6 +213,7 @@ static void other_calls(struct fq_driver *driver, struct fq_driver *twin, uint32
         cards[device].interrupting = false;
     }
     if (below(16) == 0) want(fq_driver_open(driver, device) == fq_driver_open(twin, device), "an open of two drivers");
+    if (below(16) == 0) want(fq_driver_end_run(driver) == fq_driver_end_run(twin), "an end of two runs");
     if (below(64) == 0) want(fq_driver_stop(driver, device) == fq_driver_stop(twin, device), "a stop of two drivers");
     want(same_shown(shown_of(driver, device), shown_of(twin, device)), "a device of two drivers");
 }
@@ -322,11 +324,30 @@ static void mistakes(void) {
     want(is_failed(&at.todo, FQ_BAD_HANDLE) && at.todo.size == sizeof at && at.beyond == 1 && fq_free(&other.handle) == FQ_OK, "all of the struct");
 }
 
+/* A run that is ended makes no other poll, and is squeezed; the next run goes on with the devices that it leaves. */
+static void an_ended_run(void) {
+    struct fq_driver driver = FQ_NONE;
+    struct fq_todo todo = FQ_TODO_INIT;
+    memset(cards, 0, sizeof cards);
+    cards[0] = cards[1] = (struct card){true, false, 100, 0};
+    want(fq_driver_new(&driver, 2, 300, 64, 1024) == FQ_OK && fq_driver_open(&driver, 0) == FQ_OK && fq_driver_open(&driver, 1) == FQ_OK, "a driver");
+    want(fq_driver_end_run(&driver) == FQ_NOT_DUE, "no run");
+    for (; fq_driver_step(&driver, &todo) == FQ_OK && todo.what != FQ_TODO_FETCH; act(&todo)) {}
+    want(todo.device == 0 && fq_driver_end_run(&driver) == FQ_OK && fq_driver_end_run(&driver) == FQ_OK, "the end of a run, twice");
+    act(&todo);
+    want(fq_driver_step(&driver, &todo) == FQ_OK && todo.what == FQ_TODO_ENDED && todo.run.squeezed, "the run's end");
+    want(todo.run.polls == 1 && todo.run.work == 64 && fq_driver_end_run(&driver) == FQ_NOT_DUE, "its report");
+    want(fq_driver_step(&driver, &todo) == FQ_OK && todo.what == FQ_TODO_FETCH && todo.device == 1, "the other device's turn");
+    for (act(&todo); fq_driver_step(&driver, &todo) == FQ_OK && todo.what != FQ_TODO_SLEEP; act(&todo)) want(!todo.run.squeezed, "whole runs");
+    want(cards[0].taken == 100 && cards[1].taken == 100 && fq_free(&driver.handle) == FQ_OK, "all packets");
+}
+
 int main(int argc, char **argv) {
     seed = argc > 1 ? strtoull(argv[1], NULL, 10) : 1;
     without_a_driver();
     first_named();
     mistakes();
+    an_ended_run();
     program(goes_on);
     program(reports_and_asks);
     random_calls(1, 3, 2, 2);

@@ -310,6 +310,7 @@ static void drivers() {
     std::uint32_t polls = 0;
     while ((did = driver.act(card))) polls += did.what == FQ_TODO_ENDED ? did.run.polls : 0;
     want(polls == 2 && card.taken == 100 && card.waiting == 0, "all packets");
+    want(driver.end_run() == FQ_NOT_DUE, "no run to end");
     want(driver.interrupt(1) == FQ_GRANTED && driver.interrupt(1) == FQ_MISSED && driver.stop(1) == FQ_OK && driver.interrupt(1) == FQ_DISABLED, "interrupts");
     want(driver.shown(1)->state == FQ_DEVICE_STOPPING && driver.shown(1)->packets == 100 && !driver.shown(2), "what is shown");
     while (driver.act(card)) {}

@@ -396,6 +396,7 @@ CALLS: dict[str, tuple[Any, dict[str, Any]]] = {
     "driver_next_sized": (Status, {"driver": pointer(Driver), "todo": pointer(Todo)}),
     "driver_step_sized": (Status, {"driver": pointer(Driver), "todo": pointer(Todo)}),
     "driver_done": (Status, {"driver": pointer(Driver), "todo": pointer(Todo)}),
+    "driver_end_run": (Status, {"driver": pointer(Driver)}),
     "driver_show": (Status, {"driver": pointer(Driver), "device": u32, "shown": pointer(DeviceShown)}),
     "replay": (
         Status,

@@ -86,6 +86,11 @@ class Driver(_Owned):
         each act: a device that always has packets keeps the driver from sleeping."""
         return Status(c.driver_interrupt(self._at, device))
 
+    def end_run(self) -> bool:
+        """Ends the run in progress, by a clock of the caller (`netdev_budget_usecs`): a fetch that is due already is still made, and then the
+        run has ended and is squeezed. Returns False if no run is in progress."""
+        return bool(c.driver_end_run(self._at) == Status.OK)
+
     def next(self) -> Todo:
         """Returns what has to be done now. An action that isn't reported is returned again."""
         todo = Todo()

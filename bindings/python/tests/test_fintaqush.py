@@ -462,8 +462,9 @@ class TestDriver(Refusals):
         self.assertFalse(Driver(1).done(fetch, 8))  # another driver's action
         self.assertEqual((fetch.what, fetch.most), (What.FETCH, 8))
         self.refused(Status.BAD_WORK, driver.done, fetch, 9)
+        self.assertTrue(driver.end_run())
         self.assertTrue(driver.done(driver.next(), 8))
-        self.assertIs(driver.act(card), What.ENDED)
+        self.assertEqual((driver.next().run, driver.end_run()), ((1, 8, True), False))
         card.fetch = lambda device, most: most + 1
         self.refused(Status.BAD_WORK, driver.act, card)
         card.fetch = lambda device, most: [][0]

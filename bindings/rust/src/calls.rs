@@ -442,6 +442,11 @@ pub(crate) fn driver_done(driver: &mut fq_driver, todo: &fq_todo) -> u32 {
     unsafe { fq_driver_done(driver, todo) }
 }
 
+pub(crate) fn driver_end_run(driver: &mut fq_driver) -> u32 {
+    // SAFETY: each reference and each slice leads to whole objects, to which no other argument leads.
+    unsafe { fq_driver_end_run(driver) }
+}
+
 pub(crate) fn driver_show(driver: &fq_driver, device: u32, shown: &mut fq_device_shown) -> u32 {
     // SAFETY: each reference and each slice leads to whole objects, to which no other argument leads.
     unsafe { fq_driver_show(driver, device, shown) }

@@ -215,6 +215,12 @@ impl Driver {
         }
     }
 
+    /// Ends the run in progress, by a clock of the caller (`netdev_budget_usecs`): a fetch that is due already is still made, and
+    /// then the run has ended and is squeezed. Fails with [`NOT_DUE`](Fault::NOT_DUE) if no run is in progress.
+    pub fn end_run(&mut self) -> Result<(), Fault> {
+        Fault::unless_made(calls::driver_end_run(self.at.raw()))
+    }
+
     /// Returns what has to be done now. An action that isn't reported is returned again.
     pub fn next(&mut self) -> Todo {
         let mut todo = Todo::NONE;

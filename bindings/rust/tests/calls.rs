@@ -915,6 +915,7 @@ fn a_driver_polls_what_came_before_it_was_opened() {
         (shown.state, shown.polls, shown.packets),
         (DeviceState::Open, 2, 100)
     );
+    assert_eq!(driver.end_run(), Err(Fault::NOT_DUE));
     assert_eq!(driver.interrupt(1), Ok(Prep::Granted));
     assert_eq!(driver.interrupt(1), Ok(Prep::Missed));
     driver.stop(1).unwrap();

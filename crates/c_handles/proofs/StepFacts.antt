@@ -112,6 +112,7 @@ says size after b e todo next is = rw is (record {
   again = next.again;
   devices = next.devices;
   counts = next.counts;
+  stops = next.stops;
 })
 
 step_says : (before after : FqTodo) (d e : Driver) (reported : Result ⊤ Refused) (todo : Todo)

@@ -1,11 +1,11 @@
 -- A driver for C: what it asks for, as numbers, and the status and the effect of each call.
-use Rattle.std.specs.Prelude.{◌≡◌, ◌≢◌, ◌⊎◌, ◌↔◌, ℕ, ◌+◌, ◌*◌, ◌≤◌, ◌==◌, ◌||◌, false, nat_le, if◌then◌else◌}
+use Rattle.std.specs.Prelude.{◌≡◌, ◌≢◌, ◌⊎◌, ◌↔◌, ℕ, ◌+◌, ◌*◌, ◌≤◌, ◌==◌, ◌||◌, false, true, nat_le, if◌then◌else◌}
 use Rattle.std.specs.Prelude.{length, IsSome, ⊤, Result, Ok, Err}
 use Rattle.napi_model.specs.declared.event.Prep.{Prep, TheVariants.{Granted, Missed, Disabled}}
 use Rattle.napi_model.specs.Step.{schedule_reply}
 use Rattle.driver_core.specs.{Device.{after_interrupt, is_stopping, after_open, after_stop, MayStop}, Steps.{stage_is_scheduled, napi_of}}
-use Rattle.driver_core.specs.Driver.{poll_counts_of, device_of, driver_devices, driver_limits, said_number_of, polled_device, stage_of}
-use Rattle.driver_core.specs.Driver.{AreClosed, IsDue, AwaitsNothing, IsIdle, IsNumberedWhat, IsReport, IsUncounted, PutsDevice, Reports}
+use Rattle.driver_core.specs.Driver.{poll_counts_of, device_of, driver_devices, driver_limits, said_number_of, polled_device, stage_of, is_ending, is_running}
+use Rattle.driver_core.specs.Driver.{AreClosed, EndsRun, EndsSqueezed, IsDue, AwaitsNothing, IsIdle, IsNumberedWhat, IsReport, IsUncounted, PutsDevice, Reports}
 use Rattle.driver_core.specs.declared.{driver.Driver.Driver, device.Stage.{Stage, TheVariants.Closed}}
 use Rattle.driver_core.specs.declared.todo.Refused.{Refused, TheVariants.{NotDue, TooMany}}
 use Rattle.driver_core.specs.declared.todo.What.{What, TheVariants.{Mask, Unmask, Look, Fetch, Ended, Sleep}}
@@ -102,6 +102,8 @@ pub record Says (size : ℕ) (d : Driver) (todo : FqTodo) (e : Driver) : Type 0 
   pub again : ¬ AwaitsNothing d → (e ≡ d) × (todo.number ≡ said_number_of d)
   pub devices : driver_devices e ≡ driver_devices d
   pub counts : e.counts ≡ d.counts
+  -- a run that the caller has ended makes no further poll, and counts as squeezed
+  pub stops : is_ending d ≡ true → AwaitsNothing d → EndsSqueezed what
 
 -- of these structs, the first is the caller's variable before the call, and the second after it
 abbrev pub IsDriverNext : FqTodo → FqTodo → Driver → ℕ → Driver → Type 0
@@ -160,6 +162,11 @@ pub record IsDriverStop (device : ℕ) (d : Driver) (n : ℕ) (e : Driver) : Typ
   pub status : (n ≡ OK) ⊎ (n ≡ NOT_DUE) ⊎ (n ≡ BAD_DEVICE)
   pub when : n ≢ BAD_DEVICE → (n ≡ OK) ↔ MayStop (stage_of d device)
   pub puts : n ≡ OK → PutsDevice device (after_stop (device_of d device)) d e
+  pub kept : n ≢ OK → e ≡ d
+
+pub record IsDriverEndRun (d : Driver) (n : ℕ) (e : Driver) : Type 0 where
+  pub status : n ≡ (if is_running d then OK else NOT_DUE)
+  pub ends : n ≡ OK → EndsRun d e
   pub kept : n ≢ OK → e ≡ d
 
 -- ---- what is shown of a device (`struct fq_device_shown`)

@@ -2,7 +2,7 @@
 
 ghost use Rattle.std.specs.Prelude.{◌≡◌, length, nat_lt};
 ghost use Rattle.driver_core.specs.Driver.{driver_devices};
-ghost use Rattle.c_handles.specs.Drivers.{device_in, most_in, unset_packets, reply_status, todo_run_in, shown_of, device_state_in, todo_in, what_in, IsDriverInterrupt, IsDriverNext, IsDriverOpen, IsDriverStep, IsTodoReport, IsDriverShow, IsDriverStop, report_status};
+ghost use Rattle.c_handles.specs.Drivers.{device_in, most_in, unset_packets, reply_status, todo_run_in, shown_of, device_state_in, todo_in, what_in, IsDriverEndRun, IsDriverInterrupt, IsDriverNext, IsDriverOpen, IsDriverStep, IsTodoReport, IsDriverShow, IsDriverStop, report_status};
 
 use crate::lister::FqRunReport;
 use crate::status;
@@ -234,6 +234,16 @@ pub fn interrupt(driver: &mut Driver, device: u32) -> u32
         Prep::Granted => status::GRANTED,
         Prep::Missed => status::MISSED,
         Prep::Disabled => status::DISABLED,
+    }
+}
+
+/// Ends the run in progress (`Driver::end_run`).
+pub fn end_run(driver: &mut Driver) -> u32
+    ensures { IsDriverEndRun driver.old result driver.new }
+{
+    match driver.end_run() {
+        Ok(()) => status::OK,
+        Err(_) => status::NOT_DUE,
     }
 }
 

@@ -5,7 +5,7 @@ use Rattle.std.specs.Prelude.{◌↔◌, ⊤, Result, IsOk, OnOk, OnErr, IfErr, 
 use Rattle.std.specs.List.{All}
 use Rattle.poll_runs.specs.{Laws.IsPlainRun, declared.run.RunReport.RunReport}
 use Rattle.driver_core.specs.declared.limits.Limits.{Limits}
-use Rattle.poll_runs.specs.{Driven.IsGoing, Steps.HoldsNothing, Plain.{NothingBehind, OwnPushes, all_held}, Polls.Poll}
+use Rattle.poll_runs.specs.{Driven.IsGoing, Steps.HoldsNothing, Plain.{NothingBehind, OwnPushes, all_held}, Polls.{Poll, work_of}}
 use Rattle.poll_runs.specs.{declared.bench.Next.Next}
 use Rattle.driver_core.specs.declared.device.{Chore.Chore, DriverDevice.DriverDevice, Stage.{Stage, TheVariants.Closed}}
 use Rattle.driver_core.specs.declared.device.Chore.TheVariants as chore
@@ -41,6 +41,10 @@ driver_limits driver = driver.limits
 abbrev pub is_running : Driver → Bool
 is_running driver = driver.runs
 
+-- the caller has ended the run in progress: it makes no further poll
+abbrev pub is_ending : Driver → Bool
+is_ending driver = driver.ending
+
 -- the device that is being polled
 abbrev pub polled_device : Driver → Option ℕ
 polled_device driver = driver.run.asked
@@ -63,6 +67,7 @@ AwaitsNothing driver = (said_of driver ≡ None) × (polled_device driver ≡ No
 pub record SameRun (before after : Driver) : Type 0 where
   pub run : after.run ≡ before.run
   pub runs : after.runs ≡ before.runs
+  pub ending : after.ending ≡ before.ending
   pub limits : after.limits ≡ before.limits
   pub counts : after.counts ≡ before.counts
   pub number : after.number ≡ before.number
@@ -89,6 +94,18 @@ pub record PutsOnList (id : ℕ) (to : DriverDevice) (before after : Driver) : T
 abbrev pub DoesChore : ℕ → Chore → Bool → Driver → Driver → Type 0
 DoesChore id chore has_more before after = PutsOnList id (did chore has_more (device_of before id)) before after
 
+-- the run in progress makes no further poll, and nothing else changes
+pub record EndsRun (before after : Driver) : Type 0 where
+  pub ending : is_ending after ≡ true
+  pub devices : after.devices ≡ before.devices
+  pub list : after.list ≡ before.list
+  pub run : after.run ≡ before.run
+  pub runs : after.runs ≡ before.runs
+  pub limits : after.limits ≡ before.limits
+  pub counts : after.counts ≡ before.counts
+  pub number : after.number ≡ before.number
+  pub said : said_of after ≡ said_of before
+
 -- the device after a poll that took this many packets, and how the poll ended
 abbrev pub after_poll_of : ℕ → ℕ → Driver → DriverDevice × Next
 after_poll_of id packets driver = after_driver_poll (packets == driver.limits.weight) (device_of driver id)
@@ -102,6 +119,7 @@ pub record Ends (id packets : ℕ) (before after : Driver) : Type 0 where
   pub counts : after.counts.items ≡ slice_set before.counts.items id (count_one_poll packets (poll_counts_of before id))
   pub limits : after.limits ≡ before.limits
   pub number : said_number_of after ≡ said_number_of before
+  pub ending : is_ending after ≡ is_ending before
   pub free : AwaitsNothing after
 
 -- ---- reports
@@ -149,6 +167,24 @@ IsRunning start polls driver = (is_running driver ≡ true) × IsGoing all_held 
 abbrev pub IsDriverReport : Limits → List ℕ → List Poll → Driver → RunReport → Type 0
 IsDriverReport limits start polls after report = IsPlainRun limits.budget limits.window start polls (list_of after) report
 
+-- A run that made these polls was ended by the caller, and this is its report. The devices that it would have polled next come first
+-- on the list, then those that were listed meanwhile, then those that get a repoll.
+abbrev pub IsEndedEarly : List Poll → Driver → Driver → RunReport → Type 0
+IsEndedEarly polls before after report = (report ≡ record { polls = length polls; work = work_of polls; squeezed = true })
+    × (list_of after ≡ before.run.own ++ list_of before ++ before.run.repoll)
+
+-- the action ends a run, which counts as squeezed, or is at a card and no poll
+abbrev pub EndsSqueezed : What → Type 0
+EndsSqueezed (Ended report) = report.squeezed ≡ true
+EndsSqueezed (Fetch id most) = ⊥
+EndsSqueezed Sleep = ⊥
+EndsSqueezed what = Unit {0}
+
+-- whether the run in progress was ended by the caller, after this action is asked for
+abbrev pub ending_after : What → Bool → Bool
+ending_after (Ended report) ending = false
+ending_after what ending = ending
+
 -- this many devices, all closed
 abbrev pub AreClosed : ℕ → Driver → Type 0
 AreClosed count driver = driver_devices driver ≡ replicate count (in_stage Closed false)
@@ -189,7 +225,11 @@ pub record AsksNext (before : Driver) (todo : Todo) (after : Driver) : Type 0 wh
   pub begins : is_running before ≡ false → is_running after ≡ true → IsRunning (list_of before) [] after
   pub going : (start : List ℕ) (polls : List Poll) → IsRunning start polls before → is_running after ≡ true → IsRunning start polls after
   pub ended : (start : List ℕ) (polls : List Poll) (report : RunReport) → todo.what ≡ Ended report → IsRunning start polls before
-      → IsDriverReport (driver_limits before) start polls after report
+      → is_ending before ≡ false → IsDriverReport (driver_limits before) start polls after report
+  pub early : (start : List ℕ) (polls : List Poll) (report : RunReport) → todo.what ≡ Ended report → IsRunning start polls before
+      → is_ending before ≡ true → IsEndedEarly polls before after report
+  pub stops : is_ending before ≡ true → AwaitsNothing before → EndsSqueezed todo.what
+  pub ending : is_ending after ≡ ending_after todo.what (is_ending before)
   pub whole : (report : RunReport) → todo.what ≡ Ended report → is_running before ≡ false
       → IsDriverReport (driver_limits before) (list_of before) [] after report
 

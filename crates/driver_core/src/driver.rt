@@ -14,7 +14,7 @@ use crate::place::{Nowhere, TodoPlace};
 use crate::said::{following, still_due};
 use crate::todo::{NotDue, Refused, Todo, What, what_of};
 use napi_model::Prep;
-use poll_runs::{Once, PollList, PollingRun};
+use poll_runs::{Once, PollList, PollingRun, RunReport};
 use std::alloc::{AllocError, Global};
 
 /// The driver of up to 64 devices, for one thread: the instances, the poll list and the runs over it. It does no input or
@@ -27,6 +27,8 @@ pub struct Driver {
     list: DriverList,
     run: PollingRun,
     runs: bool,
+    // The caller has ended the run in progress: it makes no further poll.
+    ending: bool,
     limits: Limits,
     // The action at a card that `next` returned last, if it isn't reported yet. A fetch is stored in the run.
     said: Option<(u32, Chore)>,
@@ -35,6 +37,7 @@ pub struct Driver {
     ghost counted: { length counts.items ≡ length devices.all.items },
     ghost queue: { IsQueue devices.all.items list run },
     ghost idle: { runs ≡ false → HoldsNothing run },
+    ghost ends: { runs ≡ false → ending ≡ false },
     ghost pace: { runs ≡ true → HasLimits limits run },
     ghost asks: { IsStillDue devices.all.items run.asked said },
     ghost numbers: { 1 ≤ number },
@@ -52,14 +55,14 @@ fn new_counts(alloc: Global, devices: usize) -> Result<Vec<PollCounts>, AllocErr
 
 impl Driver {
     ghost use Rattle.std.specs.Prelude.{◌↔◌, ◌≢◌, ◌∷◌, ◌++◌, None, Some, Err, List, [], IsOk, IsSome, IfErr, IfNone, IfSome, OnOk, OnErr};
-    ghost use Rattle.poll_runs.specs.Polls.{Poll};
+    ghost use Rattle.poll_runs.specs.{Polls.{Poll}, Driven.{IsOver}, Plain.{NothingBehind, OwnPushes, all_held}};
     ghost use Rattle.napi_model.specs.Step.{schedule_reply};
     ghost use Rattle.driver_core.specs.declared.todo.{Refused.TheVariants.{TooMany}, What.TheVariants.{Ended}};
     ghost use Rattle.driver_core.specs.declared.device.Stage.TheVariants.{Closed};
     ghost use Rattle.driver_core.specs.Counts.{count_one_poll};
     ghost use Rattle.driver_core.specs.Device.{chore_at, after_interrupt, stage_is_listed, after_open, after_stop, MayStop};
     ghost use Rattle.driver_core.specs.Steps.{napi_of};
-    ghost use Rattle.driver_core.specs.Driver.{poll_counts_of, device_of, driver_devices, said_number_of, polled_device, poll_of, said_of, stage_of, is_running, driver_limits, list_of, AreClosed, AsksNext, Ends, DoesChore, IsDue, IsDriverReport, AwaitsNothing, IsIdle, IsNumberedTodo, IsReport, IsRunning, IsStep, IsUncounted, PutsDevice, Reports};
+    ghost use Rattle.driver_core.specs.Driver.{poll_counts_of, device_of, driver_devices, said_number_of, polled_device, poll_of, said_of, stage_of, is_running, driver_limits, list_of, is_ending, ending_after, AreClosed, AsksNext, Ends, EndsRun, DoesChore, IsDue, IsDriverReport, IsEndedEarly, EndsSqueezed, AwaitsNothing, IsIdle, IsNumberedTodo, IsReport, IsRunning, IsStep, IsUncounted, PutsDevice, Reports};
 
     /// Creates a driver of this many devices, at most 64, all closed. Drivers with different salts number their actions
     /// differently, for 2^48 actions, so that none takes another one's report.
@@ -80,6 +83,7 @@ impl Driver {
             list: DriverList::new(),
             run: PollingRun::idle(),
             runs: false,
+            ending: false,
             limits,
             said: None,
             number: u64::from(salt) * APART + 1,
@@ -165,6 +169,21 @@ impl Driver {
             return Err(NotDue);
         }
         self.put(device, before.stopped());
+        Ok(())
+    }
+
+    /// Ends the run in progress, for a caller that has a clock of its own (`netdev_budget_usecs`). A poll that
+    /// [`next`](Driver::next) has asked for is still made; then the run has ended, and counts as squeezed. Fails if no run is in
+    /// progress.
+    pub fn end_run(&mut self) -> Result<(), NotDue>
+        ensures when { IsOk result ↔ (is_running self.old ≡ true) }
+        ensures ok { OnOk result (EndsRun self.old self.new) }
+        ensures err { OnErr result (self.new ≡ self.old) }
+    {
+        if !self.runs {
+            return Err(NotDue);
+        }
+        self.ending = true;
         Ok(())
     }
 
@@ -258,6 +277,8 @@ impl Driver {
         ensures limits { self.new.limits ≡ self.old.limits }
         ensures number { said_number_of self.new ≡ said_number_of self.old }
         ensures runs { is_running self.new ≡ true }
+        ensures ending { is_ending self.new ≡ is_ending self.old }
+        ensures same { is_running self.old ≡ true → self.new ≡ self.old }
         ensures going { (start : List _) (polls : List Poll) → IsRunning start polls self.old
             → IsRunning start polls self.new }
         ensures begun { is_running self.old ≡ false → IsRunning (list_of self.old) [] self.new }
@@ -274,8 +295,63 @@ impl Driver {
         self.runs = true;
     }
 
+    // Returns the device that the run polls next, or `None` if the run is over or the caller has ended it.
+    #[tactic(auto, using(crate::proofs::QueueFacts::advance_keeps))]
+    #[inline(always)]
+    fn next_device(&mut self) -> Option<u32>
+        requires free { AwaitsNothing self.old }
+        requires runs { is_running self.old ≡ true }
+        ensures devices { self.new.devices ≡ self.old.devices }
+        ensures counts { self.new.counts ≡ self.old.counts }
+        ensures limits { self.new.limits ≡ self.old.limits }
+        ensures number { said_number_of self.new ≡ said_number_of self.old }
+        ensures said { said_of self.new ≡ None }
+        ensures runs { is_running self.new ≡ true }
+        ensures ending { is_ending self.new ≡ is_ending self.old }
+        ensures asks { polled_device self.new ≡ result }
+        ensures early { is_ending self.old ≡ true → (result ≡ None) × (self.new ≡ self.old) }
+        ensures going { (start : List _) (polls : List Poll) → IsRunning start polls self.old
+            → IsRunning start polls self.new }
+        ensures over { (start : List _) (polls : List Poll) → result ≡ None
+            → is_ending self.old ≡ false → IsRunning start polls self.old
+            → IsOver all_held OwnPushes NothingBehind start polls self.new.run }
+    {
+        if self.ending {
+            return None;
+        }
+        self.run.next(&mut self.list)
+    }
+
+    // Ends the run, and returns its report.
+    #[tactic(auto, using(crate::proofs::QueueFacts::finish_keeps))]
+    #[inline(always)]
+    fn finish(&mut self) -> RunReport
+        requires free { AwaitsNothing self.old }
+        requires runs { is_running self.old ≡ true }
+        ensures due { IsDue self.new (Ended result) }
+        ensures devices { self.new.devices ≡ self.old.devices }
+        ensures counts { self.new.counts ≡ self.old.counts }
+        ensures limits { self.new.limits ≡ self.old.limits }
+        ensures number { said_number_of self.new ≡ said_number_of self.old }
+        ensures runs { is_running self.new ≡ false }
+        ensures ending { is_ending self.new ≡ false }
+        ensures squeezed { is_ending self.old ≡ true → result.squeezed ≡ true }
+        ensures ended { (start : List _) (polls : List Poll) → is_ending self.old ≡ false
+            → IsRunning start polls self.old
+            → IsOver all_held OwnPushes NothingBehind start polls self.old.run
+            → IsDriverReport (driver_limits self.old) start polls self.new result }
+        ensures early { (start : List _) (polls : List Poll) → is_ending self.old ≡ true
+            → IsRunning start polls self.old → IsEndedEarly polls self.old self.new result }
+    {
+        let report = self.run.finish(&mut self.list);
+        let squeezed = report.squeezed || self.ending;
+        self.runs = false;
+        self.ending = false;
+        RunReport { squeezed, ..report }
+    }
+
     // Writes the next poll of the run, or its end, to the place, and returns it.
-    #[tactic(auto, using(crate::proofs::QueueFacts::next_keeps, crate::proofs::QueueFacts::finish_keeps, crate::proofs::QueueFacts::asked_is_listed, crate::proofs::QueueFacts::asked_in_range))]
+    #[tactic(auto, using(crate::proofs::QueueFacts::asked_is_listed, crate::proofs::QueueFacts::asked_in_range))]
     #[inline(always)]
     fn advance_into<P: TodoPlace>(&mut self, place: &mut P) -> Todo
         requires free { AwaitsNothing self.old }
@@ -289,10 +365,16 @@ impl Driver {
             → is_running self.new ≡ true → IsRunning start polls self.new }
         ensures ended { (start : List _) (polls : List Poll) (report : _)
             → result.what ≡ Ended report → IsRunning start polls self.old
+            → is_ending self.old ≡ false
             → IsDriverReport (driver_limits self.old) start polls self.new report }
+        ensures early { (start : List _) (polls : List Poll) (report : _)
+            → result.what ≡ Ended report → IsRunning start polls self.old
+            → is_ending self.old ≡ true → IsEndedEarly polls self.old self.new report }
+        ensures stops { is_ending self.old ≡ true → EndsSqueezed result.what }
+        ensures ending { is_ending self.new ≡ ending_after result.what (is_ending self.old) }
         ensures takes { P.takes place.old result place.new }
     {
-        match self.run.next(&mut self.list) {
+        match self.next_device() {
             Some(device) => {
                 self.number = following(self.number);
                 let fetch = self.todo(What::Fetch(device, self.limits.weight));
@@ -300,10 +382,9 @@ impl Driver {
                 fetch
             }
             None => {
-                self.runs = false;
                 let ended = Todo {
                     number: 0,
-                    what: What::Ended(self.run.finish(&mut self.list)),
+                    what: What::Ended(self.finish()),
                 };
                 place.put(ended);
                 ended

@@ -1,6 +1,6 @@
 //! Drivers for C.
 ghost use Rattle.std.specs.Prelude.{◌≡◌, ◌≢◌, ◌≤◌, ◌<◌, ◌↔◌, IsSome, IfOk};
-ghost use Rattle.c_handles.specs.Drivers.{failed_in, IsDriverInterrupt, IsNewDriver, IsDriverNext, IsDriverOpen, IsDriverShow, IsDriverStep, IsDriverStop, IsTodoReport, new_status};
+ghost use Rattle.c_handles.specs.Drivers.{failed_in, IsDriverEndRun, IsDriverInterrupt, IsNewDriver, IsDriverNext, IsDriverOpen, IsDriverShow, IsDriverStep, IsDriverStop, IsTodoReport, new_status};
 ghost use Rattle.c_handles.specs.Handles.{DriverMakes, DriverMakesIn, IsDriverWith, LeadsToDriver};
 ghost use Rattle.c_handles.specs.Status.{OK, IN_USE, OUT_OF_MEMORY, BAD_HANDLE, BAD_SIZE};
 
@@ -128,6 +128,26 @@ pub extern "C" fn fq_driver_interrupt(handle: &mut FqHandle, device: u32) -> u32
         return status::BAD_HANDLE;
     }
     interrupt_in(handle.held.as_mut(), device)
+}
+
+fn end_run_in(at: &mut Object) -> u32
+    ensures { DriverMakesIn IsDriverEndRun at.old result at.new }
+{
+    match at {
+        Object::Driver(driver) => drive::end_run(driver),
+        _ => status::BAD_HANDLE,
+    }
+}
+
+/// Ends the run in progress, like `Driver::end_run`.
+#[unsafe(no_mangle)]
+pub extern "C" fn fq_driver_end_run(handle: &mut FqHandle) -> u32
+    ensures { DriverMakes IsDriverEndRun handle.old result handle.new }
+{
+    if !handle.is_set() {
+        return status::BAD_HANDLE;
+    }
+    end_run_in(handle.held.as_mut())
 }
 
 fn next_in(at: &mut Object, todo: &mut FqTodo) -> u32

@@ -358,6 +358,11 @@ extern "C" {
     /// `fq_driver_next` says what is due instead; `FQ_BAD_WORK` if a fetch took more than `most`. Nothing changes
     /// unless it returns `FQ_OK`. Since 1.1.
     pub fn fq_driver_done(driver: *mut fq_driver, todo: *const fq_todo) -> u32;
+    /// Ends the run in progress, for a program with a clock of its own (`netdev_budget_usecs`): a fetch that is due
+    /// already is still made, and then `FQ_TODO_ENDED` follows, whose report says that the run was squeezed. Returns
+    /// `FQ_OK`; `FQ_NOT_DUE` if no run is in progress; `FQ_BAD_HANDLE`. The status may be ignored if the handle is
+    /// right. Since 1.1.
+    pub fn fq_driver_end_run(driver: *mut fq_driver) -> u32;
     /// Sets `*shown` to the state of a device and the counts of its polls. Returns `FQ_OK`; `FQ_BAD_SIZE` if
     /// `shown->size` is too small; `FQ_BAD_HANDLE`; `FQ_BAD_DEVICE`. `*shown` is unchanged unless it returns `FQ_OK`.
     /// Since 1.1.
