@@ -117,6 +117,15 @@ class What(enum.IntEnum):
     FAILED = 6
 
 
+class Rearm(enum.IntEnum):
+    """Whether a fetch also unmasked the card and then looked at it, as FQ_TODO_UNMASK and FQ_TODO_LOOK do. A fetch that
+    unmasked the card has to be reported. A number that isn't listed counts as FQ_REARM_MORE."""
+
+    NO = 0
+    EMPTY = 1
+    MORE = 2
+
+
 class DeviceState(enum.IntEnum):
     """The states of a device."""
 
@@ -222,6 +231,7 @@ class Todo(ctypes.Structure):
         ("packets", u32),
         ("run", RunReport),
         ("status", u32),
+        ("rearm", u32),
     ]
 
 

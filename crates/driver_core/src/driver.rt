@@ -6,7 +6,7 @@ ghost use Rattle.driver_core.specs.Counts.{no_counts};
 ghost use Rattle.driver_core.specs.Queue.{HasLimits, IsStillDue, IsQueue};
 
 use crate::counts::PollCounts;
-use crate::device::{Chore, DriverDevice, Stage};
+use crate::device::{Chore, DriverDevice, Rearm, Stage};
 use crate::devices::Devices;
 use crate::limits::Limits;
 use crate::list::DriverList;
@@ -43,6 +43,13 @@ pub struct Driver {
     ghost numbers: { 1 ≤ number },
 }
 
+// The report of no run.
+const NO_RUN: RunReport = RunReport {
+    polls: 0,
+    work: 0,
+    squeezed: false,
+};
+
 // The first numbers of two drivers' actions are at least this far apart.
 const APART: u64 = 281474976710656;
 
@@ -54,15 +61,17 @@ fn new_counts(alloc: Global, devices: usize) -> Result<Vec<PollCounts>, AllocErr
 }
 
 impl Driver {
+    ghost use Rattle.std.specs.List.{All};
     ghost use Rattle.std.specs.Prelude.{◌↔◌, ◌≢◌, ◌∷◌, ◌++◌, None, Some, Err, List, [], IsOk, IsSome, IfErr, IfNone, IfSome, OnOk, OnErr};
     ghost use Rattle.poll_runs.specs.{Polls.{Poll}, Driven.{IsOver}, Plain.{NothingBehind, OwnPushes, all_held}};
     ghost use Rattle.napi_model.specs.Step.{schedule_reply};
     ghost use Rattle.driver_core.specs.declared.todo.{Refused.TheVariants.{TooMany}, What.TheVariants.{Ended}};
     ghost use Rattle.driver_core.specs.declared.device.Stage.TheVariants.{Closed};
     ghost use Rattle.driver_core.specs.Counts.{count_one_poll};
+    ghost use Rattle.driver_core.specs.Todo.{ended_in};
     ghost use Rattle.driver_core.specs.Device.{chore_at, after_interrupt, stage_is_listed, after_open, after_stop, MayStop};
     ghost use Rattle.driver_core.specs.Steps.{napi_of};
-    ghost use Rattle.driver_core.specs.Driver.{poll_counts_of, device_of, driver_devices, said_number_of, polled_device, poll_of, said_of, stage_of, is_running, driver_limits, list_of, is_ending, ending_after, AreClosed, AsksNext, Ends, EndsRun, DoesChore, IsDue, IsDriverReport, IsEndedEarly, EndsSqueezed, AwaitsNothing, IsIdle, IsNumberedTodo, IsReport, IsRunning, IsStep, IsUncounted, PutsDevice, Reports};
+    ghost use Rattle.driver_core.specs.Driver.{poll_counts_of, device_of, driver_devices, said_number_of, polled_device, poll_of, said_of, stage_of, is_running, driver_limits, list_of, is_ending, AreClosed, AsksNext, Ends, EndsRun, DoesChore, IsDue, IsDriverReport, IsEndedEarly, EndsSqueezed, AwaitsNothing, IsIdle, IsNumberedTodo, IsNumberedWhat, IsReport, IsRunning, IsStep, IsUncounted, IsWithin, PutsDevice, Reports};
 
     /// Creates a driver of this many devices, at most 64, all closed. Drivers with different salts number their actions
     /// differently, for 2^48 actions, so that none takes another one's report.
@@ -208,17 +217,17 @@ impl Driver {
     // poll (`__napi_poll`, `napi_complete_done`).
     #[tactic(auto, using(crate::proofs::QueueFacts::asked_alone))]
     #[inline(always)]
-    fn fetched(&mut self, device: u32, packets: u32)
+    fn fetched(&mut self, device: u32, packets: u32, rearm: Rearm)
         requires range { device < length (driver_devices self.old) }
         requires listed { stage_is_listed (stage_of self.old device) ≡ true }
         requires polled { polled_device self.old ≡ Some device }
         requires most { packets ≤ (driver_limits self.old).weight }
-        ensures ends { Ends device packets self.old self.new }
+        ensures ends { Ends device packets rearm self.old self.new }
         ensures going { (start : List _) (polls : List Poll) → IsRunning start polls self.old
-            → IsRunning start (polls ++ poll_of device packets self.old ∷ []) self.new }
+            → IsRunning start (polls ++ poll_of device packets rearm self.old ∷ []) self.new }
     {
         let before = self.devices.get(device);
-        let (after, next) = before.polled(packets == self.limits.weight);
+        let (after, next) = before.polled(packets == self.limits.weight, rearm);
         self.devices.put(device, after);
         let counts = self.counts[device as usize];
         self.counts[device as usize] = counts.and(packets);
@@ -231,19 +240,20 @@ impl Driver {
 
     /// Reports that the action with this number was done. After a look, `packets` is the number of packets that the card has,
     /// or 1 if it has any. After a fetch, it is the number of packets taken, and the report ends the poll (`__napi_poll`,
-    /// `napi_complete_done`). Fails if the driver doesn't wait for this report any more, or if a fetch took more packets than
+    /// `napi_complete_done`). `rearm` says whether the fetch also unmasked the card and then looked at it; such a fetch has to be
+    /// reported. It is `No` for any other action. Fails if the driver doesn't wait for this report any more, or if a fetch took more packets than
     /// it was allowed to.
     #[tactic(auto, using(crate::proofs::QueueFacts::asked_is_listed, crate::proofs::QueueFacts::asked_in_range))]
     #[inline(always)]
-    pub fn done(&mut self, number: u64, packets: u32) -> Result<(), Refused>
+    pub fn done(&mut self, number: u64, packets: u32, rearm: Rearm) -> Result<(), Refused>
         ensures when { IsOk result ↔ IsReport number packets self.old }
-        ensures ok { OnOk result (Reports packets self.old self.new) }
+        ensures ok { OnOk result (Reports packets rearm self.old self.new) }
         ensures free { OnOk result (AwaitsNothing self.new) }
         ensures len { length (driver_devices self.new) ≡ length (driver_devices self.old) }
         ensures going { (start : List _) (polls : List Poll) (id : _)
             → polled_device self.old ≡ Some id
             → IsRunning start polls self.old → OnOk result
-            (IsRunning start (polls ++ poll_of id packets self.old ∷ []) self.new) }
+            (IsRunning start (polls ++ poll_of id packets rearm self.old ∷ []) self.new) }
         ensures err { OnErr result (self.new ≡ self.old) }
         ensures many { IfErr result (λ why. (why ≡ TooMany)
             ↔ ((number ≡ said_number_of self.old) × IsSome (polled_device self.old))) }
@@ -255,7 +265,7 @@ impl Driver {
             if packets > self.limits.weight {
                 return Err(Refused::TooMany);
             }
-            self.fetched(device, packets);
+            self.fetched(device, packets, rearm);
             return Ok(());
         }
         let Some((device, chore)) = self.said else {
@@ -328,7 +338,8 @@ impl Driver {
     fn finish(&mut self) -> RunReport
         requires free { AwaitsNothing self.old }
         requires runs { is_running self.old ≡ true }
-        ensures due { IsDue self.new (Ended result) }
+        ensures nothing { HoldsNothing self.new.run }
+        ensures within { IsWithin (driver_limits self.old) result }
         ensures devices { self.new.devices ≡ self.old.devices }
         ensures counts { self.new.counts ≡ self.old.counts }
         ensures limits { self.new.limits ≡ self.old.limits }
@@ -350,12 +361,31 @@ impl Driver {
         RunReport { squeezed, ..report }
     }
 
+    // Returns what follows the end of a run with this report.
+    #[tactic(auto, using(crate::proofs::QueueFacts::all_rest))]
+    #[inline(always)]
+    fn after(&self, report: RunReport) -> What
+        requires chores { All (λ device. chore_at device.stage ≡ None) (driver_devices self.now) }
+        requires nothing { HoldsNothing self.now.run }
+        requires within { IsWithin (driver_limits self.now) report }
+        ensures due { IsDue self.now result }
+        ensures report { ended_in result ≡ Some report }
+        ensures squeezed { report.squeezed ≡ true → result ≡ Ended report }
+        ensures number { (before after : _) → after ≡ before → IsNumberedWhat before after 0 result }
+    {
+        if report.squeezed || !self.list.is_empty() {
+            return What::Ended(report);
+        }
+        What::Sleep(report)
+    }
+
     // Writes the next poll of the run, or its end, to the place, and returns it.
     #[tactic(auto, using(crate::proofs::QueueFacts::asked_is_listed, crate::proofs::QueueFacts::asked_in_range))]
     #[inline(always)]
     fn advance_into<P: TodoPlace>(&mut self, place: &mut P) -> Todo
         requires free { AwaitsNothing self.old }
         requires runs { is_running self.old ≡ true }
+        requires chores { All (λ device. chore_at device.stage ≡ None) (driver_devices self.old) }
         ensures due { IsDue self.new result.what }
         ensures number { IsNumberedTodo (said_number_of self.old) (said_number_of self.new) result }
         ensures devices { self.new.devices ≡ self.old.devices }
@@ -364,14 +394,14 @@ impl Driver {
         ensures going { (start : List _) (polls : List Poll) → IsRunning start polls self.old
             → is_running self.new ≡ true → IsRunning start polls self.new }
         ensures ended { (start : List _) (polls : List Poll) (report : _)
-            → result.what ≡ Ended report → IsRunning start polls self.old
+            → ended_in result.what ≡ Some report → IsRunning start polls self.old
             → is_ending self.old ≡ false
             → IsDriverReport (driver_limits self.old) start polls self.new report }
         ensures early { (start : List _) (polls : List Poll) (report : _)
             → result.what ≡ Ended report → IsRunning start polls self.old
             → is_ending self.old ≡ true → IsEndedEarly polls self.old self.new report }
         ensures stops { is_ending self.old ≡ true → EndsSqueezed result.what }
-        ensures ending { is_ending self.new ≡ ending_after result.what (is_ending self.old) }
+        ensures ending { is_running self.new ≡ true → is_ending self.new ≡ is_ending self.old }
         ensures takes { P.takes place.old result place.new }
     {
         match self.next_device() {
@@ -382,12 +412,13 @@ impl Driver {
                 fetch
             }
             None => {
-                let ended = Todo {
+                let report = self.finish();
+                let over = Todo {
                     number: 0,
-                    what: What::Ended(self.finish()),
+                    what: self.after(report),
                 };
-                place.put(ended);
-                ended
+                place.put(over);
+                over
             }
         }
     }
@@ -412,7 +443,7 @@ impl Driver {
         ensures due { IfSome result (λ todo. IsDue self.now todo.what) }
         ensures number { IfSome result (λ todo. todo.number ≡ said_number_of self.now) }
         ensures free { IfSome result (λ _. ¬ AwaitsNothing self.now) }
-        ensures more { IfSome result (λ todo. (report : _) → todo.what ≢ Ended report) }
+        ensures more { IfSome result (λ todo. ended_in todo.what ≡ None) }
     {
         if let Some(device) = self.run.asked() {
             return Some(self.todo(What::Fetch(device, self.limits.weight)));
@@ -439,7 +470,7 @@ impl Driver {
         if !self.runs && self.list.is_empty() {
             let sleep = Todo {
                 number: 0,
-                what: What::Sleep,
+                what: What::Sleep(NO_RUN),
             };
             place.put(sleep);
             return sleep;
@@ -475,13 +506,14 @@ impl Driver {
         &mut self,
         number: u64,
         packets: u32,
+        rearm: Rearm,
         place: &mut P,
     ) -> (Result<(), Refused>, Todo)
-        ensures steps { IsStep number packets self.old result.0 result.1 self.new }
+        ensures steps { IsStep number packets rearm self.old result.0 result.1 self.new }
         ensures takes { result.0 ≢ Err TooMany → P.takes place.old result.1 place.new }
         ensures kept { result.0 ≡ Err TooMany → place.new ≡ place.old }
     {
-        match self.done(number, packets) {
+        match self.done(number, packets, rearm) {
             Ok(()) => (Ok(()), self.ask_into(place)),
             Err(Refused::NotDue) => (Err(Refused::NotDue), self.next_into(place)),
             Err(Refused::TooMany) => (Err(Refused::TooMany), self.next()),
@@ -491,9 +523,9 @@ impl Driver {
     /// Reports that the action with this number was done, and returns what the caller has to do next: [`done`](Driver::done) and
     /// then [`next`](Driver::next) in one call. Number 0 reports nothing, so that report fails with `NotDue`. If the report
     /// fails, nothing has changed, and the caller gets what `next` returns then.
-    pub fn step(&mut self, number: u64, packets: u32) -> (Result<(), Refused>, Todo)
-        ensures { IsStep number packets self.old result.0 result.1 self.new }
+    pub fn step(&mut self, number: u64, packets: u32, rearm: Rearm) -> (Result<(), Refused>, Todo)
+        ensures { IsStep number packets rearm self.old result.0 result.1 self.new }
     {
-        self.step_into(number, packets, &mut Nowhere)
+        self.step_into(number, packets, rearm, &mut Nowhere)
     }
 }

@@ -13,7 +13,7 @@ size_in which =
     else (if which == 7 then 32
     else (if which == 8 then 56
     else (if which == 9 then 12
-    else (if which == 10 then 48
+    else (if which == 10 then 56
     else (if which == 11 then 32
     else (if which == 12 then 16
     else 0))))))))))))

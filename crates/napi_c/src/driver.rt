@@ -163,9 +163,9 @@ fn next_in(at: &mut Object, todo: &mut FqTodo) -> u32
 /// Sets `todo` to the next action, like `Driver::next`.
 #[unsafe(no_mangle)]
 pub extern "C" fn fq_driver_next_sized(handle: &mut FqHandle, todo: &mut FqTodo) -> u32
-    ensures small { todo.old.size < 48 → (result ≡ BAD_SIZE) × (todo.new ≡ todo.old)
+    ensures small { todo.old.size < 56 → (result ≡ BAD_SIZE) × (todo.new ≡ todo.old)
         × (handle.new ≡ handle.old) }
-    ensures makes { 48 ≤ todo.old.size
+    ensures makes { 56 ≤ todo.old.size
         → DriverMakes (IsDriverNext todo.old todo.new) handle.old result handle.new }
     ensures none { result ≡ BAD_HANDLE → todo.new ≡ failed_in todo.old.size BAD_HANDLE }
 {
@@ -179,7 +179,8 @@ pub extern "C" fn fq_driver_next_sized(handle: &mut FqHandle, todo: &mut FqTodo)
 }
 
 fn done_in(at: &mut Object, todo: &FqTodo) -> u32
-    ensures { DriverMakesIn (IsTodoReport todo.now.number todo.now.packets) at.old result at.new }
+    ensures { DriverMakesIn (IsTodoReport todo.now.number todo.now.packets todo.now.rearm) at.old
+        result at.new }
 {
     match at {
         Object::Driver(driver) => drive::done(driver, todo),
@@ -190,8 +191,8 @@ fn done_in(at: &mut Object, todo: &FqTodo) -> u32
 /// Reports that an action was done, like `Driver::done`.
 #[unsafe(no_mangle)]
 pub extern "C" fn fq_driver_done(handle: &mut FqHandle, todo: &FqTodo) -> u32
-    ensures { DriverMakes (IsTodoReport todo.now.number todo.now.packets) handle.old result
-        handle.new }
+    ensures { DriverMakes (IsTodoReport todo.now.number todo.now.packets todo.now.rearm) handle.old
+        result handle.new }
 {
     if !handle.is_set() {
         return status::BAD_HANDLE;
@@ -212,9 +213,9 @@ fn step_in(at: &mut Object, todo: &mut FqTodo) -> u32
 /// Reports that an action was done, unless its number is 0, and sets `todo` to the next action, like `Driver::step`.
 #[unsafe(no_mangle)]
 pub extern "C" fn fq_driver_step_sized(handle: &mut FqHandle, todo: &mut FqTodo) -> u32
-    ensures small { todo.old.size < 48 → (result ≡ BAD_SIZE) × (todo.new ≡ todo.old)
+    ensures small { todo.old.size < 56 → (result ≡ BAD_SIZE) × (todo.new ≡ todo.old)
         × (handle.new ≡ handle.old) }
-    ensures makes { 48 ≤ todo.old.size
+    ensures makes { 56 ≤ todo.old.size
         → DriverMakes (IsDriverStep todo.old todo.new) handle.old result handle.new }
     ensures none { result ≡ BAD_HANDLE → todo.new ≡ failed_in todo.old.size BAD_HANDLE }
 {

@@ -351,10 +351,10 @@ extern "C" {
     /// Like `fq_driver_next` and `fq_driver_step`, for bindings, which set `todo->size` themselves. Return
     /// `FQ_BAD_SIZE` if that is too small, and nothing is read, written or changed. Since 1.1.
     pub fn fq_driver_step_sized(driver: *mut fq_driver, todo: *mut fq_todo) -> u32;
-    /// Reports that the action in `*todo` was done, with `todo->packets`; only `todo->number` and `todo->packets` are
-    /// read. Call it before the next call of `fq_driver_next`, or not at all: an action that isn't reported is
-    /// returned again. Returns `FQ_OK`; `FQ_BAD_HANDLE`; `FQ_NOT_DUE`: the driver doesn't wait for this report any
-    /// more, because of an interrupt, an open, a stop or an earlier report, or it is another driver's, and
+    /// Reports that the action in `*todo` was done, with `todo->packets` and `todo->rearm`; only these and
+    /// `todo->number` are read. Call it before the next call of `fq_driver_next`, or not at all: an action that isn't
+    /// reported is returned again. Returns `FQ_OK`; `FQ_BAD_HANDLE`; `FQ_NOT_DUE`: the driver doesn't wait for this
+    /// report any more, because of an interrupt, an open, a stop or an earlier report, or it is another driver's, and
     /// `fq_driver_next` says what is due instead; `FQ_BAD_WORK` if a fetch took more than `most`. Nothing changes
     /// unless it returns `FQ_OK`. Since 1.1.
     pub fn fq_driver_done(driver: *mut fq_driver, todo: *const fq_todo) -> u32;

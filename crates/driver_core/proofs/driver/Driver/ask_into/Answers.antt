@@ -1,7 +1,8 @@
-use Rattle.std.proofs.Common.{◌≡◌, ◌∙◌, inl, inr, true, false, sym, subst, refl, []}
+use Rattle.std.proofs.Common.{◌≡◌, ◌∙◌, inl, inr, true, false, sym, subst, refl, ap, []}
 use Rattle.std.proofs.lemmas.Bool.{cases_Bool}
+use Rattle.driver_core.specs.Todo.{ended_in}
 use Rattle.driver_core.specs.Driver.{IsEndedEarly, is_ending, is_running}
-use Rattle.driver_core.specs.declared.driver.Driver.{Driver}
+use Rattle.driver_core.specs.declared.{driver.Driver.Driver, todo.What.What}
 use Rattle.driver_core.proofs.driver.Driver.ask_into.Goals as goal
 
 pub returns-clause-asks : goal.returns-clause-asks
@@ -25,6 +26,9 @@ returns-clause-asks g c =
           subst (λ (d : Driver). IsEndedEarly polls d c.advance_into.new.self report) (begun.same (running ending))
           (next.early start polls report is (begun.going start polls going) (begun.ending ∙ ending));
       stops = λ ending _. next.stops (begun.ending ∙ ending);
-      ending = rw (← begun.ending) next.ending;
-      whole = λ report is off. rw (← begun.limits) (next.ended self.list [] report is (begun.begun off) (begun.ending ∙ self.ends off));
+      ending = λ on. next.ending on ∙ begun.ending;
+      rests = λ report is off.
+          let ended = next.ended self.list [] report (ap (λ (what : What). ended_in what) is) (begun.begun off) (begun.ending ∙ self.ends off) in
+          (ended.count, ended.sum);
+      whole = λ report is off. rw (← begun.limits) (next.ended self.list [] report (ap (λ (what : What). ended_in what) is) (begun.begun off) (begun.ending ∙ self.ends off));
     }

@@ -11,7 +11,7 @@ invariant_of-self-clause-queue c =
     let self = c.args.self.now in
     let asked = c.requires.polled in
     let back : stage_is_listed c.polled-next.result.0.stage ≡ comes_back c.polled-next.result.1 =
-    rw c.polled-next.ensures (polled_listed (c.args.packets == self.limits.weight) c.get-before.result) in
+    rw c.polled-next.ensures (polled_listed (c.args.packets == self.limits.weight) c.args.rearm c.get-before.result) in
     let kept =
     polled_keeps self.devices.all.items self.list c.polled.new.list self.run c.polled.new.self c.args.device c.polled-next.result.0
     c.polled-next.result.1 c.requires.range asked c.polled.ensures.rests c.polled.ensures.kept (c.polled.ensures.repoll c.args.device asked)
