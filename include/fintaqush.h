@@ -638,6 +638,7 @@ FQ_CHECKED enum fq_status fq_run_end(struct fq_list *FQ_RESTRICT list, struct fq
  *
  * where report_interrupts reports each interrupt that came since by fq_driver_interrupt. It is called before each step, because a device
  * that always has packets keeps the driver from sleeping: devices whose interrupts are reported only after a sleep would never be polled.
+ * If it is called before each step, a device is polled after at most one poll of each other device.
  * An error is a mistake of the program: a handle without a driver, or a fetch that took more than `most`. It ends the loop.
  *
  * A driver that isn't a loop, for example one of callbacks, asks by fq_driver_next and reports by fq_driver_done.

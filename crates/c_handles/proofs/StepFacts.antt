@@ -67,13 +67,15 @@ late_report number packets rearm d e late few same =
       | inr is ↦ subst P (sym is.0) (report_late number packets rearm d e is.1 late few same)
     ]
 
-no_report : (number packets rearm : ℕ) (d e : Driver) (why : Refused) → IsDone number packets (rearm_in rearm) d (Err why) e → ¬ IsReport number packets d
+no_report : (number packets rearm : ℕ) (d e : Driver) (why : Refused) → IsDone number packets (rearm_in rearm) d (Err why) e
+    → ¬ IsReport number packets d
 no_report number packets rearm d e why h report = let bad : false ≡ true = h.when.1 report in cc bad
 
 not_due : NotDue ≡ TooMany → ⊥
 not_due bad = cc bad
 
-pub todo_report : (number packets rearm : ℕ) (d e : Driver) (reported : Result ⊤ Refused) → IsDone number packets (rearm_in rearm) d reported e
+pub todo_report : (number packets rearm : ℕ) (d e : Driver) (reported : Result ⊤ Refused)
+    → IsDone number packets (rearm_in rearm) d reported e
     → IsTodoReport number packets rearm d (report_status number reported) e
 todo_report number packets rearm d e (Ok done) h = report_ok number packets rearm d e (h.when.0 refl) h.ok h.free
 todo_report number packets rearm d e (Err TooMany) h =

@@ -76,7 +76,8 @@ polls-rearmed full Empty stopping missed = rearms false stopping missed
 polls-rearmed full More stopping missed = rearms true stopping missed
 
 polls-listed : (stage : Stage) (full : Bool) (rearm : Rearm) (missed : Bool) → stage_is_listed stage ≡ true
-    → Leads (in_stage stage missed) (poll_events full rearm (in_stage stage missed)) (after_driver_poll full rearm (in_stage stage missed)).0
+    → Leads (in_stage stage missed) (poll_events full rearm (in_stage stage missed))
+    (after_driver_poll full rearm (in_stage stage missed)).0
 polls-listed (Listed stopping) full rearm missed h = polls-rearmed full rearm stopping missed
 polls-listed Closed full rearm missed h = absurd (cc h)
 polls-listed (Masking stopping) full rearm missed h = absurd (cc h)

@@ -2,9 +2,12 @@
 use Rattle.std.proofs.Common.{◌≡◌, ◌⊎◌, inl, inr, ℕ, ◌+◌, zero, suc, Bool, true, false, cond, List, [], ◌∷◌, refl, subst}
 use Rattle.std.specs.Prelude.{◌||◌, not}
 use Rattle.driver_core.specs.Device.{in_stage, completed_at, after_interrupt, after_open, after_poll_at, after_stop, rearmed_at}
-use Rattle.driver_core.specs.World.{Hand, World, DriverEvent, free, to_mask, to_unmask, to_look, to_fetch, did_mask, did_unmask, saw, took, rearming, rearmed_empty, rearmed_more}
-use Rattle.driver_core.specs.World.{arrives, interrupts, says, acts, reports, forgets, opens, rearms, stops, world_step, world_after, new_world}
-use Rattle.driver_core.specs.World.{says_by, hand_after, masked_after, packets_after, reported_hand, after_message, forgotten, rearm_hand, rearm_mask, IsWatched}
+use Rattle.driver_core.specs.World.{Hand, World, DriverEvent, free, to_mask, to_unmask, to_look, to_fetch, did_mask, did_unmask, saw, took}
+use Rattle.driver_core.specs.World.{rearming, rearmed_empty, rearmed_more}
+use Rattle.driver_core.specs.World.{arrives, interrupts, says, acts, reports, forgets, opens, rearms, stops, world_step, world_after}
+use Rattle.driver_core.specs.World.{new_world}
+use Rattle.driver_core.specs.World.{says_by, hand_after, masked_after, packets_after, reported_hand, after_message, IsWatched}
+use Rattle.driver_core.specs.World.{forgotten, rearm_hand, rearm_mask}
 use Rattle.driver_core.specs.World.{NoPacketWaitsUnseen, IsMaskedWhileListed, ListedIsMasked}
 use Rattle.driver_core.specs.declared.device.DriverDevice.{DriverDevice}
 use Rattle.driver_core.specs.declared.device.{Stage.{Stage, TheVariants.{Closed, Masking, Closing, Listed, Unmasking, Looking, Armed}}}
@@ -281,7 +284,8 @@ watched Armed x w h = h
 watched Closed x w h = h
 watched stage x w h = tt
 
-masked-while : (hand : Hand) (stage : Stage) (x : Bool) (w : World) → Good hand stage x w.masked w.interrupting w.packets → IsMaskedWhileListed hand stage w
+masked-while : (hand : Hand) (stage : Stage) (x : Bool) (w : World) → Good hand stage x w.masked w.interrupting w.packets
+    → IsMaskedWhileListed hand stage w
 masked-while free Closed x w h = h
 masked-while (saw true) Closed x w h = absurd h
 masked-while (saw false) Closed x w h = absurd h
@@ -301,7 +305,8 @@ pub no-packet-waits : NoPacketWaitsUnseen
 no-packet-waits packets events is-free =
     let w = world_after events (new_world packets) in
     let g = good-after events (new_world packets) refl in
-    watched w.device.stage w.device.missed w (subst (λ (hand : Hand). Good hand w.device.stage w.device.missed w.masked w.interrupting w.packets) is-free g)
+    watched w.device.stage w.device.missed w
+    (subst (λ (hand : Hand). Good hand w.device.stage w.device.missed w.masked w.interrupting w.packets) is-free g)
 
 pub listed-is-masked : ListedIsMasked
 listed-is-masked packets events =

@@ -6,7 +6,7 @@ use Rattle.std.specs.List.{All}
 use Rattle.poll_runs.specs.{Laws.IsPlainRun, declared.run.RunReport.RunReport}
 use Rattle.driver_core.specs.declared.limits.Limits.{Limits}
 use Rattle.poll_runs.specs.{Driven.IsGoing, Steps.HoldsNothing, Plain.{NothingBehind, OwnPushes, all_held}, Polls.{Poll, work_of}}
-use Rattle.poll_runs.specs.{declared.bench.Next.Next}
+use Rattle.poll_runs.specs.{Turn.asked_for, declared.bench.Next.Next}
 use Rattle.driver_core.specs.declared.device.{Chore.Chore, DriverDevice.DriverDevice, Stage.{Stage, TheVariants.Closed}}
 use Rattle.driver_core.specs.declared.device.Chore.TheVariants as chore
 use Rattle.driver_core.specs.declared.device.Rearm.{Rearm}
@@ -31,6 +31,15 @@ poll_counts_of driver id = slice_index_or driver.counts.items id no_counts
 -- no poll is counted
 abbrev pub IsUncounted : Driver → Type 0
 IsUncounted driver = (id : ℕ) → poll_counts_of driver id ≡ no_counts
+
+-- the devices that are polled before any other one, in order: the one that is being polled, the others that the run polls, and those on
+-- the poll list
+abbrev pub line_of : Driver → List ℕ
+line_of driver = asked_for driver.run.asked ++ driver.run.own ++ driver.list
+
+-- devices only join the line, at its end
+abbrev pub AddsToLine : Driver → Driver → Type 0
+AddsToLine before after = (more : List ℕ) × (line_of after ≡ line_of before ++ more)
 
 -- the devices that are on the poll list and not in a run yet, in order
 abbrev pub list_of : Driver → List ℕ
@@ -123,6 +132,8 @@ pub record Ends (id packets : ℕ) (rearm : Rearm) (before after : Driver) : Typ
   pub number : said_number_of after ≡ said_number_of before
   pub ending : is_ending after ≡ is_ending before
   pub free : AwaitsNothing after
+  -- the device leaves the line, which it headed
+  pub line : (more : List ℕ) × (id ∷ line_of after ≡ line_of before ++ more)
 
 -- ---- reports
 
@@ -187,8 +198,8 @@ abbrev pub AreClosed : ℕ → Driver → Type 0
 AreClosed count driver = driver_devices driver ≡ replicate count (in_stage Closed false)
 
 -- a run with this report kept to the limits
-abbrev pub IsWithin : Limits → RunReport → Type 0
-IsWithin limits report = (report.polls ≤ limits.window) × (report.work < limits.budget + limits.weight)
+abbrev pub KeepsLimits : Limits → RunReport → Type 0
+KeepsLimits limits report = (report.polls ≤ limits.window) × (report.work < limits.budget + limits.weight)
 
 -- each device is at rest, and nothing is on the list or in a run
 abbrev pub MaySleep : Driver → Type 0
@@ -201,9 +212,9 @@ IsDue driver (Unmask id) = (id < length (driver_devices driver)) × (chore_at (s
 IsDue driver (Look id) = (id < length (driver_devices driver)) × (chore_at (stage_of driver id) ≡ Some chore.Look)
 IsDue driver (Fetch id most) = (id < length (driver_devices driver)) × (polled_device driver ≡ Some id)
     × (stage_is_listed (stage_of driver id) ≡ true) × (most ≡ (driver_limits driver).weight)
-IsDue driver (Ended report) = HoldsNothing driver.run × IsWithin (driver_limits driver) report
+IsDue driver (Ended report) = HoldsNothing driver.run × KeepsLimits (driver_limits driver) report
     × ((report.squeezed ≡ true) ⊎ (list_of driver ≢ []))
-IsDue driver (Sleep report) = MaySleep driver × IsWithin (driver_limits driver) report × (report.squeezed ≡ false)
+IsDue driver (Sleep report) = MaySleep driver × KeepsLimits (driver_limits driver) report × (report.squeezed ≡ false)
 
 -- ---- a report and a question in one call
 
@@ -234,6 +245,7 @@ pub record AsksNext (before : Driver) (todo : Todo) (after : Driver) : Type 0 wh
   pub early : (start : List ℕ) (polls : List Poll) (report : RunReport) → todo.what ≡ Ended report → IsRunning start polls before
       → is_ending before ≡ true → IsEndedEarly polls before after report
   pub stops : is_ending before ≡ true → AwaitsNothing before → EndsSqueezed todo.what
+  pub line : AddsToLine before after
   pub ending : is_running after ≡ true → is_ending after ≡ is_ending before
   pub rests : (report : RunReport) → todo.what ≡ Sleep report → is_running before ≡ false
       → (report.polls ≡ 0) × (report.work ≡ 0)
@@ -241,7 +253,8 @@ pub record AsksNext (before : Driver) (todo : Todo) (after : Driver) : Type 0 wh
       → IsDriverReport (driver_limits before) (list_of before) [] after report
 
 -- the report, and then the question: each does to the driver what it does as a call of its own
-pub record IsStep (number packets : ℕ) (rearm : Rearm) (before : Driver) (reported : Result ⊤ Refused) (todo : Todo) (after : Driver) : Type 0 where
+pub record IsStep (number packets : ℕ) (rearm : Rearm) (before : Driver) (reported : Result ⊤ Refused) (todo : Todo)
+    (after : Driver) : Type 0 where
   pub between : Driver
   pub reports : IsDone number packets rearm before reported between
   pub asks : AsksNext between todo after

@@ -71,7 +71,7 @@ impl Driver {
     ghost use Rattle.driver_core.specs.Todo.{ended_in};
     ghost use Rattle.driver_core.specs.Device.{chore_at, after_interrupt, stage_is_listed, after_open, after_stop, MayStop};
     ghost use Rattle.driver_core.specs.Steps.{napi_of};
-    ghost use Rattle.driver_core.specs.Driver.{poll_counts_of, device_of, driver_devices, said_number_of, polled_device, poll_of, said_of, stage_of, is_running, driver_limits, list_of, is_ending, AreClosed, AsksNext, Ends, EndsRun, DoesChore, IsDue, IsDriverReport, IsEndedEarly, EndsSqueezed, AwaitsNothing, IsIdle, IsNumberedTodo, IsNumberedWhat, IsReport, IsRunning, IsStep, IsUncounted, IsWithin, PutsDevice, Reports};
+    ghost use Rattle.driver_core.specs.Driver.{poll_counts_of, device_of, driver_devices, said_number_of, polled_device, poll_of, said_of, stage_of, is_running, driver_limits, list_of, is_ending, line_of, AddsToLine, AreClosed, AsksNext, Ends, EndsRun, DoesChore, IsDue, IsDriverReport, IsEndedEarly, EndsSqueezed, AwaitsNothing, IsIdle, IsNumberedTodo, IsNumberedWhat, IsReport, IsRunning, IsStep, IsUncounted, KeepsLimits, PutsDevice, Reports};
 
     /// Creates a driver of this many devices, at most 64, all closed. Drivers with different salts number their actions
     /// differently, for 2^48 actions, so that none takes another one's report.
@@ -116,6 +116,7 @@ impl Driver {
     }
 
     /// Returns the counts of a device's polls.
+    #[inline(always)]
     pub fn counts(&self, device: u32) -> PollCounts
         requires { device < length (driver_devices self.now) }
         ensures { result ≡ poll_counts_of self.now device }
@@ -226,11 +227,11 @@ impl Driver {
         ensures going { (start : List _) (polls : List Poll) → IsRunning start polls self.old
             → IsRunning start (polls ++ poll_of device packets rearm self.old ∷ []) self.new }
     {
+        let so_far = self.counts(device);
         let before = self.devices.get(device);
         let (after, next) = before.polled(packets == self.limits.weight, rearm);
         self.devices.put(device, after);
-        let counts = self.counts[device as usize];
-        self.counts[device as usize] = counts.and(packets);
+        self.counts[device as usize] = so_far.and(packets);
         let once = Once {
             work: packets,
             next,
@@ -277,7 +278,7 @@ impl Driver {
     }
 
     // Begins a run, if none is in progress.
-    #[tactic(auto, using(crate::proofs::QueueFacts::begin_keeps))]
+    #[tactic(auto, using(crate::proofs::QueueFacts::begin_keeps, crate::proofs::LineFacts::begin_line))]
     #[inline(always)]
     fn begin(&mut self)
         requires free { AwaitsNothing self.old }
@@ -289,6 +290,7 @@ impl Driver {
         ensures runs { is_running self.new ≡ true }
         ensures ending { is_ending self.new ≡ is_ending self.old }
         ensures same { is_running self.old ≡ true → self.new ≡ self.old }
+        ensures line { line_of self.new ≡ line_of self.old }
         ensures going { (start : List _) (polls : List Poll) → IsRunning start polls self.old
             → IsRunning start polls self.new }
         ensures begun { is_running self.old ≡ false → IsRunning (list_of self.old) [] self.new }
@@ -306,7 +308,7 @@ impl Driver {
     }
 
     // Returns the device that the run polls next, or `None` if the run is over or the caller has ended it.
-    #[tactic(auto, using(crate::proofs::QueueFacts::advance_keeps))]
+    #[tactic(auto, using(crate::proofs::QueueFacts::advance_keeps, crate::proofs::LineFacts::advance_line))]
     #[inline(always)]
     fn next_device(&mut self) -> Option<u32>
         requires free { AwaitsNothing self.old }
@@ -320,6 +322,7 @@ impl Driver {
         ensures ending { is_ending self.new ≡ is_ending self.old }
         ensures asks { polled_device self.new ≡ result }
         ensures early { is_ending self.old ≡ true → (result ≡ None) × (self.new ≡ self.old) }
+        ensures line { line_of self.new ≡ line_of self.old }
         ensures going { (start : List _) (polls : List Poll) → IsRunning start polls self.old
             → IsRunning start polls self.new }
         ensures over { (start : List _) (polls : List Poll) → result ≡ None
@@ -333,13 +336,13 @@ impl Driver {
     }
 
     // Ends the run, and returns its report.
-    #[tactic(auto, using(crate::proofs::QueueFacts::finish_keeps))]
+    #[tactic(auto, using(crate::proofs::QueueFacts::finish_keeps, crate::proofs::LineFacts::finish_line))]
     #[inline(always)]
     fn finish(&mut self) -> RunReport
         requires free { AwaitsNothing self.old }
         requires runs { is_running self.old ≡ true }
         ensures nothing { HoldsNothing self.new.run }
-        ensures within { IsWithin (driver_limits self.old) result }
+        ensures within { KeepsLimits (driver_limits self.old) result }
         ensures devices { self.new.devices ≡ self.old.devices }
         ensures counts { self.new.counts ≡ self.old.counts }
         ensures limits { self.new.limits ≡ self.old.limits }
@@ -347,6 +350,7 @@ impl Driver {
         ensures runs { is_running self.new ≡ false }
         ensures ending { is_ending self.new ≡ false }
         ensures squeezed { is_ending self.old ≡ true → result.squeezed ≡ true }
+        ensures line { line_of self.new ≡ line_of self.old ++ self.old.run.repoll }
         ensures ended { (start : List _) (polls : List Poll) → is_ending self.old ≡ false
             → IsRunning start polls self.old
             → IsOver all_held OwnPushes NothingBehind start polls self.old.run
@@ -365,13 +369,15 @@ impl Driver {
     #[tactic(auto, using(crate::proofs::QueueFacts::all_rest))]
     #[inline(always)]
     fn after(&self, report: RunReport) -> What
-        requires chores { All (λ device. chore_at device.stage ≡ None) (driver_devices self.now) }
+        requires chores { All (λ device. chore_at device.stage ≡ None)
+            (driver_devices self.now) }
         requires nothing { HoldsNothing self.now.run }
-        requires within { IsWithin (driver_limits self.now) report }
+        requires within { KeepsLimits (driver_limits self.now) report }
         ensures due { IsDue self.now result }
         ensures report { ended_in result ≡ Some report }
         ensures squeezed { report.squeezed ≡ true → result ≡ Ended report }
-        ensures number { (before after : _) → after ≡ before → IsNumberedWhat before after 0 result }
+        ensures number { (before after : _) → after ≡ before
+            → IsNumberedWhat before after 0 result }
     {
         if report.squeezed || !self.list.is_empty() {
             return What::Ended(report);
@@ -385,7 +391,8 @@ impl Driver {
     fn advance_into<P: TodoPlace>(&mut self, place: &mut P) -> Todo
         requires free { AwaitsNothing self.old }
         requires runs { is_running self.old ≡ true }
-        requires chores { All (λ device. chore_at device.stage ≡ None) (driver_devices self.old) }
+        requires chores { All (λ device. chore_at device.stage ≡ None)
+            (driver_devices self.old) }
         ensures due { IsDue self.new result.what }
         ensures number { IsNumberedTodo (said_number_of self.old) (said_number_of self.new) result }
         ensures devices { self.new.devices ≡ self.old.devices }
@@ -401,6 +408,7 @@ impl Driver {
             → result.what ≡ Ended report → IsRunning start polls self.old
             → is_ending self.old ≡ true → IsEndedEarly polls self.old self.new report }
         ensures stops { is_ending self.old ≡ true → EndsSqueezed result.what }
+        ensures line { AddsToLine self.old self.new }
         ensures ending { is_running self.new ≡ true → is_ending self.new ≡ is_ending self.old }
         ensures takes { P.takes place.old result place.new }
     {

@@ -1,4 +1,4 @@
-use Rattle.std.proofs.Common.{◌≡◌, subst}
+use Rattle.std.proofs.Common.{subst}
 use Rattle.driver_core.specs.Driver.{IsStep}
 use Rattle.driver_core.specs.declared.device.Rearm.{Rearm}
 use Rattle.c_handles.specs.Drivers.{rearm_in}

@@ -11,7 +11,10 @@ returns-clause-asks g c =
     let begun = c.begin.ensures in
     let next = c.advance_into.ensures in
     let running : is_ending self ≡ true → is_running self ≡ true =
-    λ ending. elim (cases_Bool self.runs) [ inl on ↦ on | inr off ↦ let both : true ≡ false = sym ending ∙ self.ends off in absurd (cc both) ] in
+    λ ending. elim (cases_Bool self.runs) [
+      | inl on ↦ on
+      | inr off ↦ let both : true ≡ false = sym ending ∙ self.ends off in absurd (cc both)
+    ] in
     record {
       due = next.due;
       number = λ _. rw (← begun.number) next.number;
@@ -21,14 +24,19 @@ returns-clause-asks g c =
       limits = next.limits ∙ begun.limits;
       begins = λ off on. next.going self.list [] (begun.begun off) on;
       going = λ start polls going on. next.going start polls (begun.going start polls going) on;
-      ended = λ start polls report is going on. rw (← begun.limits) (next.ended start polls report is (begun.going start polls going) (begun.ending ∙ on));
+      ended = λ start polls report is going on.
+          rw (← begun.limits) (next.ended start polls report is (begun.going start polls going) (begun.ending ∙ on));
       early = λ start polls report is going ending.
           subst (λ (d : Driver). IsEndedEarly polls d c.advance_into.new.self report) (begun.same (running ending))
           (next.early start polls report is (begun.going start polls going) (begun.ending ∙ ending));
       stops = λ ending _. next.stops (begun.ending ∙ ending);
       ending = λ on. next.ending on ∙ begun.ending;
+      line = (next.line.0, rw (← begun.line) next.line.1);
       rests = λ report is off.
-          let ended = next.ended self.list [] report (ap (λ (what : What). ended_in what) is) (begun.begun off) (begun.ending ∙ self.ends off) in
+          let over = ap (λ (what : What). ended_in what) is in
+          let ended = next.ended self.list [] report over (begun.begun off) (begun.ending ∙ self.ends off) in
           (ended.count, ended.sum);
-      whole = λ report is off. rw (← begun.limits) (next.ended self.list [] report (ap (λ (what : What). ended_in what) is) (begun.begun off) (begun.ending ∙ self.ends off));
+      whole = λ report is off.
+          let over = ap (λ (what : What). ended_in what) is in
+          rw (← begun.limits) (next.ended self.list [] report over (begun.begun off) (begun.ending ∙ self.ends off));
     }

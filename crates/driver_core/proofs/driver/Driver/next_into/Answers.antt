@@ -1,4 +1,6 @@
-use Rattle.std.proofs.Common.{◌≡◌, ◌∙◌, Some, None, true, false, sym, ap, refl}
+use Rattle.std.proofs.Common.{◌≡◌, ◌∙◌, Some, None, true, false, sym, ap, refl, []}
+use Rattle.std.proofs.lemmas.List.{append-nil}
+use Rattle.driver_core.specs.Driver.{line_of}
 use Rattle.poll_runs.specs.declared.run.RunReport.{RunReport}
 use Rattle.driver_core.specs.Todo.{ended_in}
 use Rattle.driver_core.specs.declared.todo.What.{What}
@@ -24,6 +26,7 @@ returns-clause-asks g c =
       early = λ start polls report is running ending. absurd (ends-none what report last.more (ap (λ (w : What). ended_in w) is));
       stops = λ ending free. absurd (last.free free);
       ending = λ on. refl;
+      line = ([], sym (append-nil (line_of c.args.self.now)));
       rests = λ report is off. absurd (ends-none what report last.more (ap (λ (w : What). ended_in w) is));
       whole = λ report is off. absurd (ends-none what report last.more (ap (λ (w : What). ended_in w) is));
     }
