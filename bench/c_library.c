@@ -150,6 +150,9 @@ static inline void act(struct card *card, struct fq_todo *todo) {
     case FQ_TODO_FETCH:
         todo->packets = card->put - card->taken < todo->most ? (uint32_t)(card->put - card->taken) : todo->most;
         card->taken += todo->packets;
+        if (todo->packets == todo->most) break;
+        card->masked = false;
+        todo->rearm = card->put != card->taken ? FQ_REARM_MORE : FQ_REARM_EMPTY;
         break;
     case FQ_TODO_ENDED: case FQ_TODO_SLEEP: case FQ_TODO_FAILED: break;
     }

@@ -667,6 +667,7 @@ FQ_CHECKED static inline enum fq_status fq_run_end(struct fq_list *FQ_RESTRICT l
  *
  * where report_interrupts reports each interrupt that came since by fq_driver_interrupt. It is called before each step, because a device
  * that always has packets keeps the driver from sleeping: devices whose interrupts are reported only after a sleep would never be polled.
+ * If it is called before each step, a device is polled after at most one poll of each other device.
  * An error is a mistake of the program: a handle without a driver, or a fetch that took more than `most`. It ends the loop.
  *
  * A driver that isn't a loop, for example one of callbacks, asks by fq_driver_next and reports by fq_driver_done.
@@ -682,14 +683,24 @@ FQ_CHECKED static inline enum fq_status fq_run_end(struct fq_list *FQ_RESTRICT l
 /* What has to be done. After FQ_TODO_SLEEP, FQ_TODO_ENDED and FQ_TODO_FAILED there is nothing to report, and fq_driver_done does nothing. A
  * switch over it has no default, so that a compiler names an action that it forgets. */
 enum fq_what FQ_NUMBER {
-    FQ_TODO_SLEEP = 0,  /* nothing, until the next interrupt, open or stop */
+    FQ_TODO_SLEEP = 0,  /* nothing, until the next interrupt, open or stop; `run` is the report of the run that ended, if one did */
     FQ_TODO_MASK = 1,   /* mask the interrupt of the device's card */
     FQ_TODO_UNMASK = 2, /* unmask the interrupt of the device's card */
     FQ_TODO_LOOK = 3,   /* look whether the card has packets, and set `packets` to how many, or to 1 if it has any, or to 0: after a full
                          * memory fence, if the card works at the same time */
-    FQ_TODO_FETCH = 4,  /* take packets from the card, at most `most` of them, deliver them, and set `packets` to how many */
-    FQ_TODO_ENDED = 5,  /* a run ended, with the report `run` (net_rx_action): do other work first, if there is some */
+    FQ_TODO_FETCH = 4,  /* take packets from the card, at most `most` of them, deliver them, and set `packets` to how many. If the card has
+                         * no more, you may unmask it and then look at it, and set `rearm`: this saves the steps for UNMASK and LOOK */
+    FQ_TODO_ENDED = 5,  /* a run ended, with the report `run` (net_rx_action): it was squeezed, or devices wait for the next run. Do other
+                         * work first, if there is some */
     FQ_TODO_FAILED = 6  /* nothing, because the call failed, with the error `status`: a loop has to end */
+};
+
+/* Whether a fetch also unmasked the card and then looked at it, as FQ_TODO_UNMASK and FQ_TODO_LOOK do. A fetch that unmasked the card has
+ * to be reported. A number that isn't listed counts as FQ_REARM_MORE. */
+enum fq_rearm FQ_NUMBER {
+    FQ_REARM_NO = 0,    /* it didn't: the card is still masked */
+    FQ_REARM_EMPTY = 1, /* it did, and the card had no packets */
+    FQ_REARM_MORE = 2   /* it did, and the card had packets */
 };
 
 /* An action that has to be done. */
@@ -701,10 +712,11 @@ struct fq_todo {
     uint32_t most;            /* the packets that a fetch may take, the driver's weight; 0 for anything else */
     uint32_t packets;         /* set by the program after a look and a fetch; before that 1 for a look, so that packets aren't forgotten, else 0 */
     enum fq_status status;    /* the error after FQ_TODO_FAILED, otherwise FQ_OK */
-    struct fq_run_report run; /* the report of the run that ended; its numbers are 0 for anything else */
+    enum fq_rearm rearm;      /* set by the program after a fetch that also unmasked the card and looked at it; before that FQ_REARM_NO */
+    struct fq_run_report run; /* the report of the run that ended, for FQ_TODO_ENDED and FQ_TODO_SLEEP; its numbers are 0 if none did */
 };
 
-#define FQ_TODO_INIT {sizeof(struct fq_todo), 0, FQ_TODO_SLEEP, 0, 0, 0, FQ_OK, {sizeof(struct fq_run_report), 0, 0, false}}
+#define FQ_TODO_INIT {sizeof(struct fq_todo), 0, FQ_TODO_SLEEP, 0, 0, 0, FQ_OK, FQ_REARM_NO, {sizeof(struct fq_run_report), 0, 0, false}}
 
 /* Like fq_driver_new, for bindings. Drivers with different salts number their actions differently, so that none takes a report that is
  * another one's. */
@@ -739,11 +751,11 @@ FQ_CHECKED static inline enum fq_status fq_driver_next(struct fq_driver *FQ_REST
     return fq_driver_next_sized(driver, todo);
 }
 
-/* Reports that the action in *todo was done, with todo->packets; only its size, number and packets are read. Call it before the next call
- * of fq_driver_next, or not at all: an action that isn't reported is returned again. Returns FQ_OK; FQ_BAD_SIZE if *todo wasn't set by
- * fq_driver_next or fq_driver_step; FQ_BAD_HANDLE; FQ_NOT_DUE: the driver doesn't wait for this report any more, because of an interrupt,
- * an open, a stop or an earlier report, or it is another driver's, and fq_driver_next says what is due instead; FQ_BAD_WORK if a fetch
- * took more than `most`. Nothing changes unless it returns FQ_OK. */
+/* Reports that the action in *todo was done, with todo->packets and todo->rearm; only these, its size and its number are read. Call it before
+ * the next call of fq_driver_next, or not at all: an action that isn't reported is returned again. Returns FQ_OK; FQ_BAD_SIZE if *todo wasn't
+ * set by fq_driver_next or fq_driver_step; FQ_BAD_HANDLE; FQ_NOT_DUE: the driver doesn't wait for this report any more, because of an
+ * interrupt, an open, a stop or an earlier report, or it is another driver's, and fq_driver_next says what is due instead; FQ_BAD_WORK if a
+ * fetch took more than `most`. Nothing changes unless it returns FQ_OK. */
 FQ_CHECKED enum fq_status fq_driver_done(struct fq_driver *FQ_RESTRICT driver, const struct fq_todo *FQ_RESTRICT todo);
 
 /* Reports the action in *todo, unless its number is 0, and sets *todo to what has to be done now: fq_driver_done and then fq_driver_next
@@ -755,6 +767,11 @@ FQ_CHECKED static inline enum fq_status fq_driver_step(struct fq_driver *FQ_REST
     todo->size = sizeof *todo;
     return fq_driver_step_sized(driver, todo);
 }
+
+/* Ends the run in progress, for a program with a clock of its own (netdev_budget_usecs): a fetch that is due already is still made, and
+ * then FQ_TODO_ENDED follows, whose report says that the run was squeezed. Returns FQ_OK; FQ_NOT_DUE if no run is in progress;
+ * FQ_BAD_HANDLE. The status may be ignored if the handle is right. */
+FQ_NONNULL enum fq_status fq_driver_end_run(struct fq_driver *driver);
 
 /* The states of a device. */
 enum fq_device_state FQ_NUMBER {

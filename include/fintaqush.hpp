@@ -728,6 +728,14 @@ struct Todo : fq_todo {
 
 using DeviceShown = fq_device_shown;
 
+namespace detail {
+// Whether the cards of a driver have rearm(device).
+template <class Cards, class = void>
+struct rearms : std::false_type {};
+template <class Cards>
+struct rearms<Cards, std::void_t<decltype(std::declval<Cards &>().rearm(0u))>> : std::true_type {};
+} // namespace detail
+
 // A driver of up to 64 devices on one thread: their instances, the poll list and the runs over it. It returns what has to be
 // done at a card. In no order of calls does a packet wait unseen.
 class [[nodiscard]] Driver {
@@ -748,6 +756,10 @@ public:
     // act: a device that always has packets keeps the driver from sleeping.
     Status interrupt(std::uint32_t device) { return Status(fq_driver_interrupt(at_.raw(), device)); }
 
+    // Ends the run in progress, by a clock of the caller: a fetch that is due already is still made, and then the run has ended and is
+    // squeezed. Returns FQ_OK; FQ_NOT_DUE if no run is in progress.
+    Status end_run() { return fq_driver_end_run(at_.raw()); }
+
     // Returns what has to be done now. An action that isn't reported is returned again.
     [[nodiscard]] Todo next() {
         Todo todo;
@@ -762,7 +774,8 @@ public:
     [[nodiscard]] Status step(Todo &todo) { return fq_driver_step(at_.raw(), &todo); }
 
     // Does one action at a card: calls mask(device), unmask(device), look(device), which returns whether the card has packets,
-    // or fetch(device, most), which takes and delivers packets and returns how many. Returns the action, or that there is
+    // or fetch(device, most), which takes and delivers packets and returns how many. If the cards have rearm(device), which unmasks a card
+    // and then returns whether it has packets, a fetch of fewer than `most` calls it, which saves two actions. Returns the action, or that there is
     // nothing to do, or that a run ended; FQ_TODO_FAILED with FQ_BAD_WORK after a fetch of more than `most`. If a call throws, nothing
     // is reported, and the same action is due again.
     template <class Cards>
@@ -772,7 +785,11 @@ public:
         case FQ_TODO_MASK: cards.mask(todo.device); break;
         case FQ_TODO_UNMASK: cards.unmask(todo.device); break;
         case FQ_TODO_LOOK: todo.packets = cards.look(todo.device); break;
-        case FQ_TODO_FETCH: todo.packets = cards.fetch(todo.device, todo.most); break;
+        case FQ_TODO_FETCH:
+            todo.packets = cards.fetch(todo.device, todo.most);
+            if constexpr (detail::rearms<Cards>::value)
+                if (todo.packets < todo.most) todo.rearm = cards.rearm(todo.device) ? FQ_REARM_MORE : FQ_REARM_EMPTY;
+            break;
         case FQ_TODO_SLEEP: case FQ_TODO_ENDED: case FQ_TODO_FAILED: return todo;
         }
         if (const Status said = done(todo); fq_is_error(said)) todo.what = FQ_TODO_FAILED, todo.status = said;

@@ -41,8 +41,8 @@ struct Machine {
     void simulate() {
         auto driver = fintaqush::Driver::make(CARDS).value();
         for (unsigned device = 0; device < CARDS; device++) driver.open(device), cards.push_back({1000 + device * gap / CARDS});
-        for (fintaqush::Todo did = driver.act(*this); did || (did.what == FQ_TODO_SLEEP && polled + dropped < CARDS * PACKETS); did = driver.act(*this)) {
-            runs += did.what == FQ_TODO_ENDED, squeezed += did.run.squeezed;
+        const auto act = [&] { const auto did = driver.act(*this); return runs += did.run.polls > 0, squeezed += did.run.squeezed, did; };
+        for (fintaqush::Todo did = act(); did || (did.what == FQ_TODO_SLEEP && polled + dropped < CARDS * PACKETS); did = act()) {
             const auto soonest = std::min_element(cards.begin(), cards.end(), [](auto &a, auto &b) { return a.next < b.next; });
             if (did.what == FQ_TODO_SLEEP) now = std::max(now, soonest->next);
             if (did.what == FQ_TODO_UNMASK || (did.what == FQ_TODO_FETCH && did.packets < did.most)) continue; // unmask and look before handling arrivals

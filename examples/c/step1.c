@@ -30,6 +30,7 @@ static void work(struct fq_driver *driver) {
         case FQ_TODO_SLEEP: case FQ_TODO_FAILED: break;
         }
     }
+    if (todo.run.polls > 0) printf("  a run ended: %u polls, %u packets\n", todo.run.polls, todo.run.work);
     puts(todo.status == FQ_OK ? "  sleep" : fq_status_name(todo.status));
 }
 

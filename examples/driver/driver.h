@@ -129,10 +129,13 @@ static inline void report_interrupts(void) {
     }
 }
 
-static inline uint32_t fetch_from(struct device *device, uint32_t most) {
-    const uint32_t count = device->fetch(device, most);
-    device->polls++, device->packets += count, device->full += count == most;
-    return count;
+/* Fetches from a device. If it has no more, the card is unmasked and then looked at, which saves two steps. */
+static inline void fetch_from(struct device *device, struct fq_todo *todo) {
+    todo->packets = device->fetch(device, todo->most);
+    device->polls++, device->packets += todo->packets, device->full += todo->packets == todo->most;
+    if (todo->packets == todo->most) return;
+    device->unmask(device);
+    todo->rearm = device->look(device) ? FQ_REARM_MORE : FQ_REARM_EMPTY;
 }
 
 /* Does what the driver asks for until a run ends; returns false if there is nothing to do. */
@@ -144,12 +147,13 @@ static inline bool run(void) {
         case FQ_TODO_MASK: device->mask(device); break;
         case FQ_TODO_UNMASK: device->unmask(device); break;
         case FQ_TODO_LOOK: todo.packets = device->look(device); break;
-        case FQ_TODO_FETCH: todo.packets = fetch_from(device, todo.most); break;
+        case FQ_TODO_FETCH: fetch_from(device, &todo); break;
         case FQ_TODO_ENDED: return runs++, squeezed += todo.run.squeezed, true;
         case FQ_TODO_SLEEP: case FQ_TODO_FAILED: break;
         }
     }
     must("step", todo.status, FQ_OK);
+    runs += todo.run.polls > 0;
     return false;
 }
 

@@ -145,7 +145,7 @@ static bool run(void) {
         if (todo.what == FQ_TODO_LOOK) todo.packets = queue->put != queue->taken && !trace.file;
     }
     must("step", todo.status, FQ_OK);
-    if (todo.what == FQ_TODO_ENDED) row(&trace, now_ms(), 0, "softirq", 0), runs++, squeezed += todo.run.squeezed;
+    if (todo.run.polls > 0) row(&trace, now_ms(), 0, "softirq", 0), runs++, squeezed += todo.run.squeezed;
     for (size_t i = 0; i < set.queues; i++) send_answers(&queues[i]);
     return todo.what == FQ_TODO_ENDED;
 }

@@ -157,6 +157,7 @@ static bool run(void) {
         }
     }
     must("step", todo.status, FQ_OK);
+    runs += todo.run.polls > 0;
     return false;
 }
 

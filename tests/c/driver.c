@@ -51,6 +51,15 @@ static void act(struct fq_todo *todo) {
     }
 }
 
+/* After a fetch, unmasks the card and looks at it; packets may come before and after the unmask. */
+static void rearms(struct fq_todo *todo) {
+    struct card *const card = &cards[todo->device];
+    if (below(4) == 0) arrives(card);
+    card->masked = false;
+    if (below(4) == 0) arrives(card);
+    todo->rearm = card->packets > 0 ? FQ_REARM_MORE + below(2) * 7 : FQ_REARM_EMPTY;
+}
+
 /* ---- random calls */
 
 static struct fq_device_shown shown_of(struct fq_driver *driver, uint32_t device) {
@@ -65,13 +74,13 @@ static bool same_shown(struct fq_device_shown a, struct fq_device_shown b) {
 
 static bool same_todo(const struct fq_todo *a, const struct fq_todo *b) {
     return a->size == b->size && a->number == b->number && a->what == b->what && a->device == b->device && a->most == b->most && a->packets == b->packets &&
-           a->run.polls == b->run.polls && a->run.work == b->run.work && a->run.squeezed == b->run.squeezed && a->status == b->status;
+           a->run.polls == b->run.polls && a->run.work == b->run.work && a->run.squeezed == b->run.squeezed && a->status == b->status && a->rearm == b->rearm;
 }
 
 /* Whether a call has failed with this status: there is nothing to do, and nothing to report. */
 static bool is_failed(const struct fq_todo *todo, enum fq_status status) {
     return todo->what == FQ_TODO_FAILED && todo->status == status && todo->number == 0 && todo->device == 0 && todo->most == 0 &&
-           todo->packets == 0 && todo->run.polls == 0 && todo->run.work == 0 && !todo->run.squeezed;
+           todo->packets == 0 && todo->rearm == FQ_REARM_NO && todo->run.polls == 0 && todo->run.work == 0 && !todo->run.squeezed;
 }
 
 /* Nothing that is refused changes what is due, or the device. */
@@ -124,6 +133,7 @@ static bool one_thing(struct fq_driver *driver, uint32_t devices) {
     if (below(8) == 0) tries_what_is_refused(driver, devices, &todo);
     if (below(16) == 0) return todo.what != FQ_TODO_SLEEP;
     act(&todo);
+    if (todo.what == FQ_TODO_FETCH && below(2)) rearms(&todo);
     const uint32_t device = below(4) ? todo.device : below(devices);
     if (below(4) == 0) arrives(&cards[device]);
     if (below(4) == 0) interrupts(driver, device);
@@ -152,10 +162,11 @@ static void random_calls(uint32_t devices, uint32_t budget, uint32_t weight, uin
     for (uint32_t i = 0; i < DEVICES; i++) cards[i] = (struct card){true, false, 0, 0};
     for (calls = 0; calls < 200000; calls++) {
         const uint32_t device = below(devices);
-        switch (below(8)) {
+        switch (below(9)) {
         case 0: arrives(&cards[device]); break;
         case 1: interrupts(&driver, device); break;
         case 2: (void)!(below(64) ? fq_driver_open(&driver, device) : fq_driver_stop(&driver, device)); break;
+        case 3: fq_driver_end_run(&driver); break;
         default: (void)one_thing(&driver, devices); break;
         }
         if (below(32) == 0) rests(&driver, devices);
@@ -206,6 +217,7 @@ static void other_calls(struct fq_driver *driver, struct fq_driver *twin, uint32
         cards[device].interrupting = false;
     }
     if (below(16) == 0) want(fq_driver_open(driver, device) == fq_driver_open(twin, device), "an open of two drivers");
+    if (below(16) == 0) want(fq_driver_end_run(driver) == fq_driver_end_run(twin), "an end of two runs");
     if (below(64) == 0) want(fq_driver_stop(driver, device) == fq_driver_stop(twin, device), "a stop of two drivers");
     want(same_shown(shown_of(driver, device), shown_of(twin, device)), "a device of two drivers");
 }
@@ -248,6 +260,7 @@ static void program(void (*go)(struct fq_driver *driver, struct fq_todo *todo)) 
         if (todo.what == FQ_TODO_FETCH) fetched_next += todo.packets;
         if (todo.what == FQ_TODO_ENDED) runs++, squeezed += todo.run.squeezed, polled_in_all += todo.run.work;
     }
+    runs += todo.run.polls > 0, polled_in_all += todo.run.work;
     const struct fq_device_shown shown = shown_of(&driver, 1);
     want(fetched_next == 1000 && polled_in_all == 1000 && shown.packets == 1000 && shown.polls == 16, "each packet once");
     want(runs == 16 && squeezed == 15 && shown.state == FQ_DEVICE_OPEN && !shown.scheduled && !cards[1].masked, "its runs");
@@ -264,7 +277,7 @@ static void without_a_driver(void) {
     want(fq_list_new(&list.list) == FQ_OK, "a list");
     for (int i = 0; i < 2; i++) {
         struct fq_driver *const handle = i ? &list.driver : &none.driver;
-        const struct fq_todo fetch = {sizeof fetch, 7, FQ_TODO_FETCH, 1, 2, 3, FQ_OK, {sizeof fetch.run, 4, 5, true}};
+        const struct fq_todo fetch = {sizeof fetch, 7, FQ_TODO_FETCH, 1, 2, 3, FQ_OK, FQ_REARM_NO, {sizeof fetch.run, 4, 5, true}};
         todo = fetch;
         want(fq_driver_done(handle, &todo) == FQ_BAD_HANDLE && same_todo(&todo, &fetch), "a report without a driver");
         want(fq_driver_next(handle, &todo) == FQ_BAD_HANDLE && is_failed(&todo, FQ_BAD_HANDLE), "it fails");
@@ -308,11 +321,54 @@ static void mistakes(void) {
     want(is_failed(&todo, FQ_BAD_HANDLE) && fq_free(&other.handle) == FQ_OK, "all of the struct");
 }
 
+/* A run that is ended makes no other poll, and is squeezed; the next run polls the devices that it leaves. */
+static void an_ended_run(void) {
+    struct fq_driver driver = FQ_NONE;
+    struct fq_todo todo = FQ_TODO_INIT;
+    memset(cards, 0, sizeof cards);
+    cards[0] = cards[1] = (struct card){true, false, 100, 0};
+    want(fq_driver_new(&driver, 2, 300, 64, 1024) == FQ_OK && fq_driver_open(&driver, 0) == FQ_OK && fq_driver_open(&driver, 1) == FQ_OK, "a driver");
+    want(fq_driver_end_run(&driver) == FQ_NOT_DUE, "no run");
+    for (; fq_driver_step(&driver, &todo) == FQ_OK && todo.what != FQ_TODO_FETCH; act(&todo)) {}
+    want(todo.device == 0 && fq_driver_end_run(&driver) == FQ_OK && fq_driver_end_run(&driver) == FQ_OK, "the end of a run, twice");
+    act(&todo);
+    want(fq_driver_step(&driver, &todo) == FQ_OK && todo.what == FQ_TODO_ENDED && todo.run.squeezed, "the run's end");
+    want(todo.run.polls == 1 && todo.run.work == 64 && fq_driver_end_run(&driver) == FQ_NOT_DUE, "its report");
+    want(fq_driver_step(&driver, &todo) == FQ_OK && todo.what == FQ_TODO_FETCH && todo.device == 1, "the other device's turn");
+    for (act(&todo); fq_driver_step(&driver, &todo) == FQ_OK && todo.what != FQ_TODO_SLEEP; act(&todo)) want(!todo.run.squeezed, "whole runs");
+    want(cards[0].taken == 100 && cards[1].taken == 100 && fq_free(&driver.handle) == FQ_OK, "all packets");
+}
+
+/* A packet at each interrupt takes four calls: the interrupt, and steps to mask, to fetch, and to sleep. */
+static void four_calls(void) {
+    struct fq_driver driver = FQ_NONE;
+    struct fq_todo todo = FQ_TODO_INIT;
+    memset(cards, 0, sizeof cards);
+    cards[0].masked = true;
+    want(fq_driver_new(&driver, 1, 300, 64, 1024) == FQ_OK && fq_driver_open(&driver, 0) == FQ_OK, "a driver");
+    while (fq_driver_step(&driver, &todo) == FQ_OK && todo.what != FQ_TODO_SLEEP) act(&todo);
+    for (int i = 0; i < 100; i++) {
+        arrives(&cards[0]);
+        want(cards[0].interrupting && fq_driver_interrupt(&driver, 0) == FQ_GRANTED, "an interrupt");
+        cards[0].interrupting = false;
+        want(fq_driver_step(&driver, &todo) == FQ_OK && todo.what == FQ_TODO_MASK, "a mask");
+        act(&todo);
+        want(fq_driver_step(&driver, &todo) == FQ_OK && todo.what == FQ_TODO_FETCH && todo.rearm == FQ_REARM_NO, "a fetch");
+        act(&todo);
+        cards[0].masked = false, todo.rearm = FQ_REARM_EMPTY;
+        want(fq_driver_step(&driver, &todo) == FQ_OK && todo.what == FQ_TODO_SLEEP, "a sleep");
+        want(todo.run.polls == 1 && todo.run.work == 1 && !todo.run.squeezed, "the report of its run");
+    }
+    want(cards[0].taken == 100 && fq_free(&driver.handle) == FQ_OK, "all packets");
+}
+
 int main(int argc, char **argv) {
     seed = argc > 1 ? strtoull(argv[1], NULL, 10) : 1;
     without_a_driver();
     first_named();
     mistakes();
+    an_ended_run();
+    four_calls();
     program(goes_on);
     program(reports_and_asks);
     random_calls(1, 3, 2, 2);

@@ -308,12 +308,34 @@ static void drivers() {
     did = driver.act(card);
     want(did.what == FQ_TODO_FETCH && did.packets == 64 && did.most == 64, "a fetch");
     std::uint32_t polls = 0;
-    while ((did = driver.act(card))) polls += did.what == FQ_TODO_ENDED ? did.run.polls : 0;
+    while ((did = driver.act(card))) polls += did.run.polls;
+    polls += did.run.polls;
     want(polls == 2 && card.taken == 100 && card.waiting == 0, "all packets");
+    want(driver.end_run() == FQ_NOT_DUE, "no run to end");
     want(driver.interrupt(1) == FQ_GRANTED && driver.interrupt(1) == FQ_MISSED && driver.stop(1) == FQ_OK && driver.interrupt(1) == FQ_DISABLED, "interrupts");
     want(driver.shown(1)->state == FQ_DEVICE_STOPPING && driver.shown(1)->packets == 100 && !driver.shown(2), "what is shown");
     while (driver.act(card)) {}
     want(card.masked && driver.shown(1)->state == FQ_DEVICE_CLOSED, "a stop");
+}
+
+/* A card that is unmasked and looked at in a fetch. */
+struct RearmCard : EdgeCard {
+    bool rearm(std::uint32_t) {
+        masked = false;
+        return waiting > 0;
+    }
+};
+
+static void drivers_that_rearm() {
+    auto driver = Driver::make(1);
+    RearmCard card;
+    want(driver && driver->open(0) == FQ_OK, "a driver");
+    while (driver->act(card)) {}
+    want(card.taken == 100 && !card.masked && driver->interrupt(0) == FQ_GRANTED, "an interrupt");
+    card.waiting = 1;
+    want(driver->act(card).what == FQ_TODO_MASK && driver->act(card).what == FQ_TODO_FETCH, "a fetch that rearms");
+    const Todo did = driver->act(card);
+    want(did.what == FQ_TODO_SLEEP && did.run.polls == 1 && did.run.work == 1 && !card.masked && card.taken == 101, "a sleep");
 }
 
 static void steps_of_drivers() {
@@ -381,6 +403,7 @@ int main() {
     moved();
     words();
     drivers();
+    drivers_that_rearm();
     steps_of_drivers();
     machines();
     no_memory();

@@ -3,7 +3,7 @@
 Names, results and errors are those of include/fintaqush.h, without FQ_. Each call holds the interpreter's lock, so threads may
 share an object; during a run only the run may use its list. `replay` and `machine` release the lock.
 """
-from ._abi import VERSION, DeviceState, Kind, Next, Status, What, Word
+from ._abi import VERSION, DeviceState, Kind, Next, Rearm, Status, What, Word
 from ._driver import Cards, DeviceShown, Driver, Todo
 from ._faults import ArrivalsFault, Fault, SettingFault, TraceFault
 from ._machine import Application, MachineReport, Processor, Queue, Times, Waits, machine
@@ -14,6 +14,6 @@ from ._shared import Answers, Caller, Control, Input, shared
 __version__ = VERSION
 __all__ = ["Answers", "Application", "ArrivalsFault", "Caller", "Cards", "Control", "Counts", "Device", "DeviceShown",
            "DeviceState", "Dql", "Driver", "Fault", "Input", "Kind", "List", "MachineReport", "Next", "Packet",
-           "Processor", "Queue", "Report", "Ring", "RunReport", "SerialNapi", "SettingFault", "Status", "Times",
+           "Processor", "Queue", "Rearm", "Report", "Ring", "RunReport", "SerialNapi", "SettingFault", "Status", "Times",
            "Todo", "TraceFault", "Transmit", "Turn", "TxRing", "TxState", "Waits", "What", "Word", "machine",
            "raise_runs", "replay", "shared"]

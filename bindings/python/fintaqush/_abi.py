@@ -117,6 +117,15 @@ class What(enum.IntEnum):
     FAILED = 6
 
 
+class Rearm(enum.IntEnum):
+    """Whether a fetch also unmasked the card and then looked at it, as FQ_TODO_UNMASK and FQ_TODO_LOOK do. A fetch that
+    unmasked the card has to be reported. A number that isn't listed counts as FQ_REARM_MORE."""
+
+    NO = 0
+    EMPTY = 1
+    MORE = 2
+
+
 class DeviceState(enum.IntEnum):
     """The states of a device."""
 
@@ -229,6 +238,7 @@ class Todo(ctypes.Structure):
         ("most", u32),
         ("packets", u32),
         ("status", u32),
+        ("rearm", u32),
         ("run", RunReport),
     ]
 
@@ -394,6 +404,7 @@ CALLS: dict[str, tuple[Any, dict[str, Any]]] = {
     "driver_next_sized": (Status, {"driver": pointer(Driver), "todo": pointer(Todo)}),
     "driver_done": (Status, {"driver": pointer(Driver), "todo": pointer(Todo)}),
     "driver_step_sized": (Status, {"driver": pointer(Driver), "todo": pointer(Todo)}),
+    "driver_end_run": (Status, {"driver": pointer(Driver)}),
     "driver_show_sized": (Status, {"driver": pointer(Driver), "device": u32, "shown": pointer(DeviceShown)}),
     "replay_sized": (
         Status,

@@ -6,7 +6,7 @@ from typing import NamedTuple, Protocol
 
 from . import _abi as abi
 from . import _library as c
-from ._abi import DeviceState, Status, What
+from ._abi import DeviceState, Rearm, Status, What
 from ._objects import RunReport, _Owned
 
 
@@ -15,8 +15,8 @@ _made = itertools.count()
 
 class Todo:
     """An action: mask or unmask the card of `device`, look whether it has packets, or fetch at most `most` of them; `run` is the report of
-    a run that ended. `packets` are those that a look found or a fetch took, set for the report; before, 1 for a look. A new one is no
-    action."""
+    a run that ended, with ENDED and SLEEP. `packets` are those that a look found or a fetch took, set for the report; before, 1 for a look.
+    `rearm` says whether a fetch also unmasked the card and looked at it. A new one is no action."""
 
     def __init__(self) -> None:
         self._raw = c.sized(abi.Todo)
@@ -42,13 +42,22 @@ class Todo:
         self._raw.packets = c.number(packets, "packets")
 
     @property
+    def rearm(self) -> Rearm:
+        return Rearm(self._raw.rearm)
+
+    @rearm.setter
+    def rearm(self, rearm: Rearm) -> None:
+        self._raw.rearm = rearm
+
+    @property
     def run(self) -> RunReport:
         return RunReport(self._raw.run.polls, self._raw.run.work, self._raw.run.squeezed)
 
 
 class Cards(Protocol):
     """The cards of a driver, by the numbers of their devices. `look` returns whether a card has packets; `fetch` takes packets from it, at
-    most this many, delivers them, and returns how many."""
+    most this many, delivers them, and returns how many. If they also have `rearm(device)`, which unmasks a card and then returns whether it
+    has packets, a fetch of fewer packets calls it, which saves two actions."""
 
     def mask(self, device: int) -> object: ...
     def unmask(self, device: int) -> object: ...
@@ -86,6 +95,11 @@ class Driver(_Owned):
         each act: a device that always has packets keeps the driver from sleeping."""
         return Status(c.driver_interrupt(self._at, device))
 
+    def end_run(self) -> bool:
+        """Ends the run in progress, by a clock of the caller (`netdev_budget_usecs`): a fetch that is due already is still made, and then the
+        run has ended and is squeezed. Returns False if no run is in progress."""
+        return bool(c.driver_end_run(self._at) == Status.OK)
+
     def next(self) -> Todo:
         """Returns what has to be done now. An action that isn't reported is returned again."""
         todo = Todo()
@@ -119,6 +133,9 @@ class Driver(_Owned):
             packets = int(bool(cards.look(todo.device)))
         elif what is What.FETCH:
             packets = cards.fetch(todo.device, todo.most)
+            rearm = getattr(cards, "rearm", None)
+            if rearm and packets < todo.most:
+                todo.rearm = Rearm.MORE if rearm(todo.device) else Rearm.EMPTY
         else:
             return what
         self.done(todo, packets)

@@ -422,6 +422,26 @@ class TestDriver(Refusals):
             pass
         self.assertEqual((card.masked, driver.shown(1).state), (True, DeviceState.CLOSED))
 
+    def test_a_fetch_that_rearms(self):
+        class RearmCard(Card):
+            def rearm(self, _):
+                self.masked = False
+                return self.waiting > 0
+
+        driver, card = Driver(1), RearmCard()
+        driver.open(0)
+        while driver.act(card) is not What.SLEEP:
+            pass
+        card.waiting = 1
+        self.assertEqual(driver.interrupt(0), Status.GRANTED)
+        self.assertEqual([driver.act(card) for _ in range(2)], [What.MASK, What.FETCH])
+        self.assertEqual((driver.next().what, driver.next().run), (What.SLEEP, (0, 0, False)))
+        self.assertEqual((card.masked, card.waiting), (False, 0))
+        todo = driver.next()
+        self.assertEqual(todo.rearm, fintaqush.Rearm.NO)
+        todo.rearm = fintaqush.Rearm.MORE
+        self.assertEqual(todo.rearm, fintaqush.Rearm.MORE)
+
     def test_steps(self):
         driver, card, todo = Driver(1, weight=8), Card(), fintaqush.Todo()
         self.assertEqual((driver.step(todo), todo.what, todo.packets), (What.SLEEP, What.SLEEP, 0))
@@ -462,8 +482,9 @@ class TestDriver(Refusals):
         self.assertFalse(Driver(1).done(fetch, 8))  # another driver's action
         self.assertEqual((fetch.what, fetch.most), (What.FETCH, 8))
         self.refused(Status.BAD_WORK, driver.done, fetch, 9)
+        self.assertTrue(driver.end_run())
         self.assertTrue(driver.done(driver.next(), 8))
-        self.assertIs(driver.act(card), What.ENDED)
+        self.assertEqual((driver.next().run, driver.end_run()), ((1, 8, True), False))
         card.fetch = lambda device, most: most + 1
         self.refused(Status.BAD_WORK, driver.act, card)
         card.fetch = lambda device, most: [][0]

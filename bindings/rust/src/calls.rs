@@ -437,6 +437,11 @@ pub(crate) fn driver_step_sized(driver: &mut fq_driver, todo: &mut fq_todo) -> u
     unsafe { fq_driver_step_sized(driver, todo) }
 }
 
+pub(crate) fn driver_end_run(driver: &mut fq_driver) -> u32 {
+    // SAFETY: each reference and each slice leads to whole objects, to which no other argument leads.
+    unsafe { fq_driver_end_run(driver) }
+}
+
 pub(crate) fn driver_show_sized(
     driver: &fq_driver,
     device: u32,

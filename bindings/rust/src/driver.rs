@@ -29,7 +29,7 @@ pub enum What {
         /// The most packets that may be taken.
         most: u32,
     },
-    /// A run ended (`net_rx_action`): do other work first, if there is some.
+    /// A run ended (`net_rx_action`): it was squeezed, or devices wait for the next run. Do other work first, if there is some.
     Ended(RunReport),
 }
 
@@ -49,6 +49,21 @@ impl Todo {
     /// that found packets.
     pub fn set_packets(&mut self, packets: u32) {
         self.raw.packets = packets;
+    }
+
+    /// Sets that a fetch also unmasked the card and then looked at it, and whether the card had packets, for the report. Such a
+    /// fetch has to be reported.
+    pub fn set_rearmed(&mut self, has_more: bool) {
+        self.raw.rearm = if has_more {
+            sys::FQ_REARM_MORE
+        } else {
+            sys::FQ_REARM_EMPTY
+        };
+    }
+
+    /// Returns the report of the run that ended, if one did: it comes with [`What::Ended`] or [`What::Sleep`].
+    pub fn run(&self) -> Option<RunReport> {
+        (self.raw.run.polls > 0).then_some(self.raw.run)
     }
 
     /// Returns the action.
@@ -77,6 +92,11 @@ pub trait Cards {
     fn look(&mut self, device: u32) -> bool;
     /// Takes at most this many packets from a card, delivers them, and returns how many.
     fn fetch(&mut self, device: u32, most: u32) -> u32;
+    /// Unmasks the interrupt of a card after a fetch of fewer packets, then looks at the card, and returns whether it has any. This
+    /// saves two actions. `None`, which is the default, does nothing: an unmask and a look follow.
+    fn rearm(&mut self, _device: u32) -> Option<bool> {
+        None
+    }
 }
 
 /// Whether a device is open.
@@ -215,6 +235,12 @@ impl Driver {
         }
     }
 
+    /// Ends the run in progress, by a clock of the caller (`netdev_budget_usecs`): a fetch that is due already is still made, and
+    /// then the run has ended and is squeezed. Fails with [`NOT_DUE`](Fault::NOT_DUE) if no run is in progress.
+    pub fn end_run(&mut self) -> Result<(), Fault> {
+        Fault::unless_made(calls::driver_end_run(self.at.raw()))
+    }
+
     /// Returns what has to be done now. An action that isn't reported is returned again.
     pub fn next(&mut self) -> Todo {
         let raw = set_by("driver_next", Todo::NONE.raw, |raw| {
@@ -250,7 +276,7 @@ impl Driver {
     /// [`What::Ended`] if a run ended. If a call of the card panics, nothing is reported, and the same action is due again. Fails
     /// with [`BAD_WORK`](Fault::BAD_WORK) if a fetch returned too many packets.
     pub fn act<C: Cards>(&mut self, cards: &mut C) -> Result<What, Fault> {
-        let todo = self.next();
+        let mut todo = self.next();
         let what = todo.what();
         let packets = match what {
             What::Sleep | What::Ended(_) => return Ok(what),
@@ -263,7 +289,13 @@ impl Driver {
                 0
             }
             What::Look(device) => u32::from(cards.look(device)),
-            What::Fetch { device, most } => cards.fetch(device, most),
+            What::Fetch { device, most } => {
+                let taken = cards.fetch(device, most);
+                if let Some(has_more) = (taken < most).then(|| cards.rearm(device)).flatten() {
+                    todo.set_rearmed(has_more);
+                }
+                taken
+            }
         };
         match self.done(todo, packets) {
             Err(Fault::BAD_WORK) => Err(Fault::BAD_WORK),

@@ -109,7 +109,7 @@ pub const FQ_NEXT_REPOLL: u32 = 3;
 /// Its instance wasn't queued there.
 pub const FQ_NEXT_ABSENT: u32 = 4;
 
-/// Nothing, until the next interrupt, open or stop.
+/// Nothing, until the next interrupt, open or stop; `run` is the report of the run that ended, if one did.
 pub const FQ_TODO_SLEEP: u32 = 0;
 /// Mask the interrupt of the device's card.
 pub const FQ_TODO_MASK: u32 = 1;
@@ -118,12 +118,21 @@ pub const FQ_TODO_UNMASK: u32 = 2;
 /// Look whether the card has packets, and set `packets` to how many, or to 1 if it has any, or to 0: after a full
 /// memory fence, if the card works at the same time.
 pub const FQ_TODO_LOOK: u32 = 3;
-/// Take packets from the card, at most `most` of them, deliver them, and set `packets` to how many.
+/// Take packets from the card, at most `most` of them, deliver them, and set `packets` to how many. If the card has
+/// no more, you may unmask it and then look at it, and set `rearm`: this saves the steps for UNMASK and LOOK.
 pub const FQ_TODO_FETCH: u32 = 4;
-/// A run ended, with the report `run` (`net_rx_action`): do other work first, if there is some.
+/// A run ended, with the report `run` (`net_rx_action`): it was squeezed, or devices wait for the next run. Do other
+/// work first, if there is some.
 pub const FQ_TODO_ENDED: u32 = 5;
 /// Nothing, because the call failed, with the error `status`: a loop has to end.
 pub const FQ_TODO_FAILED: u32 = 6;
+
+/// It didn't: the card is still masked.
+pub const FQ_REARM_NO: u32 = 0;
+/// It did, and the card had no packets.
+pub const FQ_REARM_EMPTY: u32 = 1;
+/// It did, and the card had packets.
+pub const FQ_REARM_MORE: u32 = 2;
 
 /// Closed, and its card is masked.
 pub const FQ_DEVICE_CLOSED: u32 = 0;
@@ -472,7 +481,9 @@ pub struct fq_todo {
     pub packets: u32,
     /// The error after `FQ_TODO_FAILED`, otherwise `FQ_OK`.
     pub status: u32,
-    /// The report of the run that ended; its numbers are 0 for anything else.
+    /// Set by the program after a fetch that also unmasked the card and looked at it; before that `FQ_REARM_NO`.
+    pub rearm: u32,
+    /// The report of the run that ended, for `FQ_TODO_ENDED` and `FQ_TODO_SLEEP`; its numbers are 0 if none did.
     pub run: fq_run_report,
 }
 
@@ -486,6 +497,7 @@ impl fq_todo {
         most: 0,
         packets: 0,
         status: 0,
+        rearm: 0,
         run: fq_run_report {
             size: std::mem::size_of::<fq_run_report>(),
             polls: 0,

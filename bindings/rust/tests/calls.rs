@@ -909,6 +909,7 @@ fn a_driver_polls_what_came_before_it_was_opened() {
         (shown.state, shown.polls, shown.packets),
         (DeviceState::Open, 2, 100)
     );
+    assert_eq!(driver.end_run(), Err(Fault::NOT_DUE));
     assert_eq!(driver.interrupt(1), Ok(Prep::Granted));
     assert_eq!(driver.interrupt(1), Ok(Prep::Missed));
     driver.stop(1).unwrap();
@@ -917,6 +918,60 @@ fn a_driver_polls_what_came_before_it_was_opened() {
     while driver.act(&mut card) != Ok(What::Sleep) {}
     assert_eq!(driver.shown(1).unwrap().state, DeviceState::Closed);
     assert!(!card.open);
+}
+
+// A card that is unmasked and looked at in a fetch.
+struct RearmCard(EdgeCard);
+
+impl Cards for RearmCard {
+    fn mask(&mut self, device: u32) {
+        self.0.mask(device);
+    }
+
+    fn unmask(&mut self, device: u32) {
+        self.0.unmask(device);
+    }
+
+    fn look(&mut self, device: u32) -> bool {
+        self.0.look(device)
+    }
+
+    fn fetch(&mut self, device: u32, most: u32) -> u32 {
+        self.0.fetch(device, most)
+    }
+
+    fn rearm(&mut self, device: u32) -> Option<bool> {
+        self.0.unmask(device);
+        Some(self.0.look(device))
+    }
+}
+
+#[test]
+fn a_fetch_may_unmask_and_look() {
+    let mut driver = Driver::new(1, 300, Weight::MAX, 1024).unwrap();
+    let mut card = RearmCard(EdgeCard::default());
+    driver.open(0).unwrap();
+    while driver.act(&mut card) != Ok(What::Sleep) {}
+    card.0.waiting = 1;
+    assert_eq!(driver.interrupt(0), Ok(Prep::Granted));
+    assert_eq!(driver.act(&mut card), Ok(What::Mask(0)));
+    let mut todo = driver.next();
+    let fetch = What::Fetch {
+        device: 0,
+        most: 64,
+    };
+    assert_eq!((todo.what(), todo.run()), (fetch, None));
+    todo.set_packets(card.fetch(0, 64));
+    todo.set_rearmed(card.rearm(0).unwrap());
+    assert_eq!(driver.step(&mut todo), Ok(What::Sleep));
+    assert_eq!(todo.run().map(|run| (run.polls, run.work)), Some((1, 1)));
+    card.0.waiting = 65;
+    assert_eq!(driver.interrupt(0), Ok(Prep::Granted));
+    let did: Vec<_> = (0..5).map(|_| driver.act(&mut card).unwrap()).collect();
+    assert_eq!(did[0], What::Mask(0));
+    assert!(matches!(did[2], What::Ended(_)));
+    assert_eq!((did[1], did[3], did[4]), (fetch, fetch, What::Sleep));
+    assert_eq!((card.0.taken, card.0.open), (66, true));
 }
 
 #[test]

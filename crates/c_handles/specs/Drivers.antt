@@ -1,12 +1,15 @@
 -- A driver for C: what it asks for, as numbers, and the status and the effect of each call.
-use Rattle.std.specs.Prelude.{◌≡◌, ◌≢◌, ◌⊎◌, ◌↔◌, ℕ, ◌+◌, ◌*◌, ◌≤◌, ◌==◌, ◌||◌, false, nat_le, if◌then◌else◌}
+use Rattle.std.specs.Prelude.{◌≡◌, ◌≢◌, ◌⊎◌, ◌↔◌, ℕ, ◌+◌, ◌*◌, ◌≤◌, ◌==◌, ◌||◌, false, true, nat_le, if◌then◌else◌}
 use Rattle.std.specs.Prelude.{length, IsSome, ⊤, Result, Ok, Err}
 use Rattle.napi_model.specs.declared.event.Prep.{Prep, TheVariants.{Granted, Missed, Disabled}}
 use Rattle.napi_model.specs.Step.{schedule_reply}
 use Rattle.driver_core.specs.{Device.{after_interrupt, is_stopping, after_open, after_stop, MayStop}, Steps.{stage_is_scheduled, napi_of}}
 use Rattle.driver_core.specs.Driver.{poll_counts_of, device_of, driver_devices, driver_limits, said_number_of, polled_device, stage_of}
-use Rattle.driver_core.specs.Driver.{AreClosed, IsDue, AwaitsNothing, IsIdle, IsNumberedWhat, IsReport, IsUncounted, PutsDevice, Reports}
+use Rattle.driver_core.specs.Driver.{is_ending, is_running}
+use Rattle.driver_core.specs.Driver.{AreClosed, EndsRun, EndsSqueezed, IsDue, AwaitsNothing, IsIdle, IsNumberedWhat, IsReport, IsUncounted}
+use Rattle.driver_core.specs.Driver.{PutsDevice, Reports}
 use Rattle.driver_core.specs.declared.{driver.Driver.Driver, device.Stage.{Stage, TheVariants.Closed}}
+use Rattle.driver_core.specs.declared.device.Rearm.{Rearm, TheVariants.{No, Empty, More}}
 use Rattle.driver_core.specs.declared.todo.Refused.{Refused, TheVariants.{NotDue, TooMany}}
 use Rattle.driver_core.specs.declared.todo.What.{What, TheVariants.{Mask, Unmask, Look, Fetch, Ended, Sleep}}
 use Rattle.c_handles.specs.Status.{OK, GRANTED, MISSED, DISABLED, NOT_DUE, BAD_DEVICE, BAD_WORK, BAD_COUNT}
@@ -36,7 +39,7 @@ no_run = record { size = 24; polls = 0; work = 0; squeezed = false }
 
 -- the number of an action in C
 abbrev pub what_in : What → ℕ
-what_in Sleep = 0
+what_in (Sleep report) = 0
 what_in (Mask id) = 1
 what_in (Unmask id) = 2
 what_in (Look id) = 3
@@ -61,6 +64,7 @@ unset_packets _ = 0
 
 abbrev pub todo_run_in : What → FqRunReport
 todo_run_in (Ended r) = record { size = 24; polls = r.polls; work = r.work; squeezed = r.squeezed }
+todo_run_in (Sleep r) = record { size = 24; polls = r.polls; work = r.work; squeezed = r.squeezed }
 todo_run_in _ = no_run
 
 abbrev pub todo_in : ℕ → ℕ → What → FqTodo
@@ -72,6 +76,7 @@ todo_in size number what = record {
   most = most_in what;
   packets = unset_packets what;
   status = OK;
+  rearm = 0;
   run = todo_run_in what;
 }
 
@@ -85,6 +90,7 @@ failed_in size status = record {
   most = 0;
   packets = 0;
   status = status;
+  rearm = 0;
   run = no_run;
 }
 
@@ -102,16 +108,22 @@ pub record Says (size : ℕ) (d : Driver) (todo : FqTodo) (e : Driver) : Type 0 
   pub again : ¬ AwaitsNothing d → (e ≡ d) × (todo.number ≡ said_number_of d)
   pub devices : driver_devices e ≡ driver_devices d
   pub counts : e.counts ≡ d.counts
+  -- a run that the caller has ended makes no further poll, and counts as squeezed
+  pub stops : is_ending d ≡ true → AwaitsNothing d → EndsSqueezed what
 
 -- of these structs, the first is the caller's variable before the call, and the second after it
 abbrev pub IsDriverNext : FqTodo → FqTodo → Driver → ℕ → Driver → Type 0
 IsDriverNext before after d n e = (n ≡ OK) × Says before.size d after e
 
+-- whether a fetch unmasked the card and then looked at it, by its number in C
+abbrev pub rearm_in : ℕ → Rearm
+rearm_in number = if number == 0 then No else (if number == 1 then Empty else More)
+
 -- a report, and the driver after the report
-pub record IsTodoReport (number packets : ℕ) (d : Driver) (n : ℕ) (e : Driver) : Type 0 where
+pub record IsTodoReport (number packets rearm : ℕ) (d : Driver) (n : ℕ) (e : Driver) : Type 0 where
   pub none : number ≡ 0 → (n ≡ OK) × (e ≡ d)
   pub due : number ≢ 0 → (n ≡ OK) ↔ IsReport number packets d
-  pub reports : number ≢ 0 → n ≡ OK → Reports packets d e × AwaitsNothing e
+  pub reports : number ≢ 0 → n ≡ OK → Reports packets (rearm_in rearm) d e × AwaitsNothing e
   pub many : number ≢ 0 → n ≢ OK → (n ≡ BAD_WORK) ↔ ((number ≡ said_number_of d) × IsSome (polled_device d))
   pub status : (n ≡ OK) ⊎ (n ≡ NOT_DUE) ⊎ (n ≡ BAD_WORK)
   pub kept : n ≢ OK → e ≡ d
@@ -126,7 +138,7 @@ report_status number (Err NotDue) = if number == 0 then OK else NOT_DUE
 -- is what the report leaves. After a report of too many packets nothing is asked for.
 pub record IsDriverStep (before after : FqTodo) (d : Driver) (n : ℕ) (e : Driver) : Type 0 where
   pub between : Driver
-  pub reports : IsTodoReport before.number before.packets d n between
+  pub reports : IsTodoReport before.number before.packets before.rearm d n between
   pub status : (n ≡ OK) ⊎ (n ≡ NOT_DUE) ⊎ (n ≡ BAD_WORK)
   pub says : n ≢ BAD_WORK → Says before.size between after e
   pub failed : n ≡ BAD_WORK → (after ≡ failed_in before.size BAD_WORK) × (e ≡ d)
@@ -160,6 +172,11 @@ pub record IsDriverStop (device : ℕ) (d : Driver) (n : ℕ) (e : Driver) : Typ
   pub status : (n ≡ OK) ⊎ (n ≡ NOT_DUE) ⊎ (n ≡ BAD_DEVICE)
   pub when : n ≢ BAD_DEVICE → (n ≡ OK) ↔ MayStop (stage_of d device)
   pub puts : n ≡ OK → PutsDevice device (after_stop (device_of d device)) d e
+  pub kept : n ≢ OK → e ≡ d
+
+pub record IsDriverEndRun (d : Driver) (n : ℕ) (e : Driver) : Type 0 where
+  pub status : n ≡ (if is_running d then OK else NOT_DUE)
+  pub ends : n ≡ OK → EndsRun d e
   pub kept : n ≢ OK → e ≡ d
 
 -- ---- what is shown of a device (`struct fq_device_shown`)

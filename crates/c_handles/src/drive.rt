@@ -2,11 +2,11 @@
 
 ghost use Rattle.std.specs.Prelude.{◌≡◌, length, nat_lt};
 ghost use Rattle.driver_core.specs.Driver.{driver_devices};
-ghost use Rattle.c_handles.specs.Drivers.{device_in, most_in, unset_packets, reply_status, todo_run_in, shown_of, device_state_in, todo_in, what_in, IsDriverInterrupt, IsDriverNext, IsDriverOpen, IsDriverStep, IsTodoReport, IsDriverShow, IsDriverStop, report_status};
+ghost use Rattle.c_handles.specs.Drivers.{device_in, most_in, rearm_in, unset_packets, reply_status, todo_run_in, shown_of, device_state_in, todo_in, what_in, IsDriverEndRun, IsDriverInterrupt, IsDriverNext, IsDriverOpen, IsDriverStep, IsTodoReport, IsDriverShow, IsDriverStop, report_status};
 
 use crate::lister::FqRunReport;
 use crate::status;
-use driver_core::{Driver, DriverDevice, Refused, Stage, Todo, TodoPlace, What};
+use driver_core::{Driver, DriverDevice, Rearm, Refused, Stage, Todo, TodoPlace, What};
 use napi_model::Prep;
 use std::mem::size_of;
 
@@ -28,6 +28,8 @@ pub struct FqTodo {
     pub packets: u32,
     /// Why the call failed, if there is nothing to do because of that.
     pub status: u32,
+    /// Whether a fetch also unmasked the card and then looked at it (`enum fq_rearm`): set by the caller.
+    pub rearm: u32,
     /// The report of a run that ended.
     pub run: FqRunReport,
 }
@@ -66,7 +68,7 @@ fn what_in(what: What) -> u32
     ensures { result ≡ what_in what }
 {
     match what {
-        What::Sleep => 0,
+        What::Sleep(_) => 0,
         What::Mask(_) => 1,
         What::Unmask(_) => 2,
         What::Look(_) => 3,
@@ -84,7 +86,7 @@ fn where_in(what: What) -> (u32, u32)
     match what {
         What::Mask(device) | What::Unmask(device) | What::Look(device) => (device, 0),
         What::Fetch(device, most) => (device, most),
-        What::Sleep | What::Ended(_) => (0, 0),
+        What::Sleep(_) | What::Ended(_) => (0, 0),
     }
 }
 
@@ -105,7 +107,7 @@ fn todo_run_in(what: What) -> FqRunReport
     ensures { result ≡ todo_run_in what }
 {
     match what {
-        What::Ended(report) => FqRunReport {
+        What::Ended(report) | What::Sleep(report) => FqRunReport {
             size: size_of::<FqRunReport>(),
             polls: report.polls,
             work: report.work,
@@ -135,6 +137,7 @@ impl TodoPlace for FqTodo {
         self.run.work = run.work;
         self.run.squeezed = run.squeezed;
         self.status = status::OK;
+        self.rearm = 0;
     }
 }
 
@@ -154,6 +157,7 @@ impl FqTodo {
             most: 0,
             packets: 0,
             status,
+            rearm: 0,
             run: NO_RUN,
         };
         status
@@ -167,6 +171,19 @@ impl FqTodo {
         if said == status::BAD_WORK {
             self.fail(said);
         }
+    }
+}
+
+// Returns whether a fetch unmasked the card and then looked at it, by its number (`enum fq_rearm`). A number that isn't known counts as
+// a card that had packets, which is then masked and polled again.
+#[inline(always)]
+fn rearm_of(number: u32) -> Rearm
+    ensures { result ≡ rearm_in number }
+{
+    match number {
+        0 => Rearm::No,
+        1 => Rearm::Empty,
+        _ => Rearm::More,
     }
 }
 
@@ -191,9 +208,10 @@ fn report_status(number: u64, reported: Result<(), Refused>) -> u32
 /// Reports that the action in `todo` was done (`Driver::done`); number 0 reports nothing.
 #[inline(always)]
 pub fn done(driver: &mut Driver, todo: &FqTodo) -> u32
-    ensures { IsTodoReport todo.now.number todo.now.packets driver.old result driver.new }
+    ensures { IsTodoReport todo.now.number todo.now.packets todo.now.rearm driver.old result
+        driver.new }
 {
-    let reported = driver.done(todo.number, todo.packets);
+    let reported = driver.done(todo.number, todo.packets, rearm_of(todo.rearm));
     report_status(todo.number, reported)
 }
 
@@ -213,7 +231,8 @@ pub fn step(driver: &mut Driver, todo: &mut FqTodo) -> u32
 {
     let number = todo.number;
     let packets = todo.packets;
-    let (reported, _) = driver.step_into(number, packets, todo);
+    let rearm = rearm_of(todo.rearm);
+    let (reported, _) = driver.step_into(number, packets, rearm, todo);
     let said = report_status(number, reported);
     todo.settle(said);
     said
@@ -238,6 +257,16 @@ pub fn interrupt(driver: &mut Driver, device: u32) -> u32
         Prep::Granted => status::GRANTED,
         Prep::Missed => status::MISSED,
         Prep::Disabled => status::DISABLED,
+    }
+}
+
+/// Ends the run in progress (`Driver::end_run`).
+pub fn end_run(driver: &mut Driver) -> u32
+    ensures { IsDriverEndRun driver.old result driver.new }
+{
+    match driver.end_run() {
+        Ok(()) => status::OK,
+        Err(_) => status::NOT_DUE,
     }
 }
 

@@ -3,7 +3,7 @@
 ghost use Rattle.std.specs.Prelude.{◌≡◌, length, IfOk};
 ghost use Rattle.driver_core.specs.Driver.{driver_devices};
 
-use driver_core::{Driver, DriverDevice, Limits, Stage, What};
+use driver_core::{Driver, DriverDevice, Limits, Rearm, Stage, What};
 use std::alloc::{AllocError, Global};
 
 /// A model of a card. It interrupts when a packet arrives, and loses that interrupt while it is masked.
@@ -40,6 +40,10 @@ pub enum Hand {
     Saw(bool),
     /// It has taken this many packets.
     Took(u32),
+    /// It has taken this many packets, and unmasked the card.
+    Rearming(u32),
+    /// It has also looked at the card then; true if it saw packets.
+    Rearmed(u32, bool),
 }
 
 /// One step of the card or of the thread, or an open or stop of the device. The steps may come in any order.
@@ -53,6 +57,8 @@ pub enum DriverStep {
     Say,
     /// The thread does that at the card.
     Act,
+    /// After a fetch the thread also unmasks the card; then it looks at it.
+    Rearm,
     /// The thread reports that it did it.
     Report,
     /// The thread forgets what it was doing, done or not, and calls the driver again.
@@ -64,11 +70,12 @@ pub enum DriverStep {
 }
 
 /// All steps.
-pub const STEPS: [DriverStep; 8] = [
+pub const STEPS: [DriverStep; 9] = [
     DriverStep::Arrive,
     DriverStep::Interrupt,
     DriverStep::Say,
     DriverStep::Act,
+    DriverStep::Rearm,
     DriverStep::Report,
     DriverStep::Forget,
     DriverStep::Open,
@@ -186,7 +193,10 @@ impl DriverBench {
             self.number = todo.number;
         }
         match todo.what {
-            What::Sleep => self.sleeps = true,
+            What::Sleep(_) => {
+                self.sleeps = true;
+                self.run = None;
+            }
             What::Ended(_) => self.run = None,
             What::Mask(_) => self.hand = Hand::ToMask,
             What::Unmask(_) => self.hand = Hand::ToUnmask,
@@ -220,25 +230,40 @@ impl DriverBench {
         true
     }
 
-    fn report(&mut self) -> bool {
-        let packets = match self.hand {
-            Hand::Masked | Hand::Unmasked => 0,
-            Hand::Saw(has_more) => u32::from(has_more),
+    fn rearm(&mut self) -> bool {
+        self.hand = match self.hand {
             Hand::Took(taken) => {
-                self.count(taken);
-                taken
+                self.card.masked = false;
+                Hand::Rearming(taken)
             }
+            Hand::Rearming(taken) => Hand::Rearmed(taken, self.card.packets > 0),
             _ => return false,
         };
+        true
+    }
+
+    fn report(&mut self) -> bool {
+        let (packets, rearm) = match self.hand {
+            Hand::Masked | Hand::Unmasked => (0, Rearm::No),
+            Hand::Saw(has_more) => (u32::from(has_more), Rearm::No),
+            Hand::Took(taken) => (taken, Rearm::No),
+            Hand::Rearmed(taken, false) => (taken, Rearm::Empty),
+            Hand::Rearmed(taken, true) => (taken, Rearm::More),
+            _ => return false,
+        };
+        if matches!(self.hand, Hand::Took(_) | Hand::Rearmed(_, _)) {
+            self.count(packets, rearm);
+        }
         // the report may not be due any more, which is no error here
-        let _ = self.driver.done(self.number, packets);
+        let _ = self.driver.done(self.number, packets, rearm);
         self.hand = Hand::Free;
         true
     }
 
     // Counts a poll that is reported.
-    fn count(&mut self, taken: u32) {
-        let stays = self.driver.device(0).stage == Stage::Listed(false) && taken == self.weight;
+    fn count(&mut self, taken: u32, rearm: Rearm) {
+        let is_full = taken == self.weight && rearm == Rearm::No;
+        let stays = self.driver.device(0).stage == Stage::Listed(false) && is_full;
         self.taken = self.taken.saturating_add(taken);
         if let Some(run) = &mut self.run {
             run.polls = run.polls.saturating_add(1);
@@ -248,9 +273,15 @@ impl DriverBench {
     }
 
     fn forget(&mut self) -> bool {
-        let is_free = self.hand == Hand::Free;
+        // a fetch that has unmasked the card has to be reported
+        if matches!(
+            self.hand,
+            Hand::Free | Hand::Rearming(_) | Hand::Rearmed(_, _)
+        ) {
+            return false;
+        }
         self.hand = Hand::Free;
-        !is_free
+        true
     }
 
     /// Reports under an old number, which isn't due any more, if there is one. Returns whether the report was rejected and
@@ -260,7 +291,7 @@ impl DriverBench {
             return true;
         }
         let before = self.driver.device(0);
-        self.driver.done(self.old, 1).is_err() && self.driver.device(0) == before
+        self.driver.done(self.old, 1, Rearm::No).is_err() && self.driver.device(0) == before
     }
 
     fn open(&mut self) -> bool {
@@ -295,6 +326,7 @@ impl DriverBench {
             DriverStep::Interrupt => self.interrupt(),
             DriverStep::Say => return self.say(),
             DriverStep::Act => self.act(),
+            DriverStep::Rearm => self.rearm(),
             DriverStep::Report => self.report(),
             DriverStep::Forget => self.forget(),
             DriverStep::Open => self.open(),

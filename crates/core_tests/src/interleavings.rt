@@ -54,6 +54,7 @@ fn check_drains(rt: &impl Abort, mut bench: DriverBench) {
         let _ = bench.make(DriverStep::Interrupt)
             || bench.make(DriverStep::Act)
             || bench.make(DriverStep::Report)
+            || bench.make(DriverStep::Rearm)
             || bench.make(DriverStep::Say);
     }
     check_sleep(rt, &bench);

@@ -1,4 +1,5 @@
 pub mod ChoreFacts
 pub mod QueueFacts
+pub mod LineFacts
 pub mod WorldFacts
 pub mod StepFacts

@@ -14,9 +14,9 @@ use Rattle.poll_runs.specs.{Driven.held, Plain.{HasListRoom, NothingBehind, OwnP
 use Rattle.poll_runs.specs.{Polls.{is_arrival, is_repoll}, Steps.{Asks, Begins, HoldsNothing, has_spent}}
 use Rattle.poll_runs.specs.{declared.{bench.Next.Next, polling_run.PollingRun.PollingRun}}
 use Rattle.driver_core.specs.Device.{in_stage, chore_at, completed_at, stage_is_listed, is_stopping, after_driver_poll, after_poll_at}
-use Rattle.driver_core.specs.Device.{IsAtRest}
+use Rattle.driver_core.specs.Device.{IsAtRest, rearmed_at}
 use Rattle.driver_core.specs.{Queue.{IsStillDue, IsQueue, device_at, listed_at, listed_in, occurs}}
-use Rattle.driver_core.specs.declared.device.{Chore.Chore, DriverDevice.DriverDevice}
+use Rattle.driver_core.specs.declared.device.{Chore.Chore, DriverDevice.DriverDevice, Rearm.{Rearm, TheVariants.{No, Empty, More}}}
 use Rattle.driver_core.specs.declared.device.{Stage.{Stage, TheVariants.{Closed, Masking, Closing, Listed, Unmasking, Looking, Armed}}}
 
 -- ---- devices
@@ -328,10 +328,18 @@ after-poll true false missed = refl
 after-poll true true missed = after-completion true missed
 after-poll false stopping missed = after-completion stopping missed
 
+after-rearm : (has_more stopping missed : Bool) → stage_is_listed (rearmed_at has_more stopping missed).stage ≡ false
+after-rearm has_more stopping true = refl
+after-rearm has_more true false = refl
+after-rearm true false false = refl
+after-rearm false false false = refl
+
 -- after a poll, a device is listed exactly if its number goes back to the list
-pub polled_listed : (full : Bool) (d : DriverDevice)
-    → stage_is_listed (after_driver_poll full d).0.stage ≡ comes_back (after_driver_poll full d).1
-polled_listed full d = after-poll full (is_stopping d.stage) d.missed
+pub polled_listed : (full : Bool) (rearm : Rearm) (d : DriverDevice)
+    → stage_is_listed (after_driver_poll full rearm d).0.stage ≡ comes_back (after_driver_poll full rearm d).1
+polled_listed full No d = after-poll full (is_stopping d.stage) d.missed
+polled_listed full Empty d = after-rearm false (is_stopping d.stage) d.missed
+polled_listed full More d = after-rearm true (is_stopping d.stage) d.missed
 
 -- ---- the last action that was asked for
 

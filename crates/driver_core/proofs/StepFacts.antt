@@ -1,14 +1,16 @@
 -- Each call on a device makes legal steps of its instance.
 use Rattle.std.proofs.Common.{◌≡◌, inl, inr, Bool, true, false, [], ◌∷◌, refl, subst, sym}
 use Rattle.napi_model.specs.{History.{LegalHistory, state_after}, Step.{event, schedule_reply}}
-use Rattle.napi_model.specs.declared.event.Operation.TheVariants.{Schedule, Enable, MarkDisable}
+use Rattle.napi_model.specs.declared.event.Operation.TheVariants.{Schedule, Take, Enable, MarkDisable}
+use Rattle.napi_model.specs.declared.state.Kind.TheVariants as kind
 use Rattle.driver_core.specs.Device.{in_stage, after_interrupt, stage_is_listed, after_look, masked, after_open, after_driver_poll}
-use Rattle.driver_core.specs.Device.{after_stop, unmasked, IsMasking, MayStop}
-use Rattle.driver_core.specs.Steps.{CallsAreLegal, Leads, CONTROLLER, INTERRUPT, look_events, mask_events, napi_of, poll_events}
+use Rattle.driver_core.specs.Device.{after_stop, rearmed_at, unmasked, IsMasking, MayStop}
+use Rattle.driver_core.specs.Steps.{CallsAreLegal, Leads, CONTROLLER, POLLER, look_events, mask_events, napi_of, poll_events, rearm_events}
+use Rattle.driver_core.specs.declared.device.Rearm.{Rearm, TheVariants.{No, Empty, More}}
 use Rattle.driver_core.specs.declared.device.{Stage.{Stage, TheVariants.{Closed, Masking, Closing, Listed, Unmasking, Looking, Armed}}}
 
 interrupts : (stage : Stage) (missed : Bool)
-    → Leads (in_stage stage missed) (event INTERRUPT (Schedule (schedule_reply (napi_of (in_stage stage missed)))) ∷ [])
+    → Leads (in_stage stage missed) (event POLLER (Schedule (schedule_reply (napi_of (in_stage stage missed)))) ∷ [])
     (after_interrupt (in_stage stage missed))
 unfolding LegalHistory state_after
 interrupts Closed missed = ((((refl, refl), tt), tt), refl)
@@ -47,8 +49,8 @@ unfolding LegalHistory state_after
 looks missed true = ((((refl, refl), tt), tt), refl)
 looks missed false = (tt, refl)
 
-polls : (full stopping missed : Bool) → Leads (in_stage (Listed stopping) missed) (poll_events full (in_stage (Listed stopping) missed))
-    (after_driver_poll full (in_stage (Listed stopping) missed)).0
+polls : (full stopping missed : Bool) → Leads (in_stage (Listed stopping) missed) (poll_events full No (in_stage (Listed stopping) missed))
+    (after_driver_poll full No (in_stage (Listed stopping) missed)).0
 unfolding LegalHistory state_after
 polls true false missed = (((refl, tt), ((inr (refl, refl), tt), tt)), refl)
 polls true true true = (((refl, tt), (((refl, refl, refl), tt), ((inl refl, tt), tt))), refl)
@@ -57,15 +59,32 @@ polls false stopping true = (((refl, tt), (((refl, refl, refl), tt), ((inl refl,
 polls false true false = (((refl, tt), (((refl, refl, refl), tt), (((refl, refl, refl), refl), (((refl, refl), refl), tt)))), refl)
 polls false false false = (((refl, tt), (((refl, refl, refl), tt), tt)), refl)
 
-polls-listed : (stage : Stage) (full missed : Bool) → stage_is_listed stage ≡ true
-    → Leads (in_stage stage missed) (poll_events full (in_stage stage missed)) (after_driver_poll full (in_stage stage missed)).0
-polls-listed (Listed stopping) full missed h = polls full stopping missed
-polls-listed Closed full missed h = absurd (cc h)
-polls-listed (Masking stopping) full missed h = absurd (cc h)
-polls-listed Closing full missed h = absurd (cc h)
-polls-listed Unmasking full missed h = absurd (cc h)
-polls-listed Looking full missed h = absurd (cc h)
-polls-listed Armed full missed h = absurd (cc h)
+rearms : (has_more stopping missed : Bool)
+    → Leads (in_stage (Listed stopping) missed) (event POLLER (Take kind.List true) ∷ rearm_events has_more stopping missed)
+    (rearmed_at has_more stopping missed)
+unfolding LegalHistory state_after
+rearms has_more stopping true = (((refl, tt), (((refl, refl, refl), tt), tt)), refl)
+rearms true false false = (((refl, tt), (((refl, refl, refl), tt), (((refl, refl), tt), tt))), refl)
+rearms false false false = (((refl, tt), (((refl, refl, refl), tt), tt)), refl)
+rearms has_more true false = (((refl, tt), (((refl, refl, refl), tt), tt)), refl)
+
+polls-rearmed : (full : Bool) (rearm : Rearm) (stopping missed : Bool)
+    → Leads (in_stage (Listed stopping) missed) (poll_events full rearm (in_stage (Listed stopping) missed))
+    (after_driver_poll full rearm (in_stage (Listed stopping) missed)).0
+polls-rearmed full No stopping missed = polls full stopping missed
+polls-rearmed full Empty stopping missed = rearms false stopping missed
+polls-rearmed full More stopping missed = rearms true stopping missed
+
+polls-listed : (stage : Stage) (full : Bool) (rearm : Rearm) (missed : Bool) → stage_is_listed stage ≡ true
+    → Leads (in_stage stage missed) (poll_events full rearm (in_stage stage missed))
+    (after_driver_poll full rearm (in_stage stage missed)).0
+polls-listed (Listed stopping) full rearm missed h = polls-rearmed full rearm stopping missed
+polls-listed Closed full rearm missed h = absurd (cc h)
+polls-listed (Masking stopping) full rearm missed h = absurd (cc h)
+polls-listed Closing full rearm missed h = absurd (cc h)
+polls-listed Unmasking full rearm missed h = absurd (cc h)
+polls-listed Looking full rearm missed h = absurd (cc h)
+polls-listed Armed full rearm missed h = absurd (cc h)
 
 opens : (missed : Bool) → Leads (in_stage Closed missed) (event CONTROLLER (Enable false) ∷ []) (after_open (in_stage Closed missed))
 unfolding LegalHistory state_after
@@ -93,7 +112,7 @@ calls-are-legal = record {
       let P : Stage → Type 0 = λ stage. Leads (in_stage stage d.missed) (look_events has_more)
       (after_look has_more (in_stage stage d.missed)) in
       subst P (sym h) (looks d.missed has_more);
-  polled = λ d full h. polls-listed d.stage full d.missed h;
+  polled = λ d full rearm h. polls-listed d.stage full rearm d.missed h;
   opened = λ d h.
       let P : Stage → Type 0 = λ stage. Leads (in_stage stage d.missed) (event CONTROLLER (Enable false) ∷ [])
       (after_open (in_stage stage d.missed)) in

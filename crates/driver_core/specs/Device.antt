@@ -2,6 +2,7 @@
 -- each call on them. A card interrupts when a packet arrives, and loses that interrupt while it is masked.
 use Rattle.std.specs.Prelude.{◌≡◌, Bool, true, false, Option, Some, None}
 use Rattle.driver_core.specs.declared.device.{Chore.{Chore, TheVariants.{Mask, Unmask, Look}}, DriverDevice.DriverDevice}
+use Rattle.driver_core.specs.declared.device.Rearm.{Rearm, TheVariants.{No, Empty, More}}
 use Rattle.driver_core.specs.declared.device.Stage.{Stage, TheVariants.{Closed, Masking, Closing, Listed, Unmasking, Looking, Armed}}
 use Rattle.poll_runs.specs.declared.bench.Next.{Next, TheVariants.{Gone, Again, Repoll}}
 use Rattle.napi_model.specs.declared.state.Kind.TheVariants as kind
@@ -68,6 +69,14 @@ after_poll_at true false missed = (in_stage (Listed false) missed, Repoll)
 after_poll_at true true missed = completed_at true missed
 after_poll_at false stopping missed = completed_at stopping missed
 
+-- After a poll whose fetch unmasked the card and then looked at it: another poll is requested if a request was missed or the card has
+-- packets, and the card is masked first. Otherwise the instance is released. A pending stop ends after the card is masked again.
+abbrev pub rearmed_at : Bool → Bool → Bool → DriverDevice
+rearmed_at has_more stopping true = in_stage (Masking stopping) false
+rearmed_at has_more true false = in_stage Closing false
+rearmed_at true false false = in_stage (Masking false) false
+rearmed_at false false false = in_stage Armed false
+
 -- ---- the device is opened and stopped (`napi_enable`, `napi_disable`)
 
 -- after the enable, the card has to be unmasked and looked at
@@ -125,8 +134,10 @@ did Unmask has_more d = unmasked d
 did Look has_more d = after_look has_more d
 
 -- the device after a poll, and how the poll ends
-abbrev pub after_driver_poll : Bool → DriverDevice → DriverDevice × Next
-after_driver_poll full d = after_poll_at full (is_stopping d.stage) d.missed
+abbrev pub after_driver_poll : Bool → Rearm → DriverDevice → DriverDevice × Next
+after_driver_poll full No d = after_poll_at full (is_stopping d.stage) d.missed
+after_driver_poll full Empty d = (rearmed_at false (is_stopping d.stage) d.missed, Gone)
+after_driver_poll full More d = (rearmed_at true (is_stopping d.stage) d.missed, Gone)
 
 -- ---- properties that contracts use
 

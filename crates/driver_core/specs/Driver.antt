@@ -5,12 +5,14 @@ use Rattle.std.specs.Prelude.{◌↔◌, ⊤, Result, IsOk, OnOk, OnErr, IfErr, 
 use Rattle.std.specs.List.{All}
 use Rattle.poll_runs.specs.{Laws.IsPlainRun, declared.run.RunReport.RunReport}
 use Rattle.driver_core.specs.declared.limits.Limits.{Limits}
-use Rattle.poll_runs.specs.{Driven.IsGoing, Steps.HoldsNothing, Plain.{NothingBehind, OwnPushes, all_held}, Polls.Poll}
-use Rattle.poll_runs.specs.{declared.bench.Next.Next}
+use Rattle.poll_runs.specs.{Driven.IsGoing, Steps.HoldsNothing, Plain.{NothingBehind, OwnPushes, all_held}, Polls.{Poll, work_of}}
+use Rattle.poll_runs.specs.{Turn.asked_for, declared.bench.Next.Next}
 use Rattle.driver_core.specs.declared.device.{Chore.Chore, DriverDevice.DriverDevice, Stage.{Stage, TheVariants.Closed}}
 use Rattle.driver_core.specs.declared.device.Chore.TheVariants as chore
+use Rattle.driver_core.specs.declared.device.Rearm.{Rearm}
 use Rattle.driver_core.specs.{Counts.{count_one_poll, no_counts}, declared.counts.PollCounts.PollCounts}
 use Rattle.driver_core.specs.{Device.{in_stage, chore_at, did, stage_is_listed, after_driver_poll, IsAtRest}, Queue.{device_at, following}}
+use Rattle.driver_core.specs.Todo.{ended_in}
 use Rattle.driver_core.specs.declared.{driver.Driver.Driver, todo.Todo.Todo, todo.Refused.{Refused, TheVariants.TooMany}}
 use Rattle.driver_core.specs.declared.todo.What.{What, TheVariants.{Mask, Unmask, Look, Fetch, Ended, Sleep}}
 
@@ -30,6 +32,15 @@ poll_counts_of driver id = slice_index_or driver.counts.items id no_counts
 abbrev pub IsUncounted : Driver → Type 0
 IsUncounted driver = (id : ℕ) → poll_counts_of driver id ≡ no_counts
 
+-- the devices that are polled before any other one, in order: the one that is being polled, the others that the run polls, and those on
+-- the poll list
+abbrev pub line_of : Driver → List ℕ
+line_of driver = asked_for driver.run.asked ++ driver.run.own ++ driver.list
+
+-- devices only join the line, at its end
+abbrev pub AddsToLine : Driver → Driver → Type 0
+AddsToLine before after = (more : List ℕ) × (line_of after ≡ line_of before ++ more)
+
 -- the devices that are on the poll list and not in a run yet, in order
 abbrev pub list_of : Driver → List ℕ
 list_of driver = driver.list
@@ -40,6 +51,10 @@ driver_limits driver = driver.limits
 -- a run is in progress
 abbrev pub is_running : Driver → Bool
 is_running driver = driver.runs
+
+-- the caller has ended the run in progress: it makes no further poll
+abbrev pub is_ending : Driver → Bool
+is_ending driver = driver.ending
 
 -- the device that is being polled
 abbrev pub polled_device : Driver → Option ℕ
@@ -63,6 +78,7 @@ AwaitsNothing driver = (said_of driver ≡ None) × (polled_device driver ≡ No
 pub record SameRun (before after : Driver) : Type 0 where
   pub run : after.run ≡ before.run
   pub runs : after.runs ≡ before.runs
+  pub ending : after.ending ≡ before.ending
   pub limits : after.limits ≡ before.limits
   pub counts : after.counts ≡ before.counts
   pub number : after.number ≡ before.number
@@ -89,20 +105,35 @@ pub record PutsOnList (id : ℕ) (to : DriverDevice) (before after : Driver) : T
 abbrev pub DoesChore : ℕ → Chore → Bool → Driver → Driver → Type 0
 DoesChore id chore has_more before after = PutsOnList id (did chore has_more (device_of before id)) before after
 
--- the device after a poll that took this many packets, and how the poll ended
-abbrev pub after_poll_of : ℕ → ℕ → Driver → DriverDevice × Next
-after_poll_of id packets driver = after_driver_poll (packets == driver.limits.weight) (device_of driver id)
+-- the run in progress makes no further poll, and nothing else changes
+pub record EndsRun (before after : Driver) : Type 0 where
+  pub ending : is_ending after ≡ true
+  pub devices : after.devices ≡ before.devices
+  pub list : after.list ≡ before.list
+  pub run : after.run ≡ before.run
+  pub runs : after.runs ≡ before.runs
+  pub limits : after.limits ≡ before.limits
+  pub counts : after.counts ≡ before.counts
+  pub number : after.number ≡ before.number
+  pub said : said_of after ≡ said_of before
 
-abbrev pub poll_of : ℕ → ℕ → Driver → Poll
-poll_of id packets driver = record { id = id; once = record { work = packets; next = (after_poll_of id packets driver).1 } }
+-- the device after a poll that took this many packets, and how the poll ended
+abbrev pub after_poll_of : ℕ → ℕ → Rearm → Driver → DriverDevice × Next
+after_poll_of id packets rearm driver = after_driver_poll (packets == driver.limits.weight) rearm (device_of driver id)
+
+abbrev pub poll_of : ℕ → ℕ → Rearm → Driver → Poll
+poll_of id packets rearm driver = record { id = id; once = record { work = packets; next = (after_poll_of id packets rearm driver).1 } }
 
 -- the poll in progress was of this device, and it has ended
-pub record Ends (id packets : ℕ) (before after : Driver) : Type 0 where
-  pub devices : driver_devices after ≡ slice_set (driver_devices before) id (after_poll_of id packets before).0
+pub record Ends (id packets : ℕ) (rearm : Rearm) (before after : Driver) : Type 0 where
+  pub devices : driver_devices after ≡ slice_set (driver_devices before) id (after_poll_of id packets rearm before).0
   pub counts : after.counts.items ≡ slice_set before.counts.items id (count_one_poll packets (poll_counts_of before id))
   pub limits : after.limits ≡ before.limits
   pub number : said_number_of after ≡ said_number_of before
+  pub ending : is_ending after ≡ is_ending before
   pub free : AwaitsNothing after
+  -- the device leaves the line, which it headed
+  pub line : (more : List ℕ) × (id ∷ line_of after ≡ line_of before ++ more)
 
 -- ---- reports
 
@@ -117,17 +148,17 @@ abbrev pub IsReport : ℕ → ℕ → Driver → Type 0
 IsReport number packets driver =
     (number ≡ said_number_of driver) × IsAwaited packets (driver_limits driver).weight (said_of driver) (polled_device driver)
 
-abbrev pub ReportsOf : ℕ → Driver → Driver → Option (ℕ × Chore) → Option ℕ → Type 0
-ReportsOf packets before after said (Some id) = Ends id packets before after
-ReportsOf packets before after (Some said) None = DoesChore said.0 said.1 (nat_lt 0 packets) before after
-ReportsOf packets before after None None = ⊥
+abbrev pub ReportsOf : ℕ → Rearm → Driver → Driver → Option (ℕ × Chore) → Option ℕ → Type 0
+ReportsOf packets rearm before after said (Some id) = Ends id packets rearm before after
+ReportsOf packets rearm before after (Some said) None = DoesChore said.0 said.1 (nat_lt 0 packets) before after
+ReportsOf packets rearm before after None None = ⊥
 
 -- the action asked for last was done: a poll that took this many packets, or an action at a card
-abbrev pub Reports : ℕ → Driver → Driver → Type 0
-Reports packets before after = ReportsOf packets before after (said_of before) (polled_device before)
+abbrev pub Reports : ℕ → Rearm → Driver → Driver → Type 0
+Reports packets rearm before after = ReportsOf packets rearm before after (said_of before) (polled_device before)
 
 abbrev pub IsNumberedWhat : ℕ → ℕ → ℕ → What → Type 0
-IsNumberedWhat before after number Sleep = (number ≡ 0) × (after ≡ before)
+IsNumberedWhat before after number (Sleep report) = (number ≡ 0) × (after ≡ before)
 IsNumberedWhat before after number (Ended report) = (number ≡ 0) × (after ≡ before)
 IsNumberedWhat before after number what = (number ≡ after) × (after ≡ following before)
 
@@ -149,9 +180,30 @@ IsRunning start polls driver = (is_running driver ≡ true) × IsGoing all_held 
 abbrev pub IsDriverReport : Limits → List ℕ → List Poll → Driver → RunReport → Type 0
 IsDriverReport limits start polls after report = IsPlainRun limits.budget limits.window start polls (list_of after) report
 
+-- A run that made these polls was ended by the caller, and this is its report. The devices that it would have polled next come first
+-- on the list, then those that were listed meanwhile, then those that get a repoll.
+abbrev pub IsEndedEarly : List Poll → Driver → Driver → RunReport → Type 0
+IsEndedEarly polls before after report = (report ≡ record { polls = length polls; work = work_of polls; squeezed = true })
+    × (list_of after ≡ before.run.own ++ list_of before ++ before.run.repoll)
+
+-- the action ends a run, which counts as squeezed, or is at a card and no poll
+abbrev pub EndsSqueezed : What → Type 0
+EndsSqueezed (Ended report) = report.squeezed ≡ true
+EndsSqueezed (Fetch id most) = ⊥
+EndsSqueezed (Sleep report) = ⊥
+EndsSqueezed what = Unit {0}
+
 -- this many devices, all closed
 abbrev pub AreClosed : ℕ → Driver → Type 0
 AreClosed count driver = driver_devices driver ≡ replicate count (in_stage Closed false)
+
+-- a run with this report kept to the limits
+abbrev pub KeepsLimits : Limits → RunReport → Type 0
+KeepsLimits limits report = (report.polls ≤ limits.window) × (report.work < limits.budget + limits.weight)
+
+-- each device is at rest, and nothing is on the list or in a run
+abbrev pub MaySleep : Driver → Type 0
+MaySleep driver = All (λ device. IsAtRest device.stage) (driver_devices driver) × IsIdle driver
 
 -- the action that the driver asks for is due; it asks for sleep only if each device is at rest and nothing is on the list
 abbrev pub IsDue : Driver → What → Type 0
@@ -160,20 +212,20 @@ IsDue driver (Unmask id) = (id < length (driver_devices driver)) × (chore_at (s
 IsDue driver (Look id) = (id < length (driver_devices driver)) × (chore_at (stage_of driver id) ≡ Some chore.Look)
 IsDue driver (Fetch id most) = (id < length (driver_devices driver)) × (polled_device driver ≡ Some id)
     × (stage_is_listed (stage_of driver id) ≡ true) × (most ≡ (driver_limits driver).weight)
-IsDue driver (Ended report) = HoldsNothing driver.run × (report.polls ≤ (driver_limits driver).window)
-    × (report.work < (driver_limits driver).budget + (driver_limits driver).weight)
-IsDue driver Sleep = All (λ device. IsAtRest device.stage) (driver_devices driver) × IsIdle driver
+IsDue driver (Ended report) = HoldsNothing driver.run × KeepsLimits (driver_limits driver) report
+    × ((report.squeezed ≡ true) ⊎ (list_of driver ≢ []))
+IsDue driver (Sleep report) = MaySleep driver × KeepsLimits (driver_limits driver) report × (report.squeezed ≡ false)
 
 -- ---- a report and a question in one call
 
 -- a report under this number, and its outcome, as of `Driver::done`
-pub record IsDone (number packets : ℕ) (before : Driver) (reported : Result ⊤ Refused) (after : Driver) : Type 0 where
+pub record IsDone (number packets : ℕ) (rearm : Rearm) (before : Driver) (reported : Result ⊤ Refused) (after : Driver) : Type 0 where
   pub when : IsOk reported ↔ IsReport number packets before
-  pub ok : OnOk reported (Reports packets before after)
+  pub ok : OnOk reported (Reports packets rearm before after)
   pub free : OnOk reported (AwaitsNothing after)
   pub len : length (driver_devices after) ≡ length (driver_devices before)
   pub going : (start : List ℕ) (polls : List Poll) (id : ℕ) → polled_device before ≡ Some id → IsRunning start polls before
-      → OnOk reported (IsRunning start (polls ++ poll_of id packets before ∷ []) after)
+      → OnOk reported (IsRunning start (polls ++ poll_of id packets rearm before ∷ []) after)
   pub err : OnErr reported (after ≡ before)
   pub many : IfErr reported (λ why. (why ≡ TooMany) ↔ ((number ≡ said_number_of before) × IsSome (polled_device before)))
 
@@ -188,13 +240,21 @@ pub record AsksNext (before : Driver) (todo : Todo) (after : Driver) : Type 0 wh
   pub limits : driver_limits after ≡ driver_limits before
   pub begins : is_running before ≡ false → is_running after ≡ true → IsRunning (list_of before) [] after
   pub going : (start : List ℕ) (polls : List Poll) → IsRunning start polls before → is_running after ≡ true → IsRunning start polls after
-  pub ended : (start : List ℕ) (polls : List Poll) (report : RunReport) → todo.what ≡ Ended report → IsRunning start polls before
-      → IsDriverReport (driver_limits before) start polls after report
+  pub ended : (start : List ℕ) (polls : List Poll) (report : RunReport) → ended_in todo.what ≡ Some report → IsRunning start polls before
+      → is_ending before ≡ false → IsDriverReport (driver_limits before) start polls after report
+  pub early : (start : List ℕ) (polls : List Poll) (report : RunReport) → todo.what ≡ Ended report → IsRunning start polls before
+      → is_ending before ≡ true → IsEndedEarly polls before after report
+  pub stops : is_ending before ≡ true → AwaitsNothing before → EndsSqueezed todo.what
+  pub line : AddsToLine before after
+  pub ending : is_running after ≡ true → is_ending after ≡ is_ending before
+  pub rests : (report : RunReport) → todo.what ≡ Sleep report → is_running before ≡ false
+      → (report.polls ≡ 0) × (report.work ≡ 0)
   pub whole : (report : RunReport) → todo.what ≡ Ended report → is_running before ≡ false
       → IsDriverReport (driver_limits before) (list_of before) [] after report
 
 -- the report, and then the question: each does to the driver what it does as a call of its own
-pub record IsStep (number packets : ℕ) (before : Driver) (reported : Result ⊤ Refused) (todo : Todo) (after : Driver) : Type 0 where
+pub record IsStep (number packets : ℕ) (rearm : Rearm) (before : Driver) (reported : Result ⊤ Refused) (todo : Todo)
+    (after : Driver) : Type 0 where
   pub between : Driver
-  pub reports : IsDone number packets before reported between
+  pub reports : IsDone number packets rearm before reported between
   pub asks : AsksNext between todo after

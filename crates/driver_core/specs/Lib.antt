@@ -5,3 +5,4 @@ pub mod Driver
 pub mod Todo
 pub mod World
 pub mod Steps
+pub mod Turns

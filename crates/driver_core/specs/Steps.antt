@@ -11,22 +11,19 @@ use Rattle.napi_model.specs.declared.event.Prep.TheVariants as prep
 use Rattle.driver_core.specs.Device.{after_interrupt, stage_is_listed, is_stopping, after_look, masked, after_open, after_driver_poll}
 use Rattle.driver_core.specs.Device.{after_stop, unmasked}
 use Rattle.driver_core.specs.Device.{IsMasking, MayStop}
-use Rattle.driver_core.specs.declared.device.{DriverDevice.DriverDevice}
+use Rattle.driver_core.specs.declared.device.{DriverDevice.DriverDevice, Rearm.{Rearm, TheVariants.{No, Empty, More}}}
 use Rattle.driver_core.specs.declared.device.{Stage.{Stage, TheVariants.{Closed, Masking, Closing, Listed, Looking}}}
 
--- the callers of the instance: the one that opens and stops the device, its interrupt handler, and its poller
+-- the callers of the instance: the one that opens and stops the device, and the one that requests and makes its polls
 abbrev pub CONTROLLER : ℕ
 CONTROLLER = 0
 
-abbrev pub INTERRUPT : ℕ
-INTERRUPT = 1
-
 abbrev pub POLLER : ℕ
-POLLER = 2
+POLLER = 1
 
 abbrev pub stage_place : Stage → Place
 stage_place Closed = Control CONTROLLER
-stage_place (Masking stopping) = Granted INTERRUPT
+stage_place (Masking stopping) = Granted POLLER
 stage_place (Listed stopping) = place.Listed
 stage_place stage = Nobody
 
@@ -64,10 +61,10 @@ disables = event CONTROLLER (TakeDisable true) ∷ event CONTROLLER Unmark ∷ [
 -- the events when the card was masked: a granted instance is queued, and an idle one is disabled
 abbrev pub mask_events : Stage → List Event
 mask_events Closing = disables
-mask_events stage = event INTERRUPT (Hand kind.List) ∷ []
+mask_events stage = event POLLER (Hand kind.List) ∷ []
 
 abbrev pub look_events : Bool → List Event
-look_events true = event INTERRUPT (Schedule prep.Granted) ∷ []
+look_events true = event POLLER (Schedule prep.Granted) ∷ []
 look_events false = []
 
 abbrev pub complete_events : Bool → Bool → List Event
@@ -80,16 +77,29 @@ end_events true false missed = event POLLER (Hand kind.List) ∷ []
 end_events true true missed = complete_events true missed
 end_events false stopping missed = complete_events stopping missed
 
+-- the events if the fetch unmasked the card and then looked at it: the instance is completed, and requested again if it has to be
+abbrev pub rearm_events : Bool → Bool → Bool → List Event
+rearm_events has_more stopping true = event POLLER (Complete Again) ∷ []
+rearm_events true false false = event POLLER (Complete Released) ∷ event POLLER (Schedule prep.Granted) ∷ []
+rearm_events false false false = event POLLER (Complete Released) ∷ []
+rearm_events has_more true false = event POLLER (Complete Released) ∷ []
+
+abbrev pub rest_events : Bool → Rearm → Bool → Bool → List Event
+rest_events full No stopping missed = end_events full stopping missed
+rest_events full Empty stopping missed = rearm_events false stopping missed
+rest_events full More stopping missed = rearm_events true stopping missed
+
 -- the events of a poll: the instance is taken from the list, and the poll ends by its rule
-abbrev pub poll_events : Bool → DriverDevice → List Event
-poll_events full d = event POLLER (Take kind.List true) ∷ end_events full (is_stopping d.stage) d.missed
+abbrev pub poll_events : Bool → Rearm → DriverDevice → List Event
+poll_events full rearm d = event POLLER (Take kind.List true) ∷ rest_events full rearm (is_stopping d.stage) d.missed
 
 -- law: each call on a device makes legal steps of its instance, with the replies of that object
 pub record CallsAreLegal : Type 0 where
-  pub interrupted : (d : DriverDevice) → Leads d (event INTERRUPT (Schedule (schedule_reply (napi_of d))) ∷ []) (after_interrupt d)
+  pub interrupted : (d : DriverDevice) → Leads d (event POLLER (Schedule (schedule_reply (napi_of d))) ∷ []) (after_interrupt d)
   pub masked : (d : DriverDevice) → IsMasking d.stage → Leads d (mask_events d.stage) (masked d)
   pub unmasked : (d : DriverDevice) → Leads d [] (unmasked d)
   pub looked : (d : DriverDevice) (has_more : Bool) → d.stage ≡ Looking → Leads d (look_events has_more) (after_look has_more d)
-  pub polled : (d : DriverDevice) (full : Bool) → stage_is_listed d.stage ≡ true → Leads d (poll_events full d) (after_driver_poll full d).0
+  pub polled : (d : DriverDevice) (full : Bool) (rearm : Rearm) → stage_is_listed d.stage ≡ true
+      → Leads d (poll_events full rearm d) (after_driver_poll full rearm d).0
   pub opened : (d : DriverDevice) → d.stage ≡ Closed → Leads d (event CONTROLLER (Enable false) ∷ []) (after_open d)
   pub stopped : (d : DriverDevice) → MayStop d.stage → Leads d (event CONTROLLER MarkDisable ∷ []) (after_stop d)

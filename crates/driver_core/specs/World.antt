@@ -1,10 +1,11 @@
 -- A device with its card, the thread that drives it, and packets that arrive. The thread takes three steps: `Driver::next` says
 -- what to do, the thread does it, and reports it. Between any two of them, packets may arrive, the card may interrupt, and the
 -- device may be opened and stopped; and the thread may forget what it was about to do, done or not, and call `next` again. A
--- report under a number that isn't due changes nothing, so it is no event.
+-- report under a number that isn't due changes nothing, so it is no event. A thread that has taken packets may also unmask the card, and
+-- then look at it, before it reports the fetch, which it must not forget then.
 use Rattle.std.specs.Prelude.{◌≡◌, ◌⊎◌, ◌||◌, ℕ, ◌+◌, ◌-◌, zero, suc, Bool, true, false, not, List, [], ◌∷◌, if◌then◌else◌}
 use Rattle.driver_core.specs.Device.{in_stage, after_interrupt, after_look, masked, after_open, after_driver_poll, after_stop, unmasked}
-use Rattle.driver_core.specs.declared.device.{DriverDevice.DriverDevice}
+use Rattle.driver_core.specs.declared.device.{DriverDevice.DriverDevice, Rearm.TheVariants.{No, Empty, More}}
 use Rattle.driver_core.specs.declared.device.Stage.{Stage, TheVariants.{Closed, Masking, Closing, Listed, Unmasking, Looking, Armed}}
 
 -- What the thread is doing: nothing; or what `next` asked for, done or not, and not reported yet.
@@ -20,6 +21,11 @@ pub data Hand : Type 0 where
   saw : Bool → Hand
   -- it took packets from the card: as many as the weight, or fewer
   took : Bool → Hand
+  -- it took packets, and unmasked the card
+  rearming : Hand
+  -- it looked at the card then, which had none, or had packets
+  rearmed_empty : Hand
+  rearmed_more : Hand
 
 pub record World : Type 0 where
   pub device : DriverDevice
@@ -39,6 +45,8 @@ pub data DriverEvent : Type 0 where
   says : DriverEvent
   -- the thread does what `next` asked for; a fetch takes this many packets, as many as the weight or fewer
   acts : ℕ → Bool → DriverEvent
+  -- after a fetch the thread also unmasks the card; then it looks at it
+  rearms : DriverEvent
   -- the thread reports it
   reports : DriverEvent
   -- the thread calls `next` again, without a report
@@ -70,6 +78,22 @@ hand_after packets full to_look = saw (has_any packets)
 hand_after packets full to_fetch = took full
 hand_after packets full hand = hand
 
+abbrev pub rearm_hand : ℕ → Hand → Hand
+rearm_hand packets (took full) = rearming
+rearm_hand zero rearming = rearmed_empty
+rearm_hand (suc n) rearming = rearmed_more
+rearm_hand packets hand = hand
+
+abbrev pub rearm_mask : Hand → Bool → Bool
+rearm_mask (took full) masked = false
+rearm_mask hand masked = masked
+
+abbrev pub forgotten : Hand → Hand
+forgotten rearming = rearming
+forgotten rearmed_empty = rearmed_empty
+forgotten rearmed_more = rearmed_more
+forgotten hand = free
+
 abbrev pub masked_after : Hand → Bool → Bool
 masked_after to_mask masked = true
 masked_after to_unmask masked = false
@@ -84,13 +108,17 @@ reported_hand did_mask = free
 reported_hand did_unmask = free
 reported_hand (saw more) = free
 reported_hand (took full) = free
+reported_hand rearmed_empty = free
+reported_hand rearmed_more = free
 reported_hand hand = hand
 
 abbrev pub after_message : Hand → DriverDevice → DriverDevice
 after_message did_mask d = masked d
 after_message did_unmask d = unmasked d
 after_message (saw more) d = after_look more d
-after_message (took full) d = (after_driver_poll full d).0
+after_message (took full) d = (after_driver_poll full No d).0
+after_message rearmed_empty d = (after_driver_poll false Empty d).0
+after_message rearmed_more d = (after_driver_poll false More d).0
 after_message hand d = d
 
 abbrev pub world_step : DriverEvent → World → World
@@ -103,7 +131,8 @@ world_step (acts taken full) w = record w {
   packets = packets_after taken w.hand w.packets;
 }
 world_step reports w = record w { hand = reported_hand w.hand; device = after_message w.hand w.device }
-world_step forgets w = record w { hand = free }
+world_step rearms w = record w { hand = rearm_hand w.packets w.hand; masked = rearm_mask w.hand w.masked }
+world_step forgets w = record w { hand = forgotten w.hand }
 world_step opens w = record w { device = after_open w.device }
 world_step stops w = record w { device = after_stop w.device }
 
@@ -128,13 +157,17 @@ NoPacketWaitsUnseen =
     (packets : ℕ) (events : List DriverEvent) → (world_after events (new_world packets)).hand ≡ free
     → IsWatched (world_after events (new_world packets)).device.stage (world_after events (new_world packets))
 
--- law: while a device is listed, or closed, its card is masked
-abbrev pub IsMaskedWhileListed : Stage → World → Type 0
-IsMaskedWhileListed (Listed stopping) w = w.masked ≡ true
-IsMaskedWhileListed Closed w = w.masked ≡ true
-IsMaskedWhileListed stage w = Unit {0}
+-- law: while a device is listed, or closed, its card is masked, unless a fetch has unmasked it and isn't reported yet
+abbrev pub IsMaskedWhileListed : Hand → Stage → World → Type 0
+IsMaskedWhileListed rearming (Listed stopping) w = Unit {0}
+IsMaskedWhileListed rearmed_empty (Listed stopping) w = Unit {0}
+IsMaskedWhileListed rearmed_more (Listed stopping) w = Unit {0}
+IsMaskedWhileListed hand (Listed stopping) w = w.masked ≡ true
+IsMaskedWhileListed hand Closed w = w.masked ≡ true
+IsMaskedWhileListed hand stage w = Unit {0}
 
 abbrev pub ListedIsMasked : Type 0
 ListedIsMasked =
     (packets : ℕ) (events : List DriverEvent)
-    → IsMaskedWhileListed (world_after events (new_world packets)).device.stage (world_after events (new_world packets))
+    → IsMaskedWhileListed (world_after events (new_world packets)).hand (world_after events (new_world packets)).device.stage
+    (world_after events (new_world packets))

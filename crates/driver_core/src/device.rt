@@ -36,6 +36,17 @@ pub enum Chore {
     Look,
 }
 
+/// Whether a fetch also unmasked the card and then looked at it.
+#[derive(Clone, Copy, PartialEq, Eq, PartialOrd, Ord, Debug)]
+pub enum Rearm {
+    /// It didn't: the card is still masked.
+    No,
+    /// It did, and the card had no packets.
+    Empty,
+    /// It did, and the card had packets.
+    More,
+}
+
 /// One device of a driver.
 #[derive(Clone, Copy, PartialEq, Eq, PartialOrd, Ord, Debug)]
 pub struct DriverDevice {
@@ -47,7 +58,7 @@ pub struct DriverDevice {
 
 impl DriverDevice {
     ghost use Rattle.std.specs.Prelude.{◌≡◌, ◌↔◌, IsTrue, true};
-    ghost use Rattle.driver_core.specs.Device.{in_stage, chore_at, completed_at, did, after_interrupt, stage_is_listed, after_look, masked, after_open, after_driver_poll, after_stop, unmasked, is_stopping, MayStop};
+    ghost use Rattle.driver_core.specs.Device.{in_stage, chore_at, completed_at, did, after_interrupt, stage_is_listed, after_look, masked, after_open, after_driver_poll, after_stop, rearmed_at, unmasked, is_stopping, MayStop};
     ghost use Rattle.driver_core.specs.Steps.{stage_is_scheduled, napi_of};
     ghost use Rattle.napi_model.specs.Step.{schedule_reply};
 
@@ -208,17 +219,41 @@ impl DriverDevice {
         (self.to(stage), Next::Gone)
     }
 
+    // Returns the device after a poll whose fetch unmasked the card and then looked at it.
+    #[inline(always)]
+    fn rearmed(self, stopping: bool, has_more: bool) -> DriverDevice
+        ensures { result ≡ rearmed_at has_more stopping self.missed }
+    {
+        let stage = if self.missed || has_more && !stopping {
+            Stage::Masking(stopping)
+        } else if stopping {
+            Stage::Closing
+        } else {
+            Stage::Armed
+        };
+        DriverDevice {
+            stage,
+            missed: false,
+        }
+    }
+
     // Returns the device after a poll, and how the poll ends; `full` says whether it used its whole weight.
     #[inline(always)]
-    pub(crate) fn polled(self, full: bool) -> (DriverDevice, Next)
+    pub(crate) fn polled(self, full: bool, rearm: Rearm) -> (DriverDevice, Next)
         requires { stage_is_listed self.stage ≡ true }
-        ensures { result ≡ after_driver_poll full self }
+        ensures { result ≡ after_driver_poll full rearm self }
     {
         let stopping = self.stage == Stage::Listed(true);
-        if full && !stopping {
-            return (self, Next::Repoll);
+        match rearm {
+            Rearm::No => {
+                if full && !stopping {
+                    return (self, Next::Repoll);
+                }
+                self.completed(stopping)
+            }
+            Rearm::Empty => (self.rearmed(stopping, false), Next::Gone),
+            Rearm::More => (self.rearmed(stopping, true), Next::Gone),
         }
-        self.completed(stopping)
     }
 
     // Returns the device after it was opened.

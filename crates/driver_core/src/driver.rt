@@ -6,7 +6,7 @@ ghost use Rattle.driver_core.specs.Counts.{no_counts};
 ghost use Rattle.driver_core.specs.Queue.{HasLimits, IsStillDue, IsQueue};
 
 use crate::counts::PollCounts;
-use crate::device::{Chore, DriverDevice, Stage};
+use crate::device::{Chore, DriverDevice, Rearm, Stage};
 use crate::devices::Devices;
 use crate::limits::Limits;
 use crate::list::DriverList;
@@ -14,7 +14,7 @@ use crate::place::{Nowhere, TodoPlace};
 use crate::said::{following, still_due};
 use crate::todo::{NotDue, Refused, Todo, What, what_of};
 use napi_model::Prep;
-use poll_runs::{Once, PollList, PollingRun};
+use poll_runs::{Once, PollList, PollingRun, RunReport};
 use std::alloc::{AllocError, Global};
 
 /// The driver of up to 64 devices, for one thread: the instances, the poll list and the runs over it. It does no input or
@@ -27,6 +27,8 @@ pub struct Driver {
     list: DriverList,
     run: PollingRun,
     runs: bool,
+    // The caller has ended the run in progress: it makes no further poll.
+    ending: bool,
     limits: Limits,
     // The action at a card that `next` returned last, if it isn't reported yet. A fetch is stored in the run.
     said: Option<(u32, Chore)>,
@@ -35,10 +37,18 @@ pub struct Driver {
     ghost counted: { length counts.items ≡ length devices.all.items },
     ghost queue: { IsQueue devices.all.items list run },
     ghost idle: { runs ≡ false → HoldsNothing run },
+    ghost ends: { runs ≡ false → ending ≡ false },
     ghost pace: { runs ≡ true → HasLimits limits run },
     ghost asks: { IsStillDue devices.all.items run.asked said },
     ghost numbers: { 1 ≤ number },
 }
+
+// The report of no run.
+const NO_RUN: RunReport = RunReport {
+    polls: 0,
+    work: 0,
+    squeezed: false,
+};
 
 // The first numbers of two drivers' actions are at least this far apart.
 const APART: u64 = 281474976710656;
@@ -51,15 +61,17 @@ fn new_counts(alloc: Global, devices: usize) -> Result<Vec<PollCounts>, AllocErr
 }
 
 impl Driver {
+    ghost use Rattle.std.specs.List.{All};
     ghost use Rattle.std.specs.Prelude.{◌↔◌, ◌≢◌, ◌∷◌, ◌++◌, None, Some, Err, List, [], IsOk, IsSome, IfErr, IfNone, IfSome, OnOk, OnErr};
-    ghost use Rattle.poll_runs.specs.Polls.{Poll};
+    ghost use Rattle.poll_runs.specs.{Polls.{Poll}, Driven.{IsOver}, Plain.{NothingBehind, OwnPushes, all_held}};
     ghost use Rattle.napi_model.specs.Step.{schedule_reply};
     ghost use Rattle.driver_core.specs.declared.todo.{Refused.TheVariants.{TooMany}, What.TheVariants.{Ended}};
     ghost use Rattle.driver_core.specs.declared.device.Stage.TheVariants.{Closed};
     ghost use Rattle.driver_core.specs.Counts.{count_one_poll};
+    ghost use Rattle.driver_core.specs.Todo.{ended_in};
     ghost use Rattle.driver_core.specs.Device.{chore_at, after_interrupt, stage_is_listed, after_open, after_stop, MayStop};
     ghost use Rattle.driver_core.specs.Steps.{napi_of};
-    ghost use Rattle.driver_core.specs.Driver.{poll_counts_of, device_of, driver_devices, said_number_of, polled_device, poll_of, said_of, stage_of, is_running, driver_limits, list_of, AreClosed, AsksNext, Ends, DoesChore, IsDue, IsDriverReport, AwaitsNothing, IsIdle, IsNumberedTodo, IsReport, IsRunning, IsStep, IsUncounted, PutsDevice, Reports};
+    ghost use Rattle.driver_core.specs.Driver.{poll_counts_of, device_of, driver_devices, said_number_of, polled_device, poll_of, said_of, stage_of, is_running, driver_limits, list_of, is_ending, line_of, AddsToLine, AreClosed, AsksNext, Ends, EndsRun, DoesChore, IsDue, IsDriverReport, IsEndedEarly, EndsSqueezed, AwaitsNothing, IsIdle, IsNumberedTodo, IsNumberedWhat, IsReport, IsRunning, IsStep, IsUncounted, KeepsLimits, PutsDevice, Reports};
 
     /// Creates a driver of this many devices, at most 64, all closed. Drivers with different salts number their actions
     /// differently, for 2^48 actions, so that none takes another one's report.
@@ -80,6 +92,7 @@ impl Driver {
             list: DriverList::new(),
             run: PollingRun::idle(),
             runs: false,
+            ending: false,
             limits,
             said: None,
             number: u64::from(salt) * APART + 1,
@@ -103,6 +116,7 @@ impl Driver {
     }
 
     /// Returns the counts of a device's polls.
+    #[inline(always)]
     pub fn counts(&self, device: u32) -> PollCounts
         requires { device < length (driver_devices self.now) }
         ensures { result ≡ poll_counts_of self.now device }
@@ -168,6 +182,21 @@ impl Driver {
         Ok(())
     }
 
+    /// Ends the run in progress, for a caller that has a clock of its own (`netdev_budget_usecs`). A poll that
+    /// [`next`](Driver::next) has asked for is still made; then the run has ended, and counts as squeezed. Fails if no run is in
+    /// progress.
+    pub fn end_run(&mut self) -> Result<(), NotDue>
+        ensures when { IsOk result ↔ (is_running self.old ≡ true) }
+        ensures ok { OnOk result (EndsRun self.old self.new) }
+        ensures err { OnErr result (self.new ≡ self.old) }
+    {
+        if !self.runs {
+            return Err(NotDue);
+        }
+        self.ending = true;
+        Ok(())
+    }
+
     // Handles the report that the action at the card of a device was done. After a mask, a device goes on the poll list if its
     // poll was granted (`____napi_schedule`), and is closed if it was stopped.
     #[tactic(auto, using(crate::proofs::QueueFacts::put_same, crate::proofs::QueueFacts::put_new, crate::proofs::QueueFacts::room))]
@@ -189,20 +218,20 @@ impl Driver {
     // poll (`__napi_poll`, `napi_complete_done`).
     #[tactic(auto, using(crate::proofs::QueueFacts::asked_alone))]
     #[inline(always)]
-    fn fetched(&mut self, device: u32, packets: u32)
+    fn fetched(&mut self, device: u32, packets: u32, rearm: Rearm)
         requires range { device < length (driver_devices self.old) }
         requires listed { stage_is_listed (stage_of self.old device) ≡ true }
         requires polled { polled_device self.old ≡ Some device }
         requires most { packets ≤ (driver_limits self.old).weight }
-        ensures ends { Ends device packets self.old self.new }
+        ensures ends { Ends device packets rearm self.old self.new }
         ensures going { (start : List _) (polls : List Poll) → IsRunning start polls self.old
-            → IsRunning start (polls ++ poll_of device packets self.old ∷ []) self.new }
+            → IsRunning start (polls ++ poll_of device packets rearm self.old ∷ []) self.new }
     {
+        let so_far = self.counts(device);
         let before = self.devices.get(device);
-        let (after, next) = before.polled(packets == self.limits.weight);
+        let (after, next) = before.polled(packets == self.limits.weight, rearm);
         self.devices.put(device, after);
-        let counts = self.counts[device as usize];
-        self.counts[device as usize] = counts.and(packets);
+        self.counts[device as usize] = so_far.and(packets);
         let once = Once {
             work: packets,
             next,
@@ -212,19 +241,20 @@ impl Driver {
 
     /// Reports that the action with this number was done. After a look, `packets` is the number of packets that the card has,
     /// or 1 if it has any. After a fetch, it is the number of packets taken, and the report ends the poll (`__napi_poll`,
-    /// `napi_complete_done`). Fails if the driver doesn't wait for this report any more, or if a fetch took more packets than
+    /// `napi_complete_done`). `rearm` says whether the fetch also unmasked the card and then looked at it; such a fetch has to be
+    /// reported. It is `No` for any other action. Fails if the driver doesn't wait for this report any more, or if a fetch took more packets than
     /// it was allowed to.
     #[tactic(auto, using(crate::proofs::QueueFacts::asked_is_listed, crate::proofs::QueueFacts::asked_in_range))]
     #[inline(always)]
-    pub fn done(&mut self, number: u64, packets: u32) -> Result<(), Refused>
+    pub fn done(&mut self, number: u64, packets: u32, rearm: Rearm) -> Result<(), Refused>
         ensures when { IsOk result ↔ IsReport number packets self.old }
-        ensures ok { OnOk result (Reports packets self.old self.new) }
+        ensures ok { OnOk result (Reports packets rearm self.old self.new) }
         ensures free { OnOk result (AwaitsNothing self.new) }
         ensures len { length (driver_devices self.new) ≡ length (driver_devices self.old) }
         ensures going { (start : List _) (polls : List Poll) (id : _)
             → polled_device self.old ≡ Some id
             → IsRunning start polls self.old → OnOk result
-            (IsRunning start (polls ++ poll_of id packets self.old ∷ []) self.new) }
+            (IsRunning start (polls ++ poll_of id packets rearm self.old ∷ []) self.new) }
         ensures err { OnErr result (self.new ≡ self.old) }
         ensures many { IfErr result (λ why. (why ≡ TooMany)
             ↔ ((number ≡ said_number_of self.old) × IsSome (polled_device self.old))) }
@@ -236,7 +266,7 @@ impl Driver {
             if packets > self.limits.weight {
                 return Err(Refused::TooMany);
             }
-            self.fetched(device, packets);
+            self.fetched(device, packets, rearm);
             return Ok(());
         }
         let Some((device, chore)) = self.said else {
@@ -248,7 +278,7 @@ impl Driver {
     }
 
     // Begins a run, if none is in progress.
-    #[tactic(auto, using(crate::proofs::QueueFacts::begin_keeps))]
+    #[tactic(auto, using(crate::proofs::QueueFacts::begin_keeps, crate::proofs::LineFacts::begin_line))]
     #[inline(always)]
     fn begin(&mut self)
         requires free { AwaitsNothing self.old }
@@ -258,6 +288,9 @@ impl Driver {
         ensures limits { self.new.limits ≡ self.old.limits }
         ensures number { said_number_of self.new ≡ said_number_of self.old }
         ensures runs { is_running self.new ≡ true }
+        ensures ending { is_ending self.new ≡ is_ending self.old }
+        ensures same { is_running self.old ≡ true → self.new ≡ self.old }
+        ensures line { line_of self.new ≡ line_of self.old }
         ensures going { (start : List _) (polls : List Poll) → IsRunning start polls self.old
             → IsRunning start polls self.new }
         ensures begun { is_running self.old ≡ false → IsRunning (list_of self.old) [] self.new }
@@ -274,12 +307,92 @@ impl Driver {
         self.runs = true;
     }
 
+    // Returns the device that the run polls next, or `None` if the run is over or the caller has ended it.
+    #[tactic(auto, using(crate::proofs::QueueFacts::advance_keeps, crate::proofs::LineFacts::advance_line))]
+    #[inline(always)]
+    fn next_device(&mut self) -> Option<u32>
+        requires free { AwaitsNothing self.old }
+        requires runs { is_running self.old ≡ true }
+        ensures devices { self.new.devices ≡ self.old.devices }
+        ensures counts { self.new.counts ≡ self.old.counts }
+        ensures limits { self.new.limits ≡ self.old.limits }
+        ensures number { said_number_of self.new ≡ said_number_of self.old }
+        ensures said { said_of self.new ≡ None }
+        ensures runs { is_running self.new ≡ true }
+        ensures ending { is_ending self.new ≡ is_ending self.old }
+        ensures asks { polled_device self.new ≡ result }
+        ensures early { is_ending self.old ≡ true → (result ≡ None) × (self.new ≡ self.old) }
+        ensures line { line_of self.new ≡ line_of self.old }
+        ensures going { (start : List _) (polls : List Poll) → IsRunning start polls self.old
+            → IsRunning start polls self.new }
+        ensures over { (start : List _) (polls : List Poll) → result ≡ None
+            → is_ending self.old ≡ false → IsRunning start polls self.old
+            → IsOver all_held OwnPushes NothingBehind start polls self.new.run }
+    {
+        if self.ending {
+            return None;
+        }
+        self.run.next(&mut self.list)
+    }
+
+    // Ends the run, and returns its report.
+    #[tactic(auto, using(crate::proofs::QueueFacts::finish_keeps, crate::proofs::LineFacts::finish_line))]
+    #[inline(always)]
+    fn finish(&mut self) -> RunReport
+        requires free { AwaitsNothing self.old }
+        requires runs { is_running self.old ≡ true }
+        ensures nothing { HoldsNothing self.new.run }
+        ensures within { KeepsLimits (driver_limits self.old) result }
+        ensures devices { self.new.devices ≡ self.old.devices }
+        ensures counts { self.new.counts ≡ self.old.counts }
+        ensures limits { self.new.limits ≡ self.old.limits }
+        ensures number { said_number_of self.new ≡ said_number_of self.old }
+        ensures runs { is_running self.new ≡ false }
+        ensures ending { is_ending self.new ≡ false }
+        ensures squeezed { is_ending self.old ≡ true → result.squeezed ≡ true }
+        ensures line { line_of self.new ≡ line_of self.old ++ self.old.run.repoll }
+        ensures ended { (start : List _) (polls : List Poll) → is_ending self.old ≡ false
+            → IsRunning start polls self.old
+            → IsOver all_held OwnPushes NothingBehind start polls self.old.run
+            → IsDriverReport (driver_limits self.old) start polls self.new result }
+        ensures early { (start : List _) (polls : List Poll) → is_ending self.old ≡ true
+            → IsRunning start polls self.old → IsEndedEarly polls self.old self.new result }
+    {
+        let report = self.run.finish(&mut self.list);
+        let squeezed = report.squeezed || self.ending;
+        self.runs = false;
+        self.ending = false;
+        RunReport { squeezed, ..report }
+    }
+
+    // Returns what follows the end of a run with this report.
+    #[tactic(auto, using(crate::proofs::QueueFacts::all_rest))]
+    #[inline(always)]
+    fn after(&self, report: RunReport) -> What
+        requires chores { All (λ device. chore_at device.stage ≡ None)
+            (driver_devices self.now) }
+        requires nothing { HoldsNothing self.now.run }
+        requires within { KeepsLimits (driver_limits self.now) report }
+        ensures due { IsDue self.now result }
+        ensures report { ended_in result ≡ Some report }
+        ensures squeezed { report.squeezed ≡ true → result ≡ Ended report }
+        ensures number { (before after : _) → after ≡ before
+            → IsNumberedWhat before after 0 result }
+    {
+        if report.squeezed || !self.list.is_empty() {
+            return What::Ended(report);
+        }
+        What::Sleep(report)
+    }
+
     // Writes the next poll of the run, or its end, to the place, and returns it.
-    #[tactic(auto, using(crate::proofs::QueueFacts::next_keeps, crate::proofs::QueueFacts::finish_keeps, crate::proofs::QueueFacts::asked_is_listed, crate::proofs::QueueFacts::asked_in_range))]
+    #[tactic(auto, using(crate::proofs::QueueFacts::asked_is_listed, crate::proofs::QueueFacts::asked_in_range))]
     #[inline(always)]
     fn advance_into<P: TodoPlace>(&mut self, place: &mut P) -> Todo
         requires free { AwaitsNothing self.old }
         requires runs { is_running self.old ≡ true }
+        requires chores { All (λ device. chore_at device.stage ≡ None)
+            (driver_devices self.old) }
         ensures due { IsDue self.new result.what }
         ensures number { IsNumberedTodo (said_number_of self.old) (said_number_of self.new) result }
         ensures devices { self.new.devices ≡ self.old.devices }
@@ -288,11 +401,18 @@ impl Driver {
         ensures going { (start : List _) (polls : List Poll) → IsRunning start polls self.old
             → is_running self.new ≡ true → IsRunning start polls self.new }
         ensures ended { (start : List _) (polls : List Poll) (report : _)
-            → result.what ≡ Ended report → IsRunning start polls self.old
+            → ended_in result.what ≡ Some report → IsRunning start polls self.old
+            → is_ending self.old ≡ false
             → IsDriverReport (driver_limits self.old) start polls self.new report }
+        ensures early { (start : List _) (polls : List Poll) (report : _)
+            → result.what ≡ Ended report → IsRunning start polls self.old
+            → is_ending self.old ≡ true → IsEndedEarly polls self.old self.new report }
+        ensures stops { is_ending self.old ≡ true → EndsSqueezed result.what }
+        ensures line { AddsToLine self.old self.new }
+        ensures ending { is_running self.new ≡ true → is_ending self.new ≡ is_ending self.old }
         ensures takes { P.takes place.old result place.new }
     {
-        match self.run.next(&mut self.list) {
+        match self.next_device() {
             Some(device) => {
                 self.number = following(self.number);
                 let fetch = self.todo(What::Fetch(device, self.limits.weight));
@@ -300,13 +420,13 @@ impl Driver {
                 fetch
             }
             None => {
-                self.runs = false;
-                let ended = Todo {
+                let report = self.finish();
+                let over = Todo {
                     number: 0,
-                    what: What::Ended(self.run.finish(&mut self.list)),
+                    what: self.after(report),
                 };
-                place.put(ended);
-                ended
+                place.put(over);
+                over
             }
         }
     }
@@ -331,7 +451,7 @@ impl Driver {
         ensures due { IfSome result (λ todo. IsDue self.now todo.what) }
         ensures number { IfSome result (λ todo. todo.number ≡ said_number_of self.now) }
         ensures free { IfSome result (λ _. ¬ AwaitsNothing self.now) }
-        ensures more { IfSome result (λ todo. (report : _) → todo.what ≢ Ended report) }
+        ensures more { IfSome result (λ todo. ended_in todo.what ≡ None) }
     {
         if let Some(device) = self.run.asked() {
             return Some(self.todo(What::Fetch(device, self.limits.weight)));
@@ -358,7 +478,7 @@ impl Driver {
         if !self.runs && self.list.is_empty() {
             let sleep = Todo {
                 number: 0,
-                what: What::Sleep,
+                what: What::Sleep(NO_RUN),
             };
             place.put(sleep);
             return sleep;
@@ -394,13 +514,14 @@ impl Driver {
         &mut self,
         number: u64,
         packets: u32,
+        rearm: Rearm,
         place: &mut P,
     ) -> (Result<(), Refused>, Todo)
-        ensures steps { IsStep number packets self.old result.0 result.1 self.new }
+        ensures steps { IsStep number packets rearm self.old result.0 result.1 self.new }
         ensures takes { result.0 ≢ Err TooMany → P.takes place.old result.1 place.new }
         ensures kept { result.0 ≡ Err TooMany → place.new ≡ place.old }
     {
-        match self.done(number, packets) {
+        match self.done(number, packets, rearm) {
             Ok(()) => (Ok(()), self.ask_into(place)),
             Err(Refused::NotDue) => (Err(Refused::NotDue), self.next_into(place)),
             Err(Refused::TooMany) => (Err(Refused::TooMany), self.next()),
@@ -410,9 +531,9 @@ impl Driver {
     /// Reports that the action with this number was done, and returns what the caller has to do next: [`done`](Driver::done) and
     /// then [`next`](Driver::next) in one call. Number 0 reports nothing, so that report fails with `NotDue`. If the report
     /// fails, nothing has changed, and the caller gets what `next` returns then.
-    pub fn step(&mut self, number: u64, packets: u32) -> (Result<(), Refused>, Todo)
-        ensures { IsStep number packets self.old result.0 result.1 self.new }
+    pub fn step(&mut self, number: u64, packets: u32, rearm: Rearm) -> (Result<(), Refused>, Todo)
+        ensures { IsStep number packets rearm self.old result.0 result.1 self.new }
     {
-        self.step_into(number, packets, &mut Nowhere)
+        self.step_into(number, packets, rearm, &mut Nowhere)
     }
 }

@@ -1,6 +1,7 @@
 //! Laws of a device with its card. Each is the contract of a function that does nothing.
 
 ghost use Rattle.driver_core.specs.Steps.{CallsAreLegal};
+ghost use Rattle.driver_core.specs.Turns.{PolledInTurn};
 ghost use Rattle.driver_core.specs.World.{ListedIsMasked, NoPacketWaitsUnseen};
 
 /// Packets may arrive, the card may interrupt, and the device may be opened and stopped, in any order, and between any two
@@ -18,4 +19,10 @@ pub fn listed_is_masked()
 /// Each call on a device makes legal steps of its NAPI instance, with the replies of that object.
 pub fn calls_are_legal()
     ensures { CallsAreLegal }
+{}
+
+/// A device that joins the line of those to be polled is polled after at most as many polls of others as the line has entries,
+/// whatever calls are made. A device joins the line when its interrupt is reported and its card is masked.
+pub fn polled_in_turn()
+    ensures { PolledInTurn }
 {}

@@ -17,9 +17,9 @@ mod said;
 mod todo;
 
 pub use counts::PollCounts;
-pub use device::{Chore, DriverDevice, Stage};
+pub use device::{Chore, DriverDevice, Rearm, Stage};
 pub use driver::Driver;
-pub use laws::{calls_are_legal, listed_is_masked, no_packet_waits_unseen};
+pub use laws::{calls_are_legal, listed_is_masked, no_packet_waits_unseen, polled_in_turn};
 pub use limits::Limits;
 pub use place::TodoPlace;
 pub use poll_runs::RunReport;

@@ -1,8 +1,7 @@
 //! What a driver has to do.
 
-ghost use Rattle.std.specs.Prelude.{◌≡◌, ◌≢◌};
-ghost use Rattle.driver_core.specs.declared.todo.What.TheVariants.{Ended};
-ghost use Rattle.driver_core.specs.Todo.{what_of};
+ghost use Rattle.std.specs.Prelude.{◌≡◌, None};
+ghost use Rattle.driver_core.specs.Todo.{what_of, ended_in};
 
 use crate::device::Chore;
 use poll_runs::RunReport;
@@ -16,13 +15,15 @@ pub enum What {
     Unmask(u32),
     /// Look whether the device's card has packets.
     Look(u32),
-    /// Take packets from the device's card, at most as many as the second number says, and deliver them.
+    /// Take packets from the device's card, at most as many as the second number says, and deliver them. If no packets are left,
+    /// the caller may also unmask the card and then look at it, and report both together ([`Rearm`](crate::Rearm)).
     Fetch(u32, u32),
-    /// A run has ended (`net_rx_action`). The caller may do other work before it calls [`Driver::next`](crate::Driver::next)
-    /// again. There is nothing to report.
+    /// A run has ended (`net_rx_action`): it was squeezed, or devices are on the list. The caller may do other work before it calls
+    /// [`Driver::next`](crate::Driver::next) again. There is nothing to report.
     Ended(RunReport),
-    /// Do nothing until the next interrupt, open or stop. There is nothing to report.
-    Sleep,
+    /// Do nothing until the next interrupt, open or stop. The report is that of the run that has ended, without polls if none has.
+    /// There is nothing to report.
+    Sleep(RunReport),
 }
 
 /// What a driver has to do next. Do it before the next call of [`Driver::next`](crate::Driver::next), and report it by
@@ -52,7 +53,7 @@ pub enum Refused {
 #[inline(always)]
 pub(crate) fn what_of(device: u32, chore: Chore) -> What
     ensures what { result ≡ what_of device chore }
-    ensures more { (report : _) → result ≢ Ended report }
+    ensures more { ended_in result ≡ None }
 {
     match chore {
         Chore::Mask => What::Mask(device),

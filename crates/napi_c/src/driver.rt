@@ -1,6 +1,6 @@
 //! Drivers for C.
 ghost use Rattle.std.specs.Prelude.{◌≡◌, ◌≢◌, ◌≤◌, ◌<◌, ◌↔◌, IsSome, IfOk};
-ghost use Rattle.c_handles.specs.Drivers.{failed_in, IsDriverInterrupt, IsNewDriver, IsDriverNext, IsDriverOpen, IsDriverShow, IsDriverStep, IsDriverStop, IsTodoReport, new_status};
+ghost use Rattle.c_handles.specs.Drivers.{failed_in, IsDriverEndRun, IsDriverInterrupt, IsNewDriver, IsDriverNext, IsDriverOpen, IsDriverShow, IsDriverStep, IsDriverStop, IsTodoReport, new_status};
 ghost use Rattle.c_handles.specs.Handles.{DriverMakes, DriverMakesIn, IsDriverWith, LeadsToDriver};
 ghost use Rattle.c_handles.specs.Status.{OK, IN_USE, OUT_OF_MEMORY, BAD_HANDLE, BAD_SIZE};
 
@@ -112,6 +112,26 @@ pub extern "C" fn fq_driver_interrupt(handle: &mut FqHandle, device: u32) -> u32
     }
 }
 
+fn end_run_in(at: &mut Object) -> u32
+    ensures { DriverMakesIn IsDriverEndRun at.old result at.new }
+{
+    match at {
+        Object::Driver(driver) => drive::end_run(driver),
+        _ => status::BAD_HANDLE,
+    }
+}
+
+/// Ends the run in progress, like `Driver::end_run`.
+#[unsafe(no_mangle)]
+pub extern "C" fn fq_driver_end_run(handle: &mut FqHandle) -> u32
+    ensures { DriverMakes IsDriverEndRun handle.old result handle.new }
+{
+    if !handle.is_set() {
+        return status::BAD_HANDLE;
+    }
+    end_run_in(handle.held.as_mut())
+}
+
 fn next_in(at: &mut Object, todo: &mut FqTodo) -> u32
     ensures makes { DriverMakesIn (IsDriverNext todo.old todo.new) at.old result at.new }
     ensures none { result ≡ BAD_HANDLE → todo.new ≡ failed_in todo.old.size BAD_HANDLE }
@@ -141,7 +161,8 @@ pub extern "C" fn fq_driver_next_sized(handle: &mut FqHandle, todo: &mut FqTodo)
 }
 
 fn done_in(at: &mut Object, todo: &FqTodo) -> u32
-    ensures { DriverMakesIn (IsTodoReport todo.now.number todo.now.packets) at.old result at.new }
+    ensures { DriverMakesIn (IsTodoReport todo.now.number todo.now.packets todo.now.rearm) at.old
+        result at.new }
 {
     match at {
         Object::Driver(driver) => drive::done(driver, todo),
@@ -154,8 +175,8 @@ fn done_in(at: &mut Object, todo: &FqTodo) -> u32
 pub extern "C" fn fq_driver_done(handle: &mut FqHandle, todo: &FqTodo) -> u32
     ensures size { todo.now.size ≢ 64 → (result ≡ BAD_SIZE) × (handle.new ≡ handle.old) }
     ensures makes { todo.now.size ≡ 64
-        → DriverMakes (IsTodoReport todo.now.number todo.now.packets) handle.old result
-        handle.new }
+        → DriverMakes (IsTodoReport todo.now.number todo.now.packets todo.now.rearm)
+        handle.old result handle.new }
 {
     if todo.size != size_of::<FqTodo>() {
         return status::BAD_SIZE;

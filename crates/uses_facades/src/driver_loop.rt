@@ -2,10 +2,9 @@
 //! about a sleep.
 
 ghost use Rattle.std.specs.Prelude.{◌≡◌, ◌≤◌, IfOk, true, length};
-ghost use Rattle.driver_core.specs.Driver.{IsDue, driver_devices};
-ghost use Rattle.driver_core.specs.declared.todo.What.TheVariants.{Sleep};
+ghost use Rattle.driver_core.specs.Driver.{MaySleep, driver_devices};
 
-use driver_core::{Driver, Refused, What};
+use driver_core::{Driver, Rearm, Refused, What};
 
 /// A card: its interrupt mask and its receive ring.
 pub trait LoopCard {
@@ -26,7 +25,7 @@ pub trait LoopCard {
 // Does what the driver asks for. Returns whether there was nothing to do.
 fn act<C: LoopCard>(driver: &mut Driver, cards: &mut [C]) -> Result<bool, Refused>
     requires { length (driver_devices driver.old) ≡ length cards.old }
-    ensures sleep { IfOk result (λ sleeps. sleeps ≡ true → IsDue driver.new Sleep) }
+    ensures sleep { IfOk result (λ sleeps. sleeps ≡ true → MaySleep driver.new) }
     ensures cards { length cards.new ≡ length cards.old }
     ensures devices { length (driver_devices driver.new) ≡ length (driver_devices driver.old) }
 {
@@ -43,9 +42,9 @@ fn act<C: LoopCard>(driver: &mut Driver, cards: &mut [C]) -> Result<bool, Refuse
         What::Look(device) => u32::from(cards[device as usize].has_packets()),
         What::Fetch(device, most) => cards[device as usize].fetch(most),
         What::Ended(_) => return Ok(false),
-        What::Sleep => return Ok(true),
+        What::Sleep(_) => return Ok(true),
     };
-    driver.done(todo.number, packets)?;
+    driver.done(todo.number, packets, Rearm::No)?;
     Ok(false)
 }
 
@@ -53,7 +52,7 @@ fn act<C: LoopCard>(driver: &mut Driver, cards: &mut [C]) -> Result<bool, Refuse
 /// each device is at rest, and nothing is on the poll list.
 pub fn drive<C: LoopCard>(driver: &mut Driver, cards: &mut [C], most: u32) -> Result<bool, Refused>
     requires { length (driver_devices driver.old) ≡ length cards.old }
-    ensures { IfOk result (λ sleeps. sleeps ≡ true → IsDue driver.new Sleep) }
+    ensures { IfOk result (λ sleeps. sleeps ≡ true → MaySleep driver.new) }
 {
     for _ in 0..most {
         if act(driver, cards)? {

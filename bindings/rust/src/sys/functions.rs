@@ -345,12 +345,12 @@ extern "C" {
     /// Sets `*todo` to what has to be done now. It is the same action, with the same number, until that is reported
     /// or isn't due any more. Returns `FQ_OK`; `FQ_BAD_HANDLE`, and `*todo` is `FQ_TODO_FAILED`.
     pub fn fq_driver_next_sized(driver: *mut fq_driver, todo: *mut fq_todo) -> u32;
-    /// Reports that the action in `*todo` was done, with `todo->packets`; only its size, number and packets are read.
-    /// Call it before the next call of `fq_driver_next`, or not at all: an action that isn't reported is returned
-    /// again. Returns `FQ_OK`; `FQ_BAD_SIZE` if `*todo` wasn't set by `fq_driver_next` or `fq_driver_step`;
-    /// `FQ_BAD_HANDLE`; `FQ_NOT_DUE`: the driver doesn't wait for this report any more, because of an interrupt, an
-    /// open, a stop or an earlier report, or it is another driver's, and `fq_driver_next` says what is due instead;
-    /// `FQ_BAD_WORK` if a fetch took more than `most`. Nothing changes unless it returns `FQ_OK`.
+    /// Reports that the action in `*todo` was done, with `todo->packets` and `todo->rearm`; only these, its size and
+    /// its number are read. Call it before the next call of `fq_driver_next`, or not at all: an action that isn't
+    /// reported is returned again. Returns `FQ_OK`; `FQ_BAD_SIZE` if `*todo` wasn't set by `fq_driver_next` or
+    /// `fq_driver_step`; `FQ_BAD_HANDLE`; `FQ_NOT_DUE`: the driver doesn't wait for this report any more, because of
+    /// an interrupt, an open, a stop or an earlier report, or it is another driver's, and `fq_driver_next` says what
+    /// is due instead; `FQ_BAD_WORK` if a fetch took more than `most`. Nothing changes unless it returns `FQ_OK`.
     pub fn fq_driver_done(driver: *mut fq_driver, todo: *const fq_todo) -> u32;
     /// Reports the action in `*todo`, unless its number is 0, and sets `*todo` to what has to be done now:
     /// `fq_driver_done` and then `fq_driver_next` in one call. Report interrupts that came meanwhile before it, so
@@ -358,6 +358,11 @@ extern "C" {
     /// any more, and `*todo` is what is due instead; `FQ_BAD_HANDLE`, and `FQ_BAD_WORK` if a fetch took more than
     /// `most`: nothing changes, and `*todo` is `FQ_TODO_FAILED`.
     pub fn fq_driver_step_sized(driver: *mut fq_driver, todo: *mut fq_todo) -> u32;
+    /// Ends the run in progress, for a program with a clock of its own (`netdev_budget_usecs`): a fetch that is due
+    /// already is still made, and then `FQ_TODO_ENDED` follows, whose report says that the run was squeezed. Returns
+    /// `FQ_OK`; `FQ_NOT_DUE` if no run is in progress; `FQ_BAD_HANDLE`. The status may be ignored if the handle is
+    /// right.
+    pub fn fq_driver_end_run(driver: *mut fq_driver) -> u32;
     /// Sets `*shown` to the state of a device and the counts of its polls. Returns `FQ_OK`; `FQ_BAD_HANDLE`;
     /// `FQ_BAD_DEVICE`.
     pub fn fq_driver_show_sized(

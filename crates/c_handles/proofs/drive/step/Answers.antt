@@ -1,9 +1,17 @@
+use Rattle.std.proofs.Common.{subst}
+use Rattle.driver_core.specs.Driver.{IsStep}
+use Rattle.driver_core.specs.declared.device.Rearm.{Rearm}
+use Rattle.c_handles.specs.Drivers.{rearm_in}
 use Rattle.c_handles.proofs.StepFacts.{step_made}
 use Rattle.c_handles.proofs.drive.step.Goals as goal
 
 pub returns : goal.returns
 returns c =
     let step = c.step_into-reported in
+    let todo = c.args.todo.now in
     let settled = rw c.report_status-said.ensures at c.settle.ensures in
-    rw c.report_status-said.ensures (step_made c.args.todo.now step.new.place c.settle.new.self c.args.driver.now step.new.self
-    step.result.0 step.result.1 step.ensures.steps step.ensures.takes step.ensures.kept settled)
+    let same : IsStep todo.number todo.packets (rearm_in todo.rearm) c.args.driver.now step.result.0 step.result.1 step.new.self =
+    subst (λ (rearm : Rearm). IsStep todo.number todo.packets rearm c.args.driver.now step.result.0 step.result.1 step.new.self)
+    c.rearm_of-rearm.ensures step.ensures.steps in
+    rw c.report_status-said.ensures (step_made todo step.new.place c.settle.new.self c.args.driver.now step.new.self step.result.0
+    step.result.1 same step.ensures.takes step.ensures.kept settled)

@@ -6,5 +6,5 @@ pub returns-in-Some-clause-going : goal.returns-in-Some-clause-going
 returns-in-Some-clause-going c = λ start polls id is going.
     let asked : Some c.in-Some.device ≡ Some id = sym c.in-Some.is ∙ c.asked.ensures ∙ is in
     let same : c.in-Some.device ≡ id = cc asked in
-    subst (λ (k : ℕ). IsRunning start (polls ++ poll_of k c.args.packets c.args.self.now ∷ []) c.fetched.new.self) same
+    subst (λ (k : ℕ). IsRunning start (polls ++ poll_of k c.args.packets c.args.rearm c.args.self.now ∷ []) c.fetched.new.self) same
     (c.fetched.ensures.going start polls going)

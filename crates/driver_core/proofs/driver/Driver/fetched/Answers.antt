@@ -1,8 +1,11 @@
 use Rattle.std.specs.Prelude.{◌==◌}
-use Rattle.std.proofs.Common.{◌≡◌, ◌∙◌, ◌≤◌, ◌+◌, None, Some, List, length, sym, subst, arith}
+use Rattle.std.proofs.Common.{◌≡◌, ◌∙◌, ◌≤◌, ◌+◌, None, Some, List, length, refl, sym, subst, arith, rules, ap, set}
 use Rattle.std.proofs.lemmas.{List.Sums.count_by-le-length}
 use Rattle.poll_runs.specs.Driven.{held}
 use Rattle.driver_core.specs.{Device.stage_is_listed, Queue.IsQueue, declared.device.DriverDevice.DriverDevice}
+use Rattle.poll_runs.specs.Polls.{is_arrival}
+use Rattle.driver_core.specs.{Counts.count_one_poll, Driver.poll_counts_of, declared.counts.PollCounts.PollCounts}
+use Rattle.driver_core.proofs.LineFacts.{polled_line}
 use Rattle.driver_core.proofs.QueueFacts.{comes_back, polled_keeps, polled_listed}
 use Rattle.driver_core.proofs.driver.Driver.fetched.Goals as goal
 
@@ -11,7 +14,7 @@ invariant_of-self-clause-queue c =
     let self = c.args.self.now in
     let asked = c.requires.polled in
     let back : stage_is_listed c.polled-next.result.0.stage ≡ comes_back c.polled-next.result.1 =
-    rw c.polled-next.ensures (polled_listed (c.args.packets == self.limits.weight) c.get-before.result) in
+    rw c.polled-next.ensures (polled_listed (c.args.packets == self.limits.weight) c.args.rearm c.get-before.result) in
     let kept =
     polled_keeps self.devices.all.items self.list c.polled.new.list self.run c.polled.new.self c.args.device c.polled-next.result.0
     c.polled-next.result.1 c.requires.range asked c.polled.ensures.rests c.polled.ensures.kept (c.polled.ensures.repoll c.args.device asked)
@@ -35,3 +38,19 @@ invariant_of-self-clause-pace c = λ on. let same = c.args.self.now.pace on in r
   weight = c.polled.ensures.settings.weight ∙ same.weight;
   window = c.polled.ensures.settings.window ∙ same.window;
 }
+
+pub returns-clause-ends : goal.returns-clause-ends
+returns-clause-ends c =
+    let self = c.args.self.now in
+    let asked = c.requires.polled in
+    let at-hand : c.counts-so_far.result ≡ poll_counts_of self c.args.device = c.counts-so_far.ensures in
+    record {
+      devices = search rules;
+      counts = rw c.and.ensures (ap (λ (x : PollCounts). set self.counts.items c.args.device (count_one_poll c.args.packets x)) at-hand);
+      limits = refl;
+      number = refl;
+      ending = refl;
+      free = search rules;
+      line = polled_line self.list c.polled.new.list self.run c.polled.new.self c.args.device (is_arrival c.polled-next.result.1) asked
+          c.polled.ensures.rests c.polled.ensures.kept (c.polled.ensures.list c.args.device asked);
+    }
