@@ -342,8 +342,8 @@ def about(program: str) -> list[str]:
     version = re.findall(r'^#define FQ_VERSION "(.*)"', (TOP / "include/fintaqush.h").read_text(encoding="ascii"), re.M)[0]
     printed, said, status = ran(program, ["--help"], "what\n")
     wrong = [] if printed.startswith("usage: napi_machine ") and (said, status) == ("", 0) else [f"--help: {printed!r}, {said!r}, {status}"]
-    if (printed := ran(program, ["--version"], "what\n")) != (f"napi_machine {version}\n", "", 0):
-        wrong.append(f"--version: {printed}")
+    if (ended := ran(program, ["--version"], "what\n")) != (f"napi_machine {version}\n", "", 0):
+        wrong.append(f"--version: {ended}")
     others = [["--help", "--ring", "1"], ["--ring", "1", "--version"], ["--help", "--help"], ["--helper"], ["--version="]]
     return wrong + [f"{each}: accepted" for each in others if ran(program, each, "") != ("", "usage fault 64\n", 64)]
 
