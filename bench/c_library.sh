@@ -3,8 +3,8 @@
 # inlined and has to count the same; cycles of a shared instance by one thread (schedule, hand, take, complete), compared with
 # the same cycles by the typed calls (crates/bench_calls); packets that a driver (fq_driver_new) polls, one or 64 at each
 # interrupt, reported and asked for in two calls or in one; and packets, put one by one and in bursts of 64, and polled 64 at a
-# time, and put and polled in bursts of 1, 8, 32 and 64. Three rounds of all in turn; the best time of each is printed, with C's
-# ratio to the other. Then nine rounds of looks by two threads at once, with handles that are adjacent or 128 bytes apart: the
+# time, and put and polled in bursts of 1, 8, 32 and 64, compared with DPDK's ring in the same loop, if DPDK is installed (Debian:
+# libdpdk-dev). Three rounds of all in turn; the best time of each is printed, with C's ratio to the other. Then nine rounds of looks by two threads at once, with handles that are adjacent or 128 bytes apart: the
 # best and the median time of each.
 #
 # usage: bench/c_library.sh [TIMES]     (10000000 by default; of the cycles and looks a tenth)
@@ -26,6 +26,10 @@ trap 'rm -rf "$work"' EXIT
 "$bench/../scripts/build.sh" bench_calls
 gcc -std=c11 -O2 -pthread -I "$bench/../include" "$bench/c_library.c" "$work/libfintaqush.a" -o "$work/c_library"
 g++ -O2 -o "$work/fold" "$bench/limits.cc"
+has_dpdk=
+! pkg-config --exists libdpdk 2> /dev/null || has_dpdk=yes
+# shellcheck disable=SC2046 # words
+[ -z "$has_dpdk" ] || gcc -O2 -I "$bench/../include" $(pkg-config --cflags libdpdk) "$bench/dpdk_ring.c" $(pkg-config --libs libdpdk) -o "$work/dpdk_ring"
 
 for _ in 1 2 3; do
     "$work/fold" "$times" > "$work/fold.line" 2> "$work/spent"
@@ -35,6 +39,10 @@ for _ in 1 2 3; do
         [ "$what" != turns ] || count=$turns
         "$work/c_library" "$what" "$count" > "$work/$what.line" 2> "$work/spent"
         cut -d ' ' -f 1 "$work/spent" >> "$work/$what.times"
+    done
+    for burst in ${has_dpdk:+1 8 32 64}; do
+        "$work/dpdk_ring" "$burst" "$times" > "$work/dpdk.line" 2> "$work/spent"
+        cut -d ' ' -f 1 "$work/spent" >> "$work/dpdk$burst.times"
     done
     "$bench/../crates/bench_calls/out/bench_calls" "$turns" > "$work/typed.line" 2> "$work/spent"
     awk '$1 == "typed" { print $2 }' "$work/spent" >> "$work/typed.times"
@@ -74,7 +82,7 @@ show 'the same, 64 at once, in steps' step64 "$times"
 show 'a packet from C, weight 64' packets "$times"
 show 'a packet from C, in bursts' bursts "$times"
 for burst in 1 8 32 64; do
-    show "a packet put and polled, $burst at once" "$burst" "$times"
+    show "a packet put and polled, $burst at once" "$burst" "$times" ${has_dpdk:+"dpdk$burst" "DPDK's ring"}
 done
 for what in beside apart; do
     sort -n "$work/$what.times" | awk -v name="a look of two threads, $what" -v times="$turns" 'NR == 1 { best = $1 } NR == 5 {
