@@ -1,7 +1,8 @@
 #!/usr/bin/env python3
-"""scripts/options.py [--check]: writes what other languages, tools and pages have of the options of napi_machine, from the table in
-crates/machine_model/src/settings.rt: tools/fintaqush_tools/options.json, and in other files the lines between two comments. With --check it writes
-nothing, and prints each file that isn't so. Exit status: 0; 1 a file isn't so; 64 bad usage.
+"""scripts/options.py [--check]: writes what other languages, tools and the manual page have of the options of
+napi_machine, from the table in crates/machine_model/src/settings.rt: tools/fintaqush_tools/options.json, and in other
+files the lines between two comments. With --check it writes nothing, and prints each file that isn't so. Exit status:
+0; 1 a file isn't so; 64 bad usage.
 """
 
 from __future__ import annotations
@@ -86,19 +87,11 @@ def escaped(text: str) -> str:
     return text.replace("\\", "\\e").replace("-", "\\-")
 
 
-def page(options: Sequence[Option]) -> Iterable[str]:
-    yield from ("| Option | Range | Default | What it is, and the setting of Linux |", "|---|---|---|---|")
-    for option in options:
-        values = f"{option['least']} to {option['most']} {option['unit']}".rstrip()
-        yield f"| `--{option['name']}` | {values} | {default_of(option)} | {option['what']} |"
-
-
 # The files with such a part: how its two comments begin and end, and what makes its lines.
 PARTS: dict[str, tuple[str, str, Callable[[Sequence[Option]], Iterable[str]]]] = {
     "include/fintaqush.h": ("    /* ", " */", header),
     "tests/c/machine.c": ("        /* ", " */", names),
     "docs/man/napi_machine.1": ('.\\" ', "", manual),
-    "docs/TIMING.md": ("<!-- ", " -->", page),
 }
 
 
