@@ -200,7 +200,8 @@ END
 
 # relink: turns a link to a page into a link to its page in the site; other links, and links into the network, stay the same.
 relink() {
-    sed -E -e 's/(href="[^":#]*)README\.md(["#])/\1index.html\2/g' -e 's/(href="[^":#]*)\.md(["#])/\1.html\2/g'
+    sed -E -e 's/(href="[^":#]*)README\.md(["#])/\1index.html\2/g' -e 's/(href="[^":#]*)\.md(["#])/\1.html\2/g' \
+        -e 's/(href="[^":#]*man\/[^":#]*\.[0-9])"/\1.html"/g'
 }
 
 # show PAGE
@@ -223,7 +224,7 @@ linked() {
     local name
     while IFS= read -r name; do
         name=$(realpath -m --relative-to . -- "$(dirname "$1")/$name")
-        case $name in *.md | ../*) ;; *) git ls-files -- "$name" ;; esac
+        case $name in *.md | docs/man/* | ../*) ;; *) git ls-files -- "$name" ;; esac
     done < <(grep -oE '\]\([^):# ]+' "$1" | cut -c 3-)
 }
 
