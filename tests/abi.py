@@ -102,10 +102,11 @@ class Sources:
 
 
 def only_reads(text: str, call: str) -> bool:
-    """Returns whether an export in this source file lends its object only to functions that can't change it."""
+    """Returns whether an export in this source file takes only shared references to its object, or lends it only to functions that can't
+    change it."""
     body = re.search(rf'^pub extern "C" fn {call}\(.*?^\}}', text, re.M | re.S)
-    lent = re.findall(r"(\S*?)\(?\bhandle\.held\.as_mut\(\)", body[0]) if body else []
-    return bool(lent) and all(re.search(rf"^fn {one}\(\s*\w+: &Object[,)]", text, re.M) for one in lent)
+    lent = re.findall(r"(&\*|\S*?\(?)\bhandle\.held\.as_mut\(\)", body[0]) if body else []
+    return bool(lent) and all(one.endswith("&*") or re.search(rf"^fn {one.rstrip('(')}\(\s*\w+: &Object[,)]", text, re.M) for one in lent)
 
 
 def c_name(rattle: str) -> str:
@@ -233,8 +234,8 @@ PLANTED = [
     ("crates/napi_c/src/limit.rt", "fq_dql_limit(dql: &FqDql)", "fq_dql_limit(dql: &mut FqDql)", "fq_dql_limit"),
     ("crates/napi_c/src/driver.rt", "_open(handle: &mut FqHandle, device", "_open(handle: &FqHandle, device", "fq_driver_open"),
     ("crates/napi_c/src/list.rt", "fn fq_list_len(", "fn fq_list_size(", "fq_list_size"),
-    ("crates/napi_c/src/list.rt", "fn len_in(at: &Object,", "fn len_in(at: &mut Object,", "fq_list_len"),
-    ("crates/napi_c/src/list.rt", "fn push_in(at: &mut Object,", "fn push_in(at: &Object,", "fq_list_push"),
+    ("crates/napi_c/src/list.rt", "match &*handle.held.as_mut() {", "match handle.held.as_mut() {", "fq_list_len"),
+    ("crates/napi_c/src/list.rt", "match handle.held.as_mut() {", "match &*handle.held.as_mut() {", "fq_list_push"),
     ("crates/napi_c/src/counts.rt", "pub polls: u64,", "pub polls: u32,", "fq_counts"),
     ("crates/c_handles/src/lister.rt", "pub polls: u32,", "pub work: u32,", "fq_run_report"),
     ("crates/c_handles/src/drive.rt", "pub scheduled: bool,", "pub scheduled: u32,", "fq_device_shown"),

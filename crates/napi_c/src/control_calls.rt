@@ -114,7 +114,7 @@ pub extern "C" fn fq_control_has(handle: &mut FqHandle, seat: &mut FqHandle) -> 
     if !handle.is_set() || !seat.is_set() {
         return status::BAD_HANDLE;
     }
-    match (handle.held.as_mut(), seat.held.as_mut()) {
+    match (&*handle.held.as_mut(), &*seat.held.as_mut()) {
         (Object::Controller(control), Object::Seat(seat)) if control.has(seat) => status::OK,
         _ => status::BAD_HANDLE,
     }

@@ -226,7 +226,7 @@ pub extern "C" fn fq_driver_show_sized(
     if !handle.is_set() {
         return status::BAD_HANDLE;
     }
-    match handle.held.as_mut() {
+    match &*handle.held.as_mut() {
         Object::Driver(driver) => drive::show(driver, device, shown),
         _ => status::BAD_HANDLE,
     }

@@ -153,7 +153,7 @@ pub extern "C" fn fq_ring_show_sized(handle: &mut FqHandle, shown: &mut FqRingSh
     if !handle.is_set() {
         return status::BAD_HANDLE;
     }
-    match handle.held.as_mut() {
+    match &*handle.held.as_mut() {
         Object::Ring(ring) => *shown = ring.input.shown(),
         Object::In(input) => *shown = input.shown(),
         _ => return status::BAD_HANDLE,

@@ -69,7 +69,7 @@ pub extern "C" fn fq_list_len(handle: &mut FqHandle, len: &mut u32) -> u32
     if !handle.is_set() {
         return status::BAD_HANDLE;
     }
-    match handle.held.as_mut() {
+    match &*handle.held.as_mut() {
         Object::List(list) => {
             *len = list.len() as u32;
             status::OK

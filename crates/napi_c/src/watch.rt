@@ -60,7 +60,7 @@ pub extern "C" fn fq_tx_watch(
     if !handle.is_set() {
         return status::BAD_HANDLE;
     }
-    match handle.held.as_mut() {
+    match &*handle.held.as_mut() {
         Object::Tx(ring) => {
             *stuck = watchdog.check(ring.state(), limit, now);
             status::OK
