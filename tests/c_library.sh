@@ -321,7 +321,7 @@ refuses_machine_settings() {
         for value in "$least" "$most"; do as_napi_machine "$top/crates/napi_machine/stdin" "$name=$value" || { echo "$name=$value"; return 1; }; done
     done < <(python3 -c 'import sys; sys.path.insert(0, sys.argv[1]); from fintaqush_tools import machine
 for name, (least, most, _) in machine.OPTIONS.items(): print(name, least, most)' "$top/tools")
-    [ "$number" = 23 ]
+    [ "$number" = 25 ]
 }
 
 { echo 'ns,device,bytes' && awk 'BEGIN { for (i = 0; i < 20000; i++) print i * 900, i % 7 + 1, i % 1400 + 60 }' OFS=, ; } > "$scratch/arrivals.csv"
