@@ -55,7 +55,7 @@ from fintaqush_tools.files import WholeFile, check_regular, check_target
 from fintaqush_tools.fits import Cost
 from fintaqush_tools.instances import Place
 from fintaqush_tools.machine import COSTS, identifier, option_words
-from fintaqush_tools.options import Parser, Words, add_binary, number, parser_of, require_end
+from fintaqush_tools.options import Parser, Words, add_binary, number, require_end, words_of
 from fintaqush_tools.pictures import ENDS, Curve, Picture, check_library, picture_bytes
 from fintaqush_tools.predicting import TOLD, Compared, check_lines, objects_in, told_value, us
 from fintaqush_tools.processes import program
@@ -657,8 +657,7 @@ def print_verified(advice: Advice) -> bool:
 # ---- words
 
 
-def parser() -> Parser:
-    parser = parser_of(__doc__)
+def add_options(parser: Parser) -> None:
     parser.add_argument("recording", help="a file of fintaqush record")
     parser.add_argument("--goal", choices=list(GOALS), default="p99", help="what should be low (p99)")
     parser.add_argument(
@@ -691,16 +690,14 @@ def parser() -> Parser:
     add_fail_if(parser, ["p99", "p50", *predicting.MEASURED], ["p99", "p50", *times])
     parser.add_argument("--plot", metavar="FILE", help="a picture of all settings, .png, .svg or .html")
     add_binary(parser, "napi_machine")
-    return parser
 
 
 def main(given: Sequence[str]) -> int:
-    options = parser()
-    words = options.parse_args(given)
-    require_end(options, "--plot", words.plot, ENDS)
+    words = words_of(__doc__, add_options, given)
+    require_end(words, "--plot", words.plot, ENDS)
     check_regular(words.recording, "it is read more than once, so it has to be a regular file")
     if words.capture and words.verify:
-        options.error("--verify records again, which a capture of before doesn't fit")
+        words.error("--verify records again, which a capture of before doesn't fit")
     if words.plot:
         check_target(words.plot)
         check_library(words.plot)
