@@ -23,6 +23,7 @@ import needs
 TOP = pathlib.Path(__file__).resolve().parent.parent
 sys.path.append(str(TOP / "tools"))
 from fintaqush_tools import cli  # noqa: E402
+from fintaqush_tools.options import parser_of  # noqa: E402
 
 LIST = TOP / "tests/commands.txt"
 LONGEST = 900  # seconds; nothing is judged by its time
@@ -180,7 +181,8 @@ def synopsis(command: str) -> Iterator[str]:
     launcher's."""
     name, *words = re.sub(r"^(\./|\.\./)+", "", SETTINGS.sub("", command)).split()
     if name == "fintaqush" and words[0] in cli.MODULES:
-        text = cli.module_of(words[0]).parser().format_help()
+        module = cli.module_of(words[0])
+        text = parser_of(module.__doc__, module.add_options).format_help()
         yield from (f"{command}: {name} tells nothing of {option}" for option in re.findall(r"--[\w-]+", command) if option not in text)
         return
     path = TOP / ("docs/usage.txt" if name == "replay" or name.startswith("napi_") else name)

@@ -6,7 +6,6 @@ from __future__ import annotations
 import sys
 import unittest
 import unittest.mock
-from argparse import Namespace
 from array import array
 from collections import Counter, defaultdict
 from collections.abc import Callable, Iterator, Mapping, Sequence
@@ -25,6 +24,7 @@ from fintaqush_tools.bands import Doubt
 from fintaqush_tools.choosing import numeric, settings_of
 from fintaqush_tools.layout import Layout
 from fintaqush_tools.machine import OPTIONS, values_of
+from fintaqush_tools.options import Words
 from fintaqush_tools.receiving import Receiving
 
 Values = Mapping[str, Any]
@@ -281,7 +281,7 @@ class Choices(unittest.TestCase):
         predictions = MadeUp(goal, *settings)
         tried = [{"apart": int("A" in name), **{letter: int(letter in name) for letter in "xyz"}} for name, *_ in settings]
         predictions.names = {tuple(options.values()): name for options, (name, *_) in zip(tried, settings)}
-        words = Namespace(goal=goal, max_drops=None, p99_below=None)
+        words = Words(goal=goal, max_drops=None, p99_below=None)
         best = choosing.Choice(words, "used", predictions, tried).best
         assert best
         return predictions.name(best[0])

@@ -144,7 +144,7 @@ def said_by(events: Sequence[Found], program: str, said: str) -> list[int]:
 
 def woken_uses_in(events: Sequence[Found], device: str, program: str, call: str) -> Iterator[int]:
     """Yields the time from the end of a poll of one packet, for which the program slept, to the program's next call."""
-    polls = [(time, work) for work, time in timing.polls_of(events, device)]
+    polls = [(events[place][0], work) for place, work in timing.polls_of(events, device)]
     sleeps, reads, calls = (said_by(events, program, said) for said in
                             (rf".*prev_comm={program} .*prev_state=S ", rf"sys_{call} -> 0x", rf"sys_{call}\("))
     for slept in sleeps:

@@ -490,20 +490,23 @@ class Modelled(InFolder):
         self.assertAlmostEqual({each["task"]: each["share"] for each in told["tasks"]}["hog"], 0.25, delta=0.01)
 
 
+def parted(times: Iterable[tuple[int, bool]]) -> tuple[list[int], list[int]]:
+    """Returns the times that aren't a timer's, and those that are."""
+    every = list(times)
+    return [took for took, by_timer in every if not by_timer], [took for took, by_timer in every if by_timer]
+
+
 class Recorded(InFolder):
     """Real recordings: a backlog by RPS, a thread with deferral, and a program on another processor. Plain searches find the same values."""
 
     def check(self, name: str, device: str, counts: list[int]) -> tuple[dict[str, tuple[int, int]], list[int], list[int]]:
         path = TOP / "examples/veth-backlog.rec" if name == "backlog" else HERE / f"recorded-{name}.rec"
         events = timing.searched(path.read_text())
-        printed = self.succeeds("costs", path, "--json")
-        told = json.loads(printed)
+        told = json.loads(self.succeeds("costs", path, "--json"))
         found = {cost.replace("_", "-"): (each["value"], each["count"]) for cost, each in told["costs"].items()}
         polls = list(timing.poll_times(events, device))
-        runs = [place for *_, place in polls if place is not None]
-        handlers = [took for took in (timing.before_run(events, place) for place in runs) if took is not None]
-        interrupts, timers = ([took for took, by_timer in handlers if bool(by_timer) == is_timer] for is_timer in (False, True))
-        wakes, timer_wakes = ([took for took, by_timer in timing.wakes_of(events, device) if by_timer == is_timer] for is_timer in (False, True))
+        interrupts, timers = parted(filter(None, (timing.before_run(events, place) for *_, place in polls if place is not None)))
+        wakes, timer_wakes = parted(timing.wakes_of(events, device))
         uses, calls, lone = timing.reads_of(events, device)
         self.assertEqual((told["polls"], told["polled"], told["processor"]), (len(polls), [device], 3))
         found_of_each: list[Sequence[object]] = [polls, interrupts, wakes, timer_wakes, uses, lone]

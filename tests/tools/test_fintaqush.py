@@ -20,6 +20,7 @@ from finding import group_in
 from tooltest import HAS_MACHINE, MACHINE, PROGRAMS, SERIES, TOP, Done, InFolder, process, process_to, run, skip_without, started
 
 from fintaqush_tools.cli import MODULES, module_of
+from fintaqush_tools.options import parser_of
 
 COMMAND = TOP / "fintaqush"
 BURSTS = TOP / "examples/bursts.csv"
@@ -154,7 +155,7 @@ class Options(InFolder):
         """The same name has the same form in all subcommands, but for what FILE and NAME are."""
         forms: dict[str, set[tuple[object, ...]]] = {}
         for name in MODULES:
-            for action in module_of(name).parser()._actions:
+            for action in parser_of(None, module_of(name).add_options)._actions:
                 for option in set(action.option_strings) & {"--program", "--binary", "--flows", "--device", "--force", "--json", "--quiet"}:
                     is_flag = action.nargs == 0 or action.const is not None
                     forms.setdefault(option, set()).add((is_flag, str(action.metavar).partition("|")[0] if not is_flag else ""))

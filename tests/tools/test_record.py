@@ -12,7 +12,6 @@ import sys
 import time
 import unittest
 import unittest.mock
-from argparse import Namespace
 from collections import Counter
 from collections.abc import Iterator, Sequence
 from pathlib import Path
@@ -23,6 +22,7 @@ from tooltest import NO_WORDS, START, TOP, InFolder, limited, process, run, skip
 from fintaqush_tools import instances, observed, tracing
 from fintaqush_tools.commands import record
 from fintaqush_tools.errors import Refusal
+from fintaqush_tools.options import Words
 
 IN_MOUNTS = ["unshare", "-m", "sh", "-c", 'cd /sys/kernel/tracing && { [ -d instances ] || mount -t tracefs nodev .; } 2> /dev/null && cd /sys/kernel/tracing && eval "$1"', "sh"]
 # A program with a given name that reads a number of packets; and one that sends bursts repeatedly: the first has so many packets, and each
@@ -146,7 +146,7 @@ class Advice(unittest.TestCase):
     def test_a_buffer_that_was_too_small(self) -> None:
         """32 MB for half a second of five take ten times as much, or a tenth of the time."""
         advice = record.advice_on_buffer
-        words = Namespace(seconds=5, buffer=32)
+        words = Words(seconds=5, buffer=32)
         self.assertEqual(advice(words, 0.5, 1000), "record again with --buffer 320")
         self.assertEqual(advice(words, 0.5, 100), "5 s would need --buffer 320, and this machine has memory for 100: record for 1 s with --buffer 100, or "
                                                   "fewer processors (--processors), or less traffic")
@@ -185,7 +185,7 @@ class Waits(unittest.TestCase):
     def waited(self, buffer: Buffer, seconds: float, megabytes: int) -> bool:
         """Returns whether it ends early."""
         with unittest.mock.patch.object(record, "time", buffer):
-            return record.wait(buffer, Namespace(seconds=seconds, buffer=megabytes), buffer.drain)
+            return record.wait(buffer, Words(seconds=seconds, buffer=megabytes), buffer.drain)
 
     def test_buffers_that_hold_all_need_no_work(self) -> None:
         """15 MB of 32 are never emptied, and checked when 16 could be full: at 100 MB/s after 160 ms, and after 10 ms at the end, but at least 20 ms
@@ -282,7 +282,7 @@ class Lines(InFolder):
     def test_which_events(self) -> None:
         """Two of them only for devices that need them: packets that RPS or a missing NAPI moves to a backlog, and senders to several queues."""
         settings = {"device.vb1.rx-0.rps_cpus": "0", "device.vb1.ethtool.feature.generic-receive-offload": "on"}
-        words = Namespace(sender=["va1"], device=["vb1"])
+        words = Words(sender=["va1"], device=["vb1"])
         several = {**settings, "device.vb1.rx-1.rps_cpus": "0"}
         without = {**settings, "device.vb1.ethtool.feature.generic-receive-offload": "off"}
         cases: list[tuple[dict[str, str], list[str], list[str]]] = [
@@ -290,7 +290,7 @@ class Lines(InFolder):
             ({**settings, "device.vb1.rx-0.rps_cpus": "00000000,00000008"}, ["vb1"], [])]
         for given, moved, senders in cases:
             self.assertEqual(record.sources_of(words, given, ""), tracing.Sources("", (), moved, senders))
-        self.assertEqual(record.sources_of(Namespace(sender=[], device=["eth0"]), several, "x"), tracing.Sources("x", ["eth0"]))
+        self.assertEqual(record.sources_of(Words(sender=[], device=["eth0"]), several, "x"), tracing.Sources("x", ["eth0"]))
 
 
 @unittest.skipUnless(IS_ROOT, "root")

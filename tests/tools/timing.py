@@ -126,18 +126,29 @@ def on(events: list[Event], cpu: int, until: int) -> list[Event]:
     return [event for event in events[:until] if event[1] == cpu][::-1]
 
 
+def first_like(events: Iterable[Event], pattern: str) -> Event:
+    """Returns the first event whose text matches; one at 0, without a text, if there is none."""
+    return next((each for each in events if re.match(pattern, each[4])), (0, 0, "", 0, ""))
+
+
+def polls_of(events: Sequence[Event], device: str) -> Iterator[tuple[int, int]]:
+    """Yields for each poll the index of its event, and its packets."""
+    for place, (*_, said) in enumerate(events):
+        found = re.match(rf"napi_poll: .* for device {re.escape(device)} work (\d+) ", said)
+        if found:
+            yield place, int(found[1])
+
+
 def poll_times(events: list[Event], device: str) -> Iterator[tuple[int, int, int, int | None]]:
     """Yields for each poll its packets and its time, if its beginning is known, and the index of its first event unless that is another poll."""
-    for place, (time, cpu, _, _, said) in enumerate(events):
-        found = re.match(rf"napi_poll: .* for device {re.escape(device)} work (\d+) ", said)
-        if not found:
-            continue
+    for place, work in polls_of(events, device):
+        time, cpu, *_ = events[place]
         handlers, depth = 0, []
         for event in on(events, cpu, place):
             name = event[4].split(":")[0]
             is_own = name in ("softirq_entry", "napi_poll") or name == "sched_switch" and "next_comm=napi/" in event[4]
             if is_own:
-                yield int(found[1]), time - event[0] - handlers, time, (events.index(event) if name != "napi_poll" else None)
+                yield work, time - event[0] - handlers, time, (events.index(event) if name != "napi_poll" else None)
                 break
             if name in ("softirq_exit", "sched_switch"):
                 break
@@ -189,32 +200,26 @@ def stolen(events: list[Event], cpu: int, begin: int, end: int) -> int:
 
 def packet_ends(events: list[Event], device: str) -> list[tuple[int, bool]]:
     """Returns for each polled packet when its poll ended, and whether it was the only one. The k-th packet is read by the k-th read."""
-    return [(time, work == 1) for work, time in polls_of(events, device) for _ in range(work)]
-
-
-def polls_of(events: Sequence[Event], device: str) -> list[tuple[int, int]]:
-    found = ((re.match(rf"napi_poll: .* for device {re.escape(device)} work (\d+) ", said), time) for time, _, _, _, said in events)
-    return [(int(match[1]), time) for match, time in found if match]
+    return [(events[place][0], work == 1) for place, work in polls_of(events, device) for _ in range(work)]
 
 
 def reads_of(events: list[Event], device: str) -> tuple[list[int], list[int], list[int]]:
     """Returns the uses, the calls that found a packet, and how long single packets waited for a sleeping program."""
-    reads = [(time, cpu) for time, cpu, task, _, said in events if task == "server" and re.match(r"sys_recvmsg -> 0x", said)]
-    calls = [time for time, _, task, _, said in events if task == "server" and said.startswith("sys_recvmsg(")]
-    leaves = [(time, " prev_state=S " in said) for time, _, task, _, said in events if task == "server" and said.startswith("sched_switch: prev_comm=server")]
-    ends = packet_ends(events, device)
+    own = [each for each in events if each[2] == "server"]
+    reads = [(time, cpu) for time, cpu, _, _, said in own if said.startswith("sys_recvmsg -> 0x")]
     uses, found, lone = [], [], []
-    for place, ((time, cpu), (end, is_lone)) in enumerate(zip(reads, ends)):
-        before = reads[place - 1] if place else (0, cpu)
-        away = [each for each in leaves if before[0] < each[0] < time]
-        if place and end <= before[0] and before[1] == cpu and not away:
-            uses.append(time - before[0] - stolen(events, cpu, before[0], time))
-        call = max((each for each in calls if each < time), default=None)
-        if call is not None and call >= end and not any(leave > before[0] and sleeps for leave, sleeps in away):
+    before, before_on = 0, None
+    for (time, cpu), (end, is_lone) in zip(reads, packet_ends(events, device)):
+        earlier = [each for each in own[::-1] if each[0] < time]
+        call = first_like(earlier, r"sys_recvmsg\(")[0]
+        left, slept = (first_like(earlier, f"sched_switch: prev_comm=server.*{state}")[0] for state in ("", " prev_state=S "))
+        if end <= before and before_on == cpu and left <= before:
+            uses.append(time - before - stolen(events, cpu, before, time))
+        if call >= end and slept <= before:
             found.append(time - call - stolen(events, cpu, call, time))
-        slept = max((leave for leave, sleeps in away if sleeps), default=None)
-        if is_lone and slept is not None and (slept <= end):
+        if is_lone and before < slept <= end:
             lone.append(max(0, time - end))
+        before, before_on = time, cpu
     return uses, found, lone
 
 
@@ -222,22 +227,18 @@ def wakes_of(events: list[Event], device: str) -> Iterator[tuple[int, bool]]:
     """Yields the time from each run's cause (a packet, or a timer's due time) to its beginning, minus the interrupt, and whether it was a timer."""
     came = [time for time, _, _, _, said in events if re.match(r"net_dev_xmit: dev=va7 .*rc=0$", said)]
     taken = last = 0
-    for place, (time, cpu, _, _, said) in enumerate(events):
-        found = re.match(rf"napi_poll: .* for device {re.escape(device)} work (\d+) ", said)
-        if not found:
-            continue
-        earlier = on(events, cpu, place)
-        begin = next((each for each in earlier if each[4].startswith(("softirq_entry", "napi_poll", "softirq_exit", "sched_switch"))), None)
-        if begin and (begin[4].startswith("softirq_entry") or "next_comm=napi/" in begin[4]):
+    for place, work in polls_of(events, device):
+        time, cpu, *_ = events[place]
+        begin = first_like(on(events, cpu, place), "softirq_entry|napi_poll|softirq_exit|sched_switch")
+        if re.match("softirq_entry|.*next_comm=napi/", begin[4]):
             at = events.index(begin)
-            expired = next((each for each in on(events, cpu, at) if each[4].startswith(("hrtimer_expire_entry", "napi_poll"))), None)
             took, _ = before_run(events, at) or (0, False)
-            if expired and expired[4].startswith("hrtimer"):
-                due = next(group_in(r"expires=(\d+)", each[4]) for each in events[:at][::-1] if each[4].startswith("hrtimer_start"))
+            if first_like(on(events, cpu, at), "hrtimer_expire_entry|napi_poll")[4].startswith("hrtimer"):
+                due = group_in(r"expires=(\d+)", first_like(events[at::-1], "hrtimer_start")[4])
                 yield begin[0] - int(due) - took, True
-            elif found[1] != "0" and last <= came[taken] <= begin[0] and had_other(events, cpu, came[taken], at):
+            elif work and last <= came[taken] <= begin[0] and had_other(events, cpu, came[taken], at):
                 yield begin[0] - came[taken] - took, False
-        taken, last = taken + int(found[1]), time
+        taken, last = taken + work, time
 
 
 def had_other(events: list[Event], cpu: int, time: int, until: int) -> bool:

@@ -71,9 +71,9 @@ def main(words: Sequence[str]) -> int:
         return about(name)
     module = module_of(name)
     if rest == ["--manual"]:
-        from fintaqush_tools import manual
+        from fintaqush_tools import manual, options
 
-        print(*manual.page_of(module.parser()), sep="\n")
+        print(*manual.page_of(options.parser_of(module.__doc__, module.add_options)), sep="\n")
         return 0
     return int(module.main(rest) or 0)
 

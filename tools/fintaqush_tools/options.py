@@ -16,13 +16,17 @@ from fintaqush_tools.progress import Program
 from fintaqush_tools.settings import MOST, USUAL
 from fintaqush_tools.texts import is_number, nearest, shown
 
-Words = argparse.Namespace  # the options and arguments of a call
+
+class Words(argparse.Namespace):
+    """The options and arguments of a call."""
+
+    error: Callable[[str], NoReturn]  # rejects them
 
 
 class Printed(argparse.Action):
     """An option that prints a line and ends. argparse's own ignores a failed write, as to a full disk."""
 
-    def __call__(self, parser: argparse.ArgumentParser, _words: Words, _given: Any, _name: str | None = None) -> None:
+    def __call__(self, parser: argparse.ArgumentParser, *_: Any) -> None:
         print(self.const)
         parser.exit()
 
@@ -30,14 +34,14 @@ class Printed(argparse.Action):
 class Quiet(argparse.Action):
     """The option --quiet."""
 
-    def __call__(self, _parser: argparse.ArgumentParser, _words: Words, _given: Any, _name: str | None = None) -> None:
+    def __call__(self, *_: Any) -> None:
         Program.is_quiet = True
 
 
 class Parser(argparse.ArgumentParser):
     """A parser of a subcommand's options, without abbreviations."""
 
-    raises = False  # whether a wrong option is a Refusal, as where a subcommand is called by another one
+    raises = False  # whether a wrong option is a Refusal
 
     def flag(self, name: str, what: str) -> None:
         """Adds an option without a value."""
@@ -86,15 +90,23 @@ class Parser(argparse.ArgumentParser):
         self.exit(BAD_USAGE)
 
 
-def parser_of(text: str, **others: Any) -> Parser:
-    """Returns a parser of a subcommand's options, with those that all have."""
-    others |= {"prog": Program.name, "formatter_class": argparse.RawDescriptionHelpFormatter, "allow_abbrev": False}
-    parser = Parser(description=with_pages(text), **others)
+def parser_of(text: str | None, add: Callable[[Parser], None]) -> Parser:
+    """Returns a parser of the options that all subcommands have, and of those that `add` adds, which may replace them."""
+    others: dict[str, Any] = {"formatter_class": argparse.RawDescriptionHelpFormatter, "conflict_handler": "resolve"}
+    parser = Parser(Program.name, description=with_pages(text or ""), allow_abbrev=False, **others)
     told = f"{parser.prog} of Fintaqush {version()}"
     own: dict[str, Any] = {"nargs": 0, "dest": argparse.SUPPRESS}
     parser.add_argument("--version", action=Printed, const=told, help="print the version", **own)
     parser.add_argument("--quiet", action=Quiet, help="print no progress on standard error", **own)
+    add(parser)
     return parser
+
+
+def words_of(text: str | None, add: Callable[[Parser], None], given: Sequence[str], raises: bool = False) -> Words:
+    """Parses the options of a call. `raises` makes wrong ones a Refusal."""
+    parser = parser_of(text, add)
+    parser.raises = raises
+    return parser.parse_args(given, Words(error=parser.error))
 
 
 def wrong(text: str, wanted: str) -> argparse.ArgumentTypeError:
@@ -167,7 +179,7 @@ def add_raise(parser: argparse.ArgumentParser, more: str = "") -> None:
     parser.add_argument("--raise", action="store_true", dest="raised", help=text)
 
 
-def require_end(parser: argparse.ArgumentParser, option: str, name: str | None, ends: Sequence[str]) -> None:
+def require_end(words: Words, option: str, name: str | None, ends: Sequence[str]) -> None:
     """Rejects the name of a picture that ends otherwise."""
     if name and os.path.splitext(name)[1] not in ends:
-        parser.error(f"{option}: a name that ends in .png, .svg or .html")
+        words.error(f"{option}: a name that ends in .png, .svg or .html")

@@ -81,6 +81,18 @@ class Processor:
         within = time - self.entered[0] - handled + self.entered[1] if self.entered else 0
         return handled + self.by_softirqs + within
 
+    def end_poll(self, napi: str, mark: tuple[int, int], by_thread: bool) -> tuple[int, int] | None:
+        """Begins the next poll's time at the end of a poll. Returns the beginning of the poll that ends, if it is known."""
+        began = self.thread if by_thread else self.softirq
+        if began and by_thread:
+            self.thread = mark
+        elif began:
+            self.softirq = mark
+        full = self.full
+        if began and self.is_first and full and full[0] == napi and began[0] - full[1] <= SOON:
+            return full[1:]  # it continues with what the full poll left
+        return began
+
 
 class Reads:
     """The reads of a program: it reads packets in the order of their delivery."""
@@ -361,15 +373,8 @@ class Timeline:
         processor, work, by_thread = self.on[event.cpu], int(packets), is_by_thread(event)
         self.is_coarse = self.is_coarse and not event.time % 1000
         is_full = work >= int(budget)
-        began = processor.thread if by_thread else processor.softirq
         mark = event.time, processor.above_tasks(event.time) if by_thread else processor.handled(event.time)
-        if began and by_thread:
-            processor.thread = mark
-        elif began:
-            processor.softirq = mark
-        full = processor.full
-        if began and processor.is_first and full and full[0] == napi and began[0] - full[1] <= SOON:
-            began = full[1:]  # it continues with what the full poll left
+        began = processor.end_poll(napi, mark, by_thread)
         processor.full = (napi, *mark) if is_full else None
         if not self.polled or device in self.polled:
             place, waiting = (device, napi), self.waiting[self.routes.of_poll(device, napi)]

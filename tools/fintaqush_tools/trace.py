@@ -41,9 +41,9 @@ def add_files(parser: Parser, files: str) -> None:
     add_force(parser, files)
 
 
-def check_flows(options: Parser, words: Words) -> None:
+def check_flows(words: Words) -> None:
     if words.flows and not words.arrivals:
-        options.error("--flows goes with --arrivals")
+        words.error("--flows goes with --arrivals")
 
 
 def write_files(words: Words, told: str, notes: list[str], **texts: str | Iterable[str]) -> None:

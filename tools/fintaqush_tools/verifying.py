@@ -14,7 +14,7 @@ from fintaqush_tools.advice import Change, Machine
 from fintaqush_tools.bands import Interval
 from fintaqush_tools.commands import record
 from fintaqush_tools.errors import Refusal, unfinished, unlink, why
-from fintaqush_tools.options import Words
+from fintaqush_tools.options import Words, words_of
 from fintaqush_tools.predicting import TOLD, told_value
 from fintaqush_tools.progress import say
 from fintaqush_tools.recorded import Recording
@@ -35,7 +35,7 @@ def record_again(head: Head, words: Words) -> Recording:
     for device, sender in zip(devices, head.get("sender", "").split() or [""] * len(devices)):
         given += ["--device", device, *(["--sender", sender] if sender else [])]
     try:
-        of_record = record.parser().parse_args(given)
+        of_record = words_of(None, record.add_options, given)
         record.recorded_by(of_record, lambda _: None)
         record.check_whole(of_record)
         return Recording(path, words).read()

@@ -1,1 +1,2 @@
-"""The subcommands of `fintaqush`: each module has `parser()`, its options, and `main(words)`, which returns the exit status."""
+"""The subcommands of `fintaqush`: each module has `add_options`, and `main`, which takes a call's arguments and returns the exit
+status."""

@@ -53,8 +53,9 @@ from fintaqush_tools.commands import costs
 from fintaqush_tools.errors import Refusal
 from fintaqush_tools.files import WholeFile, check_regular, check_target
 from fintaqush_tools.fits import Cost
+from fintaqush_tools.instances import Place
 from fintaqush_tools.machine import COSTS, identifier, option_words
-from fintaqush_tools.options import Parser, Words, add_binary, number, parser_of, require_end
+from fintaqush_tools.options import Parser, Words, add_binary, number, require_end, words_of
 from fintaqush_tools.pictures import ENDS, Curve, Picture, check_library, picture_bytes
 from fintaqush_tools.predicting import TOLD, Compared, check_lines, objects_in, told_value, us
 from fintaqush_tools.processes import program
@@ -367,11 +368,15 @@ class Advice:
     def layouts(self, packets: int) -> Iterator[Options]:
         """Yields settings that change which processor polls which packets, if shares are uneven, and prepares their
         predictions."""
+        queues = {each.place: each.queue for each in self.recording.own_instances()}
+        if self.end == "delivered" and all(place in queues for place in self.recording.layout.on):
+            yield from self.moved(queues, packets)
+            yield from self.spread(queues, packets)
+
+    def moved(self, queues: Mapping[Place, int | None], packets: int) -> Iterator[Options]:
+        """Yields the setting that moves interrupts to idle processors."""
         recording, layout = self.recording, self.recording.layout
-        queues = {each.place: each.queue for each in recording.own_instances()}
         interrupts = interrupts_of(recording.head, recording.device)
-        if self.end != "delivered" or not all(place in queues for place in layout.on):
-            return
         chosen = layout.moved(self.machine.idle_processors())
         if chosen and all(queues[place] in interrupts for place in chosen):
             numbers = layout.numbers_on(chosen)
@@ -379,10 +384,13 @@ class Advice:
             moved = {place: cpu for place, cpu in chosen.items() if set(layout.on[place]) != {cpu}}
             self.machine.interrupts = {interrupts[queues[place] or 0]: cpu for place, cpu in moved.items()}
             yield {**self.options, "layout": MOVED, "processors": len(set(chosen.values()))}
+
+    def spread(self, queues: Mapping[Place, int | None], packets: int) -> Iterator[Options]:
+        """Yields the setting that spreads packets over all queues."""
         known = sorted((queue, place) for place, queue in queues.items() if queue is not None)
-        if [queue for queue, _ in known] == list(range(len(queues))) and (
-            devices := layout.spread([each for _, each in known])
-        ):
+        if [queue for queue, _ in known] != list(range(len(queues))):
+            return
+        if devices := self.recording.layout.spread([place for _, place in known]):
             self.add_layout(SPREAD, devices, packets)
             self.machine.queues = len(known)
             yield {**self.options, "layout": SPREAD}
@@ -649,8 +657,7 @@ def print_verified(advice: Advice) -> bool:
 # ---- words
 
 
-def parser() -> Parser:
-    parser = parser_of(__doc__)
+def add_options(parser: Parser) -> None:
     parser.add_argument("recording", help="a file of fintaqush record")
     parser.add_argument("--goal", choices=list(GOALS), default="p99", help="what should be low (p99)")
     parser.add_argument(
@@ -683,16 +690,14 @@ def parser() -> Parser:
     add_fail_if(parser, ["p99", "p50", *predicting.MEASURED], ["p99", "p50", *times])
     parser.add_argument("--plot", metavar="FILE", help="a picture of all settings, .png, .svg or .html")
     add_binary(parser, "napi_machine")
-    return parser
 
 
 def main(given: Sequence[str]) -> int:
-    options = parser()
-    words = options.parse_args(given)
-    require_end(options, "--plot", words.plot, ENDS)
+    words = words_of(__doc__, add_options, given)
+    require_end(words, "--plot", words.plot, ENDS)
     check_regular(words.recording, "it is read more than once, so it has to be a regular file")
     if words.capture and words.verify:
-        options.error("--verify records again, which a capture of before doesn't fit")
+        words.error("--verify records again, which a capture of before doesn't fit")
     if words.plot:
         check_target(words.plot)
         check_library(words.plot)

@@ -29,9 +29,8 @@ from fintaqush_tools.comparing import Change, Values, found_name, numbers_of, va
 from fintaqush_tools.errors import Refusal
 from fintaqush_tools.files import check_target, read_bytes, write_out
 from fintaqush_tools.options import Parser, Words, add_binary, add_out, add_raise, add_settings
-from fintaqush_tools.options import given_settings, parser_of, settings_of
+from fintaqush_tools.options import given_settings, settings_of, words_of
 from fintaqush_tools.processes import program, run_program
-from fintaqush_tools.progress import Program
 from fintaqush_tools.recording import HEAD
 from fintaqush_tools.reports import objects_of
 from fintaqush_tools.results import add_json, is_printed, write_json
@@ -98,6 +97,7 @@ ANYWHERE = ("device", "json", "out")  # options that may be on both sides of --,
 
 def add_both(parser: Parser) -> None:
     """Adds what may be on both sides of --."""
+    parser.usage = USAGE
     what = "results, recordings, or a trace; - for standard input"
     parser.add_argument("files", nargs="*", metavar="FILE", help=what)
     parser.add_argument("--device", metavar="NAME", help="one of several recorded devices")
@@ -107,20 +107,17 @@ def add_both(parser: Parser) -> None:
     add_settings(parser)
 
 
-def parser() -> Parser:
-    parser = parser_of(__doc__, usage=USAGE)
+def add_options(parser: Parser) -> None:
     add_both(parser)
     add_raise(parser, "to both replays ")
     add_binary(parser)
-    return parser
 
 
-def sides_of(options: Parser, given: Sequence[str]) -> tuple[Words, Words, list[list[str]]]:
+def sides_of(given: Sequence[str]) -> tuple[Words, Words, list[list[str]]]:
     """Parses the options before and after --. Returns also the files of each side, or none if a trace is replayed."""
-    second = parser_of("", prog=Program.name, usage=USAGE, add_help=False)
-    add_both(second)
     place = given.index("--") if "--" in given else len(given)
-    words, after = options.parse_args(given[:place]), second.parse_args(given[place + 1 :])
+    words = words_of(__doc__, add_options, given[:place])
+    after = words_of(__doc__, add_both, given[place + 1 :])
     words.fail_if += after.fail_if
     for name in ANYWHERE:
         setattr(words, name, getattr(words, name) or getattr(after, name))
@@ -131,16 +128,16 @@ def sides_of(options: Parser, given: Sequence[str]) -> tuple[Words, Words, list[
     else:
         sides = []
     if sides and not all(sides):
-        options.error(f"no file before --, to compare {', '.join(after.files)} with")
+        words.error(f"no file before --, to compare {', '.join(after.files)} with")
     if sides and (words.raised or given_settings(words) or given_settings(after)):
-        options.error("the options of a replay are for a trace, and two files are compared as they are")
+        words.error("the options of a replay are for a trace, and two files are compared as they are")
     if not sides and (len(words.files) != 1 or place == len(given)):
-        options.error("two files, or files before and after --, or a trace with options of the second replay after --")
+        words.error("two files, or files before and after --, or a trace with options of the second replay after --")
     return words, after, sides
 
 
 def main(given: Sequence[str]) -> int:
-    words, second, sides = sides_of(parser(), given)
+    words, second, sides = sides_of(given)
     if words.out:
         check_target(words.out)
     text, before, after = of_files(words, sides) if sides else of_replays(words, second)

@@ -18,7 +18,7 @@ from typing import Any
 
 from fintaqush_tools.errors import Refusal
 from fintaqush_tools.files import read_bytes
-from fintaqush_tools.options import Parser, add_binary, add_settings, parser_of, settings_of
+from fintaqush_tools.options import Parser, add_binary, add_settings, settings_of, words_of
 from fintaqush_tools.processes import program, run_program
 from fintaqush_tools.reports import ROWS, objects_of
 from fintaqush_tools.results import add_json, is_printed, write_json
@@ -99,18 +99,16 @@ def check_arrivals(name: str, report: Sequence[Mapping[str, Any]]) -> None:
         raise Refusal(f"{shown(name)}.csv: it has no arrivals, so there is nothing to compare: {see}")
 
 
-def parser() -> Parser:
-    parser = parser_of(__doc__)
+def add_options(parser: Parser) -> None:
     parser.add_argument("name", help="the name of the files, without the extension")
     parser.number("--lines", 0, 10**6, 10, "print at most N differing rows of each kind (10)")
     add_json(parser)
     add_settings(parser)
     add_binary(parser)
-    return parser
 
 
 def main(given: Sequence[str]) -> int:
-    words = parser().parse_args(given)
+    words = words_of(__doc__, add_options, given)
     name = words.name.removesuffix(".csv")
     trace, kernel = read_bytes(f"{name}.csv"), work_of(read_bytes(f"{name}.work").decode())
     notes = noted_in(read_bytes(f"{name}.notes").decode("utf-8", "replace")) if os.path.exists(f"{name}.notes") else {}

@@ -14,7 +14,7 @@ from typing import NamedTuple
 
 from fintaqush_tools.cli import GROUPS, MODULES, module_of
 from fintaqush_tools.manual import described
-from fintaqush_tools.options import Parser, parser_of
+from fintaqush_tools.options import Parser, parser_of, words_of
 from fintaqush_tools.pages import filled
 from fintaqush_tools.settings import MOST
 
@@ -32,7 +32,8 @@ class Option(NamedTuple):
 def options_of(name: str) -> list[Option]:
     """Returns the options of a subcommand."""
     more = MOST if name in OF_REPLAY else {}
-    own = [Option(*each) for each in described(module_of(name).parser())]
+    module = module_of(name)
+    own = [Option(*each) for each in described(parser_of(module.__doc__, module.add_options))]
     return own + [Option([f"--{each}"], "N", [], f"of the replay, 1 to {most}") for each, most in more.items()]
 
 
@@ -86,12 +87,10 @@ def for_fish(options: dict[str, list[Option]]) -> str:
 SHELLS = {"bash": for_bash, "zsh": for_zsh, "fish": for_fish}
 
 
-def parser() -> Parser:
-    parser = parser_of(__doc__)
+def add_options(parser: Parser) -> None:
     parser.add_argument("shell", choices=list(SHELLS), help="bash, zsh or fish")
-    return parser
 
 
 def main(given: Sequence[str]) -> None:
-    words = parser().parse_args(given)
+    words = words_of(__doc__, add_options, given)
     print(SHELLS[words.shell]({name: options_of(name) for name in MODULES}))

@@ -43,7 +43,7 @@ from fintaqush_tools.errors import Refusal
 from fintaqush_tools.files import check_input
 from fintaqush_tools.fits import FEWEST, Cost, Line, cost_line, cost_of, halves_of, shift_of
 from fintaqush_tools.machine import COSTS
-from fintaqush_tools.options import Parser, Words, parser_of
+from fintaqush_tools.options import Parser, Words, words_of
 from fintaqush_tools.progress import say
 from fintaqush_tools.instances import Routes
 from fintaqush_tools.recording import BACKLOG, Head, Look, check_lost, read
@@ -339,8 +339,7 @@ def object_in(recording: str, devices: Sequence[str]) -> dict[str, Any]:
     return object_of(times, *estimated(times, head))
 
 
-def parser() -> Parser:
-    parser = parser_of(__doc__)
+def add_options(parser: Parser) -> None:
     parser.add_argument("recording", help="the file or the text, also as .gz; - for standard input")
     parser.add_argument("--irq", metavar="NAME", help="the interrupt whose handlers count")
     parser.add_argument(
@@ -359,14 +358,12 @@ def parser() -> Parser:
     add_json(parser)
     names = [name.replace("-", "_") for name in ORDER]
     add_fail_if(parser, names, names)
-    return parser
 
 
 def main(given: Sequence[str]) -> int:
-    options = parser()
-    words = options.parse_args(given)
+    words = words_of(__doc__, add_options, given)
     if words.words and is_printed(words.json):
-        options.error("--words and --json without a file each print something else")
+        words.error("--words and --json without a file each print something else")
     check_input(words.recording)
     try:
         times, head = times_in(words)

@@ -33,7 +33,7 @@ from fintaqush_tools.arriving import BY_PAIR, BY_POLL, HOW, KINDS, PollBegins
 from fintaqush_tools.arriving import by_device, chosen_kind, packet_of, receivers, size_in, why_no_packet
 from fintaqush_tools.errors import Refusal
 from fintaqush_tools.files import check_input, check_target
-from fintaqush_tools.options import Parser, Words, parser_of
+from fintaqush_tools.options import Parser, Words, words_of
 from fintaqush_tools.recording import (
     NET_RX,
     POLLED,
@@ -535,8 +535,7 @@ def convert(words: Words) -> None:
     write_files(words, told, lost + trace.notes, work=lines_of(trace.work), csv=text)
 
 
-def parser() -> Parser:
-    parser = parser_of(__doc__)
+def add_options(parser: Parser) -> None:
     parser.add_argument("recording", help="the text, also as .gz; - for standard input")
     what = "two ends of a veth pair; * stands for a number in each; may be given many times"
     parser.many("--pair", "A:B", f"{what} (where none is given: that of fintaqush record, or va*:vb*)")
@@ -544,15 +543,13 @@ def parser() -> Parser:
     parser.many("--device", "NAME", what)
     add_files(parser, "NAME.csv, NAME.work and NAME.notes")
     parser.flag("--flows", "with --arrivals: add a column with the hash of each packet's flow, for several queues")
-    return parser
 
 
 def main(given: Sequence[str]) -> None:
-    options = parser()
-    words = options.parse_args(given)
-    check_flows(options, words)
+    words = words_of(__doc__, add_options, given)
+    check_flows(words)
     if words.device and words.pair:
-        options.error("--device names a device without a pair, so it doesn't go with --pair")
+        words.error("--device names a device without a pair, so it doesn't go with --pair")
     check_input(words.recording)
     try:
         convert(words)

@@ -34,7 +34,7 @@ from fintaqush_tools.arrivals import SECOND, Packets, arrivals_text, check_devic
 from fintaqush_tools.capture import Link, is_group
 from fintaqush_tools.errors import Refusal
 from fintaqush_tools.files import check_input, check_target, lines_in, opened
-from fintaqush_tools.options import Parser, Words, number, parser_of
+from fintaqush_tools.options import Parser, Words, number, words_of
 from fintaqush_tools.processes import lines_by
 from fintaqush_tools.texts import shown
 from fintaqush_tools.trace import MOST_DEVICES, TICKS, Row, trace_text, with_runs
@@ -339,8 +339,7 @@ def convert(words: Words) -> None:
     write_files(words, f"{len(names)} devices, {rows} rows", notes, csv=text)
 
 
-def parser() -> Parser:
-    parser = parser_of(__doc__)
+def add_options(parser: Parser) -> None:
     parser.add_argument("capture", help="the capture, or tcpdump's text; - for standard input")
     parser.many("--to", "WHO", "a device: an interface, or a link address; may be given many times")
     what = f"count what arrives ({IN}), or also what goes out, as an arrival ({BOTH})"
@@ -352,11 +351,9 @@ def parser() -> Parser:
     parser.add_argument("-c", dest="count", type=number(1, 10**9), metavar="N", help=what)
     add_files(parser, "NAME.csv and NAME.notes")
     add_delay(parser)
-    return parser
 
 
 def main(given: Sequence[str]) -> None:
-    options = parser()
-    words = options.parse_args(given)
-    check_flows(options, words)
+    words = words_of(__doc__, add_options, given)
+    check_flows(words)
     convert(words)

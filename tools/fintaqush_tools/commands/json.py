@@ -30,24 +30,23 @@ def sums_of(objects: Sequence[Line]) -> dict[str, int]:
     }
 
 
-def parser() -> Parser:
-    from fintaqush_tools.options import add_out, parser_of
+def add_options(parser: Parser) -> None:
+    from fintaqush_tools.options import add_out
     from fintaqush_tools.thresholds import add_fail_if
 
-    parser = parser_of(__doc__)
     parser.add_argument("report", nargs="?", default="-", help="a file with the report (standard input)")
     add_out(parser, "lines")
     add_fail_if(parser, [*TOTALS, *DEVICES])
-    return parser
 
 
 def main(given: Sequence[str]) -> int:
     if len(given) < 2 and (not given or given[0] == "-" or not given[0].startswith("-")):
         write_out(None, lines_of(read_bytes(given[0] if given else "-").decode()))
         return 0
+    from fintaqush_tools.options import words_of
     from fintaqush_tools.thresholds import status_of
 
-    words = parser().parse_args(given)
+    words = words_of(__doc__, add_options, given)
     text = read_bytes(words.report).decode()
     write_out(words.out, lines_of(text))
     return status_of(words.fail_if, [("", sums_of(objects_of(text)))])

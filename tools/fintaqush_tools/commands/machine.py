@@ -14,24 +14,22 @@ from collections.abc import Sequence
 from fintaqush_tools.errors import Refusal
 from fintaqush_tools.files import check_input, opened
 from fintaqush_tools.machine import OPTIONS, default_of, help_of, identifier, values_of
-from fintaqush_tools.options import Parser, as_options, number, parser_of
+from fintaqush_tools.options import Parser, as_options, number, words_of
 from fintaqush_tools.processes import become, program, ran
 from fintaqush_tools.results import add_json, is_printed, value_of, write_json
 from fintaqush_tools.texts import last_line, shown
 
 
-def parser() -> Parser:
-    parser = parser_of(__doc__)
+def add_options(parser: Parser) -> None:
     text = "arrivals, made with --arrivals of from-pcap, from-ftrace or traffic; - or none: standard input"
     parser.add_argument("file", nargs="?", metavar="ARRIVALS", help=text)
     for name, (low, high, _) in OPTIONS.items():
         parser.add_argument(f"--{name}", type=number(low, high), metavar="N", help=help_of(name))
     add_json(parser, "the options and results, as what-if does,")
-    return parser
 
 
 def main(given: Sequence[str]) -> None:
-    words = parser().parse_args(given)
+    words = words_of(__doc__, add_options, given)
     named = {name: getattr(words, name.replace("-", "_")) for name in OPTIONS}
     chosen = {name: value for name, value in named.items() if value is not None}
     options = as_options(chosen)

@@ -302,8 +302,7 @@ def size_of(text: str) -> tuple[int, int]:
     return int(found[1]), int(found[2])
 
 
-def parser() -> Parser:
-    parser = parser_of(__doc__)
+def add_options(parser: Parser) -> None:
     parser.add_argument("trace", nargs="?", help="the trace")
     parser.add_argument("--series", metavar="FILE", help="draw this series instead of a trace")
     parser.add_argument("--out", metavar="FILE", help=f"the picture, .png, .svg or .html ({PICTURE})")
@@ -319,21 +318,21 @@ def parser() -> Parser:
     what = "a dark .png (an .svg and an .html follow the reader's mode)"
     parser.flag("--dark", what)
     add_json(parser, "what is drawn")
-    return parser
 
 
 def main(given: Sequence[str]) -> None:
-    options = parser()
-    words, replay_args = options.parse_known_args(given)
+    options = parser_of(__doc__, add_options)
+    words = Words(error=options.error)
+    _, replay_args = options.parse_known_args(given, words)
     words.is_named, words.out = bool(words.out), words.out or PICTURE
-    require_end(options, "--out", words.out, ENDS)
+    require_end(words, "--out", words.out, ENDS)
     if bool(words.trace) == bool(words.series):
-        options.error("a trace or --series, one of them")
+        words.error("a trace or --series, one of them")
     if not is_printed(words.json):
         check_picture(words)
     if words.series:
         if replay_args or words.beside is not None or words.raised or words.waits:
-            options.error("--series is drawn as it is: it takes no words of a replay")
+            words.error("--series is drawn as it is: it takes no words of a replay")
         return draw(words, [read_series(read_bytes(words.series).decode())], shown(Path(words.series).name), [""])
     all_rows, headings = zip(*replays(words, replay_args))
     return draw(words, all_rows, shown(Path(words.trace).name), list(map(shown, headings)))

@@ -13,23 +13,21 @@ from __future__ import annotations
 from collections.abc import Sequence
 
 from fintaqush_tools.files import check_target, read_bytes, write_out
-from fintaqush_tools.options import Parser, add_out, add_binary, add_settings, parser_of, settings_of
+from fintaqush_tools.options import Parser, add_binary, add_out, add_settings, settings_of, words_of
 from fintaqush_tools.progress import say
 from fintaqush_tools.trace import raised, records_of
 
 
-def parser() -> Parser:
-    parser = parser_of(__doc__)
+def add_options(parser: Parser) -> None:
     parser.add_argument("trace", help="the trace; - for standard input")
     add_settings(parser)
     parser.number("--restarts", 0, 99999, None, "add at most N runs after a row (until the list is empty)")
     add_out(parser, "trace")
     add_binary(parser, "napi_series")
-    return parser
 
 
 def main(given: Sequence[str]) -> None:
-    words = parser().parse_args(given)
+    words = words_of(__doc__, add_options, given)
     if words.out:
         check_target(words.out)
     text = read_bytes(words.trace)

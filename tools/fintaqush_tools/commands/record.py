@@ -32,7 +32,7 @@ from fintaqush_tools import observed
 from fintaqush_tools.errors import Refusal, unfinished, unlink
 from fintaqush_tools.files import WholeFile, check_target
 from fintaqush_tools.instances import Instances, described
-from fintaqush_tools.options import Parser, Words, number, parser_of, wrong
+from fintaqush_tools.options import Parser, Words, number, words_of, wrong
 from fintaqush_tools.progress import Progress, say
 from fintaqush_tools.recording import BACKLOG
 from fintaqush_tools.texts import shown
@@ -362,8 +362,7 @@ def recorded_by(words: Words, tell: Callable[[str], None]) -> str:
         unfinished.discard(words.scratch)
 
 
-def parser() -> Parser:
-    parser = parser_of(__doc__)
+def add_options(parser: Parser) -> None:
     how = number(1, 3600)
     parser.add_argument("seconds", nargs="?", type=how, default=5, metavar="SECONDS", help="how long, 1 to 3600 (5)")
     parser.many("--device", "NAME", "a device that receives; may be given many times", required=True)
@@ -375,10 +374,9 @@ def parser() -> Parser:
     parser.add_argument("--processors", type=processors, metavar="LIST", help="record only these, as 2,3 or 0-3 (all)")
     what = "the buffer of each processor (32)"
     parser.add_argument("--buffer", type=number(1, 65536), default=32, metavar="MB", help=what)
-    return parser
 
 
 def main(given: Sequence[str]) -> None:
-    words = parser().parse_args(given)
+    words = words_of(__doc__, add_options, given)
     print(recorded_by(words, say), flush=True)
     check_whole(words)

@@ -7,8 +7,8 @@ import re
 import sys
 from collections.abc import Sequence
 
-from fintaqush_tools.options import Parser, parser_of
-from fintaqush_tools.places import TOP, usage_text
+from fintaqush_tools.options import Parser
+from fintaqush_tools.places import TOP, usage_text, with_pages
 from fintaqush_tools.progress import Program
 from fintaqush_tools.settings import MODES
 
@@ -17,12 +17,12 @@ PARTS = re.compile(r"usage: .*\n\n(.*?\n)\n(  --.*?\n)\n(.*)", re.S)
 OPTION = re.compile(r"^  ((?:-\w, )?--[\w-]+)(?: ([A-Z]))? +(.*(?:\n {18}.*)*)", re.M)
 
 
-def parser() -> Parser:
-    """Returns a parser with the options in the usage text: only for the manual page and the completion."""
+def add_options(parser: Parser) -> None:
+    """Adds the options in the usage text: only for the manual page and the completion."""
     found = PARTS.fullmatch(usage_text(Program.name))
     head, options, after = found.groups() if found else ("", "", "")
-    usage = "%(prog)s [OPTION ..] [TRACE | -]"
-    parser = parser_of(f"{HEAD}\n\n{head}\n{after}", usage=usage, add_help=False)
+    parser.usage = "%(prog)s [OPTION ..] [TRACE | -]"
+    parser.description = with_pages(f"{HEAD}\n\n{head}\n{after}")
     for names, value, what in OPTION.findall(options):
         text = " ".join(what.split()).replace("%", "%%")
         words = names.split(", ")
@@ -33,7 +33,6 @@ def parser() -> Parser:
         elif names != "--version":
             parser.add_argument(*words, help=text, action="store_true")
     parser.add_argument("trace", nargs="?", help="the trace (standard input)")
-    return parser
 
 
 def main(given: Sequence[str]) -> None:

@@ -10,13 +10,12 @@ from __future__ import annotations
 
 from collections.abc import Sequence
 
-from fintaqush_tools.options import Parser, add_raise, add_settings, parser_of, settings_of
+from fintaqush_tools.options import Parser, add_raise, add_settings, settings_of, words_of
 from fintaqush_tools.processes import become, program
 from fintaqush_tools.trace import raise_option
 
 
-def parser() -> Parser:
-    parser = parser_of(__doc__)
+def add_options(parser: Parser) -> None:
     parser.add_argument("file", nargs="?", metavar="TRACE", help="the trace; - or none: standard input")
     parser.number("--every", 1, 99999, None, "only each Nth row, 1 to 99999 (1)")
     add_raise(parser)
@@ -25,16 +24,14 @@ def parser() -> Parser:
     parser.flag("--polls", "a line for each poll before the line of its softirq row")
     parser.flag("--rows", "print the rows of the trace, with the added runs, in place of the series")
     add_settings(parser)
-    return parser
 
 
 def main(given: Sequence[str]) -> None:
-    options = parser()
-    words = options.parse_args(given)
+    words = words_of(__doc__, add_options, given)
     if words.restarts is not None and not words.raised:
-        options.error("--restarts goes with --raise")
+        words.error("--restarts goes with --raise")
     if words.rows and (words.polls or words.every):
-        options.error("--rows prints no lines of the series: it goes with neither --every nor --polls")
+        words.error("--rows prints no lines of the series: it goes with neither --every nor --polls")
     own = ["--every", str(words.every)] if words.every else []
     own += [raise_option(words.restarts)] if words.raised else []
     own += [*["--polls"] * words.polls, *["--rows"] * words.rows]

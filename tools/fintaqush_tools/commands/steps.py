@@ -27,7 +27,7 @@ from fintaqush_tools import pages
 from fintaqush_tools.errors import Refusal
 from fintaqush_tools.files import check_target, read_bytes, write_whole
 from fintaqush_tools.options import Parser, Words, add_binary, add_raise, add_settings, as_options
-from fintaqush_tools.options import given_settings, pair, parser_of
+from fintaqush_tools.options import given_settings, pair, words_of
 from fintaqush_tools.places import TOP
 from fintaqush_tools.processes import program, run_program
 from fintaqush_tools.reports import names_of
@@ -194,13 +194,12 @@ def beside(text: str) -> dict[str, int]:
     settings.raises = True
     add_settings(settings)
     try:
-        return given_settings(settings.parse_args(shlex.split(text)))
+        return given_settings(settings.parse_args(shlex.split(text), Words()))
     except (Refusal, ValueError):
         raise argparse.ArgumentTypeError(f"{shown(text)!r} isn't as '--budget 300 --weight 64 --window 1024'") from None
 
 
-def parser() -> Parser:
-    parser = parser_of(__doc__)
+def add_options(parser: Parser) -> None:
     parser.add_argument("trace", help="the trace; - for standard input")
     parser.add_argument("--out", required=True, metavar="FILE.html", help="the page")
     parser.add_argument("--rows", type=pair(":", "100:200"), metavar="A:B", help="only these rows")
@@ -209,11 +208,10 @@ def parser() -> Parser:
     add_raise(parser)
     add_settings(parser)
     add_binary(parser, "napi_series")
-    return parser
 
 
 def main(given: Sequence[str]) -> None:
-    words = parser().parse_args(given)
+    words = words_of(__doc__, add_options, given)
     check_target(words.out)
     text, made = read_bytes(words.trace), program("napi_series", words.binary)
     all_settings = [given_settings(words)] + ([words.beside] if words.beside is not None else [])

@@ -29,7 +29,7 @@ from fintaqush_tools.combinations import Combinations, Key, Row
 from fintaqush_tools.combinations import add_words, check_words, choices, fault_of, sum_of, told_in
 from fintaqush_tools.errors import Refusal
 from fintaqush_tools.files import read_bytes
-from fintaqush_tools.options import Parser, Words, add_raise, number, parser_of
+from fintaqush_tools.options import Parser, Words, add_raise, number, words_of
 from fintaqush_tools.processes import program, ran
 from fintaqush_tools.progress import say
 from fintaqush_tools.reports import objects_of
@@ -127,8 +127,7 @@ def keys_of(words: Words) -> list[Key]:
     return [(*trace, *settings) for trace, *settings in every]
 
 
-def parser() -> Parser:
-    parser = parser_of(__doc__)
+def add_options(parser: Parser) -> None:
     parser.add_argument("traces", nargs="*", metavar="FOLDER|TRACE", help="traces, and folders of them")
     for name, example in (("budget", "64,300,1000"), ("weight", "16,64"), ("window", "128,1024")):
         usual, values = str(USUAL[name]), choices(number(1, MOST[name]))
@@ -139,17 +138,15 @@ def parser() -> Parser:
     add_fail_if(parser, TOLD[:-1])
     add_json(parser, "the rows")
     add_words(parser, "napi_serial or napi_replay", {"default": "sweep.csv", "help": "the file of rows (sweep.csv)"})
-    return parser
 
 
 def main(given: Sequence[str]) -> int:
-    options = parser()
-    words = options.parse_args(given)
+    words = words_of(__doc__, add_options, given)
     series.cache_clear()
     if not words.play and not words.traces:
-        options.error("no traces")
+        words.error("no traces")
     if words.restarts and not words.raised:
-        options.error("--restarts goes with --raise")
+        words.error("--restarts goes with --raise")
     if words.play:
         return SWEEP.play(words.binary, words.play)
     check_words("sweep", words)

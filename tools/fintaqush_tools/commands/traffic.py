@@ -22,9 +22,9 @@ from typing import Any
 from fintaqush_tools import arrivals
 from fintaqush_tools.errors import Refusal
 from fintaqush_tools.files import write_out
-from fintaqush_tools.options import Parser, Words, add_out, number, pair, parser_of, wrong
+from fintaqush_tools.options import Parser, Words, add_out, number, pair, words_of, wrong
 from fintaqush_tools.places import version
-from fintaqush_tools.progress import Progress
+from fintaqush_tools.progress import Program, Progress
 from fintaqush_tools.trace import MOST_DEVICES, MOST_ROWS, TICKS, Row, trace_text, with_runs
 from fintaqush_tools.trace import add_delay, add_words, check_flows
 
@@ -141,8 +141,7 @@ def mix_of(text: str) -> dict[str, int]:
     return mix
 
 
-def parser() -> Parser:
-    parser = parser_of(__doc__, conflict_handler="resolve")
+def add_options(parser: Parser) -> None:
     kinds = ("constant", "poisson", "bursts")
     parser.add_argument("--kind", choices=kinds, default="constant", help="kind of traffic (constant)")
     most = arrivals.MOST_DEVICES
@@ -157,7 +156,6 @@ def parser() -> Parser:
     what = "smallest and largest packet, in bytes (60:1500)"
     parser.add_argument("--bytes", type=sizes, default=(60, 1500), metavar="A:B", help=what)
     add_output(parser)
-    return parser
 
 
 def add_output(parser: Parser) -> None:
@@ -174,26 +172,24 @@ def add_output(parser: Parser) -> None:
     add_out(parser, "trace")
 
 
-def check_words(options: Parser, words: Words) -> None:
+def check_words(words: Words) -> None:
     """Rejects options that don't go together."""
     if "busy" in words.mix and words.version == 1:
-        options.error("--mix: busy rows need --version 2")
+        words.error("--mix: busy rows need --version 2")
     if words.devices > MOST_DEVICES and not words.arrivals:
-        options.error(f"--devices: a trace has at most {MOST_DEVICES}")
+        words.error(f"--devices: a trace has at most {MOST_DEVICES}")
     if words.mix and words.arrivals:
-        options.error("--mix: arrivals have packets alone")
-    check_flows(options, words)
+        words.error("--mix: arrivals have packets alone")
+    check_flows(words)
 
 
 def main(given: Sequence[str], raises: bool = False) -> None:
     """`raises` makes wrong options a Refusal."""
-    options = parser()
-    options.raises = raises
-    words = options.parse_args(given)
+    words = words_of(__doc__, add_options, given, raises)
     if words.version == 0:
-        print(f"{options.prog} of Fintaqush {version()}")
+        print(f"{Program.name} of Fintaqush {version()}")
         return
-    check_words(options, words)
+    check_words(words)
     words.on, words.off = words.on / 1000, words.off / 1000
     if words.arrivals:
         words.now = 0

@@ -20,7 +20,7 @@ from collections.abc import Sequence
 from fintaqush_tools.cli import module_of
 from fintaqush_tools.errors import Refusal
 from fintaqush_tools.files import check_target
-from fintaqush_tools.options import Parser, add_force, parser_of
+from fintaqush_tools.options import Parser, add_force, words_of
 from fintaqush_tools.places import IS_CHECKOUT, TOP
 from fintaqush_tools.progress import Program
 from fintaqush_tools.texts import aligned, shown
@@ -123,15 +123,13 @@ def steps(page: str) -> None:
     print(f"   Next: {command()} --help lists all subcommands.")
 
 
-def parser() -> Parser:
-    parser = parser_of(__doc__)
+def add_options(parser: Parser) -> None:
     parser.add_argument("--out", metavar="FILE.html", help=f"the page ({PAGE})")
     add_force(parser, PAGE)
-    return parser
 
 
 def main(given: Sequence[str]) -> None:
-    words = parser().parse_args(given)
+    words = words_of(__doc__, add_options, given)
     check_target(words.out or PAGE, replaces=bool(words.out) or words.force)
     with tempfile.TemporaryDirectory() as folder:
         squeeze()

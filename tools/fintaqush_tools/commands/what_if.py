@@ -65,7 +65,7 @@ from fintaqush_tools.machine import (
     option_words,
     values_of,
 )
-from fintaqush_tools.options import Parser, Words, number, parser_of, require_end, wrong
+from fintaqush_tools.options import Parser, Words, number, require_end, words_of, wrong
 from fintaqush_tools.pictures import COLORS, ENDS, Curve, Picture, check_library, picture_bytes
 from fintaqush_tools.processes import program, ran
 from fintaqush_tools.progress import Progress, say
@@ -396,12 +396,9 @@ def load(text: str) -> str:
     return text
 
 
-def columns_told() -> str:
-    return "\nColumns of the results:\n\n" + "".join(f"    {name}: {ARE[name]}\n" for name in VALUES)
-
-
-def parser() -> Parser:
-    parser = parser_of(__doc__ + columns_told())
+def add_options(parser: Parser) -> None:
+    columns = "".join(f"    {name}: {ARE[name]}\n" for name in VALUES)
+    parser.description = f"{parser.description}\nColumns of the results:\n\n{columns}"
     what = "arrivals, made with --arrivals of from-pcap, from-ftrace or traffic"
     parser.add_argument("arrivals", nargs="?", help=what)
     what = "factors of the arrivals' rate, as 0.5,1,2 (1)"
@@ -423,37 +420,35 @@ def parser() -> Parser:
     add_fail_if(parser, [*SHORT, *VALUES], [*SHORT, *WAITS])
     parser.add_argument("--plot", metavar="FILE", help="a picture, .png, .svg or .html")
     add_words(parser, "napi_machine", {"metavar": "FILE", "help": "a CSV file of rows with all options and results"})
-    return parser
 
 
-def check_together(options: Parser, words: Words) -> None:
+def check_together(words: Words) -> None:
     """Rejects options that don't go together."""
     if not words.play and bool(words.arrivals) == bool(words.traffic):
-        options.error("no arrivals" if not words.arrivals else "--traffic makes arrivals, so none are named")
+        words.error("no arrivals" if not words.arrivals else "--traffic makes arrivals, so none are named")
     if words.seeds and not words.traffic:
-        options.error("--seeds goes with --traffic")
+        words.error("--seeds goes with --traffic")
     is_spread = words.out or words.part or words.sshloginfile
     for name, value in (("--traffic", words.traffic), ("--until", words.until)):
         if value and is_spread:
-            options.error(f"{name} doesn't go with --out, --part and --sshloginfile")
+            words.error(f"{name} doesn't go with --out, --part and --sshloginfile")
     if words.until and any((words.traffic, words.plot, words.fail_if, words.load != ["1"])):
         others = "--load, --traffic, --plot and --fail-if"
-        options.error(f"--until searches the load, of one file, so it doesn't go with {others}")
-    require_end(options, "--plot", words.plot, ENDS)
+        words.error(f"--until searches the load, of one file, so it doesn't go with {others}")
+    require_end(words, "--plot", words.plot, ENDS)
     if words.resume and not words.out:
-        options.error("--resume goes with --out")
+        words.error("--resume goes with --out")
     if words.part and words.band:
-        options.error("--band compares all rows, so it doesn't go with --part")
+        words.error("--band compares all rows, so it doesn't go with --part")
 
 
 def read_words(given: Sequence[str]) -> Words:
-    options = parser()
-    words = options.parse_args(given)
-    check_together(options, words)
+    words = words_of(__doc__, add_options, given)
+    check_together(words)
     if words.band is None:
         words.band = 0 if words.out or words.part else DOUBT
     if is_printed(words.json) and (words.form or words.out):
-        options.error("--json without a file prints only JSON; --json FILE goes with --table, --csv and --out")
+        words.error("--json without a file prints only JSON; --json FILE goes with --table, --csv and --out")
     words.form = words.form or ("json" if is_printed(words.json) else "table" if sys.stdout.isatty() else "csv")
     return words
 
