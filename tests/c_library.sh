@@ -345,6 +345,11 @@ else
     check 'napi_machine, which the machine is compared with' eval 'cat "$scratch/build.log"; false'
 fi
 
+# code_of FLAG ..: the bytes of code of examples/c/limit.c, which uses only limits.
+code_of() { compile gcc "$examples/limit.c" "$scratch/limit" -O2 "$@" && size "$scratch/limit" | awk 'NR == 2 { print $1 }'; }
+is_cut() { [ "$(code_of -Wl,--gc-sections)" -lt 4000 ] && [ "$(code_of)" -gt 150000 ]; }
+check 'calls that a program does not use can be left out' is_cut
+
 # sanitized NAME FLAG: the examples and the random calls under a sanitizer.
 sanitized() {
     local name=$1 flag=$2 source program language

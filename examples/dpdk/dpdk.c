@@ -113,7 +113,7 @@ static uint32_t fetch(struct device *device, uint32_t most) {
 static bool bursts(void) {
     bool any = false;
     for (uint32_t i = 0; i < count_of_devices; i++) {
-        any |= fetch_from(devices[i], BURST) > 0;
+        any |= take_from(devices[i], BURST) > 0;
     }
     return any;
 }

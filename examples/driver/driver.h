@@ -129,10 +129,15 @@ static inline void report_interrupts(void) {
     }
 }
 
+static inline uint32_t take_from(struct device *device, uint32_t most) {
+    const uint32_t count = device->fetch(device, most);
+    device->polls++, device->packets += count, device->full += count == most;
+    return count;
+}
+
 /* Fetches from a device. If it has no more, the card is unmasked and then looked at, which saves two steps. */
 static inline void fetch_from(struct device *device, struct fq_todo *todo) {
-    todo->packets = device->fetch(device, todo->most);
-    device->polls++, device->packets += todo->packets, device->full += todo->packets == todo->most;
+    todo->packets = take_from(device, todo->most);
     if (todo->packets == todo->most) return;
     device->unmask(device);
     todo->rearm = device->look(device) ? FQ_REARM_MORE : FQ_REARM_EMPTY;
