@@ -1,6 +1,11 @@
 #!/usr/bin/env bash
-# Sourced by tests, which have their own folder in `scratch` and the repository in `top`: counts checks and skipped tests, and
+# Sourced by tests: names the repository `top`, makes a folder `scratch` that is removed at the end, counts checks and skipped tests, and
 # prints their sums as the last line.
+set -uo pipefail
+unset CDPATH
+top=$(dirname "$(dirname "$(readlink -f "${BASH_SOURCE[0]}")")")
+scratch=$(mktemp -d)
+trap 'rm -rf "$scratch"' EXIT
 passed=0
 failed=0
 skipped=0
@@ -9,7 +14,6 @@ skipped=0
 check() {
     local name=$1
     shift
-    # shellcheck disable=SC2154 # of its caller
     if "$@" > "$scratch/log" 2>&1; then
         passed=$((passed + 1))
     else
@@ -26,7 +30,6 @@ skip() {
     shift
     line="skipped: $(basename "$0" .sh): $what needs"
     for need in "$@"; do
-        # shellcheck disable=SC2154 # of its caller
         if ! packages=$(awk -v need="$need" '$1 == need { sub(/ *#.*/, ""); $1 = ""; print substr($0, 2); found = 1 } END { exit !found }' "$top/tests/needs.txt"); then
             failed=$((failed + 1))
             echo "$(basename "$0" .sh): tests/needs.txt lacks $need, which $what needs"

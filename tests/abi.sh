@@ -1,12 +1,7 @@
 #!/usr/bin/env bash
 # tests/abi.sh: what is made of include/fintaqush.h is as scripts/abi.py makes it, and the crates export the header's calls and structs, with
 # the same types; planted faults are found. What needs clang is skipped without it. The last line is `N passed, M failed, K skipped`.
-set -uo pipefail
-unset CDPATH
-top=$(dirname "$(dirname "$(readlink -f "$0")")")
-scratch=$(mktemp -d)
-trap 'rm -rf "$scratch"' EXIT
-. "$top/scripts/checks.sh"
+. "$(dirname "$(readlink -f "$0")")/../scripts/checks.sh"
 export PYTHONDONTWRITEBYTECODE=1
 
 # copy_of_sources: a copy of what scripts/abi.py reads and writes.

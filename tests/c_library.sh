@@ -3,14 +3,9 @@
 # the examples, and random calls compared with a model, compiled with warnings as errors by each compiler there is, run and
 # compared, also under sanitizers and valgrind; and what compilers have to reject. What needs clang or valgrind is skipped
 # without it. The last line is `N passed, M failed, K skipped`.
-set -uo pipefail
-unset CDPATH
-top=$(dirname "$(dirname "$(readlink -f "$0")")")
+. "$(dirname "$(readlink -f "$0")")/../scripts/checks.sh"
 examples=$top/examples/c
 header=$top/include/fintaqush.h
-scratch=$(mktemp -d)
-trap 'rm -rf "$scratch"' EXIT
-. "$top/scripts/checks.sh"
 
 # compile COMPILER SOURCE PROGRAM FLAG ..: with all warnings as errors.
 compile() {

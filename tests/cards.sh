@@ -7,12 +7,7 @@
 # Recordings are skipped without these packages, with less than 2 GB of free memory, and if other work lets a guest take over 27 minutes.
 # Settings that need an option which napi_machine lacks are skipped for napi_machine. MACHINE=FILE names another build of napi_machine.
 # The last line is `N passed, M failed, K skipped`.
-set -uo pipefail
-unset CDPATH
-top=$(dirname "$(dirname "$(readlink -f "$0")")")
-scratch=$(mktemp -d)
-trap 'rm -rf "$scratch"' EXIT
-. "$top/scripts/checks.sh"
+. "$(dirname "$(readlink -f "$0")")/../scripts/checks.sh"
 
 cards() { timeout 3400 python3 -EsSB "$top/tests/cards/cards.py" "$@"; }
 

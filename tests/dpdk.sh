@@ -1,14 +1,9 @@
 #!/usr/bin/env bash
 # tests/dpdk.sh: like tests/xdp.sh, for the driver of examples/dpdk. It is skipped if there is no DPDK, no root, no `ip`, no
 # /dev/net/tun or no right to make a namespace. The last line is `N passed, M failed, K skipped`.
-set -uo pipefail
-unset CDPATH
-top=$(dirname "$(dirname "$(readlink -f "$0")")")
-scratch=$(mktemp -d)
-trap 'rm -rf "$scratch"' EXIT
+. "$(dirname "$(readlink -f "$0")")/../scripts/checks.sh"
 export RUNTIME_DIRECTORY=$scratch # where DPDK keeps what it makes
 driver=dpdk
-. "$top/scripts/checks.sh"
 . "$top/scripts/drivers.sh"
 
 if ! pkg-config --exists libdpdk 2> /dev/null; then

@@ -2,12 +2,7 @@
 # scripts/gate.py on a crate of two functions and four must-fail edits: one that is rejected, one that its contract accepts, one
 # of the same function, and one that doesn't compile; on a crate with one of each and a misnamed one; and on what stops `rt ci`:
 # a crate that isn't listed, and a link. The last line is `N passed, M failed, K skipped`.
-set -uo pipefail
-unset CDPATH
-top=$(dirname "$(dirname "$(readlink -f "$0")")")
-scratch=$(mktemp -d)
-trap 'rm -rf "$scratch"' EXIT
-. "$top/scripts/checks.sh"
+. "$(dirname "$(readlink -f "$0")")/../scripts/checks.sh"
 export XDG_CACHE_HOME=$scratch/cache
 
 mkdir -p "$scratch"/low/{scripts,crates/{low,one}/{src,must-fail}} "$scratch/room"

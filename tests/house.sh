@@ -3,11 +3,7 @@
 # passes, one of 141 that fails, and names that another crate has or hasn't. And the places where the sources return out of memory,
 # by tests/out_of_memory.py: each file that has one is a test, and so are planted ones. And by tests/plain_words.py: comments and
 # pages use no word that only this repository knows. The last line is `N passed, M failed, K skipped`. Needs git and python3.
-set -uo pipefail
-top=$(dirname "$(dirname "$(readlink -f "$0")")")
-scratch=$(mktemp -d)
-trap 'rm -rf "$scratch"' EXIT
-. "$top/scripts/checks.sh"
+. "$(dirname "$(readlink -f "$0")")/../scripts/checks.sh"
 mkdir -p "$scratch/scripts" "$scratch/crates/wide/specs"
 cp "$top"/scripts/{arguments.sh,house.py,house.sh} "$scratch/scripts"
 echo 'wide:' > "$scratch/crates.txt"

@@ -3,13 +3,8 @@
 # CMake; the guide, its examples and the manual pages; each program and subcommand as it is installed, from another folder, and
 # the package for Python; and all of it removed again. The packages of scripts/package.sh likewise, in their own root, and by
 # lintian. What needs a program that isn't installed is skipped. The last line is `N passed, M failed, K skipped`.
-set -uo pipefail
-unset CDPATH
-top=$(dirname "$(dirname "$(readlink -f "$0")")")
-scratch=$(mktemp -d)
-trap 'rm -rf "$scratch"' EXIT
+. "$(dirname "$(readlink -f "$0")")/../scripts/checks.sh"
 prefix=$scratch/prefix
-. "$top/scripts/checks.sh"
 
 install() { "$top/scripts/install.sh" "$@"; }
 

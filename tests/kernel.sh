@@ -13,14 +13,8 @@
 # --small ROWS  all traces of up to this many rows after the first ones (4)
 # --seed N      the first random trace (1)
 # PROGRAM=FILE and SERIES=FILE name other builds of napi_serial and napi_series.
-set -uo pipefail
-unset CDPATH
-top=$(dirname "$(dirname "$(readlink -f "$0")")")
+. "$(dirname "$(readlink -f "$0")")/../scripts/checks.sh"
 kernel=$top/tests/kernel
-scratch=$(mktemp -d)
-trap 'rm -rf "$scratch"' EXIT
-# shellcheck source=scripts/checks.sh
-. "$top/scripts/checks.sh"
 
 # pass_over NEED
 pass_over() {

@@ -1,16 +1,12 @@
 #!/usr/bin/env bash
 # Tries the launcher. Builds are tried in a small checkout, with a kit that proves nothing and makes a program of a few lines;
 # errors are tried with the real program. The last line is `N passed, M failed, K skipped`.
-set -u
-unset CDPATH
 # A signal that the caller of this script ignores can't be tried, and a shell can't stop ignoring it by itself.
 [ -n "${SIGNALS_AS_USUAL:-}" ] || SIGNALS_AS_USUAL=yes exec env --default-signal=INT,TERM,HUP,PIPE bash "$0" "$@"
-top=$(dirname "$(dirname "$(readlink -f "$0")")")
-scratch=$(mktemp -d)
-trap 'rm -rf "$scratch"' EXIT
+. "$(dirname "$(readlink -f "$0")")/../scripts/checks.sh"
+set +o pipefail
 chmod 755 "$scratch"
 cd "$scratch" || exit
-. "$top/scripts/checks.sh"
 launcher=$top/replay small=$scratch/small
 # is ACTUAL PATTERN
 # shellcheck disable=SC2053

@@ -3,12 +3,7 @@
 # out by hand (machine_examples.txt), and the same bytes for random arrivals with random options. Then napi_machine's errors and
 # options, the mean of M/D/1, livelock, and its runs and squeezes compared with those of a running Linux. MACHINE=FILE names
 # another build of napi_machine. The last line is `N passed, M failed, K skipped`.
-set -uo pipefail
-unset CDPATH
-top=$(dirname "$(dirname "$(readlink -f "$0")")")
-scratch=$(mktemp -d)
-trap 'rm -rf "$scratch"' EXIT
-. "$top/scripts/checks.sh"
+. "$(dirname "$(readlink -f "$0")")/../scripts/checks.sh"
 
 of_machine() { timeout 900 python3 -B "$top/tests/machine.py" "$@"; }
 

@@ -9,15 +9,9 @@
 # usage: tests/models.sh            all of it
 #        tests/models.sh --look     only prints the functions whose code has changed, with status 1 if there are any
 #        tests/models.sh --write    writes the checksums of the present functions, after the models were compared with them
-set -uo pipefail
-unset CDPATH
-top=$(dirname "$(dirname "$(readlink -f "$0")")")
+. "$(dirname "$(readlink -f "$0")")/../scripts/checks.sh"
 models=$top/models
-scratch=$(mktemp -d)
-trap 'rm -rf "$scratch"' EXIT
 kit=$(dirname "$(rt doc 2> /dev/null)") # the folder of the toolchain
-# shellcheck source=scripts/checks.sh
-. "$top/scripts/checks.sh"
 
 # checksums [TOP [KIT]]: a line for each function that the models name, and for each that these call (model_texts.py).
 checksums() { python3 -B "$top/tests/model_texts.py" "${1:-$top}" "${2:-$kit}"; }

@@ -2,12 +2,7 @@
 # tests/ns3.sh: the simulation of examples/ns3. This library's queue limit has the numbers of ns-3's own, call by call; each
 # packet is counted once; runs keep to their budget; the plain program of the bench and napi_machine (MACHINE=FILE: another
 # build) report the same for the same arrivals. It is skipped without ns-3. The last line is `N passed, M failed, K skipped`.
-set -uo pipefail
-unset CDPATH
-top=$(dirname "$(dirname "$(readlink -f "$0")")")
-scratch=$(mktemp -d)
-trap 'rm -rf "$scratch"' EXIT
-. "$top/scripts/checks.sh"
+. "$(dirname "$(readlink -f "$0")")/../scripts/checks.sh"
 
 timeout 1200 "$top/examples/ns3/run.sh" "$scratch" 100000 250000 400000 > "$scratch/table" 2> "$scratch/errors"
 status=$?

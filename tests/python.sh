@@ -2,12 +2,8 @@
 # bindings/python with the shared library that scripts/install.sh makes: its tests, in the checkout and as it is installed, from
 # another folder; its example; the errors for a library that is missing or of another version; and its types, if there is a
 # mypy. It is skipped without rt, which proves and builds the library. The last line is `N passed, M failed, K skipped`.
-set -uo pipefail
-unset CDPATH PYTHONPATH FINTAQUSH_LIB
-top=$(dirname "$(dirname "$(readlink -f "$0")")")
-scratch=$(mktemp -d)
-trap 'rm -rf "$scratch"' EXIT
-. "$top/scripts/checks.sh"
+. "$(dirname "$(readlink -f "$0")")/../scripts/checks.sh"
+unset PYTHONPATH FINTAQUSH_LIB
 package=$top/bindings/python
 prefix=$scratch/prefix
 export PYTHONDONTWRITEBYTECODE=1

@@ -1,12 +1,8 @@
 #!/usr/bin/env bash
 # scripts/release.sh: the files of a release; the package and the tarball are installed in roots of their own, and each program
 # there runs its example, with no rt on PATH. The last line is `N passed, M failed, K skipped`.
-set -uo pipefail
-unset CDPATH PROGRAM SERIES MACHINE PYTHONPATH
-top=$(dirname "$(dirname "$(readlink -f "$0")")")
-scratch=$(mktemp -d)
-trap 'rm -rf "$scratch"' EXIT
-. "$top/scripts/checks.sh"
+. "$(dirname "$(readlink -f "$0")")/../scripts/checks.sh"
+unset PROGRAM SERIES MACHINE PYTHONPATH
 has dpkg-deb 'a release' || { sum_up; exit; }
 version=$(sed -n 's/^#define FQ_VERSION "\(.*\)"$/\1/p' "$top/include/fintaqush.h")
 name=fintaqush-$version-$(uname -m)

@@ -1,13 +1,8 @@
 #!/usr/bin/env bash
 # bindings/rust: that it builds without a network, its tests and examples, what the compiler has to reject, for the reason that its doc
 # test names, and all of it under valgrind if that is installed. What needs cargo or valgrind is skipped without it. The last line is `N passed, M failed, K skipped`.
-set -uo pipefail
-unset CDPATH
-top=$(dirname "$(dirname "$(readlink -f "$0")")")
+. "$(dirname "$(readlink -f "$0")")/../scripts/checks.sh"
 crate=$top/bindings/rust
-scratch=$(mktemp -d)
-trap 'rm -rf "$scratch"' EXIT
-. "$top/scripts/checks.sh"
 
 ends() {
     sum_up

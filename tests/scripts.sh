@@ -2,12 +2,7 @@
 # What scripts of bench/, examples/ and scripts/ reject; how ./test counts and names what its scripts skip, and that
 # tests/needs.txt has all that they need; and scripts/gate-times.sh on a gate that proves nothing. The last line is `N passed, M
 # failed, K skipped`.
-set -uo pipefail
-unset CDPATH
-top=$(dirname "$(dirname "$(readlink -f "$0")")")
-scratch=$(mktemp -d)
-trap 'rm -rf "$scratch"' EXIT
-. "$top/scripts/checks.sh"
+. "$(dirname "$(readlink -f "$0")")/../scripts/checks.sh"
 
 # refuses SCRIPT ARGUMENT ..: a line, status 64, and nothing is made.
 refuses() {

@@ -2,11 +2,7 @@
 # tests/style.sh: the package of the tools, the scripts, tests and benches in Python by mypy --strict and pyflakes, the package and the scripts
 # also by black, and the scripts for a shell by ShellCheck. pyproject.toml has the settings; `black tools scripts` makes the form. The last line
 # is `N passed, M failed, K skipped`.
-set -uo pipefail
-top=$(dirname "$(dirname "$(readlink -f "$0")")")
-scratch=$(mktemp -d)
-trap 'rm -rf "$scratch"' EXIT
-. "$top/scripts/checks.sh"
+. "$(dirname "$(readlink -f "$0")")/../scripts/checks.sh"
 cd "$top" || exit
 
 # said COMMAND ..: it says nothing.

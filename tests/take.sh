@@ -2,13 +2,8 @@
 # scripts/take.sh: what it copies and what it rejects, and a program that uses `tx_ring`, proved and run in the repository to
 # which it was copied. `rt` uses the libraries that a checkout on this machine has built, and proves the rest there from
 # nothing, which takes some minutes. The last line is `N passed, M failed, K skipped`.
-set -uo pipefail
-unset CDPATH
-top=$(dirname "$(dirname "$(readlink -f "$0")")")
-scratch=$(mktemp -d)
-trap 'rm -rf "$scratch"' EXIT
+. "$(dirname "$(readlink -f "$0")")/../scripts/checks.sh"
 to=$scratch/repository
-. "$top/scripts/checks.sh"
 
 take() { "$top/scripts/take.sh" "$@"; }
 

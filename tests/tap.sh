@@ -3,13 +3,8 @@
 # are the driver's counts, a disable and an enable under load, and a trace that replays to the same counts. The commands of
 # docs/EXAMPLES.md run as they are printed, in a fresh clone. It is skipped if there is no root, no `ip`, no /dev/net/tun or no
 # right to make a namespace. The last line is `N passed, M failed, K skipped`.
-set -uo pipefail
-unset CDPATH
-top=$(dirname "$(dirname "$(readlink -f "$0")")")
-scratch=$(mktemp -d)
-trap 'rm -rf "$scratch"' EXIT
+. "$(dirname "$(readlink -f "$0")")/../scripts/checks.sh"
 driver=tap
-. "$top/scripts/checks.sh"
 . "$top/scripts/drivers.sh"
 
 if build plain; then

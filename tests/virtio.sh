@@ -3,13 +3,8 @@
 # guest's kernel and other end, with disables and enables under load; the same under sanitizers; three planted mistakes are found. It
 # is skipped if there is no root, no `ip`, no right to make a namespace, no TAP, no QEMU, static busybox, kmod or cpio, or no Debian
 # kernel (scripts/test-packages.sh --fetch): it downloads nothing. The last line is `N passed, M failed, K skipped`.
-set -uo pipefail
-unset CDPATH
-top=$(dirname "$(dirname "$(readlink -f "$0")")")
-scratch=$(mktemp -d)
-trap 'rm -rf "$scratch"' EXIT
+. "$(dirname "$(readlink -f "$0")")/../scripts/checks.sh"
 driver=virtio
-. "$top/scripts/checks.sh"
 . "$top/scripts/drivers.sh"
 
 if build plain; then

@@ -3,13 +3,8 @@
 # end: with two threads and with one, with a small budget, and under sanitizers; three planted mistakes are found. It is skipped if
 # there is no root, no `ip`, no `ethtool`, no AF_XDP or no right to make a namespace. The last line is
 # `N passed, M failed, K skipped`.
-set -uo pipefail
-unset CDPATH
-top=$(dirname "$(dirname "$(readlink -f "$0")")")
-scratch=$(mktemp -d)
-trap 'rm -rf "$scratch"' EXIT
+. "$(dirname "$(readlink -f "$0")")/../scripts/checks.sh"
 driver=xdp
-. "$top/scripts/checks.sh"
 . "$top/scripts/drivers.sh"
 
 if build plain; then
