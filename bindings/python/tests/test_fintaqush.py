@@ -587,9 +587,9 @@ class TestRaising(Refusals):
 
 class TestReplay(Refusals):
     def test_two_packets(self):
-        """The report that docs/FORMATS.md shows."""
+        """The report that docs/NAPI.md shows."""
         report = replay((TOP / "examples/two-packets.csv").read_bytes())
-        shown = re.search(r"`examples/two-packets.csv` has this one:\n\n(.*?)\n\n", (TOP / "docs/FORMATS.md").read_text(), re.S)[1]
+        shown = re.search(r"prints what the kernel would count:\n\n(.*?)\n\n", (TOP / "docs/NAPI.md").read_text(), re.S)[1]
         self.assertEqual(report.text, re.sub(r"^    ", "", shown, flags=re.M) + "\n")
         self.assertEqual(report.turns, [Turn("softirq", 4, polls=2, work=2)])
         device = report.devices[1]
