@@ -112,15 +112,6 @@ pub extern "C" fn fq_driver_interrupt(handle: &mut FqHandle, device: u32) -> u32
     }
 }
 
-fn end_run_in(at: &mut Object) -> u32
-    ensures { DriverMakesIn IsDriverEndRun at.old result at.new }
-{
-    match at {
-        Object::Driver(driver) => drive::end_run(driver),
-        _ => status::BAD_HANDLE,
-    }
-}
-
 /// Ends the run in progress, like `Driver::end_run`.
 #[unsafe(no_mangle)]
 pub extern "C" fn fq_driver_end_run(handle: &mut FqHandle) -> u32
@@ -129,16 +120,9 @@ pub extern "C" fn fq_driver_end_run(handle: &mut FqHandle) -> u32
     if !handle.is_set() {
         return status::BAD_HANDLE;
     }
-    end_run_in(handle.held.as_mut())
-}
-
-fn next_in(at: &mut Object, todo: &mut FqTodo) -> u32
-    ensures makes { DriverMakesIn (IsDriverNext todo.old todo.new) at.old result at.new }
-    ensures none { result ≡ BAD_HANDLE → todo.new ≡ failed_in todo.old.size BAD_HANDLE }
-{
-    match at {
-        Object::Driver(driver) => drive::next(driver, todo),
-        _ => todo.fail(status::BAD_HANDLE),
+    match handle.held.as_mut() {
+        Object::Driver(driver) => drive::end_run(driver),
+        _ => status::BAD_HANDLE,
     }
 }
 
@@ -157,16 +141,9 @@ pub extern "C" fn fq_driver_next_sized(handle: &mut FqHandle, todo: &mut FqTodo)
     if !handle.is_set() {
         return todo.fail(status::BAD_HANDLE);
     }
-    next_in(handle.held.as_mut(), todo)
-}
-
-fn done_in(at: &mut Object, todo: &FqTodo) -> u32
-    ensures { DriverMakesIn (IsTodoReport todo.now.number todo.now.packets todo.now.rearm) at.old
-        result at.new }
-{
-    match at {
-        Object::Driver(driver) => drive::done(driver, todo),
-        _ => status::BAD_HANDLE,
+    match handle.held.as_mut() {
+        Object::Driver(driver) => drive::next(driver, todo),
+        _ => todo.fail(status::BAD_HANDLE),
     }
 }
 
@@ -184,7 +161,10 @@ pub extern "C" fn fq_driver_done(handle: &mut FqHandle, todo: &FqTodo) -> u32
     if !handle.is_set() {
         return status::BAD_HANDLE;
     }
-    done_in(handle.held.as_mut(), todo)
+    match handle.held.as_mut() {
+        Object::Driver(driver) => drive::done(driver, todo),
+        _ => status::BAD_HANDLE,
+    }
 }
 
 /// Reports that an action was done, unless its number is 0, and sets `todo` to the next action, like `Driver::step`.

@@ -122,16 +122,6 @@ pub extern "C" fn fq_run_polled(handle: &mut FqHandle, work: u32, next: u32) -> 
     }
 }
 
-fn end_in(at: &mut Object, report: &mut FqRunReport) -> u32
-    ensures makes { ListMakesIn (IsEnd report.old report.new) at.old result at.new }
-    ensures none { result ≢ OK → report.new ≡ report.old }
-{
-    match at {
-        Object::List(list) => list.end(report),
-        _ => status::BAD_HANDLE,
-    }
-}
-
 /// Ends the run, like `PollingRun::end`.
 #[unsafe(no_mangle)]
 pub extern "C" fn fq_run_end_sized(handle: &mut FqHandle, report: &mut FqRunReport) -> u32
@@ -146,5 +136,8 @@ pub extern "C" fn fq_run_end_sized(handle: &mut FqHandle, report: &mut FqRunRepo
     if !handle.is_set() {
         return status::BAD_HANDLE;
     }
-    end_in(handle.held.as_mut(), report)
+    match handle.held.as_mut() {
+        Object::List(list) => list.end(report),
+        _ => status::BAD_HANDLE,
+    }
 }

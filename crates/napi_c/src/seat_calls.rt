@@ -207,22 +207,6 @@ pub extern "C" fn fq_caller_poll(
     }
 }
 
-fn answers_in(at: &Object, answers: &mut FqAnswers) -> u32
-    ensures shown { (s : CallerObject) → at.now ≡ variant.Seat s → (result ≡ OK)
-        × (answers.new ≡ record s.answers { size = 64 }) }
-    ensures other { is_seat at.now ≡ false → result ≡ BAD_HANDLE }
-    ensures kept { result ≢ OK → (answers.new ≡ answers.old) × (result ≡ BAD_HANDLE) }
-{
-    match at {
-        Object::Seat(seat) => {
-            *answers = seat.answers;
-            answers.size = size_of::<FqAnswers>();
-            status::OK
-        }
-        _ => status::BAD_HANDLE,
-    }
-}
-
 /// Sets `answers` to the counts of the results of a caller's calls.
 #[unsafe(no_mangle)]
 pub extern "C" fn fq_caller_count_sized(handle: &mut FqHandle, answers: &mut FqAnswers) -> u32
@@ -242,5 +226,12 @@ pub extern "C" fn fq_caller_count_sized(handle: &mut FqHandle, answers: &mut FqA
     if !handle.is_set() {
         return status::BAD_HANDLE;
     }
-    answers_in(handle.held.as_mut(), answers)
+    match &*handle.held.as_mut() {
+        Object::Seat(seat) => {
+            *answers = seat.answers;
+            answers.size = size_of::<FqAnswers>();
+            status::OK
+        }
+        _ => status::BAD_HANDLE,
+    }
 }

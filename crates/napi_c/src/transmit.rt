@@ -135,16 +135,7 @@ pub extern "C" fn fq_tx_state_sized(handle: &mut FqHandle, state: &mut FqTxShown
     if !handle.is_set() {
         return status::BAD_HANDLE;
     }
-    state_in(handle.held.as_mut(), state)
-}
-
-fn state_in(body: &Object, state: &mut FqTxShown) -> u32
-    ensures shown { (t : TransmitQueue) → IsTxWith (λ r. ShowsQueue r t) body.now → (result ≡ OK)
-        × (state.new ≡ tx_shown_of (tx_state t)) }
-    ensures other { is_tx body.now ≡ false → result ≡ BAD_HANDLE }
-    ensures kept { result ≢ OK → (state.new ≡ state.old) × (result ≡ BAD_HANDLE) }
-{
-    match body {
+    match &*handle.held.as_mut() {
         Object::Tx(ring) => {
             *state = FqTxShown::of(ring.state());
             status::OK
