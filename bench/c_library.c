@@ -154,7 +154,7 @@ static inline void act(struct card *card, struct fq_todo *todo) {
         card->masked = false;
         todo->rearm = card->put != card->taken ? FQ_REARM_MORE : FQ_REARM_EMPTY;
         break;
-    case FQ_TODO_ENDED: case FQ_TODO_SLEEP: case FQ_TODO_FAILED: break;
+    case FQ_TODO_TIMER: case FQ_TODO_ENDED: case FQ_TODO_SLEEP: case FQ_TODO_FAILED: break;
     }
 }
 

@@ -660,6 +660,7 @@ FQ_CHECKED static inline enum fq_status fq_run_end(struct fq_list *FQ_RESTRICT l
  *         case FQ_TODO_UNMASK: unmask(todo.device); break;
  *         case FQ_TODO_LOOK: todo.packets = has_packets(todo.device); break;
  *         case FQ_TODO_FETCH: todo.packets = fetch(todo.device, todo.most); break;
+ *         case FQ_TODO_TIMER: set_timer(todo.device, todo.nanoseconds); break;
  *         case FQ_TODO_ENDED: case FQ_TODO_SLEEP: case FQ_TODO_FAILED: break;
  *         }
  *     }
@@ -673,9 +674,11 @@ FQ_CHECKED static inline enum fq_status fq_run_end(struct fq_list *FQ_RESTRICT l
  * A driver that isn't a loop, for example one of callbacks, asks by fq_driver_next and reports by fq_driver_done.
  *
  * Any order of calls is safe: what isn't due returns FQ_NOT_DUE and changes nothing. It says to sleep only if each device is closed, or
- * its card was unmasked, was looked at after that and had no packets, and nothing is on the poll list. So no packet waits unseen if the
- * card interrupts for each packet that arrives while it is unmasked, even if it forgets those that arrive while it is masked (edges).
- * Packets stay with the program: they are in the card until a fetch takes them.
+ * its card was unmasked, was looked at after that and had no packets, or its interrupt is deferred and its timer was set; and nothing is on
+ * the poll list. So no packet waits unseen if the card interrupts for each packet that arrives while it is unmasked, even if it forgets
+ * those that arrive while it is masked (edges). Packets stay with the program: they are in the card until a fetch takes them.
+ *
+ * More devices need several drivers. A device moves to another driver after fq_driver_stop, once it is closed, by fq_driver_open there.
  *
  * Only one thread uses a driver at a time. If interrupts come on another thread, raise a bit in a struct fq_word there, and report each
  * bit that the driver's thread takes from it. */
@@ -692,7 +695,9 @@ enum fq_what FQ_NUMBER {
                          * no more, you may unmask it and then look at it, and set `rearm`: this saves the steps for UNMASK and LOOK */
     FQ_TODO_ENDED = 5,  /* a run ended, with the report `run` (net_rx_action): it was squeezed, or devices wait for the next run. Do other
                          * work first, if there is some */
-    FQ_TODO_FAILED = 6  /* nothing, because the call failed, with the error `status`: a loop has to end */
+    FQ_TODO_FAILED = 6, /* nothing, because the call failed, with the error `status`: a loop has to end */
+    FQ_TODO_TIMER = 7   /* set the device's timer, so that it expires once, after `nanoseconds`; one that is still set is replaced. The card
+                         * stays masked. When it expires, call fq_driver_timer. Only for a device with deferral (fq_driver_set) */
 };
 
 /* Whether a fetch also unmasked the card and then looked at it, as FQ_TODO_UNMASK and FQ_TODO_LOOK do. A fetch that unmasked the card has
@@ -709,14 +714,15 @@ struct fq_todo {
     uint64_t number;          /* the number under which to report it: each action has another one; 0 if there is nothing to report */
     enum fq_what what;        /* what has to be done */
     uint32_t device;          /* the device; 0 if the action is at none */
-    uint32_t most;            /* the packets that a fetch may take, the driver's weight; 0 for anything else */
+    uint32_t most;            /* the packets that a fetch may take, the device's weight; 0 for anything else */
     uint32_t packets;         /* set by the program after a look and a fetch; before that 1 for a look, so that packets aren't forgotten, else 0 */
     enum fq_status status;    /* the error after FQ_TODO_FAILED, otherwise FQ_OK */
     enum fq_rearm rearm;      /* set by the program after a fetch that also unmasked the card and looked at it; before that FQ_REARM_NO */
+    uint64_t nanoseconds;     /* the time of FQ_TODO_TIMER; 0 for anything else */
     struct fq_run_report run; /* the report of the run that ended, for FQ_TODO_ENDED and FQ_TODO_SLEEP; its numbers are 0 if none did */
 };
 
-#define FQ_TODO_INIT {sizeof(struct fq_todo), 0, FQ_TODO_SLEEP, 0, 0, 0, FQ_OK, FQ_REARM_NO, {sizeof(struct fq_run_report), 0, 0, false}}
+#define FQ_TODO_INIT {sizeof(struct fq_todo), 0, FQ_TODO_SLEEP, 0, 0, 0, FQ_OK, FQ_REARM_NO, 0, {sizeof(struct fq_run_report), 0, 0, false}}
 
 /* Like fq_driver_new, for bindings. Drivers with different salts number their actions differently, so that none takes a report that is
  * another one's. */
@@ -766,6 +772,30 @@ FQ_CHECKED enum fq_status fq_driver_step_sized(struct fq_driver *FQ_RESTRICT dri
 FQ_CHECKED static inline enum fq_status fq_driver_step(struct fq_driver *FQ_RESTRICT driver, struct fq_todo *FQ_RESTRICT todo) {
     todo->size = sizeof *todo;
     return fq_driver_step_sized(driver, todo);
+}
+
+/* Reports that the timer of a device expired (napi_watchdog), at any time, also if it isn't set any more. Returns FQ_GRANTED: a poll was
+ * requested; FQ_NOT_DUE: one is requested already, or the device is closed or being stopped, and nothing has changed; FQ_BAD_DEVICE;
+ * FQ_BAD_HANDLE. The status may be ignored if the device and the handle are right. */
+FQ_NONNULL enum fq_status fq_driver_timer(struct fq_driver *driver, uint32_t device);
+
+/* The settings of a device. */
+struct fq_device_settings {
+    size_t size;                /* the size of this struct */
+    uint32_t weight;            /* the packets that a fetch may take (netif_napi_add_weight), 1 to the driver's weight, which is its default */
+    uint32_t defer_hard_irqs;   /* how many completions in a row defer the interrupt after the last fetch with packets (napi_defer_hard_irqs) */
+    uint64_t gro_flush_timeout; /* for how many nanoseconds each does (gro_flush_timeout); 0, the default, turns deferral off */
+    uint32_t empty_polls;       /* with busy polling, the empty fetches in a row after which the card is unmasked; 0, the default: none */
+};
+
+/* Sets the settings of a closed device. With deferral, a completion leaves the card masked, and FQ_TODO_TIMER follows; with busy polling,
+ * the device is polled again until it was empty so often in a row. A fetch must not unmask the card then, because that ends both. A
+ * timer may still be set after a stop: cancel it, or report it. Returns FQ_OK; FQ_BAD_SIZE; FQ_BAD_HANDLE; FQ_BAD_DEVICE; FQ_BAD_WEIGHT;
+ * FQ_NOT_DUE if the device isn't closed. */
+FQ_CHECKED enum fq_status fq_driver_set_sized(struct fq_driver *FQ_RESTRICT driver, uint32_t device, const struct fq_device_settings *FQ_RESTRICT settings);
+FQ_CHECKED static inline enum fq_status fq_driver_set(struct fq_driver *FQ_RESTRICT driver, uint32_t device, struct fq_device_settings settings) {
+    settings.size = sizeof settings;
+    return fq_driver_set_sized(driver, device, &settings);
 }
 
 /* Ends the run in progress, for a program with a clock of its own (netdev_budget_usecs): a fetch that is due already is still made, and
@@ -917,6 +947,9 @@ struct fq_machine_settings {
     uint32_t rx_gap;            /* least time between two interrupts of a card (ethtool -C rx-usecs of igb, ixgbe, e1000, e1000e, in us there); not with rx-nsecs or rx-frames, 0 to 1000000000 ns (0) */
     uint32_t timer;             /* time of the interrupt of an expired NAPI timer (napi_watchdog), 0 to 1000000000 ns (UINT32_MAX: that of interrupt) */
     uint32_t timer_wake;        /* time to wake an idle processor by an expired NAPI timer, which counts as interrupt time, 0 to 1000000000 ns (UINT32_MAX: that of wake) */
+    uint32_t latched;           /* 1: a packet that comes while the interrupt is raised or masked sets a cause, which raises the interrupt when the driver unmasks it (igb, igc, ixgbe, vmxnet3); 2: the interrupt's handler also clears it (e1000, e1000e without MSI-X), 0 to 2 (0) */
+    uint32_t gro_batch;         /* packets that a poll takes before it hands them over (net.core.gro_normal_batch), for drivers that call napi_gro_receive; 0: each at once, 0 to 64 (0) */
+    uint32_t take;              /* with gro-batch the part of packet that taking one from the ring and GRO take, 0 to 1000000000 ns (0) */
     /* scripts/options.py: end */
 };
 
@@ -926,7 +959,7 @@ struct fq_machine_ran {
     size_t length;    /* the length of the report in bytes, even if there is no room for it; 0 if there is none */
     uint64_t row;     /* the row that the fault of the arrivals names, counted from 1; 0 if it names none */
     uint32_t fault;   /* the number of that fault, 1 to 8; 0 if they have none */
-    uint32_t setting; /* the first setting that is out of its range, or rx_gap if it excludes another: 1 for processors, 2 for queues and so on; 0 if none is rejected */
+    uint32_t setting; /* the first setting that is out of its range, or rx_gap if it excludes another, or take if it is above packet: 1 for processors, 2 for queues and so on; 0 if none is rejected */
     char message[64]; /* the message of the fault of the arrivals, as napi_machine prints it, with a terminating 0; otherwise empty */
 };
 

@@ -727,6 +727,7 @@ struct Todo : fq_todo {
 };
 
 using DeviceShown = fq_device_shown;
+using DeviceSettings = fq_device_settings; // `size` needn't be set
 
 namespace detail {
 // Whether the cards of a driver have rearm(device).
@@ -734,6 +735,11 @@ template <class Cards, class = void>
 struct rearms : std::false_type {};
 template <class Cards>
 struct rearms<Cards, std::void_t<decltype(std::declval<Cards &>().rearm(0u))>> : std::true_type {};
+// Whether they have timer(device, nanoseconds).
+template <class Cards, class = void>
+struct times : std::false_type {};
+template <class Cards>
+struct times<Cards, std::void_t<decltype(std::declval<Cards &>().timer(0u, std::uint64_t(0)))>> : std::true_type {};
 } // namespace detail
 
 // A driver of up to 64 devices on one thread: their instances, the poll list and the runs over it. It returns what has to be
@@ -756,6 +762,12 @@ public:
     // act: a device that always has packets keeps the driver from sleeping.
     Status interrupt(std::uint32_t device) { return Status(fq_driver_interrupt(at_.raw(), device)); }
 
+    // Reports that the timer of a device expired, which FQ_TODO_TIMER has set: FQ_GRANTED, FQ_NOT_DUE or FQ_BAD_DEVICE.
+    Status timer(std::uint32_t device) { return Status(fq_driver_timer(at_.raw(), device)); }
+    // Sets the weight of a closed device, the deferral of its interrupt, and busy polling: FQ_OK, FQ_NOT_DUE, FQ_BAD_DEVICE or
+    // FQ_BAD_WEIGHT.
+    [[nodiscard]] Status set(std::uint32_t device, const DeviceSettings &settings) { return fq_driver_set(at_.raw(), device, settings); }
+
     // Ends the run in progress, by a clock of the caller: a fetch that is due already is still made, and then the run has ended and is
     // squeezed. Returns FQ_OK; FQ_NOT_DUE if no run is in progress.
     Status end_run() { return fq_driver_end_run(at_.raw()); }
@@ -775,8 +787,10 @@ public:
 
     // Does one action at a card: calls mask(device), unmask(device), look(device), which returns whether the card has packets,
     // or fetch(device, most), which takes and delivers packets and returns how many. If the cards have rearm(device), which unmasks a card
-    // and then returns whether it has packets, a fetch of fewer than `most` calls it, which saves two actions. Returns the action, or that there is
-    // nothing to do, or that a run ended; FQ_TODO_FAILED with FQ_BAD_WORK after a fetch of more than `most`. If a call throws, nothing
+    // and then returns whether it has packets, a fetch of fewer than `most` calls it, which saves two actions; leave it
+    // out for devices with deferral or busy polling. With deferral they also have timer(device, nanoseconds), which sets a timer. Returns the action, or that there is
+    // nothing to do, or that a run ended; FQ_TODO_FAILED with FQ_BAD_WORK after a fetch of more than `most`, with FQ_NOT_ALLOWED if timer is
+    // missing. If a call throws, nothing
     // is reported, and the same action is due again.
     template <class Cards>
     Todo act(Cards &cards) {
@@ -790,6 +804,13 @@ public:
             if constexpr (detail::rearms<Cards>::value)
                 if (todo.packets < todo.most) todo.rearm = cards.rearm(todo.device) ? FQ_REARM_MORE : FQ_REARM_EMPTY;
             break;
+        case FQ_TODO_TIMER:
+            if constexpr (detail::times<Cards>::value) {
+                cards.timer(todo.device, todo.nanoseconds);
+                break;
+            }
+            todo.what = FQ_TODO_FAILED, todo.status = FQ_NOT_ALLOWED;
+            return todo;
         case FQ_TODO_SLEEP: case FQ_TODO_ENDED: case FQ_TODO_FAILED: return todo;
         }
         if (const Status said = done(todo); fq_is_error(said)) todo.what = FQ_TODO_FAILED, todo.status = said;

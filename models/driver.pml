@@ -2,7 +2,8 @@
    the driver's thread, and a user who stops the device and opens it again. The card interrupts for each packet that arrives while it
    isn't masked, and forgets those that arrive while it is (edges). An interrupt sets the bit of a word, and wakes the driver's thread if
    the word was 0. That thread takes the bit and reports it, makes a step (fq_driver_step), and does what that says at the card, until
-   there is nothing to do; then it waits. A line names the crate's file and the function that it stands for, unless it only counts or is
+   there is nothing to do; then it waits. A fetch of fewer packets than the weight may also unmask the card and look at it. After a poll with
+   packets DEFER completions defer the interrupt: the driver's thread sets a timer, and another process lets it expire. A line names the crate's file and the function that it stands for, unless it only counts or is
    the program's own.
 
    Only one thread calls the driver, so each call is one step. Left out, so that the states are few: other devices, budget and window;
@@ -19,19 +20,25 @@
 #ifndef WEIGHT
 #define WEIGHT 2
 #endif
+#ifndef DEFER
+#define DEFER 1
+#endif
 #ifndef FAULT
 #define FAULT 0
 #endif
 
-mtype = { closed, masking, closing, listed, unmasking, looking, armed };        /* the stages of a device */
-mtype = { sleep, mask, unmask, look, fetch };                                   /* what is due */
+mtype = { closed, masking, closing, listed, unmasking, looking, armed, deferring, deferred };   /* the stages of a device */
+mtype = { sleep, mask, unmask, look, fetch, set_timer };                        /* what is due */
+mtype = { rearm_no, rearm_empty, rearm_more };                                  /* whether a fetch unmasked the card and looked at it */
 
-mtype stage = closed, due = sleep;
+mtype stage = closed, due = sleep, rearm = rearm_no;
+bool timer_set, timer_ended;
+byte deferrals;
 bool stopping, missed, is_said;         /* is_said: `due` isn't reported yet, and still due */
 byte arrived, taken, found;             /* packets; found: what a look or a fetch reports */
 bool masked = true, bit_set, wakes = true, wanted = true, user_ended;
 
-#define CHORE ((stage == masking || stage == closing) -> mask : (stage == unmasking -> unmask : (stage == looking -> look : (stage == listed -> fetch : sleep))))   /* driver_core/device chore */
+#define CHORE ((stage == masking || stage == closing) -> mask : (stage == unmasking -> unmask : (stage == looking -> look : (stage == listed -> fetch : (stage == deferring -> set_timer : sleep)))))   /* driver_core/device chore */
 
 inline keep_if_due() { is_said = is_said && due == CHORE }                      /* driver_core/said still_due */
 
@@ -40,8 +47,18 @@ inline interrupt() {
     :: stage == closed || (stage == masking || stage == listed) && !stopping -> missed = true   /* driver_core/device interrupted */
     :: stage == closing || (stage == masking || stage == listed) && stopping                    /* driver_core/device interrupted */
     :: stage == unmasking || stage == looking || stage == armed -> stage = masking              /* driver_core/device interrupted */
+    :: stage == deferring || stage == deferred -> stage = masking               /* driver_core/device interrupted */
     fi;
     keep_if_due()                                                               /* driver_core/driver interrupt */
+}
+
+inline timer() {
+    if
+    :: stage == deferring || stage == deferred -> stage = listed                /* driver_core/device timed_out */
+    :: stage == unmasking || stage == looking || stage == armed -> stage = masking              /* driver_core/device timed_out */
+    :: stage == closed || stage == closing || stage == masking || stage == listed               /* driver_core/device timed_out */
+    fi;
+    keep_if_due()                                                               /* driver_core/driver timer */
 }
 
 inline open_or_stop() {
@@ -50,10 +67,16 @@ inline open_or_stop() {
     :: wanted && stage != closed                                                /* driver_core/driver open */
     :: !wanted && (stage == masking || stage == listed) -> stopping = true      /* driver_core/device stopped */
     :: !wanted && (stage == unmasking || stage == looking || stage == armed) -> stage = closing /* driver_core/device stopped */
+    :: !wanted && (stage == deferring || stage == deferred) -> stage = closing  /* driver_core/device stopped */
     :: !wanted && (stage == closed || stage == closing)                         /* driver_core/device stopped */
     fi;
     keep_if_due()                                                               /* driver_core/driver stop */
 }
+
+#define DEFERS (found > 0 -> DEFER > 0 : deferrals > 0)                           /* driver_core/pacing defers */
+
+/* A poll that completes is counted. */
+inline count() { deferrals = (found > 0 -> (DEFER > 0 -> DEFER - 1 : 0) : (deferrals > 0 -> deferrals - 1 : 0)) }     /* driver_core/pacing count */
 
 inline report() {
     if
@@ -61,14 +84,19 @@ inline report() {
     :: is_said && due == mask -> stage = (stage == masking -> listed : closed)  /* driver_core/device masked */
     :: is_said && due == unmask -> stage = (FAULT == 1 -> armed : looking)      /* driver_core/device unmasked */
     :: is_said && due == look -> stage = (found > 0 -> masking : armed)         /* driver_core/device looked */
-    :: is_said && due == fetch && found == WEIGHT && !stopping                  /* driver_core/device polled */
-    :: is_said && due == fetch && !(found == WEIGHT && !stopping) ->            /* driver_core/device polled */
+    :: is_said && due == set_timer -> stage = deferred                          /* driver_core/device timer_set */
+    :: is_said && due == fetch && rearm != rearm_no ->                          /* driver_core/device polled */
+       stage = ((missed || rearm == rearm_more && !stopping) -> masking : (stopping -> closing : armed));      /* driver_core/device rearmed */
+       stopping = stopping && missed; missed = false; count()
+    :: is_said && due == fetch && rearm == rearm_no && found == WEIGHT && !stopping             /* driver_core/device polled */
+    :: is_said && due == fetch && rearm == rearm_no && !(found == WEIGHT && !stopping) ->       /* driver_core/device polled */
        if
        :: missed -> missed = false                                              /* driver_core/device completed */
-       :: !missed -> stage = (stopping -> closed : unmasking); stopping = false /* driver_core/device completed */
-       fi
+       :: !missed -> stage = (stopping -> closed : (DEFERS -> deferring : unmasking)); stopping = false       /* driver_core/device completed */
+       fi;
+       count()
     fi;
-    is_said = false; found = 0
+    is_said = false; found = 0; rearm = rearm_no
 }
 
 inline ask() {
@@ -82,8 +110,8 @@ active proctype Driver() {
     bool has_bit, is_late; byte before;
     do
     :: if
-       :: bit_set
-       :: !bit_set ->
+       :: bit_set || timer_ended
+       :: !bit_set && !timer_ended ->
 end_waits:
           wakes
        fi;
@@ -95,6 +123,7 @@ end_waits:
           :: FAULT == 7 -> has_bit = bit_set; bit_set = false
           fi;
           if :: has_bit && FAULT != 5 -> atomic { interrupt() } :: !has_bit || FAULT == 5 fi;
+          if :: atomic { timer_ended -> timer_ended = false; timer() } :: !timer_ended fi;
           atomic { report(); ask() };                                           /* driver_core/driver step */
           if :: is_late -> masked = true; is_late = false :: is_late && due != sleep :: !is_late fi;
           if
@@ -104,11 +133,24 @@ end_waits:
           :: due == unmask -> before = arrived - taken; masked = false
           :: due == look -> found = (FAULT == 2 -> before : arrived - taken)
           :: due == fetch -> atomic { found = (arrived - taken < WEIGHT -> arrived - taken : WEIGHT); taken = taken + found }
+             if
+             :: true
+             :: found < WEIGHT -> masked = false; rearm = (arrived > taken -> rearm_more : rearm_empty)
+             fi
+          :: due == set_timer -> timer_set = true
           fi
        od;
-       assert(stage == closed || stage == armed);
-       assert(masked == (stage == closed));
+       assert(stage == closed || stage == armed || stage == deferred && (timer_set || timer_ended));
+       assert(masked == (stage == closed || stage == deferred));
        if :: FAULT == 4 -> wakes = false :: FAULT != 4 fi
+    od
+}
+
+/* The timer expires; the driver's thread learns it later. */
+active proctype Timer() {
+end_expires:
+    do
+    :: atomic { timer_set -> timer_set = false; timer_ended = true; wakes = true }
     od
 }
 

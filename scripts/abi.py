@@ -20,8 +20,8 @@ import abi_python
 import abi_rattle
 import abi_rust
 import header
-from abi_names import faults, names_of, statuses
-from parts import NoPart, TOP, marked, put, with_part
+from header import exports, faults, names_of, statuses
+from parts import NoPart, TOP, filled, marked, put, with_part
 
 MAP_HEAD = """\
 # The calls of the shared library, by the version that brought each, as include/fintaqush.h says. A call never leaves its version: a
@@ -48,16 +48,9 @@ def as_json(read: Mapping[str, Any]) -> str:
 # ---- parts of the header, of the shared library's map, and of pages
 
 
-def cases(names: Iterable[tuple[str, str]]) -> Iterator[str]:
-    """Yields the cases of a switch that returns the text of each number, as many in a line as fit."""
-    line = ""
-    for constant, text in names:
-        case = f'case {constant}: return "{text}";'
-        if line and len(f"{line} {case}") > WIDEST:
-            yield line
-            line = ""
-        line = f"{line} {case}" if line else f"    {case}"
-    yield line
+def cases(names: Iterable[tuple[str, str]]) -> list[str]:
+    """Returns the cases of a switch that returns the text of each number."""
+    return filled((f'case {constant}: return "{text}";' for constant, text in names), "    ", WIDEST)
 
 
 def exports_map(read: Mapping[str, Any]) -> str:
@@ -72,10 +65,6 @@ def exports_map(read: Mapping[str, Any]) -> str:
         text += f"{name} {{\n    global:\n{calls}" + ("" if before else "    local: *;\n") + f"}}{before};\n\n"
         before = f" {name}"
     return text.rstrip("\n") + "\n"
-
-
-def exports(read: Mapping[str, Any]) -> list[dict[str, Any]]:
-    return [item for item in header.items_of(read, "function") if not item["inline"]]
 
 
 def table(read: Mapping[str, Any]) -> Iterator[str]:

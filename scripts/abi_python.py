@@ -6,8 +6,8 @@ import textwrap
 from collections.abc import Iterator, Mapping
 from typing import Any
 
-from abi_names import enum_of, faults, prefix_of, type_name
-from header import Item, items_of
+from header import NUMBERS, Item, blocks_of, enum_of, exports, faults, items_of, prefix_of, type_name
+from parts import filled
 
 HEAD = '''\
 """What include/fintaqush.h declares, for ctypes: its numbers, structs and calls. scripts/abi.py writes this file."""
@@ -22,11 +22,7 @@ u8, u16, u32, u64, i64 = ctypes.c_uint8, ctypes.c_uint16, ctypes.c_uint32, ctype
 size, boolean, text, pointer = ctypes.c_size_t, ctypes.c_bool, ctypes.c_char_p, ctypes.POINTER
 '''
 TYPES = {
-    "uint8_t": "u8",
-    "uint16_t": "u16",
-    "uint32_t": "u32",
-    "uint64_t": "u64",
-    "int64_t": "i64",
+    **NUMBERS,
     "size_t": "size",
     "bool": "boolean",
     "void": "None",
@@ -36,7 +32,7 @@ TYPES = {
 }
 NOT_PYTHON = {"fq_card", "fq_word"}  # callbacks and atomics, which only inline functions use
 NO_CLASS = {"fq_struct", "fq_fault"}
-WIDEST = 120
+WIDEST = 140
 
 
 def ctypes_of(c_type: str) -> str:
@@ -63,7 +59,7 @@ def documented(about: str) -> list[str]:
 def numbers(read: Mapping[str, Any]) -> Iterator[str]:
     """Yields a class for each enum, and one for the bits of the state word."""
     bits = macros_of(read, True)
-    for block in (block for group in read["groups"] for block in group["blocks"]):
+    for block in blocks_of(read):
         if bits[0] in block["items"]:
             yield from ("", "", "class Word(enum.IntFlag):", *documented(block["about"]), "")
             yield from (f"    {bit['name'][len('FQ_BIT_'):]} = 1 << {bit['value'].bit_length() - 1}" for bit in bits)
@@ -86,25 +82,21 @@ def structs(read: Mapping[str, Any]) -> Iterator[str]:
 
 
 def within(head: str, parts: list[str], tail: str) -> list[str]:
-    """Returns a list in one line, or with a line for each part."""
+    """Returns a list in one line, or with as many parts in each line as fit."""
     line = head + ", ".join(parts) + tail
     indent = " " * (len(head) - len(head.lstrip()))
-    return [line] if len(line) <= WIDEST else [head, *(f"{indent}    {part}," for part in parts), f"{indent}{tail}"]
+    rows = filled((f"{part}," for part in parts), f"{indent}    ", WIDEST)
+    return [line] if len(line) <= WIDEST else [head, *rows, indent + tail]
 
 
 def calls(read: Mapping[str, Any]) -> Iterator[str]:
     """Yields the table of the calls."""
     yield from ("", "# The calls, by their names without fq_: the type of the result, and those of the arguments.")
     yield "CALLS: dict[str, tuple[Any, dict[str, Any]]] = {"
-    for item in items_of(read, "function"):
-        if not item["inline"]:
-            arguments = [f'"{name}": {ctypes_of(c_type)}' for name, c_type in item["parameters"]]
-            result = ctypes_of(item["returns"])
-            call = item["name"].removeprefix("fq_")
-            head = f'    "{call}": ('
-            line = f"{head}{result}, {{{', '.join(arguments)}}}),"
-            wider = [head, f"        {result},", *within("        {", arguments, "},"), "    ),"]
-            yield from [line] if len(line) <= WIDEST else wider
+    for item in exports(read):
+        arguments = [f'"{name}": {ctypes_of(c_type)}' for name, c_type in item["parameters"]]
+        head = f'    "{item["name"].removeprefix("fq_")}": ({ctypes_of(item["returns"])}, {{'
+        yield from within(head, arguments, "}),")
     yield "}"
 
 

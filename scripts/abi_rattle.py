@@ -6,7 +6,7 @@ from collections.abc import Iterable, Iterator, Mapping
 from pathlib import Path
 from typing import Any
 
-from abi_names import enum_of, faults, sentence, statuses
+from header import enum_of, faults, sentence, statuses
 from parts import TOP, with_part
 
 FILES = {"replay", "raise", "machine"}  # the calls of files_c, which has statuses of its own

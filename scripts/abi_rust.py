@@ -7,8 +7,8 @@ import textwrap
 from collections.abc import Iterator, Mapping
 from typing import Any
 
-from abi_names import enum_of, faults, is_object, names_of, prefix_of, sentence, statuses
-from header import Item, items_of
+from header import NUMBERS, Item, blocks_of, enum_of, exports, faults, is_object, items_of, names_of, prefix_of
+from header import sentence, statuses
 
 HEAD = """\
 //! `include/fintaqush.h` in Rust: its numbers, structs and functions. The head of the header says what it requires of
@@ -34,16 +34,7 @@ use crate::sys::*;
 """
 KEYWORDS = ("move",)  # of Rust, among the names of calls
 LENGTHS = ("len", "room", "count")  # the names of a parameter that is the length of the array before it
-TYPES = {
-    "uint8_t": "u8",
-    "uint16_t": "u16",
-    "uint32_t": "u32",
-    "uint64_t": "u64",
-    "int64_t": "i64",
-    "size_t": "usize",
-    "char": "c_char",
-    "void": "c_void",
-}
+TYPES = {**NUMBERS, "size_t": "usize", "char": "c_char", "void": "c_void"}
 NOT_RUST = {"fq_card", "fq_word"}  # Rust has a trait, and an atomic
 ALL = "Clone, Copy, Debug, Default, PartialEq, Eq"
 DERIVES = {"fq_handle": "Debug", "fq_dql": "Debug, Default", "fq_napi": "Clone, Debug, PartialEq, Eq"}
@@ -99,10 +90,9 @@ def numbers(read: Mapping[str, Any]) -> Iterator[str]:
 
 def items_with_comments(read: Mapping[str, Any], kind: str) -> Iterator[tuple[Item, str]]:
     """Yields the declarations of a kind, each with the comment of its block and its own note."""
-    for block in (block for group in read["groups"] for block in group["blocks"]):
-        for item in block["items"]:
-            if item["kind"] == kind:
-                yield item, f"{block['about']} {item['note'] and sentence(item['note'])}".strip()
+    for block in blocks_of(read):
+        for item in (item for item in block["items"] if item["kind"] == kind):
+            yield item, f"{block['about']} {item['note'] and sentence(item['note'])}".strip()
 
 
 def structs(read: Mapping[str, Any]) -> Iterator[str]:
@@ -152,8 +142,8 @@ def struct(item: Item, about: str) -> Iterator[str]:
 
 def functions_rs(read: Mapping[str, Any]) -> str:
     """Returns the whole module `functions` of `sys`."""
-    exports = [(item, about) for item, about in items_with_comments(read, "function") if not item["inline"]]
-    lines = [line for item, about in exports for line in (*doc(about, "    "), *function(item))]
+    own = [(item, about) for item, about in items_with_comments(read, "function") if not item["inline"]]
+    lines = [line for item, about in own for line in (*doc(about, "    "), *function(item))]
     return FUNCTIONS_HEAD + "\n".join(lines) + "\n}\n"
 
 
@@ -204,8 +194,7 @@ def in_lines(head: str, parts: list[str], tail: str, indent: str) -> list[str]:
 
 def calls_rs(read: Mapping[str, Any]) -> str:
     """Returns the whole module `calls`."""
-    exports = [item for item in items_of(read, "function") if not item["inline"]]
-    return CALLS_HEAD + "\n".join(line for item in exports for line in safe_function(item)) + "\n"
+    return CALLS_HEAD + "\n".join(line for item in exports(read) for line in safe_function(item)) + "\n"
 
 
 def names(enum: str, rows: list[tuple[str, str]], example: str) -> list[str]:

@@ -114,6 +114,7 @@ mistakes() {
     mistake 'a completion told twice' '3000 pings are answered' driver/driver.h 'must("done", ' \
         'must("once", fq_tx_done(&device->limit, count, now_ms()), FQ_OK);
     must("done", '
-    mistake 'an interrupt that is not reported' '3000 pings are answered' driver/driver.h 'device->interrupts++, fq_word_raise' \
+    # on a busy machine each ping may find the driver awake
+    mistake 'an interrupt that is not reported' '\(3000 pings are answered\|both ways under load\)' driver/driver.h 'device->interrupts++, fq_word_raise' \
         '++device->interrupts % 64 && fq_word_raise'
 }

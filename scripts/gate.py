@@ -1,16 +1,19 @@
 """scripts/gate.py proofs ROOM [CRATE ..]: passes these crates with those below them, or all, by `rt ci` on a copy in the folder ROOM,
 which hasn't their must-fail edits; what it built tools/fintaqush_tools/builds.py keeps.
-scripts/gate.py edits [CRATE ..]: tries the edits of these crates, or of all, over the libraries that stand. After `proofs` nothing is
-built again, even where `rt ci` has taken a proof from an earlier run. What a plain `rt ci` leaves in a checkout isn't used: `rt check` writes
-to the same folders, and nothing there says of which sources a library was made.
+scripts/gate.py edits [--again] [CRATE ..]: tries the edits of these crates, or of all, over the libraries that stand. After `proofs`
+nothing is built again, even where `rt ci` has taken a proof from an earlier run. What a plain `rt ci` leaves in a checkout isn't used:
+`rt check` writes to the same folders, and nothing there says of which sources a library was made. An edit that was refused on this
+machine isn't tried again until it, its crate, a crate below, the kit or this script changes: `rt ci` keeps proofs by the same rule.
+--again tries all.
 scripts/gate.py uncompiled: tries what must not compile, the edits of each crate's must-not-compile/, over the same libraries: the check has
 to stop at the error that the edit's line `error: NAME` names, before any proof.
 
 A function is proved from the contracts of others, never from their bodies. So edits of the bodies of several functions are checked at
 once, and each is refused by what the prover says of its own function; `rt must-fail` checks them one by one, which takes a gate half as
-long again. An edit of which nothing is said so, or which changes more than a body, is tried alone. That the same words prove what
-is as it was is seen at other functions, or, where none was checked, at one of these without its edit. The last line is
-`N passed, M failed`, the status 1 if any did.
+long again. An edit of which nothing is said so, or which changes more than a body, is tried alone; an edit of a constant names a function
+that it breaks by a line `function: NAME`, so that not the whole crate is proved for it. That the same words prove what is as it was is seen
+at other functions, or, where none was checked, at one of these without its edit. The last line is `N passed, M failed`, the status 1 if any
+did.
 """
 
 from __future__ import annotations
@@ -18,7 +21,9 @@ from __future__ import annotations
 from collections.abc import Callable, Sequence
 from typing import Any
 import concurrent.futures
+import contextlib
 import functools
+import json
 import operator
 import os
 import re
@@ -29,13 +34,14 @@ import tempfile
 
 TOP = os.path.dirname(os.path.dirname(os.path.realpath(__file__)))
 sys.path.insert(0, f"{TOP}/tools")
-from fintaqush_tools.builds import Crate, all_crates, build, child, read, run, sums  # noqa: E402
+from fintaqush_tools.builds import CACHE, Crate, all_crates, build, child, kit, read, run, sum_of, sums  # noqa: E402
 
 Texts = dict[str, str]  # of files, by path
 Tried = tuple[str, bool, str]  # the name of an edit, whether it passed, and what to print
 
 BOTH: dict[str, Any] = {"stdout": subprocess.PIPE, "stderr": subprocess.STDOUT}
 NOT_ONCE = "its old text doesn't stand once in its file"
+OPEN = "is not proved|found no proof"
 GONE = "has no field|is not in scope|has no `|was not admitted"  # of what an edit takes away, and a proof names
 HEAD = re.compile(r"^( *)(?:pub(?:\([a-z]+\))? )?(?:const |unsafe |extern \"C\" )*fn (\w+)", re.M)
 
@@ -69,7 +75,7 @@ class Function:
         for line, file, number in re.findall(r"^((?:note: )?(?:\./)?((?:src|proofs)/\S+?):(\d+):\d+: .*)", said, re.M):
             is_inside = file == self.path and self.first <= int(number) <= self.last
             is_own = is_inside or file.startswith("proofs/") and own in file
-            if is_own and ("is not proved" in line or ": error: " in line and not re.search(GONE, line)):
+            if is_own and (re.search(OPEN, line) or ": error: " in line and not re.search(GONE, line)):
                 return str(line)
         return None
 
@@ -85,12 +91,15 @@ def function_of(path: str, text: str, part: str) -> Function | None:
 
 class Edit:
     def __init__(self, crate: Crate, file: str) -> None:
-        self.crate, self.name = crate, os.path.basename(file).removesuffix(".edit")
+        self.crate, self.file, self.name = crate, file, os.path.basename(file).removesuffix(".edit")
         self.pairs: list[tuple[str, str, str]] = []
+        self.names: list[str] = []
         for line in read(file).splitlines():
             word, _, text = line.partition(": ")
             if word == "file":
                 path = text.strip()
+            elif word == "function":
+                self.names.append(text.strip())
             elif word == "old":
                 old = text
             elif word in ("new", "new:"):
@@ -113,17 +122,50 @@ class Edit:
             return None
         return min(functions, key=lambda it: it.in_body)
 
-    def alone(self, texts: Texts) -> tuple[bool, str]:
+    def sum(self) -> str:
+        """Returns a checksum of all that decides whether it is refused."""
+        files = [self.file, f"{kit()}/KIT-ID", __file__, f"{TOP}/tools/fintaqush_tools/builds.py"]
+        return sum_of([*map(read, files), *(it.sources for it in self.crate.all)])
+
+    def alone(self, texts: Texts, over: str) -> tuple[bool, str]:
         """Tries the edit alone. Returns whether its function, or the crate if there is none, is rejected, and what to print."""
         changed, function = self.apply(texts), self.function(texts)
-        names = [function.name] if function else []
-        said, proved = check(self.crate, changed, names) if changed else (NOT_ONCE, None)
+        names = self.names or ([function.name] if function else [])
+        said, proved = check(self.crate, changed, names, over) if changed else (NOT_ONCE, None)
         lines = re.findall(r"^(?:note: .*|\S+:\d+:\d+: error.*)", said, re.M) or said.splitlines() or [""]
         if proved is None or any(re.match(r"(\./)?(src|specs)/", it) for it in lines):
             return False, f"BAD EDIT, which no contract was tried by: {lines[0]}"
         if proved:
             return False, f"NOT REFUSED: {'its function' if names else 'the crate'} is still proved"
         return True, f"refused: {lines[0]}"
+
+
+class Kept(dict[str, list[str]]):
+    """The edits that were refused on this machine, by crate and name: each with its checksum, and with what was printed."""
+
+    def __init__(self, is_again: bool) -> None:
+        super().__init__()
+        self.path, self.sums = f"{CACHE}/fintaqush/edits", dict[str, str]()
+        with contextlib.suppress(OSError, ValueError):
+            self.update({} if is_again else json.loads(read(self.path)))
+
+    def text(self, edit: Edit) -> str | None:
+        """Returns what was printed of the edit, if nothing has changed that it was refused by."""
+        name = f"{edit.crate.name}/{edit.name}"
+        self.sums[name] = edit.sum()
+        sum, text = self.get(name, ["", ""])
+        return f"kept, {text}" if sum == self.sums[name] else None
+
+    def keep(self, name: str, text: str) -> None:
+        """Keeps that this edit was refused, if this call may write."""
+        if name not in self.sums or text.startswith("kept, "):
+            return
+        self[name] = [self.sums[name], text]
+        with contextlib.suppress(OSError):
+            os.makedirs(os.path.dirname(self.path), exist_ok=True)
+            with open(f"{self.path}.{os.getpid()}", "w", encoding="utf-8") as file:
+                json.dump(self, file)
+            os.replace(file.name, self.path)
 
 
 class Round:
@@ -155,21 +197,23 @@ def rounds_of(edits: Sequence[Edit], texts: Texts) -> tuple[list[Round], list[Ed
     return rounds, alone
 
 
-def check(crate: Crate, texts: Texts, names: Sequence[str]) -> tuple[str, bool | None]:
-    """Runs the prover on these functions of the crate, or on all, with these texts. Returns what it says, and whether it proves them, if it
-    says so."""
+def check(crate: Crate, texts: Texts, names: Sequence[str], over: str = "") -> tuple[str, bool | None]:
+    """Runs the prover on these functions of the crate, or on all, with these texts. What it proves it keeps in the folder `over`, and
+    what is kept there it doesn't prove again. Returns what it says, and whether it proves them, if it says so."""
     with tempfile.TemporaryDirectory(prefix="must-fail-") as room:
         for path, text in texts.items():
             os.makedirs(os.path.dirname(f"{room}/{path}"), exist_ok=True)
             with open(f"{room}/{path}", "w", encoding="utf-8") as file:
                 file.write(text)
-        words = [*crate.words("check", 1), *(word for name in names for word in ("--only", name))]
+        jobs = 1 + len(names) // 30  # so that others don't wait for a round of so many edits in the end
+        words = [*crate.words("check", jobs), *(word for name in names for word in ("--only", name))]
+        words += ["--incremental", over] if over else []
         how: dict[str, Any] = {"stdin": subprocess.DEVNULL, "text": True, "errors": "replace", **BOTH}
         ran = subprocess.run(words, cwd=room, preexec_fn=child, check=False, **how)
     if ran.returncode == 2 and names:
         # the prover has some by other names: the edits of these are tried alone, then with all functions
         unknown = re.findall(r"has no function `([^`]+)`", ran.stdout)
-        return check(crate, texts, [it for it in names if it not in unknown] if {*unknown} & {*names} else [])
+        return check(crate, texts, [it for it in names if it not in unknown] if {*unknown} & {*names} else [], over)
     judged = re.match(r"logic=(not-)?proved|only=\d+ proved=\d+", ran.stdout.rstrip("\n").rpartition("\n")[2])
     return ran.stdout, None if not judged or ran.returncode > 1 else ran.returncode == 0
 
@@ -179,52 +223,62 @@ def texts_of(crate: Crate) -> Texts:
     return {it: read(f"{crate.folder}/{it}") for it in crate.texts()}
 
 
-def told_of(crate: Crate, tried: Sequence[Tried]) -> list[Tried]:
-    """Returns these results with the crate in front of each name."""
-    return [(f"{crate.name}/{name}", well, text) for name, well, text in tried]
-
-
-def try_alone(edit: Edit, texts: Texts) -> list[Tried]:
-    return told_of(edit.crate, [(edit.name, *edit.alone(texts))])
-
-
-def try_round(crate: Crate, it: Round, texts: Texts, is_first: bool) -> list[Tried]:
+def try_round(it: Round, crate: Crate, texts: Texts, over: str, is_first: bool) -> list[Tried]:
     """Tries the edits of a round at once, and then alone those of which nothing is said. In the first round of a crate, a function without
     an edit has to be proved by the same words."""
-    said, proved = check(crate, it.texts, [function.name for _, function in it.edits])
+    said, proved = check(crate, it.texts, [function.name for _, function in it.edits], over)
     lines = [(edit, function.refusal(said) if proved is False else None) for edit, function in it.edits]
     told = [(edit.name, True, f"refused: {line}") for edit, line in lines if line]
     if is_first and not re.search(r"^fn \S+: proved$", said, re.M):
-        said, proved = check(crate, texts, [it.edits[0][1].name])
+        said, proved = check(crate, texts, [it.edits[0][1].name], over)
         text = "proved" if proved else f"NOT PROVED by the same words: {said}"
         told.append(("a function as it is", proved is True, text))
-    return told_of(crate, told) + [tried for edit, line in lines if not line for tried in try_alone(edit, texts)]
+    return told + [(edit.name, *edit.alone(texts, over)) for edit, line in lines if not line]
 
 
-def tries_of(crate: Crate) -> list[Callable[[], list[Tried]]]:
-    """Returns the calls that try the edits of the crate. Each returns for each of its edits a name, whether it passed, and what to print."""
+def try_crate(crate: Crate, kept: Kept) -> list[Tried]:
+    """Tries the edits of the crate, one round after the other: a function is checked with those that it calls, and what a round proved
+    of these, the next ones take. Returns for each edit a name, whether it passed, and what to print."""
     texts, folder = texts_of(crate), f"{crate.folder}/must-fail"
     names, why = sorted(os.listdir(folder)), "BAD EDIT: its name doesn't end in .edit"
-    others = [(it, False, why) for it in names if not it.endswith((".edit", ".md"))]
-    rounds, alone = rounds_of([Edit(crate, f"{folder}/{it}") for it in names if it.endswith(".edit")], texts)
-    return [
-        *(functools.partial(try_round, crate, it, texts, it is rounds[0]) for it in rounds),
-        *(functools.partial(try_alone, it, texts) for it in alone),
-        *([functools.partial(told_of, crate, others)] if others else []),
-    ]
+    tried = [(it, False, why) for it in names if not it.endswith((".edit", ".md"))]
+    told = {it: kept.text(it) for it in (Edit(crate, f"{folder}/{name}") for name in names if name.endswith(".edit"))}
+    tried += [(it.name, True, text) for it, text in told.items() if text]
+    rounds, alone = rounds_of([it for it, text in told.items() if not text], texts)
+    with tempfile.TemporaryDirectory(prefix="must-fail-") as room:
+        over = room if len(rounds) > 1 else ""
+        tried += [line for it in rounds for line in try_round(it, crate, texts, over, it is rounds[0])]
+        tried += [(it.name, *it.alone(texts, over)) for it in alone]
+    return [(f"{crate.name}/{name}", well, text) for name, well, text in tried]
 
 
-def try_text(crate: Crate, file: str) -> list[Tried]:
-    """Returns whether the crate with this edit is rejected with the error that the edit names, before any proof, and what to print."""
-    error, changed = re.findall("^error: (.*)$", read(file), re.M)[0], Edit(crate, file).apply(texts_of(crate))
-    said, proved = check(crate, changed, []) if changed else (NOT_ONCE, None)
-    well = f"error[{error}]" in said and proved is None
-    lines = re.findall("^.*error.*", said, re.M) or said.splitlines() or [""]
-    text = f"{'rejected' if well else f'NOT REJECTED by error[{error}]'}: {lines[0]}"
-    return [(os.path.relpath(file, f"{TOP}/crates"), well, text)]
+def error_of(file: str) -> str:
+    return str(re.findall("^error: (.*)$", read(file), re.M)[0])
 
 
-def try_all(tries: Sequence[Callable[[], list[Tried]]], below: Sequence[Crate], what: str) -> tuple[int, int]:
+def try_texts(crate: Crate, files: Sequence[str]) -> list[Tried]:
+    """Tries these edits at once: each has to be rejected at its own line with the error that it names, before any proof. What isn't
+    is tried alone."""
+    changed, error, told = texts_of(crate), error_of(files[0]), list[Tried]()
+    for file in files:
+        changed = Edit(crate, file).apply(changed) or changed
+    said, proved = check(crate, changed, [])
+    for file in files:
+        [(path, _, new)] = Edit(crate, file).pairs
+        number = changed[path].partition(new)[0].count("\n") + 1
+        line = re.search(rf"^\S*{path}:{number}:\d+: error\[{error}\].*", said, re.M) if new in changed[path] else None
+        well = line is not None and proved is None
+        if not well and len(files) > 1:
+            told += try_texts(crate, [file])
+        else:
+            text = f"rejected: {line[0]}" if line else f"NOT REJECTED by error[{error}]: {said[:200]}"
+            told.append((os.path.relpath(file, f"{TOP}/crates"), well, text))
+    return told
+
+
+def try_all(
+    tries: Sequence[Callable[[], list[Tried]]], below: Sequence[Crate], what: str, kept: Kept
+) -> tuple[int, int]:
     """Makes these calls, up to four at a time, over the libraries of these crates, and prints a line for each result. Returns how many
     passed, and how many failed."""
     build(list(dict.fromkeys(it.name for crate in below for it in crate.all[:-1])))
@@ -234,6 +288,8 @@ def try_all(tries: Sequence[Callable[[], list[Tried]]], below: Sequence[Crate], 
             for name, well, text in begun.result():
                 print(f"{what} {name}: {text[:200]}", flush=True)
                 tried.append(well)
+                if well:
+                    kept.keep(name, text)
     return sum(tried), len(tried) - sum(tried)
 
 
@@ -243,18 +299,23 @@ def named(names: Sequence[str]) -> list[Crate]:
     return [known[name] for name in names or known]
 
 
-def all_edits(names: Sequence[str]) -> tuple[int, int]:
-    """Tries the edits of these crates, or of all; those of the largest crate come first."""
-    asked = [it for it in named(names) if os.path.isdir(f"{it.folder}/must-fail")]
-    asked.sort(key=lambda it: -it.size)
-    return try_all([call for it in asked for call in tries_of(it)], asked, "must-fail")
+def all_edits(words: Sequence[str]) -> tuple[int, int]:
+    """Tries the edits of these crates, or of all; the crate that takes longest comes first."""
+    kept = Kept("--again" in words)
+    asked = [it for it in named([it for it in words if it != "--again"]) if os.path.isdir(f"{it.folder}/must-fail")]
+    asked.sort(key=lambda it: -it.size * len(os.listdir(f"{it.folder}/must-fail")))
+    return try_all([functools.partial(try_crate, it, kept) for it in asked], asked, "must-fail", kept)
 
 
 def all_texts() -> tuple[int, int]:
-    """Tries the edits that must not compile."""
+    """Tries the edits that must not compile: those of a crate with the same error at once."""
     folders = [(it, f"{it.folder}/must-not-compile") for it in all_crates()]
-    files = [(it, f"{at}/{name}") for it, at in folders if os.path.isdir(at) for name in sorted(os.listdir(at))]
-    return try_all([functools.partial(try_text, *it) for it in files], [it for it, _ in files], "must-not-compile")
+    kinds: dict[tuple[Crate, str], list[str]] = {}
+    for crate, at in folders:
+        for name in sorted(os.listdir(at)) if os.path.isdir(at) else []:
+            kinds.setdefault((crate, error_of(f"{at}/{name}")), []).append(f"{at}/{name}")
+    calls = [functools.partial(try_texts, crate, files) for (crate, _), files in kinds.items()]
+    return try_all(calls, [crate for crate, _ in kinds], "must-not-compile", Kept(True))
 
 
 def keep(crate: Crate, out: str, times: dict[str, int]) -> None:

@@ -10,6 +10,7 @@ from __future__ import annotations
 
 import hashlib
 import json
+import os
 import re
 import subprocess
 from collections.abc import Iterator, Mapping, Sequence
@@ -24,6 +25,8 @@ HEADER = TOP / "include/fintaqush.h"
 ABI = TOP / "scripts/abi.json"
 FIRST = "2.0"  # the version of calls that don't say one
 BANNER = "---- "
+# The names of C's whole numbers in the bindings.
+NUMBERS = {"uint8_t": "u8", "uint16_t": "u16", "uint32_t": "u32", "uint64_t": "u64", "int64_t": "i64"}
 # What isn't part of a declaration's text: macros that say no more than its comment, or that differ by compiler, and a script's marks.
 OMITTED = re.compile(
     r"\b(?:FQ_CHECKED(?:_AT\([^)]*\))?|FQ_NONNULL|FQ_RESTRICT|FQ_NUMBER|static inline) |^ */\* scripts/[^\n]*\n", re.M
@@ -45,8 +48,16 @@ def abi() -> dict[str, Any]:
 
 def items_of(read: Mapping[str, Any], kind: str) -> list[Item]:
     """Returns all declarations of a kind: `function`, `struct`, `enum` or `macro`."""
-    items = [item for group in read["groups"] for block in group["blocks"] for item in block["items"]]
-    return [item for item in items if item["kind"] == kind]
+    return [item for block in blocks_of(read) for item in block["items"] if item["kind"] == kind]
+
+
+def blocks_of(read: Mapping[str, Any]) -> list[dict[str, Any]]:
+    """Returns all blocks: a comment, with the declarations that it is about."""
+    return [block for group in read["groups"] for block in group["blocks"]]
+
+
+def exports(read: Mapping[str, Any]) -> list[Item]:
+    return [item for item in items_of(read, "function") if not item["inline"]]
 
 
 def digest(header: Path = HEADER) -> str:
@@ -244,3 +255,57 @@ def note(text: str) -> str:
     """Returns the comment that begins in the first line."""
     found = re.match(r"[;,]? */\*(.*?)\*/", text, re.S)
     return prose(found[1]) if found else ""
+
+
+# ---- names that scripts/abi.py makes of those of the header
+
+
+def enum_of(read: Mapping[str, Any], name: str) -> Item:
+    return next(item for item in items_of(read, "enum") if item["name"] == name)
+
+
+def is_object(struct: Item) -> bool:
+    """Returns whether a struct is the handle of one kind of object: its only member is what handles of all kinds have."""
+    return [member[:2] for member in struct["members"]] == [["handle", "struct fq_handle"]]
+
+
+def handle_of(c_type: str) -> tuple[str, bool]:
+    """Returns the struct to which a pointer leads, or "", and whether it is const."""
+    found = re.fullmatch(r"(const )?struct (\w+) \*", c_type)
+    return (found[2], bool(found[1])) if found else ("", False)
+
+
+def names_of(read: Mapping[str, Any], enum: str) -> list[str]:
+    return [name for name, _, _ in enum_of(read, enum)["values"]]
+
+
+def statuses(read: Mapping[str, Any]) -> list[tuple[int, str, str]]:
+    """Returns the number, the name and the message of each status. Its note is the calls that it is of, a colon, and the message."""
+    values = enum_of(read, "fq_status")["values"]
+    return [(number, name, note.partition(": ")[2] or note) for name, number, note in values]
+
+
+def faults(read: Mapping[str, Any]) -> list[tuple[int, str]]:
+    """Returns the number and the name of each fault of a trace, for example BadHeader."""
+    item = enum_of(read, "fq_fault")
+    return [(number, camel(name[len(prefix_of(item)) :])) for name, number, _ in item["values"]]
+
+
+def camel(name: str) -> str:
+    return "".join(word.capitalize() for word in name.split("_"))
+
+
+def type_name(name: str) -> str:
+    """Returns the name of a struct or an enum in Python, for example RingShown for fq_ring_shown."""
+    return camel(name[len("fq_") :])
+
+
+def prefix_of(enum: Item) -> str:
+    """Returns what the names of an enum's constants begin with."""
+    common: str = os.path.commonprefix([name for name, _, _ in enum["values"]])
+    return common[: common.rindex("_") + 1]
+
+
+def sentence(text: str) -> str:
+    """Returns a note as a sentence."""
+    return text[:1].upper() + text[1:] + ("" if text.endswith(".") else ".")

@@ -200,23 +200,19 @@ def find_shared(all_crates: Sequence[Crate]) -> None:
 def show(all_crates: Sequence[Crate]) -> None:
     """Prints the table, and the ratio of the proofs to what they prove."""
     whole = Crate("all")
-    for crate in all_crates:
-        for column in COLUMNS[:-2]:
-            whole.count(column, crate.numbers[column])
-        for column in COLUMNS[-2:]:
-            whole.reach(column, crate.numbers[column])
+    for column in COLUMNS:
+        numbers = [crate.numbers[column] for crate in all_crates]
+        whole.numbers[column] = max(numbers) if column in ("clause", "function") else sum(numbers)
     print(f"{'':<18}" + "".join(f"{column:>10}" for column in COLUMNS) + "    proofs to the rest")
     for crate in [*all_crates, whole]:
-        numbers = "".join(f"{crate.numbers[column]:>10}" for column in COLUMNS)
-        print(f"{crate.name:<18}{numbers}    {crate.proofs_to_the_rest():.2f}")
+        text = "".join(f"{crate.numbers[column]:>10}" for column in COLUMNS)
+        print(f"{crate.name:<18}{text}    {crate.proofs_to_the_rest():.2f}")
 
 
 def check(all_crates: Sequence[Crate]) -> int:
     """Checks the limits; each crate counts as a test."""
     find_shared(all_crates)
-    for crate in all_crates:
-        for line in crate.over:
-            print(line)
+    print("".join(f"{line}\n" for crate in all_crates for line in crate.over), end="")
     failed = sum(1 for crate in all_crates if crate.over)
     print(f"{len(all_crates) - failed} passed, {failed} failed")
     return 1 if failed else 0

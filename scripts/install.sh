@@ -4,12 +4,13 @@
 # the proved programs with theirs, and completions for bash, zsh and fish. What only `fintaqush` runs goes to
 # PREFIX/lib/fintaqush. What isn't built yet is proved and built first. --library leaves the command and the programs out, which
 # take most of the time. --python puts bindings/python where python3 looks below PREFIX, else into lib/python3/dist-packages.
-# With DESTDIR set, all goes below that folder, for PREFIX. --libdir is where libraries go below PREFIX, such as
-# lib/x86_64-linux-gnu; without it, lib. --uninstall removes what an install put there, and nothing else. --programs only prints
-# the programs' names. Exit status: 0 done; 64 the arguments are wrong; 69 a program is missing; 70 something couldn't be built;
-# 73 it can't be written there.
+# With DESTDIR set, all goes below that folder, for PREFIX on any machine, so that --python always takes lib/python3/dist-packages.
+# --libdir is where libraries go below PREFIX, such as lib/x86_64-linux-gnu; without it, lib. --uninstall removes what an install
+# put there, and nothing else. --programs only prints the programs' names. Exit status: 0 done; 64 the arguments are wrong; 69 a
+# program is missing; 70 something couldn't be built; 73 it can't be written there.
 set -euo pipefail
 unset CDPATH
+umask 022 # what is made is for all users
 top=$(dirname "$(dirname "$(readlink -f "${BASH_SOURCE[0]}")")")
 . "$top/scripts/arguments.sh"
 # each is a crate of that name; one without a manual page of its own has that of napi_replay
@@ -49,7 +50,8 @@ mapfile -t call_pages < <(python3 -EsSB "$top/scripts/manual.py" --names) # a pa
 library_files+=("${call_pages[@]/#/share/man/man3/}")
 home=lib/fintaqush # where what `fintaqush` runs lies, as in a checkout
 tool_pages=(FORMATS.md OPERATORS.md TOOLS.md) # which --help names
-parts=(fintaqush scripts/start.py docs/usage.txt examples/{linux-veth-bursts,busy-poll}.csv examples/veth-backlog.rec)
+parts=(fintaqush scripts/start.py docs/usage.txt examples/{bursts,busy-poll,two-packets,two-queues,linux-virtio-limits}.csv
+    examples/linux-veth-{bursts,small-budget,tcp}.csv examples/{veth-backlog.rec,veth.sh}) # what pages and `fintaqush try` show
 package=tools/fintaqush_tools
 for file in "$top/$package"/{,commands/}*.{py,html,json,txt,bash,zsh}; do
     [ ! -f "$file" ] || parts+=("${file#"$top/"}")
@@ -58,6 +60,7 @@ mapfile -t subcommands < <("$top/fintaqush" --names)
 [ "$prefix" = /usr ] && zsh=vendor-completions || zsh=site-functions # where Debian's zsh looks
 completions=(share/bash-completion/completions/fintaqush "share/zsh/$zsh/_fintaqush" share/fish/vendor_completions.d/fintaqush.fish)
 python=("$top"/bindings/python/fintaqush/{*.py,py.typed})
+python_guide=(README.md examples/{limit,simulation}.py)
 command_files=("${programs[@]/#/bin/}" "${programs[@]/#/$home/programs/}" bin/fintaqush "${parts[@]/#/$home/}" "$home/version" "${tool_pages[@]/#/$home/docs/}" "${completions[@]}" \
     share/man/man1/fintaqush.1)
 for name in "${programs[@]}" "${subcommands[@]/#/fintaqush-}"; do
@@ -65,7 +68,7 @@ for name in "${programs[@]}" "${subcommands[@]/#/fintaqush-}"; do
 done
 
 if [ -n "$is_uninstall" ]; then
-    for file in "${library_files[@]}" "${command_files[@]}"; do
+    for file in "${library_files[@]}" "${command_files[@]}" "${python_guide[@]/#/$guide/python/}"; do
         rm -f "$to/$file"
     done
     for package in "$to"/lib/python3*/*-packages/fintaqush; do
@@ -76,7 +79,7 @@ if [ -n "$is_uninstall" ]; then
         rmdir "$package" 2> /dev/null || true
     done
     rm -rf "$to/$home/$package"/{commands/,}__pycache__ # Python's, of these files
-    rmdir "$to/$libdir/cmake/Fintaqush" "$to/$guide"/{examples/c,examples/driver,examples,} "$to/$home/$package"/{commands,} \
+    rmdir "$to/$libdir/cmake/Fintaqush" "$to/$guide"/{python/examples,python,examples/c,examples/driver,examples,} "$to/$home/$package"/{commands,} \
         "$to/$home"/{tools,scripts,programs,docs,examples} "$to/$home" 2> /dev/null || true
     exit 0
 fi
@@ -95,7 +98,7 @@ command -v "$cc" > /dev/null || stop 69 "there is no $cc, which makes the shared
 [ -n "$is_library" ] || "$top/scripts/build.sh" "${programs[@]}" || stop 70 "the programs couldn't be built"
 
 # for_sed TEXT: prints the text as the replacement of a sed command
-for_sed() { printf '%s' "$1" | sed 's/[&|\\]/\\&/g'; }
+for_sed() { printf '%s' "$1" | sed 's/[&|#\\]/\\&/g'; }
 
 # in quotes, because a prefix may have spaces
 sed -e "s|@PREFIX@|$(for_sed "$prefix")|" -e "s|@LIBDIR@|$(for_sed "$libdir")|" -e "s|@VERSION@|$version|" > "$scratch/fintaqush.pc" << 'END'
@@ -153,6 +156,15 @@ put() {
     install -D -m "$1" "$2" "$to/$3" || stop 73 "$to/$3 can't be written"
 }
 
+# as_installed FILE EXAMPLES: prints a text with the paths and the commands of an installation, whose examples are in that folder
+as_installed() {
+    sed -E -e "s#docs/([A-Z]+\\.md)#$(for_sed "$prefix/$home")/docs/\\1#g" -e "s#(^|[ \`])examples(/| --)#\\1$(for_sed "$2")\\2#g" \
+        -e '/[Ii]n a checkout|Without an installation/!{
+            s#\./fintaqush#fintaqush#g; s#\./replay#fintaqush replay#g; /^ *scripts\/c_library.sh FOLDER$/d
+            s#-I include ([^ ]+) FOLDER/libfintaqush.a#\1 $(pkg-config --cflags --libs fintaqush)#
+        }' "$1"
+}
+
 # page_of FILE PAGE ..: prints a page that is installed with these pages: a link to anything else becomes plain text
 page_of() {
     awk -v pages=" ${*:2} " '{
@@ -183,7 +195,8 @@ for name in "${call_pages[@]}"; do
     put 644 "$scratch/calls/$name" "share/man/man3/$name"
 done
 for name in "${pages[@]}"; do
-    page_of "$top/docs/$name" "${pages[@]}" > "$scratch/page"
+    as_installed "$top/docs/$name" examples > "$scratch/$name"
+    page_of "$scratch/$name" "${pages[@]}" > "$scratch/page"
     put 644 "$scratch/page" "$guide/$name"
 done
 for file in "${examples[@]}"; do
@@ -191,8 +204,8 @@ for file in "${examples[@]}"; do
 done
 if [ -z "$is_library" ]; then
     for name in "${programs[@]}"; do
-        page=$top/docs/man/$name.1
-        [ -e "$page" ] || { page=$scratch/page && echo '.so man1/napi_replay.1' > "$page"; }
+        page=$scratch/page
+        as_installed "$top/docs/man/$name.1" "$prefix/$home/examples" > "$page" 2> /dev/null || echo '.so man1/napi_replay.1' > "$page"
         put 755 "$top/crates/$name/out/$name" "$home/programs/$name"
         [ "$name" = napi_machine ] && input=ARRIVALS.csv || input=TRACE.csv
         sed -e "s|@NAME@|$name|g" -e "s|@INPUT@|$input|g" -e "s|@VERSION@|$version|" "$scratch/program" > "$scratch/named"
@@ -203,17 +216,18 @@ if [ -z "$is_library" ]; then
         put "$(stat -c %a "$top/$file")" "$top/$file" "$home/$file"
     done
     for name in "${tool_pages[@]}"; do
-        page_of "$top/docs/$name" "${tool_pages[@]}" > "$scratch/page"
+        as_installed "$top/docs/$name" "$prefix/$home/examples" > "$scratch/$name"
+        page_of "$scratch/$name" "${tool_pages[@]}" > "$scratch/page"
         put 644 "$scratch/page" "$home/docs/$name"
     done
     echo "$version" > "$scratch/version"
     put 644 "$scratch/version" "$home/version"
     ln -sf "../$home/fintaqush" "$to/bin/fintaqush"
-    for name in '' "${subcommands[@]}"; do
-        # shellcheck disable=SC2086 # none, or a subcommand
-        "$top/fintaqush" $name --manual > "$scratch/page" || stop 70 "the manual page of $name couldn't be made, by python3"
-        sed -i "s|docs/\([A-Z]*\.md\)|$(for_sed "$prefix/$home")/docs/\1|g" "$scratch/page"
-        put 644 "$scratch/page" "share/man/man1/fintaqush${name:+-$name}.1"
+    mkdir "$scratch/manual"
+    "$top/fintaqush" --manual "$scratch/manual" || stop 70 "the manual pages of the command couldn't be made, by python3"
+    for file in "$scratch"/manual/*; do
+        as_installed "$file" "$prefix/$home/examples" > "$scratch/page"
+        put 644 "$scratch/page" "share/man/man1/${file##*/}"
     done
     for file in "${completions[@]}"; do
         shell=${file#share/}
@@ -222,11 +236,17 @@ if [ -z "$is_library" ]; then
     done
 fi
 if [ -n "$is_python" ]; then
-    packages=$(python3 -c 'import site, sys
-print(next((home for home in site.getsitepackages() if home.startswith(sys.argv[1] + "/lib/")), sys.argv[1] + "/lib/python3/dist-packages"))' "$prefix")
+    packages=$prefix/lib/python3/dist-packages
+    [ -n "${DESTDIR:-}" ] || packages=$(python3 -c 'import site, sys
+print(next((home for home in site.getsitepackages() if home.startswith(sys.argv[1] + "/lib/")), sys.argv[2]))' "$prefix" "$packages")
     for file in "${python[@]}"; do
         put 644 "$file" "${packages#"$prefix/"}/fintaqush/${file##*/}"
     done
+    for file in "${python_guide[@]}"; do
+        put 644 "$top/bindings/python/$file" "$guide/python/$file"
+    done
+    page_of "$top/bindings/python/README.md" "${python_guide[@]}" > "$scratch/page"
+    put 644 "$scratch/page" "$guide/python/README.md"
     [ -n "${DESTDIR:-}" ] || python3 -c 'import sys; sys.exit(sys.argv[1] not in sys.path)' "$packages" ||
         echo "install: python3 finds the package by PYTHONPATH=$packages"
 fi

@@ -14,7 +14,7 @@ from pathlib import Path
 from typing import Any
 
 import header
-from abi_names import sentence, statuses
+from header import sentence, statuses
 
 Status = tuple[int, str, str]  # its number, its name and its message
 

@@ -14,7 +14,7 @@ import sys
 from collections.abc import Callable, Iterable, Sequence
 from typing import Any
 
-from parts import NoPart, TOP, marked, put, with_part
+from parts import NoPart, TOP, filled, marked, put, with_part
 
 Option = dict[str, Any]  # a row of the table
 
@@ -69,12 +69,8 @@ def header(options: Sequence[Option]) -> Iterable[str]:
 
 
 def names(options: Sequence[Option]) -> list[str]:
-    """Returns the names, quoted, with commas, in lines of at most 120 columns."""
-    lines = [""]
-    for option in options:
-        word = f'"{option["name"]}", '
-        lines[-1:] = [lines[-1] + word] if len(lines[-1] + word) <= 112 else [lines[-1], word]
-    return [f"        {line.rstrip()}" for line in lines]
+    """Returns the names, quoted, with commas."""
+    return filled((f'"{option["name"]}",' for option in options), "        ", 119)
 
 
 def manual(options: Sequence[Option]) -> Iterable[str]:

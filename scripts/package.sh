@@ -11,6 +11,7 @@
 # built; 73 it can't be written there.
 set -euo pipefail
 unset CDPATH
+umask 022 # what is made is for all users
 top=$(dirname "$(dirname "$(readlink -f "${BASH_SOURCE[0]}")")")
 . "$top/scripts/arguments.sh"
 
@@ -30,11 +31,12 @@ version=$(sed -n 's/^#define FQ_VERSION "\([0-9.]*\)"$/\1/p' "$top/include/finta
 major=${version%%.*}
 maintainer="${DEBFULLNAME:-Fintaqush} <${DEBEMAIL:-fintaqush@fintaqush.invalid}>"
 date=$(date -R -u -d "@${SOURCE_DATE_EPOCH:-$(git -C "$top" log -1 --format=%ct 2> /dev/null || date +%s)}")
+year=$(date -u -d "$date" +%Y)
 stage=$scratch/stage
 DESTDIR=$stage "$top/scripts/install.sh" --python --libdir="$libdir" /usr
 chmod -R u=rwX,go=rX "$stage"
 find "$stage/usr/share/man" -type f -exec gzip -9n {} +
-strip --strip-unneeded "$stage"/usr/lib/fintaqush/programs/*
+strip --strip-unneeded --remove-section=.comment "$stage"/usr/lib/fintaqush/programs/* "$stage/usr/$libdir/libfintaqush.so.$version"
 
 # move PACKAGE PATH ..: moves these files to a package, to the same paths.
 move() {
@@ -48,12 +50,16 @@ move() {
 
 move "libfintaqush$major" "$libdir/libfintaqush.so.$version" "$libdir/libfintaqush.so.$major"
 move libfintaqush-dev include "$libdir"/libfintaqush.{a,so} "$libdir"/{pkgconfig,cmake} share/man/man3
-mkdir -p "$scratch/libfintaqush-dev/usr/share/doc"
+mkdir -p "$scratch"/{libfintaqush-dev,python3-fintaqush}/usr/share/doc
+mv "$stage/usr/share/doc/fintaqush/python" "$scratch/python3-fintaqush/usr/share/doc/python3-fintaqush"
 mv "$stage/usr/share/doc/fintaqush" "$scratch/libfintaqush-dev/usr/share/doc/libfintaqush-dev"
 move python3-fintaqush lib/python3
 mkdir "$scratch/fintaqush"
 mv "$stage/usr" "$scratch/fintaqush/usr"
-rmdir "$scratch/fintaqush/usr/$libdir" "$scratch/fintaqush/usr/share/doc" 2> /dev/null || true
+rmdir "$scratch/fintaqush/usr/$libdir" 2> /dev/null || true
+# a machine that unpacks no /usr/share/doc keeps what --help names
+mkdir "$scratch/fintaqush/usr/share/doc/fintaqush"
+ln -s ../../../lib/fintaqush/{docs/{FORMATS,OPERATORS,TOOLS}.md,examples} "$scratch/fintaqush/usr/share/doc/fintaqush"
 
 # glibc_of FOLDER: prints the newest version of the C library that one of its programs and libraries needs.
 glibc_of() {
@@ -61,12 +67,15 @@ glibc_of() {
         grep -o 'GLIBC_[0-9.]*[0-9]' | sort -uV | tail -n 1 | sed 's/GLIBC_//'
 }
 
-# about PACKAGE: writes the changelog, which Debian requires in each package, and the checksums.
+# about PACKAGE: writes the changelog and the copyright, which Debian requires in each package, and the checksums.
 about() {
-    local root=$scratch/$1
-    mkdir -p "$root/usr/share/doc/$1"
+    local root=$scratch/$1 doc=$scratch/$1/usr/share/doc/$1
+    mkdir -p "$doc"
     printf '%s (%s) unstable; urgency=medium\n\n  * %s\n\n -- %s  %s\n' "$1" "$version" \
-        "Version $version; CHANGELOG.md of the sources has its changes." "$maintainer" "$date" | gzip -9n > "$root/usr/share/doc/$1/changelog.gz"
+        "Version $version; NEWS.gz has its changes." "$maintainer" "$date" | gzip -9n > "$doc/changelog.gz"
+    gzip -9n < "$top/CHANGELOG.md" > "$doc/NEWS.gz"
+    printf '%s\n\n' 'Fintaqush: packet polling (NAPI) and byte queue limits of Linux in user space' "Copyright $year The authors of Fintaqush" \
+        'No licence is chosen yet, so there is no permission to reuse the code.' > "$doc/copyright"
     find "$root" -exec touch -h -d "$date" {} +
     (cd "$root" && find usr -type f -exec md5sum {} + | LC_ALL=C sort -k 2 > DEBIAN/md5sums)
 }
@@ -93,8 +102,19 @@ END
     mv -- "$folder/.new-$$-$1.deb" "$folder/${1}_${version}_$2.deb" || stop 73 "$folder can't be written to"
 }
 
+# symbols PACKAGE LIBRARY: prints the calls, each with the version that brought it: a program that is linked with the library depends on
+# no later one than it needs.
+symbols() {
+    echo "libfintaqush.so.$major $1 #MINVER#"
+    echo '* Build-Depends-Package: libfintaqush-dev'
+    nm -D --defined-only "$2" | LC_ALL=C sort -k 3 | awk '{
+        split($3, part, "@@"); node = part[2] ? part[2] : part[1]; since = node; sub(/.*_/, "", since)
+        print " " part[1] "@" node " " since ".0" }'
+}
+
 mkdir -m 755 "$scratch/libfintaqush$major/DEBIAN" "$scratch/python3-fintaqush/DEBIAN"
 echo "libfintaqush $major libfintaqush$major (>= $version)" > "$scratch/libfintaqush$major/DEBIAN/shlibs"
+symbols "libfintaqush$major" "$scratch/libfintaqush$major/usr/$libdir/libfintaqush.so.$version" > "$scratch/libfintaqush$major/DEBIAN/symbols"
 echo 'activate-noawait ldconfig' > "$scratch/libfintaqush$major/DEBIAN/triggers"
 package "libfintaqush$major" "$architecture" libs << END
 Multi-Arch: same
@@ -130,7 +150,8 @@ Description: packet polling core of Linux (NAPI) for Python
 END
 package fintaqush "$architecture" net << END
 Depends: libc6 (>= $(glibc_of "$scratch/fintaqush")), python3 (>= 3.9)
-Suggests: python3-matplotlib, libjs-dygraphs, tcpdump, parallel, ethtool, iproute2
+Recommends: ethtool, iproute2, procps
+Suggests: python3-matplotlib, libjs-dygraphs, tcpdump, parallel
 Description: replay and prediction of what a receiving Linux machine does
  Programs that replay traces of network devices by the rules of NAPI and byte
  queue limits of Linux 6.6, and tools that record a running machine, predict

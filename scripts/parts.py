@@ -2,6 +2,7 @@
 
 from __future__ import annotations
 
+import textwrap
 from collections.abc import Iterable, Mapping
 from pathlib import Path
 
@@ -19,6 +20,22 @@ def with_part(text: str, first: str, last: str, lines: Iterable[str]) -> str:
     if not found or not ended:
         raise NoPart(f"no lines {first.strip()!r} and {last.strip()!r}")
     return head + found + "".join(f"{line}\n" for line in lines) + ended + tail
+
+
+def has_part(path: Path, first: str, last: str, lines: Iterable[str], is_put: bool) -> bool:
+    """Returns whether a file has these lines between two lines that stay; if `is_put`, puts them there."""
+    old = path.read_text(encoding="utf-8")
+    new = with_part(old, first, last, lines)
+    if is_put:
+        path.write_text(new, encoding="utf-8")
+    return is_put or new == old
+
+
+def filled(parts: Iterable[str], indent: str, widest: int) -> list[str]:
+    """Returns lines that have as many of these parts as fit."""
+    whole = " ".join(part.replace(" ", "\0") for part in parts)  # no part is broken
+    lines = textwrap.TextWrapper(widest, indent, indent, break_long_words=False, break_on_hyphens=False).wrap(whole)
+    return [line.replace("\0", " ") for line in lines]
 
 
 def marked(before: str, script: str, after: str, what: str = "") -> tuple[str, str]:

@@ -14,22 +14,12 @@ import re
 import sys
 
 import surface
+from house import definitions_of
 
 TOP = pathlib.Path(__file__).resolve().parent.parent
 FACADES = sorted(page.parent.name for page in (TOP / "crates").glob("*/README.md"))  # only facades have a page
-# A definition at the start of a line, or in a `module _`; not a record's field.
-DEFINED = re.compile(
-    r"^(?:(?:abbrev|pub|unfoldable|record|data) )+([\w-]+)|"
-    r"^ +(?:pub )?(?:abbrev|unfoldable|record|data) (?:pub )?([\w-]+)|^([\w-]+) :(?: |$)"
-)
 NAME = re.compile(r"[A-Za-z_][\w-]*")
 Names = dict[str, tuple[str, str]]  # the page and the anchor of each definition
-
-
-def defined_in(line: str) -> str:
-    """Returns the name that a line defines, if it does."""
-    found = DEFINED.match(line)
-    return found[found.lastindex or 0] if found else ""
 
 
 @functools.cache
@@ -38,9 +28,8 @@ def definitions(crate: str) -> dict[str, list[str]]:
     name."""
     found: dict[str, dict[str, bool]] = {}
     for path in sorted((TOP / "crates" / crate / "specs").glob("*.antt")):
-        for line in path.read_text().splitlines():
-            if name := defined_in(line):
-                found.setdefault(name, {})[path.stem] = True
+        for name, _ in definitions_of(path):
+            found.setdefault(name, {})[path.stem] = True
     return {name: list(modules) for name, modules in found.items()}
 
 
@@ -104,13 +93,14 @@ def definition_page(crate: str) -> Iterator[str]:
 
 def definition_lines(path: pathlib.Path) -> Iterator[str]:
     names = scope(path)
+    defined = {place: name for name, place in definitions_of(path)}
     shown: set[str] = set()
-    text = re.sub(r"^use .*\n", "", path.read_text(), flags=re.M)  # links take their place
-    for line in text.splitlines():
-        name = defined_in(line)
+    for number, line in enumerate(path.read_text().splitlines(), 1):
+        name = defined.get(f"{path}:{number}", "")
         own = name if name in names and names[name][1] == f"{path.stem}.{name}" and name not in shown else ""
         shown.add(own)
-        yield linked(line, names, "", own)
+        if not line.startswith("use "):  # links take their place
+            yield linked(line, names, "", own)
 
 
 class Facade:

@@ -6,6 +6,7 @@
 # written.
 set -euo pipefail
 unset CDPATH
+umask 022 # what is made is for all users
 top=$(dirname "$(dirname "$(readlink -f "${BASH_SOURCE[0]}")")")
 . "$top/scripts/arguments.sh"
 
@@ -35,9 +36,12 @@ if command -v pandoc > /dev/null; then
 else
     echo 'release.sh: there is no pandoc, so the tarball has no HTML pages' >&2
 fi
-install -D -m 644 "$top/CHANGELOG.md" "$scratch/$name/CHANGELOG.md"
+install -D -m 644 "$top/CHANGELOG.md" "$scratch/$name/share/doc/fintaqush/CHANGELOG.md"
 chmod -R u=rwX,go=rX "$scratch/$name"
-tar -C "$scratch" --owner=0 --group=0 --sort=name -czf "$new/$name.tar.gz" "$name" || stop 73 "$name.tar.gz can't be written"
+# the same sources give the same bytes
+date=${SOURCE_DATE_EPOCH:-$(git -C "$top" log -1 --format=%ct 2> /dev/null || date +%s)}
+tar -C "$scratch" --owner=0 --group=0 --numeric-owner --sort=name --mtime="@$date" -czf "$new/$name.tar.gz" "$name" ||
+    stop 73 "$name.tar.gz can't be written"
 echo 'release.sh: the tarball is made' >&2
 
 awk -v version="$version" '/^## / { on = index($2, version) == 1 } on' "$top/CHANGELOG.md" > "$new/CHANGES"

@@ -26,14 +26,10 @@ cd "$top"
 made=$scratch/made
 
 make_manuals() {
-    local name
     python3 -EsSB scripts/manual.py "$scratch/calls" || return
     mkdir -p "$made/docs/man"
     mv "$scratch"/calls/fintaqush_*.3 "$made/docs/man"
-    ./fintaqush --manual > "$made/docs/man/fintaqush.1" || return
-    while IFS= read -r name; do
-        ./fintaqush "$name" --manual > "$made/docs/man/fintaqush-$name.1" || return
-    done < <(./fintaqush --names)
+    ./fintaqush --manual "$made/docs/man"
 }
 
 make_c() {
@@ -47,13 +43,13 @@ HTML_OUTPUT = .
 HTML_EXTRA_STYLESHEET = "$scratch/narrow_and_dark.css"
 MACRO_EXPANSION = YES
 EXPAND_ONLY_PREDEF = YES
-PREDEFINED = FQ_CHECKED= FQ_NONNULL= FQ_RESTRICT= FQ_NUMBER= __GNUC__
+PREDEFINED = FQ_CHECKED= "FQ_CHECKED_AT(...)=" FQ_NONNULL= FQ_RESTRICT= FQ_NUMBER= __GNUC__
 EXCLUDE_SYMBOLS = fintaqush::detail private_*
 JAVADOC_AUTOBRIEF = YES
 EXTRACT_ALL = YES
 EXTRACT_STATIC = YES
 QUIET = YES
-$(printf '%s = NO\n' GENERATE_LATEX MARKDOWN_SUPPORT HTML_DYNAMIC_MENUS SEARCHENGINE VERBATIM_HEADERS HAVE_DOT CLASS_GRAPH WARNINGS)
+$(printf '%s = NO\n' GENERATE_LATEX MARKDOWN_SUPPORT HTML_DYNAMIC_MENUS SEARCHENGINE VERBATIM_HEADERS HAVE_DOT CLASS_GRAPH WARNINGS WARN_IF_DOC_ERROR)
 END
     # Doxygen has only light colours.
     cat > "$scratch/narrow_and_dark.css" << 'END'

@@ -20,7 +20,6 @@ from typing import Any, NamedTuple
 
 TOP = Path(__file__).resolve().parent.parent
 sys.path.insert(0, str(TOP / "scripts"))
-import abi_names  # noqa: E402
 import header  # noqa: E402
 
 # The C type of each type of Rattle that a call or a struct has, and its size in bytes on x86-64. A text is bytes to Rattle.
@@ -34,14 +33,8 @@ ONLY_C = {"fq_card", "fq_word"}  # structs that only the header's inline functio
 KINDS = {"run": "list"}
 OF_ANY = {"fq_free", "fq_abandon", "fq_move", "fq_count_sized"}
 # Python's enums, and what their names begin with in C.
-PREFIXES = {
-    "Status": "FQ_",
-    "Kind": "FQ_",
-    "Next": "FQ_NEXT_",
-    "What": "FQ_TODO_",
-    "DeviceState": "FQ_DEVICE_",
-    "Word": "FQ_BIT_",
-}
+PREFIXES = {"Status": "FQ_", "Kind": "FQ_", "Next": "FQ_NEXT_", "What": "FQ_TODO_", "Rearm": "FQ_REARM_", "DeviceState": "FQ_DEVICE_",
+            "Word": "FQ_BIT_"}
 EXPORT = re.compile(r'^pub extern "C" fn (fq_\w+)\(([^)]*)\)(?: -> (\S+))?', re.M)
 STRUCT = re.compile(r"^#\[repr\(C\)\]\n(?:#\[[^\n]*\]\n)*pub struct (\w+) \{\n(.*?)\n\}", re.M | re.S)
 FIELD = re.compile(r"^    (?:pub(?:\(crate\))? )?(\w+): ([^{}\n]+),$", re.M)
@@ -145,9 +138,9 @@ def laid_out(fields: list[tuple[str, str | list[Part]]]) -> list[Part]:
 def differences(read: Mapping[str, Any], texts: Mapping[str, str]) -> Iterator[str]:
     """Yields each difference between the header as it was read, and the exports in these source files."""
     sources = Sources(texts)
-    calls = {item["name"]: item for item in header.items_of(read, "function") if not item["inline"]}
+    calls = {item["name"]: item for item in header.exports(read)}
     structs = {item["name"]: item for item in header.items_of(read, "struct") if item["name"] not in ONLY_C}
-    objects = {name for name, item in structs.items() if abi_names.is_object(item)}
+    objects = {name for name, item in structs.items() if header.is_object(item)}
     yield from (f"{name} is only in the header" for name in sorted(calls.keys() - sources.calls.keys()))
     yield from (f"{name} is only in the crates" for name in sorted(sources.calls.keys() - calls.keys()))
     for name in sorted(calls.keys() & sources.calls.keys()):
@@ -158,7 +151,7 @@ def differences(read: Mapping[str, Any], texts: Mapping[str, str]) -> Iterator[s
             yield f"struct {name} is only in the header"
         else:
             yield from of_struct(name, c_parts(structs, name), sources.parts(exported[name]))
-    numbers = abi_names.enum_of(read, "fq_struct")["values"]
+    numbers = header.enum_of(read, "fq_struct")["values"]
     wanted = {value: name.replace("FQ_STRUCT_", "fq_").lower() for name, value, _ in numbers}
     if wanted != {number: c_name(name) for number, name in sources.numbers.items()}:
         yield "enum fq_struct and fq_struct_size number different structs"
@@ -175,7 +168,7 @@ def of_call(sources: Sources, call: Mapping[str, Any], objects: set[str]) -> Ite
         yield f"{name} has {len(call['parameters'])} parameters in the header, and {len(own)} in the crates"
     for (parameter, c_type), (own_name, exported) in zip(call["parameters"], own):
         given = plain(c_type)
-        if abi_names.handle_of(c_type)[0] in {*objects, "fq_handle"}:
+        if header.handle_of(c_type)[0] in {*objects, "fq_handle"}:
             given = "struct fq_handle *"
         if given != exported:
             yield f"{name}: {parameter} is {c_type} in the header, and {exported} in the crates"
@@ -186,7 +179,7 @@ def of_call(sources: Sources, call: Mapping[str, Any], objects: set[str]) -> Ite
 def of_handles(call: Mapping[str, Any], objects: set[str], is_reader: bool) -> Iterator[str]:
     """Yields a call whose first handle isn't of the kind that its name says: only some take any kind; or isn't const exactly if the call
     only reads the object."""
-    handles = [abi_names.handle_of(c_type) for _, c_type in call["parameters"]]
+    handles = [header.handle_of(c_type) for _, c_type in call["parameters"]]
     handles = [(struct, is_const) for struct, is_const in handles if struct in {*objects, "fq_handle"}]
     kind = call["name"].split("_")[1]
     wanted = "fq_handle" if call["name"] in OF_ANY else f"fq_{KINDS.get(kind, kind)}"

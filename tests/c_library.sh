@@ -93,15 +93,15 @@ check "the header's numbers are those that are proved" numbers_agree
 
 # ---- the examples
 
-# The driver and the simulator of the guide have as many lines as the pages say, at most 60 each.
+# The driver and the simulator of the guide have as many lines as the pages say, at most 65 and 88.
 as_short_as_the_pages_say() {
     local driver simulator
     driver=$(wc -l < "$examples/edge.c") simulator=$(wc -l < "$examples/simulator.cpp")
-    [ "$driver" -le 65 ] && [ "$simulator" -le 60 ] && grep -q "edge.c. is a whole driver in $driver lines" "$top/docs/GUIDE.md" &&
+    [ "$driver" -le 65 ] && [ "$simulator" -le 88 ] && grep -q "edge.c. is a whole driver in $driver lines" "$top/docs/GUIDE.md" &&
         grep -q "edge.c. is such a driver in $driver lines" "$top/docs/C.md" && grep -q "The whole simulator has $simulator lines" "$top/docs/GUIDE.md" &&
-        grep -q "a simulator with a clock in $simulator lines" "$top/docs/C.md"
+        grep -q "a discrete-event simulator in $simulator lines" "$top/docs/C.md"
 }
-check 'a driver and a simulator in at most 60 lines' as_short_as_the_pages_say
+check 'the driver and the simulator are as short as the pages say' as_short_as_the_pages_say
 
 compilers=(gcc g++)
 for compiler in clang clang++; do
@@ -111,8 +111,8 @@ for compiler in "${compilers[@]}"; do
     case $compiler in *++) language=cpp ;; *) language=c ;; esac
     for source in "$examples"/*."$language"; do
         name=$(basename "$source" ".$language")
-        check "$compiler compiles $name.$language" compile "$compiler" "$source" "$scratch/$name" -O2
-        check "$compiler: $name.$language" compared "$examples/$name.stdout" "$scratch/$name"
+        check "$compiler compiles $name.$language" compile "$compiler" "$source" "$scratch/$compiler-$name" -O2
+        check "$compiler: $name.$language" compared "$examples/$name.stdout" "$scratch/$compiler-$name"
     done
 done
 
@@ -139,7 +139,7 @@ echo '21 corners, each answered as it has to be' > "$scratch/cornered"
 check 'corners.c compiles' compile gcc "$top/tests/c/corners.c" "$scratch/corners" -O2 "$wraps"
 check 'answers at corners' compared "$scratch/cornered" "$scratch/corners"
 
-echo '17 calls, each of its own size only' > "$scratch/sized"
+echo '18 calls, each of its own size only' > "$scratch/sized"
 check 'sizes.c compiles' compile gcc "$top/tests/c/sizes.c" "$scratch/sizes" -O2
 check 'structs of other sizes are rejected' compared "$scratch/sized" "$scratch/sizes"
 
@@ -305,7 +305,7 @@ each_cut_as_napi_machine() {
 
 # each setting has its number, and its range is that of napi_machine's option
 refuses_machine_settings() {
-    local name least most number=0
+    local name least most packet number=0
     while read -r name least most; do
         number=$((number + 1))
         for value in $((least - 1)) $((most + 1)); do
@@ -313,10 +313,13 @@ refuses_machine_settings() {
             "$scratch/machine" "$name=$value" < "$top/crates/napi_machine/stdin" > "$scratch/printed" 2> "$scratch/line"
             [ "$? $(cat "$scratch/line")" = "1 FQ_BAD_SETTING $number" ] && [ ! -s "$scratch/printed" ] || { echo "$name=$value"; return 1; }
         done
-        for value in "$least" "$most"; do as_napi_machine "$top/crates/napi_machine/stdin" "$name=$value" || { echo "$name=$value"; return 1; }; done
+        for value in "$least" "$most"; do
+            [ "$name" = take ] && packet="packet=$value" || packet= # take is at most packet
+            as_napi_machine "$top/crates/napi_machine/stdin" ${packet:+"$packet"} "$name=$value" || { echo "$name=$value"; return 1; }
+        done
     done < <(python3 -c 'import sys; sys.path.insert(0, sys.argv[1]); from fintaqush_tools import machine
 for name, (least, most, _) in machine.OPTIONS.items(): print(name, least, most)' "$top/tools")
-    [ "$number" = 25 ]
+    [ "$number" = 28 ]
 }
 
 { echo 'ns,device,bytes' && awk 'BEGIN { for (i = 0; i < 20000; i++) print i * 900, i % 7 + 1, i % 1400 + 60 }' OFS=, ; } > "$scratch/arrivals.csv"
@@ -345,62 +348,65 @@ code_of() { compile gcc "$examples/limit.c" "$scratch/limit" -O2 "$@" && size "$
 is_cut() { [ "$(code_of -Wl,--gc-sections)" -lt 4000 ] && [ "$(code_of)" -gt 150000 ]; }
 check 'calls that a program does not use can be left out' is_cut
 
-# sanitized NAME FLAG: the examples and the random calls under a sanitizer.
-sanitized() {
-    local name=$1 flag=$2 source program language
-    for source in "$examples"/*.c "$examples"/*.cpp; do
+# sanitized_examples NAME FLAG SOURCE ..: these examples under a sanitizer.
+sanitized_examples() {
+    local name=$1 flag=$2 source program compiler
+    for source in "${@:3}"; do
         program=$(basename "$source")
-        language=${program##*.}
-        [ "$language" = c ] && compiler=gcc || compiler=g++
+        [ "${program##*.}" = c ] && compiler=gcc || compiler=g++
         check "$name: $program compiles" compile "$compiler" "$source" "$scratch/sanitized" -O1 -g "$flag" -fno-sanitize-recover=all
         check "$name: $program" compared "$examples/${program%.*}.stdout" "$scratch/sanitized"
     done
-    check "$name: random calls compile" compile gcc "$top/tests/c/random.c" "$scratch/sanitized" -O1 -g "$flag" -fno-sanitize-recover=all "$wraps"
-    for kind in "${kinds[@]}"; do
-        check "$name: random calls: $kind" answered 1000000 1 "$kind" "$scratch/sanitized"
-    done
-    check "$name: refuse.c compiles" compile gcc "$top/tests/c/refuse.c" "$scratch/sanitized" -O1 -g "$flag" -fno-sanitize-recover=all "$wraps"
-    check "$name: each allocation refused in turn" compared "$scratch/refused_all" "$scratch/sanitized"
-    check "$name: boxes.c compiles" compile gcc "$top/tests/c/boxes.c" "$scratch/sanitized" -O1 -g "$flag" -fno-sanitize-recover=all "$wraps"
-    check "$name: no box is forgotten" ends_each_box "$scratch/sanitized"
-    check "$name: driver.c compiles" compile gcc "$top/tests/c/driver.c" "$scratch/sanitized" -O1 -g "$flag" -fno-sanitize-recover=all
-    check "$name: random calls of drivers" compared "$scratch/drove" "$scratch/sanitized"
-    check "$name: corners.c compiles" compile gcc "$top/tests/c/corners.c" "$scratch/sanitized" -O1 -g "$flag" -fno-sanitize-recover=all "$wraps"
-    check "$name: answers at corners" compared "$scratch/cornered" "$scratch/sanitized"
-    check "$name: sizes.c compiles" compile gcc "$top/tests/c/sizes.c" "$scratch/sanitized" -O1 -g "$flag" -fno-sanitize-recover=all
-    check "$name: structs of other sizes are rejected" compared "$scratch/sized" "$scratch/sanitized"
-    check "$name: types.cpp compiles" compile g++ "$top/tests/c/types.cpp" "$scratch/sanitized" -O1 -g "$flag" -fno-sanitize-recover=all "$wraps"
-    check "$name: the types of C++" compared "$scratch/typed" "$scratch/sanitized"
-    check "$name: orders.c compiles" compile gcc "$top/tests/c/orders.c" "$scratch/sanitized" -O1 -g "$flag" -fno-sanitize-recover=all
-    check "$name: a driver in random orders" compared "$scratch/ordered" "$scratch/sanitized" 10000 1
-    check "$name: the machine compiles" compile gcc "$top/tests/c/machine.c" "$scratch/machine" -O1 -g "$flag" -fno-sanitize-recover=all
-    check "$name: the machine" as_napi_machine "$scratch/arrivals.csv"
-    check "$name: the machine on a fault" as_napi_machine "$scratch/falls.csv"
-    check "$name: the replay compiles" compile gcc "$top/tests/c/replay.c" "$scratch/sanitized" -O1 -g "$flag" -fno-sanitize-recover=all
-    check "$name: the replay" as_the_tool "$scratch/sanitized" "$scratch/long.csv" 300 64 1024
-    check "$name: the replay of a fault" as_the_tool "$scratch/sanitized" "$scratch/pending.csv" 300 64 1024
-    check "$name: the raised replay" as_the_tool "$scratch/sanitized" "$scratch/waits.csv" 1 1 1024 99999
-    check "$name: the raised replay of a fault" as_the_tool "$scratch/sanitized" "$scratch/fuller.csv" 1 1 1024 99999
+}
+
+# sanitize SOURCE PROGRAM: compiles a test for addresses, leaks and undefined behaviour.
+sanitize() {
+    local compiler=gcc
+    [ "${1##*.}" = c ] || compiler=g++
+    check "sanitized: $1 compiles" compile "$compiler" "$top/tests/c/$1" "$2" -O1 -g -fsanitize=address,undefined -fno-sanitize-recover=all "${@:3}"
 }
 
 export ASAN_OPTIONS=detect_leaks=1
-sanitized 'addresses, leaks and undefined behaviour' -fsanitize=address,undefined
-sanitized 'threads' -fsanitize=thread
+mapfile -t threaded < <(grep -lE 'pthread_create|std::thread' "$examples"/*.c "$examples"/*.cpp)
+sanitized_examples 'addresses, leaks and undefined behaviour' -fsanitize=address,undefined "$examples"/*.c "$examples"/*.cpp
+sanitized_examples threads -fsanitize=thread "${threaded[@]}" # the others have one thread, and no race
+sanitize random.c "$scratch/sanitized" "$wraps"
+for kind in "${kinds[@]}"; do
+    check "sanitized: random calls: $kind" answered 1000000 1 "$kind" "$scratch/sanitized"
+done
+sanitize refuse.c "$scratch/sanitized" "$wraps"
+check 'sanitized: each allocation refused in turn' compared "$scratch/refused_all" "$scratch/sanitized"
+sanitize boxes.c "$scratch/sanitized" "$wraps"
+check 'sanitized: no box is forgotten' ends_each_box "$scratch/sanitized"
+sanitize driver.c "$scratch/sanitized"
+check 'sanitized: random calls of drivers' compared "$scratch/drove" "$scratch/sanitized"
+sanitize corners.c "$scratch/sanitized" "$wraps"
+check 'sanitized: answers at corners' compared "$scratch/cornered" "$scratch/sanitized"
+sanitize sizes.c "$scratch/sanitized"
+check 'sanitized: structs of other sizes are rejected' compared "$scratch/sized" "$scratch/sanitized"
+sanitize types.cpp "$scratch/sanitized" "$wraps"
+check 'sanitized: the types of C++' compared "$scratch/typed" "$scratch/sanitized"
+sanitize orders.c "$scratch/sanitized"
+check 'sanitized: a driver in random orders' compared "$scratch/ordered" "$scratch/sanitized" 10000 1
+sanitize machine.c "$scratch/machine"
+check 'sanitized: the machine' as_napi_machine "$scratch/arrivals.csv"
+check 'sanitized: the machine on a fault' as_napi_machine "$scratch/falls.csv"
+sanitize replay.c "$scratch/sanitized"
+check 'sanitized: the replay' as_the_tool "$scratch/sanitized" "$scratch/long.csv" 300 64 1024
+check 'sanitized: the replay of a fault' as_the_tool "$scratch/sanitized" "$scratch/pending.csv" 300 64 1024
+check 'sanitized: the raised replay' as_the_tool "$scratch/sanitized" "$scratch/waits.csv" 1 1 1024 99999
+check 'sanitized: the raised replay of a fault' as_the_tool "$scratch/sanitized" "$scratch/fuller.csv" 1 1 1024 99999
 
+watched=(valgrind -q --fair-sched=yes --leak-check=full --show-leak-kinds=all --error-exitcode=9)
 if has valgrind 'the examples and random calls under valgrind'; then
     for source in "$examples"/*.c "$examples"/*.cpp; do
         name=$(basename "$source")
         [ "${name##*.}" = c ] && compiler=gcc || compiler=g++
-        check "$name compiles for valgrind" compile "$compiler" "$source" "$scratch/watched" -O1 -g
-        check "valgrind: $name" compared "$examples/${name%.*}.stdout" \
-            valgrind -q --fair-sched=yes --leak-check=full --show-leak-kinds=all --error-exitcode=9 "$scratch/watched"
+        check "valgrind: $name" compared "$examples/${name%.*}.stdout" "${watched[@]}" "$scratch/$compiler-${name%.*}"
     done
-    check 'boxes.c compiles for valgrind' compile gcc "$top/tests/c/boxes.c" "$scratch/watched" -O1 -g "$wraps"
-    check 'valgrind: no box is forgotten' ends_each_box valgrind -q --leak-check=full --show-leak-kinds=all --error-exitcode=9 "$scratch/watched"
-    check 'compiles for valgrind' compile gcc "$top/tests/c/random.c" "$scratch/random" -O1 -g "$wraps"
+    check 'valgrind: no box is forgotten' ends_each_box "${watched[@]}" "$scratch/boxes"
     for kind in "${kinds[@]}"; do
-        check "valgrind: random calls: $kind" answered 100000 1 "$kind" \
-            valgrind -q --leak-check=full --show-leak-kinds=all --error-exitcode=9 "$scratch/random"
+        check "valgrind: random calls: $kind" answered 100000 1 "$kind" "${watched[@]}" "$scratch/random"
     done
 fi
 
@@ -463,7 +469,7 @@ int main(void) {
     struct fq_todo todo = {0};
     if (fq_is_error(fq_driver_step(&driver, &todo))) return 1;
     switch (todo.what) {
-    case FQ_TODO_MASK: case FQ_TODO_UNMASK: case FQ_TODO_FETCH: case FQ_TODO_ENDED: case FQ_TODO_SLEEP: case FQ_TODO_FAILED: break;
+    case FQ_TODO_MASK: case FQ_TODO_UNMASK: case FQ_TODO_FETCH: case FQ_TODO_TIMER: case FQ_TODO_ENDED: case FQ_TODO_SLEEP: case FQ_TODO_FAILED: break;
     }
 }
 END

@@ -2,11 +2,11 @@
 # tests/cards.sh [--fetch]: the rules of cards. The plain program (bench/machine.cc) predicts what the real drivers e1000 and vmxnet3 did on emulated cards, from
 # one recording of each, and napi_machine prints the model's bytes: first with the recordings that tests/cards/kept has, in seconds; then
 # with recordings that this makes itself in some 3 minutes of processor time, in a guest under QEMU's interpreter, where other work on the
-# machine changes hardly anything. Then the table of drivers is compared with the sources of Linux. QEMU, Debian's kernel and the guest's
+# machine changes hardly anything. The kept ones are also of several cards, fuller bursts and other versions of Linux: OTHERS in
+# tests/cards/tried.py, which `cards.py keep` records. Then the table of drivers is compared with the sources of Linux. QEMU, Debian's kernel and the guest's
 # programs aren't installed: --fetch downloads them once, 160 MB into ~/.cache/fintaqush, and does no more, with status 1 if it can't.
 # Recordings are skipped without these packages, with less than 2 GB of free memory, and if other work lets a guest take over 27 minutes.
-# Settings that need an option which napi_machine lacks are skipped for napi_machine. MACHINE=FILE names another build of napi_machine.
-# The last line is `N passed, M failed, K skipped`.
+# MACHINE=FILE names another build of napi_machine. The last line is `N passed, M failed, K skipped`.
 . "$(dirname "$(readlink -f "$0")")/../scripts/checks.sh"
 
 cards() { timeout 3400 python3 -EsSB "$top/tests/cards/cards.py" "$@"; }

@@ -71,6 +71,17 @@ check 'and what does not compile' grep -q '^must-fail low/unknown-name: BAD EDIT
 check 'the same words prove what is as it was' grep -qx 'must-fail one/a function as it is: proved' "$scratch/out"
 check 'and a misnamed one' grep -q '^must-fail one/misnamed: BAD EDIT' "$scratch/out"
 check 'they are counted' [ "$(tail -n 1 "$scratch/out") $status" = '4 passed, 3 failed 1' ]
+# edits TEXT WORD ..: tries those of the crate `one`, and prints this of the one that was refused.
+edits() {
+    gate edits "${@:2}" one || true
+    grep -q "^must-fail one/the-second-one: $1" "$scratch/out"
+}
+check 'what was refused is kept' edits 'kept, refused: note: src/lib.rt:7:'
+check 'and counted' [ "$(tail -n 1 "$scratch/out")" = '1 passed, 1 failed' ]
+check 'it is tried again if one asks for it' edits 'refused: note: src/lib.rt:7:' --again
+echo 'fn' >> "$scratch/low/crates/one/src/lib.rt"
+check 'and if its crate has changed, here to one that does not compile' edits 'BAD EDIT'
+sed -i '$d' "$scratch/low/crates/one/src/lib.rt"
 # in the copy, there is only what stops `rt ci`
 stops() {
     rm -rf "$scratch/room" && mkdir "$scratch/room"

@@ -236,6 +236,7 @@ check 'the shared library needs libc alone' needs_libc_alone "$prefix/lib/libfin
 check 'the shared library gives the calls alone, each of its version' exports_calls_alone "$prefix/lib/libfintaqush.so"
 check 'a call stays in its version' stays_in_its_version
 check 'links of the installed pages' links_lead_somewhere "$prefix/share/doc/fintaqush"
+check "links of Python's page" links_lead_somewhere "$prefix/share/doc/fintaqush/python"
 check "links of the tools' pages" links_lead_somewhere "$prefix/lib/fintaqush/docs"
 check 'the pages that --help names' named_pages_are_there "$prefix/bin/fintaqush"
 check 'each call has a manual page' each_call_has_a_page "$prefix"
@@ -314,8 +315,7 @@ if has dpkg-deb 'the Debian packages'; then
         'usr/lib/[^/]*-linux-gnu/pkgconfig/fintaqush.pc' 'usr/share/man/man3/fq_caller_end.3.gz' 'usr/share/doc/libfintaqush-dev/GUIDE.md' \
         'usr/share/doc/libfintaqush-dev/examples/c/edge.c' 'usr/share/man/man3/fq_machine.3.gz' 'usr/share/man/man3/fq_driver_next.3.gz'
     if has lintian 'the packages by the rules of Debian'; then
-        # but for the licence, which isn't chosen yet
-        check 'the packages by the rules of Debian' lintian --allow-root --fail-on error,warning --suppress-tags no-copyright-file "${packages[@]}"
+        check 'the packages by the rules of Debian' lintian --allow-root --fail-on error,warning "${packages[@]}"
     fi
     check 'they are installed' by_dpkg -i "${packages[@]}"
     for name in $("$top/scripts/install.sh" --programs); do
@@ -338,9 +338,11 @@ if has dpkg-deb 'the Debian packages'; then
     if has pkg-config 'programs by the package libfintaqush-dev alone'; then
         check 'programs by the package libfintaqush-dev alone' there linked_alone
     fi
+    check 'they are upgraded' by_dpkg -i "${packages[@]}"
     check 'their files are whole' sh -c '[ -z "$(dpkg --root="$1" --verify)" ]' sh "$scratch/root"
     check 'they are removed' by_dpkg -r fintaqush python3-fintaqush libfintaqush-dev "libfintaqush$major"
     check 'nothing of them is left' is_empty_of_files "$scratch/root/usr"
+    check 'nor anything to purge' [ -z "$(by_dpkg --get-selections 2> /dev/null)" ]
 fi
 
 sum_up

@@ -10,6 +10,7 @@ from __future__ import annotations
 import atexit
 import functools
 import itertools
+import json
 import os
 import pathlib
 import random
@@ -21,22 +22,16 @@ import tempfile
 import time
 from collections import Counter
 from collections.abc import Callable, Iterable, Iterator, Sequence
+from typing import Any
 
 from finding import group_in
 
 TOP = pathlib.Path(__file__).resolve().parent.parent
 HEADER, FLOWS = "ns,device,bytes", "ns,device,bytes,flow"
-LONGEST = 10**9
-# The least, the greatest and the default value of each option. A name as default: the value of that option.
-OPTIONS: dict[str, tuple[int, int, int | str]] = {
-    "processors": (1, 64, 1), "queues": (1, 64, 1), "ring": (1, 65536, 256), "socket": (1, 65536, 512), "backlog": (0, 1, 0),
-    "budget": (0, 65535, 300), "weight": (1, 64, 64), "window": (1, 65535, 1024), "time-limit": (1, LONGEST, 8000000),
-    "rx-nsecs": (0, LONGEST, 0), "rx-frames": (0, 65535, 0), "defer-hard-irqs": (0, 65535, 0), "gro-flush-timeout": (0, LONGEST, 0),
-    "threaded": (0, 1, 0), "apart": (0, 1, 0), "app-wake": (0, LONGEST, 0),
-    "interrupt": (0, LONGEST, 4000), "poll": (0, LONGEST, 1000), "packet": (0, LONGEST, 1000), "use": (0, LONGEST, 2000),
-    "wake": (0, LONGEST, 0),
-    "rx-gap": (0, LONGEST, 0), "latched": (0, 2, 0), "gro-batch": (0, 64, 0), "take": (0, LONGEST, 0), "heedless": (0, 1, 0),
-    "timer": (0, LONGEST, "interrupt"), "timer-wake": (0, LONGEST, "wake")}
+# The least, the greatest and the default value of each option, by napi_machine's table; the plain program has its own. A name as default:
+# the value of that option.
+TABLE: list[dict[str, Any]] = json.loads((TOP / "tools/fintaqush_tools/options.json").read_text(encoding="utf-8"))
+OPTIONS: dict[str, tuple[int, int, int | str]] = {row["name"]: (row["least"], row["most"], row["default"]) for row in TABLE}
 Settings = dict[str, int]
 
 
@@ -81,22 +76,6 @@ def same(program: str, arguments: Sequence[str], text: str) -> tuple[str, dict[s
     return out, {} if status else values(said)
 
 
-# The rules of cards, which a program may lack.
-OF_CARDS = "rx-gap", "latched", "gro-batch", "take", "heedless", "timer", "timer-wake"
-
-
-@functools.lru_cache(None)
-def options_of(program: str) -> dict[str, tuple[int, int, int | str]]:
-    lacks = [name for name in OF_CARDS if ran(program, [f"--{name}", "0"], text_of([]))[2] != 0]
-    if lacks:
-        print(f"not compared, because {program} lacks them: {' '.join(lacks)}")
-    return {name: row for name, row in OPTIONS.items() if name not in lacks}
-
-
-def has_cards(program: str) -> bool:
-    return options_of(program).keys() == OPTIONS.keys()
-
-
 # ---- reports that were worked out by hand
 
 def example_of(text: str) -> dict[str, list[str]]:
@@ -112,26 +91,20 @@ def example_of(text: str) -> dict[str, list[str]]:
 
 
 def examples(program: str) -> list[str]:
-    wrong: list[str] = []
-    known, count, left_out = options_of(program), 0, 0
-    for of in map(example_of, (TOP / "tests/machine_examples.txt").read_text(encoding="ascii").split("\n\n")):
-        if "options" not in of:
-            continue
-        arguments = of["options"][0].split()
-        if not {word[2:] for word in arguments if word.startswith("--")} <= known.keys():
-            left_out += 1
-            continue
-        out, _, _ = ran(program, arguments, text_of(row.split(",") for row in of["arrivals"][0].split()))
+    blocks = (TOP / "tests/machine_examples.txt").read_text(encoding="ascii").split("\n\n")
+    every = [of for of in map(example_of, blocks) if "options" in of]
+    wrong = [] if len(every) == 15 else [f"there are {len(every)} examples"]
+    for of in every:
+        out, _, _ = ran(program, of["options"][0].split(), text_of(row.split(",") for row in of["arrivals"][0].split()))
         is_right = all(part in out for part in of["contains"]) and of["report"] in ([], out.splitlines())
         wrong += [] if is_right else [f"{of['options'][0]}\n{out}"]
-        count += 1
-    return wrong if count >= 5 and count + left_out == 15 else [f"there are {count} examples, and {left_out} are left out", *wrong]
+    return wrong
 
 
 # ---- random arrivals with random options
 
-def random_options(chance: random.Random, program: str) -> Settings:
-    """Options that the program has. Costs that are equal, or 0, or fall on the grid of the arrivals, cause ties."""
+def random_options(chance: random.Random) -> Settings:
+    """Some options. Costs that are equal, or 0, or fall on the grid of the arrivals, cause ties."""
     costs = (0, 1, 500, 1000, 1000, 2000, 4000, chance.randrange(20000), chance.randrange(10**6))
     choices = {
         "processors": (1, 2, 3, chance.randint(1, 64)), "queues": (1, 1, 2, 3, 8, 64), "ring": (1, 2, 4, 16, 256), "socket": (1, 2, 8, 512),
@@ -140,11 +113,11 @@ def random_options(chance: random.Random, program: str) -> Settings:
         "defer-hard-irqs": (0, 1, 2, 2, 9), "gro-flush-timeout": (0, 500, 1000, 20000, 20000), "threaded": (0, 1), "apart": (0, 1, 1),
         "rx-gap": (0, 1, 500, 20000, 100000), "latched": (0, 1, 2), "gro-batch": (0, 1, 2, 8, 64), "heedless": (0, 1)}
     chosen: Settings = {}
-    share, known = chance.choice((0.15, 0.4, 0.8)), options_of(program)
+    share = chance.choice((0.15, 0.4, 0.8))
     # Without these three few instances are scheduled again at their completion.
     kinds: list[tuple[tuple[str, ...], tuple[str, ...]]] = [((), ()), ((), ()), (("gro-batch", "threaded"), ("backlog", "budget", "latched"))]
     always, never = chance.choice(kinds)
-    for name in chance.sample(list(known), len(known)):
+    for name in chance.sample(sorted(OPTIONS), len(OPTIONS)):
         if name in always or name not in never and chance.random() < share:
             chosen[name] = chance.choice(choices.get(name, costs))
     if chosen.get("rx-gap") and (chosen.get("rx-nsecs") or chosen.get("rx-frames")):
@@ -181,7 +154,7 @@ def random_arrivals(program: str, seed: str = "1", count: str = "300") -> list[s
     chance = random.Random(int(seed))
     reached: Counter[str] = Counter()
     for _ in range(int(count)):
-        chosen = random_options(chance, program)
+        chosen = random_options(chance)
         settings, arguments = settings_of(chosen), written(chance, chosen)
         rows = list(random_rows(chance, settings))
         printed, calls = same(program, arguments, text_of(rows, FLOWS if settings["queues"] > 1 else HEADER))
@@ -191,8 +164,7 @@ def random_arrivals(program: str, seed: str = "1", count: str = "300") -> list[s
         if broken := broken_law(settings, rows, printed):
             return [f"{broken} with {' '.join(arguments)}\n{printed}"]
         reached.update(cases_of(settings, rows, printed, calls))
-        if has_cards(program):
-            reached.update(cases_of_cards(settings, printed, calls))
+        reached.update(cases_of_cards(settings, printed, calls))
     print(f"{count} random arrivals: {', '.join(f'{name} {number}' for name, number in sorted(reached.items()))}")
     return [f"{name} is reached {number} times" for name, number in reached.items() if number < int(count) // 100]
 
@@ -260,7 +232,7 @@ def one_queue(program: str, seed: str = "1", count: str = "60") -> list[str]:
     late."""
     chance = random.Random(int(seed))
     for _ in range(int(count)):
-        chosen = {name: value for name, value in random_options(chance, program).items() if name not in LIMITS}
+        chosen = {name: value for name, value in random_options(chance).items() if name not in LIMITS}
         arguments = written(chance, chosen)
         text = text_of((moment, 1, size) for moment, _, size in random_rows(chance, settings_of(chosen)))
         limits = [[f"--budget={budget}", f"--window={window}", f"--time-limit={limit}"] for budget, window, limit in (
@@ -317,12 +289,11 @@ def options(program: str) -> list[str]:
     refused: list[list[str | bytes]] = [["-h"], ["--"], ["-"], ["x"], [""], ["--budget"], ["--budget="], ["--budget=x"], ["--budget", "+1"], ["--budget", " 1"],
                ["--budg", "1"], ["-budget", "1"], ["--budget", "1", "--budget", "1"], ["--budget=1", "--budget", "2"], ["--mode", "serial"],
                ["--budget", "1", "2"], ["--budget", "--weight"], ["--budget", "1.0"], [b"--budget\xff=1"], ["--budget", b"\xff"],
-               ["--slice", "1"], ["--longest", "1"], ["--threaded"], ["--rx_nsecs", "1"]]
+               ["--slice", "1"], ["--longest", "1"], ["--threaded"], ["--rx_nsecs", "1"], ["--take", "1001"],
+               ["--packet", "5", "--take", "6"], ["--take", "6", "--packet", "5"], ["--rx-gap", "1", "--rx-nsecs", "1"],
+               ["--rx-frames", "1", "--rx-gap", "1"]]
     taken: list[list[str]] = []
-    if has_cards(program):
-        refused += [["--take", "1001"], ["--packet", "5", "--take", "6"], ["--take", "6", "--packet", "5"], ["--rx-gap", "1", "--rx-nsecs", "1"],
-                    ["--rx-frames", "1", "--rx-gap", "1"]]
-    for name, (low, high, _) in options_of(program).items():
+    for name, (low, high, _) in OPTIONS.items():
         refused += [[f"--{name}", str(high + 1)], [f"--{name}={'1'.zfill(11)}"], [f"--{name}", "99999999999999999999"]]
         refused += [[f"--{name}", str(low - 1)]] if low else [[f"--{name}=-1"]]
         more = {"take": [f"--packet={high}"]}.get(name, [])  # what the greatest value needs
@@ -494,22 +465,28 @@ def wait_fields(waits: list[int]) -> str:
 # ---- simulations
 
 EACH = "--use 0 --wake 0 --ring 256 --budget 300 --weight 64 --time-limit 1000000000 --interrupt 4000 --poll 1000 --packet 1000".split()
-COUNTS = "polled", "dropped", "interrupts", "runs", "squeezed"
+COUNTS = "polled", "dropped", "interrupts", "runs", "squeezed", "timers"
 
 
 def simulator(program: str) -> list[str]:
-    """The simulator of docs/GUIDE.md (examples/c/simulator.cpp) has the program's counts for the same arrivals and costs: 20000 packets of each of
-    four cards, at each gap between them."""
-    wanted = []
-    gaps = group_in(r"for \((?:const )?Time gap : \{([\d, ]+)\}\)", (TOP / "examples/c/simulator.cpp").read_text())
-    for gap in map(int, gaps.split(",")):
-        rows = sorted((1000 + card * gap // 4 + place * gap, card + 1, 60) for card in range(4) for place in range(20000))
-        told = ran(program, EACH, text_of(rows))[0].splitlines()
-        counts = {**values(next(line for line in told if line.startswith("processor"))), **values(told[-1].removeprefix("total "))}
-        wanted.append([counts[name] for name in COUNTS])
+    """The simulator of docs/GUIDE.md (examples/c/simulator.cpp) has the program's counts and its mean wait until delivery for the same
+    arrivals and costs: 20000 packets of each of four cards, at each deferral and each gap between them."""
+    wanted, waits = [], []
+    text = (TOP / "examples/c/simulator.cpp").read_text()
+    gaps = list(map(int, group_in(r"for \((?:const )?Time gap : \{([\d, ]+)\}\)", text).split(",")))
+    for defer, timeout in re.findall(r"\{(\d+), (\d+)\}", group_in(r"for \(Deferral of : \{(.*)\}\)", text)):
+        for gap in gaps:
+            rows = sorted((1000 + card * gap // 4 + place * gap, card + 1, 60) for card in range(4) for place in range(20000))
+            told = ran(program, [*EACH, "--defer-hard-irqs", defer, "--gro-flush-timeout", timeout], text_of(rows))[0].splitlines()
+            counts = {**values(next(line for line in told if line.startswith("processor"))), **values(told[-1].removeprefix("total "))}
+            wanted.append([counts[name] for name in COUNTS])
+            devices = [values(line) for line in told if line.startswith("device")]
+            waits.append(sum(device["mean"] * device["polled"] for device in devices) / counts["polled"] / 1000)
     lines = (TOP / "examples/c/simulator.stdout").read_text().splitlines()
     shown = [[int(group_in(rf"(\d+) {name}", line)) for name in COUNTS] for line in lines]
-    return [f"the simulator counts {shown}, and the program {wanted}"] * (shown != wanted or len(shown) < 3)
+    wrong = [f"the simulator counts {shown}, and the program {wanted}"] * (shown != wanted or len(shown) < 25)
+    return wrong + [f"{line}: the program's mean is {wait}" for line, wait in zip(lines, waits)
+                    if abs(float(group_in(r"mean wait ([\d.]+) us", line)) - wait) > 0.06]
 
 
 def simulated(report: str, waited: str) -> list[str]:

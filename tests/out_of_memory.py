@@ -31,7 +31,7 @@ PLACES = {
     "napi_c/src/ends.rt": (1, "a box"),
     "napi_c/src/list.rt": (2, "a box, the list"),
     "napi_c/src/ring.rt": (2, "a box, the ring"),
-    "napi_c/src/shared.rt": (4, "boxes, the list of seats, the instance"),
+    "napi_c/src/shared.rt": (4, "boxes, the list of callers, the instance"),
     "napi_c/src/transmit.rt": (2, "the transmit ring, a box"),
     "napi_calls/src/instance.rt": (2, "the table, the callers"),
     "napi_word/src/making.rt": (3, "`TableBack`: the list of passes, that of slots, the table"),

@@ -137,7 +137,7 @@ def durations(page: pathlib.Path) -> Iterator[str]:
     """How long the first proof and all tests take is the same on each page, and lies around what DECISIONS.md has measured."""
     measured = (TOP / "docs/DECISIONS.md").read_text()
     first = [int(seconds) / 60 for seconds in re.findall(r"(\d+)(?: to \d+)? s on 4 idle cores", measured)]
-    whole = [int(minutes) for minutes in re.findall(r"the gate took (\d+) minutes", measured)]
+    whole = [int(minutes) for minutes in re.findall(r"`\./test` took (\d+) minutes", measured)]
     stated = re.findall(r"(\d+) to (\d+) minutes on 4 cores", page.read_text())
     wanted = [(str(int(min(first))), str(int(max(first)) + 1))] * (page.name != "WORKING.md") + [(str(min(whole)), str(max(whole)))]
     if stated != wanted:
@@ -323,8 +323,8 @@ def options_of_linux() -> list[str]:
     """Each option in OPERATORS' table of Linux's settings exists; and each that sets what Linux sets is there: all but the sizes of the
     machine, what its driver does, the costs, and the window, which Linux doesn't have."""
     known = {f"--{option['name']}" for option in json.loads((TOP / "tools/fintaqush_tools/options.json").read_text())}
-    own = {"--processors", "--socket", "--window", "--heedless", "--app-wake", "--interrupt", "--poll", "--packet", "--use", "--wake", "--timer",
-           "--timer-wake"}
+    own = {"--processors", "--socket", "--window", "--heedless", "--latched", "--app-wake", "--interrupt", "--poll", "--packet", "--use", "--wake",
+           "--timer", "--timer-wake"}
     table = (TOP / "docs/OPERATORS.md").read_text().partition("## Which setting does what")[2].partition("\n## ")[0]
     named = {option for row in table.splitlines() for option in re.findall(r"`(--[\w-]+)[ `]", row.rpartition(" | ")[2])}
     return [f"no option {option}" for option in sorted(named - known)] + [f"no row with {option}" for option in sorted(known - own - named)]

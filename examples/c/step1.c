@@ -27,7 +27,7 @@ static void work(struct fq_driver *driver) {
         case FQ_TODO_LOOK: todo.packets = waiting; printf("  look: %u packets\n", waiting); break;
         case FQ_TODO_FETCH: todo.packets = fetch(todo.most); printf("  fetch: %u packets\n", todo.packets); break;
         case FQ_TODO_ENDED: printf("  a run ended: %u polls, %u packets\n", todo.run.polls, todo.run.work); break;
-        case FQ_TODO_SLEEP: case FQ_TODO_FAILED: break;
+        case FQ_TODO_TIMER: case FQ_TODO_SLEEP: case FQ_TODO_FAILED: break;
         }
     }
     if (todo.run.polls > 0) printf("  a run ended: %u polls, %u packets\n", todo.run.polls, todo.run.work);

@@ -154,7 +154,7 @@ static inline bool run(void) {
         case FQ_TODO_LOOK: todo.packets = device->look(device); break;
         case FQ_TODO_FETCH: fetch_from(device, &todo); break;
         case FQ_TODO_ENDED: return runs++, squeezed += todo.run.squeezed, true;
-        case FQ_TODO_SLEEP: case FQ_TODO_FAILED: break;
+        case FQ_TODO_TIMER: case FQ_TODO_SLEEP: case FQ_TODO_FAILED: break;
         }
     }
     must("step", todo.status, FQ_OK);

@@ -153,7 +153,7 @@ static bool run(void) {
         case FQ_TODO_LOOK: todo.packets = queue_back(side->queue); break;
         case FQ_TODO_FETCH: todo.packets = fetch(side); break;
         case FQ_TODO_ENDED: return runs++, squeezed += todo.run.squeezed, true;
-        case FQ_TODO_SLEEP: case FQ_TODO_FAILED: break;
+        case FQ_TODO_TIMER: case FQ_TODO_SLEEP: case FQ_TODO_FAILED: break;
         }
     }
     must("step", todo.status, FQ_OK);

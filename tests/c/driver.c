@@ -1,6 +1,6 @@
 /* driver: a driver as C uses it. Random calls, also under wrong numbers and sizes, beside cards that lose each interrupt while they are
  * masked, and packets that arrive at any time: whenever the driver says to sleep, each open card is unmasked and has no packets, or an
- * interrupt that wasn't reported, each closed one is masked, and what returns FQ_NOT_DUE or an error has changed nothing. The same by
+ * interrupt that wasn't reported, or is masked and its timer is set; each closed one is masked, and what returns FQ_NOT_DUE or an error has changed nothing. The same by
  * fq_driver_step, beside a driver that gets fq_driver_done and fq_driver_next in place of each step. And driver programs, by steps and
  * by reports, which poll all packets in order. It exits with 9 if something is wrong. */
 #include "any.h"
@@ -28,6 +28,7 @@ enum { DEVICES = 64 };
 static struct card {
     bool masked, interrupting;
     uint64_t packets, taken;
+    bool timer;
 } cards[DEVICES];
 
 static void arrives(struct card *card) {
@@ -42,6 +43,7 @@ static void act(struct fq_todo *todo) {
     case FQ_TODO_MASK: card->masked = true; break;
     case FQ_TODO_UNMASK: card->masked = false; break;
     case FQ_TODO_LOOK: todo->packets = card->packets > 0; break;
+    case FQ_TODO_TIMER: card->timer = true; break;
     case FQ_TODO_FETCH:
         todo->packets = card->packets < todo->most ? (uint32_t)card->packets : todo->most;
         card->packets -= todo->packets;
@@ -74,13 +76,14 @@ static bool same_shown(struct fq_device_shown a, struct fq_device_shown b) {
 
 static bool same_todo(const struct fq_todo *a, const struct fq_todo *b) {
     return a->size == b->size && a->number == b->number && a->what == b->what && a->device == b->device && a->most == b->most && a->packets == b->packets &&
-           a->run.polls == b->run.polls && a->run.work == b->run.work && a->run.squeezed == b->run.squeezed && a->status == b->status && a->rearm == b->rearm;
+           a->run.polls == b->run.polls && a->run.work == b->run.work && a->run.squeezed == b->run.squeezed && a->status == b->status && a->rearm == b->rearm &&
+           a->nanoseconds == b->nanoseconds;
 }
 
 /* Whether a call has failed with this status: there is nothing to do, and nothing to report. */
 static bool is_failed(const struct fq_todo *todo, enum fq_status status) {
     return todo->what == FQ_TODO_FAILED && todo->status == status && todo->number == 0 && todo->device == 0 && todo->most == 0 &&
-           todo->packets == 0 && todo->rearm == FQ_REARM_NO && todo->run.polls == 0 && todo->run.work == 0 && !todo->run.squeezed;
+           todo->packets == 0 && todo->rearm == FQ_REARM_NO && todo->nanoseconds == 0 && todo->run.polls == 0 && todo->run.work == 0 && !todo->run.squeezed;
 }
 
 /* Nothing that is refused changes what is due, or the device. */
@@ -93,6 +96,8 @@ static void refused(struct fq_driver *driver, uint32_t device, uint32_t said, ui
          "a refused call changed what is due");
 }
 
+static const struct fq_device_settings plain = {0, 1, 0, 0, 0};
+
 static void tries_what_is_refused(struct fq_driver *driver, uint32_t devices, const struct fq_todo *due) {
     const uint32_t device = below(devices);
     const struct fq_device_shown before = shown_of(driver, device);
@@ -103,6 +108,11 @@ static void tries_what_is_refused(struct fq_driver *driver, uint32_t devices, co
     refused(driver, device, fq_driver_open(driver, devices), FQ_BAD_DEVICE, due, before);
     refused(driver, device, fq_driver_stop(driver, UINT32_MAX), FQ_BAD_DEVICE, due, before);
     refused(driver, device, fq_driver_interrupt(driver, devices), FQ_BAD_DEVICE, due, before);
+    refused(driver, device, fq_driver_timer(driver, devices), FQ_BAD_DEVICE, due, before);
+    refused(driver, device, fq_driver_set(driver, devices, plain), FQ_BAD_DEVICE, due, before);
+    refused(driver, device, fq_driver_set(driver, device, (struct fq_device_settings){0, 65, 0, 0, 0}), FQ_BAD_WEIGHT, due, before);
+    if (before.state != FQ_DEVICE_CLOSED) refused(driver, device, fq_driver_set(driver, device, plain), FQ_NOT_DUE, due, before);
+    if (before.state != FQ_DEVICE_OPEN || before.scheduled) refused(driver, device, fq_driver_timer(driver, device), FQ_NOT_DUE, due, before);
     refused(driver, device, fq_driver_show(driver, devices, &none), FQ_BAD_DEVICE, due, before);
     if (before.state != FQ_DEVICE_CLOSED) refused(driver, device, fq_driver_open(driver, device), FQ_NOT_DUE, due, before);
     if (before.state != FQ_DEVICE_OPEN) refused(driver, device, fq_driver_stop(driver, device), FQ_NOT_DUE, due, before);
@@ -124,6 +134,14 @@ static void interrupts(struct fq_driver *driver, uint32_t device) {
     cards[device].interrupting = false;
 }
 
+static void expires(struct fq_driver *driver, uint32_t device) {
+    if (!cards[device].timer) return;
+    const struct fq_device_shown before = shown_of(driver, device);
+    const bool idle = before.state == FQ_DEVICE_OPEN && !before.scheduled;
+    want(fq_driver_timer(driver, device) == (idle ? FQ_GRANTED : FQ_NOT_DUE) && shown_of(driver, device).missed == before.missed, "a timer");
+    cards[device].timer = false;
+}
+
 /* What the driver says is done and reported, perhaps after other calls, or forgotten. */
 static bool one_thing(struct fq_driver *driver, uint32_t devices) {
     struct fq_todo todo = FQ_TODO_INIT;
@@ -137,6 +155,7 @@ static bool one_thing(struct fq_driver *driver, uint32_t devices) {
     const uint32_t device = below(4) ? todo.device : below(devices);
     if (below(4) == 0) arrives(&cards[device]);
     if (below(4) == 0) interrupts(driver, device);
+    if (below(4) == 0) expires(driver, device);
     if (below(16) == 0) (void)!fq_driver_stop(driver, device);
     if (below(16) == 0) (void)!fq_driver_open(driver, device);
     const uint32_t said = fq_driver_done(driver, &todo);
@@ -152,30 +171,49 @@ static void rests(struct fq_driver *driver, uint32_t devices) {
         const struct fq_device_shown shown = shown_of(driver, i);
         want(shown.state != FQ_DEVICE_STOPPING, "sleeps in a stop");
         if (shown.state == FQ_DEVICE_CLOSED) want(cards[i].masked, "a closed card is unmasked");
-        else want(!cards[i].masked && (cards[i].packets == 0 || cards[i].interrupting), "sleeps with packets");
+        else want(cards[i].masked ? cards[i].timer : cards[i].packets == 0 || cards[i].interrupting, "sleeps with packets");
     }
+}
+
+/* The devices have a smaller weight, deferral, busy polling or none, by turns. */
+static void set_devices(struct fq_driver *driver, uint32_t devices, uint32_t weight) {
+    for (uint32_t i = 0; i < devices; i++) {
+        const struct fq_device_settings settings = {0, 1 + (i + weight - 1) % weight, i & 1 ? 2 : 0, i & 1 ? 1000 : 0, i & 2 ? 3 : 0};
+        want(fq_driver_set(driver, i, settings) == FQ_OK, "the settings of a device");
+    }
+}
+
+/* Whether a timer was set, which expires now. */
+static bool any_expires(struct fq_driver *driver, uint32_t devices) {
+    uint32_t i = 0;
+    while (i < devices && !cards[i].timer) i++;
+    if (i < devices) expires(driver, i);
+    return i < devices;
 }
 
 static void random_calls(uint32_t devices, uint32_t budget, uint32_t weight, uint32_t window) {
     struct fq_driver driver = FQ_NONE;
     want(fq_driver_new(&driver, devices, budget, weight, window) == FQ_OK, "a driver");
-    for (uint32_t i = 0; i < DEVICES; i++) cards[i] = (struct card){true, false, 0, 0};
+    set_devices(&driver, devices, weight);
+    for (uint32_t i = 0; i < DEVICES; i++) cards[i] = (struct card){true, false, 0, 0, false};
     for (calls = 0; calls < 200000; calls++) {
         const uint32_t device = below(devices);
-        switch (below(9)) {
+        switch (below(10)) {
         case 0: arrives(&cards[device]); break;
         case 1: interrupts(&driver, device); break;
         case 2: (void)!(below(64) ? fq_driver_open(&driver, device) : fq_driver_stop(&driver, device)); break;
         case 3: fq_driver_end_run(&driver); break;
+        case 4: expires(&driver, device); break;
         default: (void)one_thing(&driver, devices); break;
         }
         if (below(32) == 0) rests(&driver, devices);
     }
     for (uint32_t i = 0; i < devices; i++) interrupts(&driver, i);
     struct fq_todo todo = FQ_TODO_INIT;
-    for (long more = 0; fq_driver_next(&driver, &todo) == FQ_OK && todo.what != FQ_TODO_SLEEP; more++) {
+    for (long more = 0; fq_driver_next(&driver, &todo) == FQ_OK && (todo.what != FQ_TODO_SLEEP || any_expires(&driver, devices)); more++) {
         act(&todo);
-        want(fq_driver_done(&driver, &todo) == FQ_OK && more < 10000000, "it comes to rest");
+        const enum fq_status said = fq_driver_done(&driver, &todo);
+        want((said == FQ_OK || todo.what == FQ_TODO_SLEEP) && more < 10000000, "it comes to rest");
     }
     rests(&driver, devices);
     for (uint32_t i = 0; i < devices; i++)
@@ -216,6 +254,10 @@ static void other_calls(struct fq_driver *driver, struct fq_driver *twin, uint32
         want(fq_driver_interrupt(driver, device) == fq_driver_interrupt(twin, device), "an interrupt of two drivers");
         cards[device].interrupting = false;
     }
+    if (below(2) == 0 && cards[device].timer) {
+        want(fq_driver_timer(driver, device) == fq_driver_timer(twin, device), "a timer of two drivers");
+        cards[device].timer = false;
+    }
     if (below(16) == 0) want(fq_driver_open(driver, device) == fq_driver_open(twin, device), "an open of two drivers");
     if (below(16) == 0) want(fq_driver_end_run(driver) == fq_driver_end_run(twin), "an end of two runs");
     if (below(64) == 0) want(fq_driver_stop(driver, device) == fq_driver_stop(twin, device), "a stop of two drivers");
@@ -228,7 +270,8 @@ static void random_steps(uint32_t devices, uint32_t budget, uint32_t weight, uin
     long made[FQ_BAD_WORK + 1] = {0};
     want(fq_driver_new_salted(&driver, devices, budget, weight, window, 7) == FQ_OK, "a driver");
     want(fq_driver_new_salted(&twin, devices, budget, weight, window, 7) == FQ_OK, "a driver with the same numbers");
-    for (uint32_t i = 0; i < DEVICES; i++) cards[i] = (struct card){true, false, 0, 0};
+    set_devices(&driver, devices, weight), set_devices(&twin, devices, weight);
+    for (uint32_t i = 0; i < DEVICES; i++) cards[i] = (struct card){true, false, 0, 0, false};
     for (calls = 0; calls < 200000; calls++) {
         if (below(3) == 0) other_calls(&driver, &twin, devices);
         else made[one_step(&driver, &twin, &todo)]++;
@@ -277,13 +320,14 @@ static void without_a_driver(void) {
     want(fq_list_new(&list.list) == FQ_OK, "a list");
     for (int i = 0; i < 2; i++) {
         struct fq_driver *const handle = i ? &list.driver : &none.driver;
-        const struct fq_todo fetch = {sizeof fetch, 7, FQ_TODO_FETCH, 1, 2, 3, FQ_OK, FQ_REARM_NO, {sizeof fetch.run, 4, 5, true}};
+        const struct fq_todo fetch = {sizeof fetch, 7, FQ_TODO_FETCH, 1, 2, 3, FQ_OK, FQ_REARM_NO, 0, {sizeof fetch.run, 4, 5, true}};
         todo = fetch;
         want(fq_driver_done(handle, &todo) == FQ_BAD_HANDLE && same_todo(&todo, &fetch), "a report without a driver");
         want(fq_driver_next(handle, &todo) == FQ_BAD_HANDLE && is_failed(&todo, FQ_BAD_HANDLE), "it fails");
         todo = fetch;
         want(fq_driver_step(handle, &todo) == FQ_BAD_HANDLE && is_failed(&todo, FQ_BAD_HANDLE), "a step fails");
         want(fq_driver_open(handle, 0) == FQ_BAD_HANDLE && fq_driver_stop(handle, 0) == FQ_BAD_HANDLE, "an open without a driver");
+        want(fq_driver_timer(handle, 0) == FQ_BAD_HANDLE && fq_driver_set(handle, 0, plain) == FQ_BAD_HANDLE, "a timer");
         want(fq_driver_interrupt(handle, 0) == FQ_BAD_HANDLE && fq_driver_show(handle, 0, &shown) == FQ_BAD_HANDLE, "an interrupt");
     }
     want(fq_driver_new(&list.driver, 1, 300, 64, 10) == FQ_IN_USE, "a driver in place of a list");
@@ -326,7 +370,7 @@ static void an_ended_run(void) {
     struct fq_driver driver = FQ_NONE;
     struct fq_todo todo = FQ_TODO_INIT;
     memset(cards, 0, sizeof cards);
-    cards[0] = cards[1] = (struct card){true, false, 100, 0};
+    cards[0] = cards[1] = (struct card){true, false, 100, 0, false};
     want(fq_driver_new(&driver, 2, 300, 64, 1024) == FQ_OK && fq_driver_open(&driver, 0) == FQ_OK && fq_driver_open(&driver, 1) == FQ_OK, "a driver");
     want(fq_driver_end_run(&driver) == FQ_NOT_DUE, "no run");
     for (; fq_driver_step(&driver, &todo) == FQ_OK && todo.what != FQ_TODO_FETCH; act(&todo)) {}
@@ -337,6 +381,72 @@ static void an_ended_run(void) {
     want(fq_driver_step(&driver, &todo) == FQ_OK && todo.what == FQ_TODO_FETCH && todo.device == 1, "the other device's turn");
     for (act(&todo); fq_driver_step(&driver, &todo) == FQ_OK && todo.what != FQ_TODO_SLEEP; act(&todo)) want(!todo.run.squeezed, "whole runs");
     want(cards[0].taken == 100 && cards[1].taken == 100 && fq_free(&driver.handle) == FQ_OK, "all packets");
+}
+
+/* The driver asks for what has to be done at the device, again and again. */
+static enum fq_what acts(struct fq_driver *driver, struct fq_todo *todo) {
+    act(todo);
+    want(fq_driver_step(driver, todo) == FQ_OK, "a step");
+    return todo->what;
+}
+
+/* A device of weight 8 whose interrupt is deferred twice: after a fetch with packets its timer is set twice, and then it is unmasked. */
+static void a_deferred_interrupt(void) {
+    struct fq_driver driver = FQ_NONE;
+    struct fq_todo todo = FQ_TODO_INIT;
+    memset(cards, 0, sizeof cards);
+    cards[0] = (struct card){true, false, 9, 0, false};
+    want(fq_driver_new(&driver, 1, 300, 64, 1024) == FQ_OK, "a driver");
+    want(fq_driver_set(&driver, 0, (struct fq_device_settings){0, 8, 2, 5000, 0}) == FQ_OK && fq_driver_open(&driver, 0) == FQ_OK, "a weight");
+    want(fq_driver_set(&driver, 0, plain) == FQ_NOT_DUE, "it is open");
+    while (acts(&driver, &todo) != FQ_TODO_FETCH) {}
+    want(todo.most == 8 && acts(&driver, &todo) == FQ_TODO_ENDED && acts(&driver, &todo) == FQ_TODO_FETCH, "a whole weight");
+    want(acts(&driver, &todo) == FQ_TODO_TIMER && todo.nanoseconds == 5000, "the first timer");
+    want(acts(&driver, &todo) == FQ_TODO_SLEEP && cards[0].masked && fq_driver_timer(&driver, 0) == FQ_GRANTED, "its expiry");
+    want(acts(&driver, &todo) == FQ_TODO_FETCH && acts(&driver, &todo) == FQ_TODO_TIMER && acts(&driver, &todo) == FQ_TODO_SLEEP, "the second timer");
+    want(fq_driver_timer(&driver, 0) == FQ_GRANTED && fq_driver_timer(&driver, 0) == FQ_NOT_DUE, "its expiry, twice");
+    want(acts(&driver, &todo) == FQ_TODO_FETCH && acts(&driver, &todo) == FQ_TODO_UNMASK, "no third one");
+    want(acts(&driver, &todo) == FQ_TODO_LOOK && acts(&driver, &todo) == FQ_TODO_SLEEP && !cards[0].masked, "the end of the deferral");
+    want(fq_driver_timer(&driver, 0) == FQ_GRANTED && acts(&driver, &todo) == FQ_TODO_MASK, "a timer that isn't set any more");
+    want(cards[0].taken == 9 && fq_free(&driver.handle) == FQ_OK, "all packets");
+}
+
+/* A device that is busy polled is polled again, masked, until three empty polls in a row; a fetch with packets starts the count again. */
+static void busy_polling(void) {
+    struct fq_driver driver = FQ_NONE;
+    struct fq_todo todo = FQ_TODO_INIT;
+    unsigned polls = 0;
+    memset(cards, 0, sizeof cards);
+    cards[0] = (struct card){true, false, 1, 0, false};
+    want(fq_driver_new(&driver, 1, 300, 64, 1024) == FQ_OK, "a driver");
+    want(fq_driver_set(&driver, 0, (struct fq_device_settings){0, 64, 0, 0, 3}) == FQ_OK && fq_driver_open(&driver, 0) == FQ_OK, "busy polling");
+    while (acts(&driver, &todo) != FQ_TODO_MASK) {}
+    while (acts(&driver, &todo) != FQ_TODO_UNMASK) {
+        want(todo.what == FQ_TODO_FETCH || todo.what == FQ_TODO_ENDED, "polls only");
+        polls += todo.what == FQ_TODO_FETCH;
+        if (polls == 3 && todo.what == FQ_TODO_FETCH) arrives(&cards[0]);
+    }
+    want(polls == 6 && cards[0].taken == 2 && !cards[0].interrupting, "1 and 2 packets, 3 empty polls after each");
+    want(acts(&driver, &todo) == FQ_TODO_LOOK && acts(&driver, &todo) == FQ_TODO_SLEEP && fq_free(&driver.handle) == FQ_OK, "interrupts again");
+}
+
+/* A device moves to another driver: stopped with packets left, it is closed there, and opened in the other one, which polls them. */
+static void a_moved_device(void) {
+    struct fq_driver from = FQ_NONE, to = FQ_NONE;
+    struct fq_todo todo = FQ_TODO_INIT;
+    memset(cards, 0, sizeof cards);
+    cards[0] = (struct card){true, false, 200, 0, false};
+    want(fq_driver_new(&from, 1, 300, 64, 1024) == FQ_OK && fq_driver_new(&to, 1, 300, 64, 1024) == FQ_OK, "two drivers");
+    want(fq_driver_open(&from, 0) == FQ_OK, "a device of the first");
+    while (acts(&from, &todo) != FQ_TODO_FETCH) {}
+    want(fq_driver_stop(&from, 0) == FQ_OK && acts(&from, &todo) == FQ_TODO_SLEEP, "it is stopped during a poll");
+    want(shown_of(&from, 0).state == FQ_DEVICE_CLOSED && cards[0].masked && cards[0].taken == 64 && cards[0].packets == 136, "it is closed");
+    want(fq_driver_open(&to, 0) == FQ_OK, "a device of the second");
+    for (todo = (struct fq_todo)FQ_TODO_INIT; acts(&to, &todo) != FQ_TODO_SLEEP;) {}
+    want(cards[0].taken == 200 && !cards[0].masked && shown_of(&to, 0).packets == 136, "the packets that were left");
+    for (arrives(&cards[0]), fq_driver_interrupt(&to, 0); acts(&to, &todo) != FQ_TODO_SLEEP;) {}
+    want(cards[0].taken == 201, "a packet after the move");
+    want(acts(&from, &todo) == FQ_TODO_SLEEP && fq_free(&from.handle) == FQ_OK && fq_free(&to.handle) == FQ_OK, "nothing is left");
 }
 
 /* A packet at each interrupt takes four calls: the interrupt, and steps to mask, to fetch, and to sleep. */
@@ -369,6 +479,9 @@ int main(int argc, char **argv) {
     mistakes();
     an_ended_run();
     four_calls();
+    a_deferred_interrupt();
+    busy_polling();
+    a_moved_device();
     program(goes_on);
     program(reports_and_asks);
     random_calls(1, 3, 2, 2);

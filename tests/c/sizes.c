@@ -38,9 +38,10 @@ static enum fq_status count(union any *of, union at *at) { return fq_count_sized
 static enum fq_status show_ring(union any *of, union at *at) { return fq_ring_show_sized(&of->ring, (struct fq_ring_shown *)at); }
 static enum fq_status finish(union any *of, union at *at) { return fq_ring_finish_sized(&of->ring, (struct fq_totals *)at); }
 static enum fq_status show_tx(union any *of, union at *at) { return fq_tx_state_sized(&of->tx, (struct fq_tx_shown *)at); }
-static enum fq_status count_seat(union any *of, union at *at) { return fq_caller_count_sized(&of->caller, (struct fq_answers *)at); }
+static enum fq_status count_caller(union any *of, union at *at) { return fq_caller_count_sized(&of->caller, (struct fq_answers *)at); }
 static enum fq_status end_run(union any *of, union at *at) { return fq_run_end_sized(&of->list, (struct fq_run_report *)at); }
 static enum fq_status show_device(union any *of, union at *at) { return fq_driver_show_sized(&of->driver, 0, (struct fq_device_shown *)at); }
+static enum fq_status set_device(union any *of, union at *at) { return fq_driver_set_sized(&of->driver, 0, (const struct fq_device_settings *)at); }
 static enum fq_status next(union any *of, union at *at) { return fq_driver_next_sized(&of->driver, &at->todo); }
 static enum fq_status reported(union any *of, union at *at, enum fq_status (*call)(union any *, struct fq_todo *)) {
     at->todo.number = due;
@@ -90,11 +91,11 @@ static const struct call {
     enum fq_status (*call)(union any *of, union at *at);
     enum fq_status right; /* what it returns for the right size */
 } calls[] = {CALL(count, &ring, fq_counts, FQ_OK), CALL(show_ring, &ring, fq_ring_shown, FQ_OK), CALL(finish, &ring, fq_totals, FQ_OK),
-    CALL(show_tx, &tx, fq_tx_shown, FQ_OK), CALL(count_seat, &caller[0], fq_answers, FQ_OK), CALL(end_run, &list, fq_run_report, FQ_OK),
+    CALL(show_tx, &tx, fq_tx_shown, FQ_OK), CALL(count_caller, &caller[0], fq_answers, FQ_OK), CALL(end_run, &list, fq_run_report, FQ_OK),
     CALL(show_device, &driver, fq_device_shown, FQ_OK), CALL(next, &driver, fq_todo, FQ_OK), CALL(done, &driver, fq_todo, FQ_OK),
-    CALL(step, &driver, fq_todo, FQ_NOT_DUE), CALL(replay, &none, fq_replayed, FQ_OK), CALL(raise_runs, &none, fq_replayed, FQ_OK),
+    CALL(step, &driver, fq_todo, FQ_NOT_DUE), CALL(set_device, &driver, fq_device_settings, FQ_BAD_WEIGHT), CALL(replay, &none, fq_replayed, FQ_OK), CALL(raise_runs, &none, fq_replayed, FQ_OK),
     CALL(machine, &none, fq_machine_ran, FQ_OK), CALL(machine_default, &none, fq_machine_settings, FQ_OK),
-    /* a settings struct of bytes that are all 1 has a weight, a budget and a window out of their ranges */
+    /* a settings struct of bytes that are all 1, as also that of set_device, has a weight, a budget and a window out of their ranges */
     CALL(replay_by, &none, fq_settings, FQ_BAD_WEIGHT), CALL(raise_by, &none, fq_settings, FQ_BAD_WEIGHT),
     CALL(machine_by, &none, fq_machine_settings, FQ_BAD_SETTING)};
 

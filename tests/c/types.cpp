@@ -318,6 +318,28 @@ static void drivers() {
     want(card.masked && driver.shown(1)->state == FQ_DEVICE_CLOSED, "a stop");
 }
 
+/* A card with a timer. */
+struct TimedCard : EdgeCard {
+    std::uint64_t wait = 0;
+    void timer(std::uint32_t, std::uint64_t nanoseconds) { wait = nanoseconds; }
+};
+
+static void drivers_with_timers() {
+    auto driver = Driver::make(2);
+    TimedCard card;
+    EdgeCard none;
+    want(driver && driver->set(0, {0, 64, 1, 5000, 0}) == FQ_OK && driver->set(2, {0, 64, 1, 5000, 0}) == FQ_BAD_DEVICE, "deferral");
+    want(driver->set(1, {0, 65, 0, 0, 0}) == FQ_BAD_WEIGHT && driver->timer(0) == FQ_NOT_DUE, "a weight, and a closed device");
+    want(driver->open(0) == FQ_OK && driver->set(0, {0, 64, 0, 0, 0}) == FQ_NOT_DUE, "an open device");
+    while (card.waiting > 0) static_cast<void>(driver->act(card));
+    const Todo failed = driver->act(none);
+    want(failed.what == FQ_TODO_FAILED && failed.status == FQ_NOT_ALLOWED, "cards without a timer");
+    while (driver->act(card)) {}
+    want(card.wait == 5000 && card.masked && driver->timer(0) == FQ_GRANTED, "a timer");
+    while (driver->act(card)) {}
+    want(!card.masked && card.taken == 100, "an unmask after it");
+}
+
 /* A card that is unmasked and looked at in a fetch. */
 struct RearmCard : EdgeCard {
     bool rearm(std::uint32_t) {
@@ -403,6 +425,7 @@ int main() {
     moved();
     words();
     drivers();
+    drivers_with_timers();
     drivers_that_rearm();
     steps_of_drivers();
     machines();

@@ -1,7 +1,8 @@
 #!/usr/bin/env bash
-# tests/cards/fetch.sh FOLDER: downloads QEMU, a Debian kernel and the guest's programs of tests/cards.sh by apt-get, and unpacks them into
-# FOLDER/root. It installs nothing: apt has its own settings and state in a scratch folder. 160 MB are downloaded, 300 MB unpacked. The
-# packages are those of the row `linux-cards` in tests/needs.txt, of Debian's release SUITE. Exit status: 0, or that of what failed.
+# tests/cards/fetch.sh FOLDER [--kernel]: downloads QEMU, a Debian kernel and the guest's programs of tests/cards.sh by apt-get, and unpacks
+# them into FOLDER/root; with --kernel only a kernel, into FOLDER. It installs nothing: apt has its own settings and state in a scratch
+# folder. 160 MB are downloaded, 300 MB unpacked. The packages are those of the row `linux-cards` in tests/needs.txt, of Debian's release
+# SUITE. Exit status: 0, or that of what failed.
 set -euo pipefail
 unset CDPATH
 top=$(dirname "$(dirname "$(dirname "$(readlink -f "$0")")")")
@@ -18,15 +19,24 @@ echo "deb [signed-by=$key] http://deb.debian.org/debian $suite main" > "$work/so
 own=(-q -o Dir::Etc::sourcelist="$work/sources" -o Dir::Etc::sourceparts=/dev/null -o Dir::State="$work/state"
      -o Dir::State::lists="$work/lists" -o Dir::State::status="$work/status" -o Dir::Cache="$work/cache" -o Acquire::Languages=none
      -o Debug::NoLocking=1 -o Acquire::http::Timeout=20 -o APT::Sandbox::User=root)
+# needed PACKAGE PATTERN: prints the packages with such a name that it depends on.
+needed() { apt-cache "${own[@]}" depends "$1" | sed -n "s/.*Depends: \($2\)\$/\1/p"; }
 apt-get "${own[@]}" update
-# the kernel without the packages that it depends on
-read -ra packages < <(awk '$1 == "linux-cards" { sub(/ *#.*/, ""); sub(/linux-image-amd64/, ""); $1 = ""; print }' "$top/tests/needs.txt")
-image=$(apt-cache "${own[@]}" depends linux-image-amd64 | sed -n 's/.*Depends: \(linux-image-[^ ]*\)$/\1/p' | head -n 1)
-apt-get -y -d --no-install-recommends "${own[@]}" install "${packages[@]}"
-(cd "$work/cache/archives" && apt-get "${own[@]}" download "$image")
+# the kernel without the packages that it depends on, but for those that it is split into
+image=$(needed linux-image-amd64 'linux-image-[^ ]*' | head -n 1)
+mapfile -t kernel < <(echo "$image"; needed "$image" 'linux-binary-[^ ]*'; needed "$image" 'linux-modules-[^ ]*')
+if [ "${2:-}" != --kernel ]; then
+    read -ra packages < <(awk '$1 == "linux-cards" { sub(/ *#.*/, ""); sub(/linux-image-amd64/, ""); $1 = ""; print }' "$top/tests/needs.txt")
+    apt-get -y -d --no-install-recommends "${own[@]}" install "${packages[@]}"
+fi
+(cd "$work/cache/archives" && apt-get "${own[@]}" download "${kernel[@]}")
 for deb in "$work"/cache/archives/*.deb; do
     dpkg-deb --fsys-tarfile "$deb" | tar -x -C "$work/root" --exclude='./usr/share/doc*' --exclude='./usr/share/man*' --exclude='./usr/share/locale*'
 done
 rm -rf "$folder"
-mkdir "$folder"
-mv "$work/root" "$folder/root"
+if [ "${2:-}" = --kernel ]; then
+    mv "$work/root" "$folder"
+else
+    mkdir "$folder"
+    mv "$work/root" "$folder/root"
+fi

@@ -15,7 +15,7 @@ HERE = Path(__file__).resolve().parent
 TOP = HERE.parent.parent
 PYTHON = "python3.13"
 # With those that they need; without veth, `ip` lists other devices as veth pairs.
-MODULES = ("e1000", "vmxnet3", "virtio_net", "virtio_blk", "veth")
+MODULES = ("e1000", "vmxnet3", "virtio_pci", "virtio_net", "virtio_blk", "veth")
 COMMANDS = "sh mount mkdir cat echo sleep insmod tar poweroff grep sed ls rm kill tr cut sync env dd true [".split()
 FOLDERS = "proc sys dev tmp run out bin sbin etc usr/sbin usr/bin lib lib64 modules rig fq".split()
 # Packages of Python that the guest doesn't need, and parts that are compiled.
@@ -54,14 +54,14 @@ class Archive:
 
 
 class Root:
-    """The unpacked packages."""
+    """The unpacked packages, and the folder that has the kernel."""
 
-    def __init__(self, folder: Path) -> None:
+    def __init__(self, folder: Path, linux: Path) -> None:
         self.folder = folder
         self.libraries = folder / "usr/lib/x86_64-linux-gnu"
         self.loader = folder / "usr/lib64/ld-linux-x86-64.so.2"
-        self.kernel = next(folder.glob("boot/vmlinuz-*"))
-        self.modules = next(folder.glob("usr/lib/modules/*"))
+        self.modules = next(each for part in ("usr/lib/modules/*", "lib/modules/*") for each in linux.glob(part))
+        self.kernel = next(each for part in (linux / "boot", self.modules) for each in part.glob("vmlinuz*"))
 
     def command(self, name: str) -> list[str]:
         """Returns the words that run a program of these packages here."""
@@ -145,13 +145,13 @@ def system_of(root: Root) -> bytes:
 
 
 def system_kept(root: Root) -> Path:
-    """Returns the file with that part, which is made once for these packages and this script."""
+    """Returns the file with that part, which is made once for this kernel, these packages and this script."""
     version = hashlib.sha256(Path(__file__).read_bytes()).hexdigest()[:12]
-    kept = root.folder.parent / f"system-{version}.cpio"
+    kept = root.folder.parent / f"system-{root.modules.name}-{version}.cpio"
     if not kept.exists():
         new = kept.with_suffix(f".{os.getpid()}")
         new.write_bytes(system_of(root))
-        for old in kept.parent.glob("system-*.cpio"):
+        for old in kept.parent.glob(f"system-{root.modules.name}-*.cpio"):
             old.unlink()
         new.rename(kept)
     return kept

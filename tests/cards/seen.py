@@ -1,6 +1,8 @@
 """What a recording of an emulated card shows: costs, arrivals at the card, and measured values."""
 
+import re
 import struct
+from collections import Counter
 from collections.abc import Iterable, Iterator, Sequence
 from math import sqrt
 from pathlib import Path
@@ -27,13 +29,13 @@ HEAD = ("kernel", "clock", *(f"device.{DEVICE}.{key}" for key in OF_DEVICE), "sy
 
 def frames_in(path: Path) -> Iterator[Frame]:
     """Yields the test packets of a capture."""
-    mac, udp, to = bytes.fromhex(emulation.MAC.replace(":", "")), 17, PORT.to_bytes(2, "big")
+    macs, udp, to = (bytes.fromhex(emulation.MAC.replace(":", "")), b"\xff" * 6), 17, PORT.to_bytes(2, "big")
     with open(path, "rb") as file:
         file.read(24)
         while len(front := file.read(16)) == 16:
             seconds, micros, have, _ = struct.unpack("<4I", front)
             data = file.read(have)
-            is_own = len(data) >= 50 and data[:6] == mac and data[12:14] == b"\x08\x00"
+            is_own = len(data) >= 50 and data[:6] in macs and data[12:14] == b"\x08\x00"
             if is_own and data[23] == udp and data[36:38] == to:
                 yield seconds * 10**9 + micros * 1000 - BEGAN, struct.unpack("<Q", data[42:50])[0]
 
@@ -61,9 +63,11 @@ def known_median(waits: Sequence[float]) -> tuple[float, float]:
 class Seen:
     """What a recording shows, with the arrivals at the card."""
 
-    def __init__(self, folder: Path, setting: emulation.Setting, frames: Iterable[Frame]) -> None:
+    def __init__(self, folder: Path, setting: emulation.Setting, frames: Iterable[Frame], cards: int = 1) -> None:
         self.path = folder / f"{setting.file}.rec"
-        self.receiving, self.interrupts, self.span = Receiving({DEVICE}, {"card"}), 0, (0, 0)
+        self.devices = [f"eth{number}" for number in range(cards)]
+        self.receiving, self.handler, self.span = Receiving(set(self.devices), {"card"}), "", (0, 0)
+        self.handled = Counter[str]()  # interrupts by the name of their handler
         stamps = rows_in(folder / f"{setting.file}.stamps")
         self.add_arrivals(frames, stamps, {row[0] for row in rows_in(folder / f"{setting.file}.read")})
         lost: list[str] = []
@@ -72,17 +76,35 @@ class Seen:
 
     def looks_at(self, name: str) -> list[Look]:
         """Returns what handles the events of this name."""
-        return [self.count_interrupt] if name == "irq_handler_entry" else []
+        looks: dict[str, Look] = {"irq_handler_entry": self.begin_interrupt, "irq_handler_exit": self.end_interrupt}
+        return [looks[name]] if name in looks else []
 
-    def count_interrupt(self, event: Event) -> None:
-        self.interrupts += f"name={DEVICE}" in event.said
+    def begin_interrupt(self, event: Event) -> None:
+        _, _, self.handler = event.said.partition("name=")
+
+    def end_interrupt(self, event: Event) -> None:
+        """Counts an interrupt, unless its handler left it to that of another card on the same line."""
+        self.handled[self.handler] += "ret=handled" in event.said
+
+    @property
+    def interrupts(self) -> int:
+        """Returns how many interrupts the cards raised. Handlers have the device's name, or another one, which the recording knows."""
+        known = {name for key, name in self.head.items() if re.fullmatch(rf"device\.({'|'.join(self.devices)})\.irq\.\d+\.name", key)}
+        return sum(count for name, count in self.handled.items() if name in known or name.startswith(tuple(self.devices)))
 
     def add_arrivals(self, frames: Iterable[Frame], stamps: list[tuple[int, ...]], read: set[int]) -> None:
         ahead = ahead_of(stamps)
         for time, number in sorted(frame for frame in frames if stamps[0][0] <= frame[0] <= stamps[-1][2]):
             self.receiving.append_packet(time - ahead, number in read, 0, "card", ANY)
 
+    def arrivals(self) -> str:
+        """Returns the arrivals. Each of several cards gets all packets."""
+        times, devices = self.receiving.sent, range(1, len(self.devices) + 1)
+        return predicting.arrivals_of((time for time in times for _ in devices), (device for _ in times for device in devices))
+
     def measured(self, packet: float) -> Measured:
+        if len(self.devices) > 1:
+            return self.counts()
         values = predicting.measured_of(self.receiving, self.head, packet=packet)
         pairs: list[tuple[str, Sequence[tuple[int, float]]]]
         pairs = [("delivered_p50", self.receiving.delivered(packet)), ("used_p50", self.receiving.used())]
@@ -92,9 +114,15 @@ class Seen:
                 values |= {f"{name}_low": round(known[0]), f"{name}_high": round(known[1])}
         return {**values, "interrupts": self.interrupts}
 
+    def counts(self) -> Measured:
+        """Returns what is known of several cards."""
+        values = predicting.measured_of(self.receiving, self.head)
+        counts = {name: values[name] for name in ("polls", "runs", "squeezed", "timers")}
+        return {"sent": len(self.devices) * values["sent"], **counts, "interrupts": self.interrupts}
+
     def costs(self) -> dict[str, int]:
         """Returns the costs by `fintaqush costs`, with the interrupt from the arrival at the card."""
-        found = costs.object_in(str(self.path), [DEVICE])["costs"]
+        found = costs.object_in(str(self.path), self.devices)["costs"]
         values = {name.replace("_", "-"): cost["value"] for name, cost in found.items()}
         entries = self.receiving.entries[self.receiving.processor]
         if interrupt := card_costs.arrival_interrupt_cost(self.receiving.sent, entries):

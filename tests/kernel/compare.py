@@ -266,12 +266,10 @@ def batches(traces: Iterator[Trace], size: int) -> Iterator[list[Trace]]:
 def main() -> int:
     global SIDES
     words = argparse.ArgumentParser(usage=__doc__)
-    words.add_argument("program")
-    words.add_argument("series")
-    words.add_argument("kernel")
-    words.add_argument("--traces", type=int, default=5000)
-    words.add_argument("--small", type=int, default=4)
-    words.add_argument("--seed", type=int, default=1)
+    for name in ("program", "series", "kernel"):
+        words.add_argument(name)
+    for name, usual in (("traces", 5000), ("small", 4), ("seed", 1)):
+        words.add_argument(f"--{name}", type=int, default=usual)
     words.add_argument("--stop", action="store_true")
     given = words.parse_args()
     SIDES = Sides(given.program, given.series, given.kernel)

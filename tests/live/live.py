@@ -232,11 +232,6 @@ def judged_lines(lines: list[Line], skipped: Skipped, is_good: bool = True) -> I
             skipped.add("live", f"{line.setting}: {QUIET}: {why}")
 
 
-def is_off(lines: list[Line]) -> bool:
-    """Whether a prediction differs by more than it may."""
-    return any(abs(line.error) > line.limit for line in lines)
-
-
 def predicted_lines(program: str, group: Group, kept: dict[str, Any]) -> tuple[list[Line], list[Line]]:
     """The lines of the base, and those of the settings that are predicted from it."""
     return (lines_of(program, group.base, own_check(group), kept),
@@ -261,7 +256,7 @@ def recorded_group(program: str, group: Group, until: float) -> tuple[dict[str, 
         for _ in range(2):
             kept = kept_of(group, Recordings(Path(scratch), until).of(group))
             own, lines = predicted_lines(program, group, kept)
-            if not is_off(lines):
+            if all(abs(line.error) <= line.limit for line in lines):
                 break
     return kept, own, lines
 

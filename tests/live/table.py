@@ -18,7 +18,7 @@ from judging import read_kept
 from fintaqush_tools.pictures import LIGHT, canvas, saved
 
 sys.path.append(str(TOP / "scripts"))
-from parts import with_part  # noqa: E402
+from parts import has_part  # noqa: E402
 
 BEGIN, END = "<!-- predicted and measured: begin -->", "<!-- predicted and measured: end -->"
 NAMES = {"dropped": "packets dropped", "polls": "polls", "runs": "runs", "squeezed": "squeezed runs",
@@ -40,14 +40,14 @@ def rows_of(program: str) -> Iterator[tuple[str, list[Line], list[Line]]]:
         yield group.base.name, *predicted_lines(program, group, read_kept(HERE / f"kept/{place + 1}"))
 
 
-def table_of(program: str) -> str:
-    """The table as a page has it."""
+def table_of(program: str) -> list[str]:
+    """The lines of the table as a page has it."""
     lines = ["| Setting | Predicted from a recording with | Value | Predicted | Measured: median of three, range | Difference |",
              "|---|---|---|---|---|---|"]
     for base, _, predicted in rows_of(program):
         lines += [f"| {line.setting} | {base} | {NAMES[line.name]} | {text_of(line.name, line.predicted)} | {text_of(line.name, line.median)}, "
                   f"{text_of(line.name, min(line.measured))} to {text_of(line.name, max(line.measured))} | {line.error:+.1f} % |" for line in predicted]
-    return "\n".join(lines) + "\n"
+    return lines
 
 
 def label_of(line: Line, is_named: bool) -> str:
@@ -89,17 +89,12 @@ def draw_panel(axes: Any, title: str, lines: list[Line], is_named: bool) -> None
 
 
 def main(program: str, what: str = "", path: str = "") -> int:
-    table = table_of(program) if what != "--draw" else ""
     if what == "--draw":
         draw(program, path)
     elif what in ("--into", "--check"):
-        old = Path(path).read_text(encoding="utf-8")
-        new = with_part(old, BEGIN, END, table.splitlines())
-        if what == "--check":
-            return old != new
-        Path(path).write_text(new, encoding="utf-8")
+        return not has_part(Path(path), BEGIN, END, table_of(program), what == "--into")
     else:
-        print(table, end="")
+        print(*table_of(program), sep="\n")
     return 0
 
 

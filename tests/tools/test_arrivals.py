@@ -8,7 +8,7 @@ import struct
 from typing import Union
 
 import test_tools
-from tooltest import HAS_MACHINE, HERE, MACHINE, START, TOP, InFolder, process, run
+from tooltest import ENTRY, EXIT, HAS_MACHINE, HERE, MACHINE, START, TOP, InFolder, captured, ftrace, polled, process, run, sent
 
 HEADER = "ns,device,bytes\n"
 
@@ -36,14 +36,9 @@ class Arrivals(InFolder):
 @HAS_MACHINE
 class FromPcap(Arrivals):
     # In nanoseconds, out of order; also an outgoing packet, a broadcast, a multicast, and one for another machine.
-    TEXT = """100.000000001 eth0  In  ifindex 2 02:00:00:00:00:01 ethertype IPv4 (0x0800), length 60: 10.0.0.1 > 10.0.0.2: UDP
-100.000002001 eth1  In  ifindex 3 02:00:00:00:00:01 ethertype IPv4 (0x0800), length 62: 10.0.0.1 > 10.0.0.2: UDP
-100.000001501 eth0  Out ifindex 2 02:00:00:00:00:02 ethertype IPv4 (0x0800), length 61: 10.0.0.2 > 10.0.0.1: UDP
-100.000001001 eth0  B   ifindex 2 02:00:00:00:00:01 ethertype IPv4 (0x0800), length 63: 10.0.0.1 > 10.0.0.255: UDP
-100.000003001 eth0  M   ifindex 2 02:00:00:00:00:01 ethertype IPv4 (0x0800), length 64: 10.0.0.1 > 224.0.0.1: UDP
-100.000004001 eth0  P   ifindex 2 02:00:00:00:00:01 ethertype IPv4 (0x0800), length 65: 10.0.0.1 > 10.0.0.9: UDP
-101.000000001 eth1  In  ifindex 3 02:00:00:00:00:01 ethertype IPv4 (0x0800), length 66: 10.0.0.1 > 10.0.0.2: UDP
-"""
+    TEXT = (captured("100.000000001") + captured("100.000002001", 62, "eth1") + captured("100.000001501", 61, way="Out")
+            + captured("100.000001001", 63, way="B") + captured("100.000003001", 64, way="M") + captured("100.000004001", 65, way="P")
+            + captured("101.000000001", 66, "eth1"))
     ROWS = ["0,1,60", "1000,1,63", "2000,2,62", "1000000000,2,66"]
 
     def test_interfaces(self) -> None:
@@ -85,8 +80,7 @@ class FromPcap(Arrivals):
         ends = ("10.0.0.1.5000 > 10.0.0.2.9: UDP, length 18", "10.0.0.1.5001 > 10.0.0.2.9: UDP, length 18", "10.0.0.1.5000 > 10.0.0.2.9: UDP, length 19",
                 "Request who-has 10.0.0.2 tell 10.0.0.1, length 46", "vlan 5, p 0, ethertype IPv4 (0x0800), 10.0.0.1.5001 > 10.0.0.2.9: UDP, length 18",
                 "fe80::1.7 > fe80::2.9: UDP, length 3")
-        text = "".join(f"100.00000{place} eth0  In  ifindex 2 02:00:00:00:00:01 ethertype IPv4 (0x0800), length 60: {each}\n" for place, each in enumerate(ends))
-        self.write("recorded", text)
+        self.write("recorded", "".join(captured(f"100.00000{place}", said=each) for place, each in enumerate(ends)))
         self.succeeds("from-pcap", "recorded", "made", "--arrivals", "--flows", folder=self.folder)
         first, *rows = (self.folder / "made.csv").read_text().splitlines()
         flows = [row.split(",")[3] for row in rows]
@@ -103,13 +97,12 @@ class FromPcap(Arrivals):
         self.assertEqual(run("from-pcap", "recorded", "none", "--flows", folder=self.folder).returncode, 64)
 
     def test_more_packets_than_a_trace_has(self) -> None:
-        line = "{}.{:06} eth0  In  ifindex 2 02:00:00:00:00:01 ethertype IPv4 (0x0800), length 60: UDP\n"
-        rows, _, said = self.made("from-pcap", "".join(line.format(100 + place // 10**6, place % 10**6) for place in range(120000)))
+        rows, _, said = self.made("from-pcap", "".join(captured(f"100.{place:06}") for place in range(120000)))
         self.assertEqual((len(rows), rows[-1], said), (120000, "119999000,1,60", "made.csv: 1 devices, 120000 rows; 1 note in made.notes:\n  device 1 is eth0, 120000 packets\n"))
 
     def test_refusals(self) -> None:
-        self.fails("no packet arrives in it", "from-pcap", "-", self.folder / "made", "--arrivals", text=self.TEXT.splitlines(True)[2])
-        many = "".join(f"100.{place:06} eth{place}  In  ifindex 2 02:00:00:00:00:01 ethertype IPv4 (0x0800), length 60: UDP\n" for place in range(4097))
+        self.fails("no packet arrives in it", "from-pcap", "-", self.folder / "made", "--arrivals", text=captured("100.000000", way="Out"))
+        many = "".join(captured(f"100.{place:06}", name=f"eth{place}") for place in range(4097))
         self.fails("4097 devices, and arrivals have at most 4096", "from-pcap", "-", self.folder / "made", "--arrivals", text=many)
         self.assertEqual(self.names(), [])
 
@@ -134,13 +127,10 @@ class FromFtrace(Arrivals):
 
     def test_packets_that_the_polling_processor_sends(self) -> None:
         """Two packets are sent on processor 1 and polled there by the next softirq, one while that runs; one more by a thread; two on processor 0."""
-        said = [(1, 1, "net_dev_xmit: dev=va1 skbaddr=0 len=60 rc=0"), (2, 1, "net_dev_xmit: dev=va1 skbaddr=0 len=60 rc=0"), (3, 0, "net_dev_xmit: dev=va1 skbaddr=0 len=60 rc=0"),
-                (9, 1, "softirq_entry: vec=3 [action=NET_RX]"), (10, 1, "net_dev_xmit: dev=va1 skbaddr=0 len=60 rc=0"),
-                (12, 1, "napi_poll: napi poll on napi struct 0 for device vb1 work 4 budget 64"), (13, 1, "softirq_exit: vec=3 [action=NET_RX]"),
-                (20, 0, "net_dev_xmit: dev=va1 skbaddr=0 len=60 rc=0"), (21, 1, "net_dev_xmit: dev=va1 skbaddr=0 len=60 rc=0"),
-                (25, 1, "napi_poll: napi poll on napi struct 0 for device vb1 work 2 budget 64")]
-        text = "".join(f"{('napi/vb1-9' if time == 25 else 'a').rjust(16)}-7 [{cpu:03}] b....  5.{time:06}: {what}\n" for time, cpu, what in said)
-        self.write("recorded", text)
+        said = [(1, 1, sent("va1")), (2, 1, sent("va1")), (3, 0, sent("va1")), (9, 1, ENTRY), (10, 1, sent("va1")), (12, 1, polled("vb1", 4)),
+                (13, 1, EXIT), (20, 0, sent("va1")), (21, 1, sent("va1"))]
+        text = "".join(ftrace((time, what), cpu=cpu, flags="b....") for time, cpu, what in said)
+        self.write("recorded", text + ftrace((25, polled("vb1", 2)), task="napi/vb1-9-7", cpu=1, flags="b...."))
         self.succeeds("from-ftrace", "recorded", "made", "--arrivals", folder=self.folder)
         times = [int(row.split(",")[0]) // 1000 + 3 for row in (self.folder / "made.csv").read_text().splitlines()[1:]]
         self.assertEqual(times, [3, 9, 9, 10, 20, 21])
@@ -148,10 +138,10 @@ class FromFtrace(Arrivals):
     def test_a_recording_made_in_trouble(self) -> None:
         """Of 121 packets a backlog of 6 dropped three, which also arrived. The file names the pair; the rows follow its lines."""
         text = (TOP / "examples/veth-backlog.rec").read_text()
-        sent = re.findall(r" (\d+)\.(\d{9}): net_dev_xmit: dev=va7 skbaddr=\S+ len=(\d+) rc=[01]$", text, re.M)
-        times = [int(whole) * 10**9 + int(part) for whole, part, _ in sent]
+        found = re.findall(r" (\d+)\.(\d{9}): net_dev_xmit: dev=va7 skbaddr=\S+ len=(\d+) rc=[01]$", text, re.M)
+        times = [int(whole) * 10**9 + int(part) for whole, part, _ in found]
         rows, notes, said = self.made("from-ftrace", text)
-        self.assertEqual(rows, [f"{time - times[0]},1,{size}" for time, (_, _, size) in zip(times, sent)])
+        self.assertEqual(rows, [f"{time - times[0]},1,{size}" for time, (_, _, size) in zip(times, found)])
         self.assertEqual(notes, ["device 1 is vb7, 121 packets", "device 2 is va7, 0 packets", "a row: packets that a full ring or backlog dropped: va7, 3"])
         self.assertEqual(said, "made.csv: 2 devices, 121 rows; 3 notes in made.notes:\n" + "".join(f"  {note}\n" for note in notes))
         softnet = dict(re.findall(r"^(softnet\.\d\.dropped) (\d+ \d+)$", text, re.M))
@@ -201,8 +191,8 @@ class FromFtrace(Arrivals):
 
     def test_another_pair_on_the_machine(self) -> None:
         """A file of fintaqush record names its devices, so packets of a pair that is called as in the examples aren't its arrivals."""
-        sent = "".join(f"            prog-7       [002] .....     5.{time:09}: net_dev_xmit: dev=va1 skbaddr=0 len=99 rc=0\n" for time in (1, 7))
-        body = self.of_a_card() + sent
+        others = "".join(f"            prog-7       [002] .....     5.{time:09}: {sent('va1', 99)}\n" for time in (1, 7))
+        body = self.of_a_card() + others
         lines = body.count("\n")
         self.assertEqual({row.split(",")[2] for row in self.made("from-ftrace", body)[0]}, {"99"})
         head = f"fintaqush-recording 1\ndevice eth0\nlost 0\nlines {lines}\ntrace\n"
@@ -239,7 +229,7 @@ class FromFtrace(Arrivals):
     def test_recordings_that_it_refuses(self) -> None:
         """Each fails with one line, and no file is written."""
         text = (TOP / "examples/veth-backlog.rec").read_text()
-        event = "   a-1  [000] b....  5.000001: net_dev_xmit: dev=va1 skbaddr=0 len=61 rc=0\n"
+        event = ftrace((1, sent("va1", 61)), flags="b....")
         without = re.sub(r".*net_dev_xmit: .*\n", "", text)
         lines = sum(not line.startswith("#") for line in without.split("\ntrace\n")[1].splitlines())
         without = without.replace("\nlines 623\n", f"\nlines {lines}\n")
@@ -313,16 +303,6 @@ class Traffic(Arrivals):
         self.assertTrue(len(counts) == 4 and all(abs(each - len(rows) / 4) < 165 for each in counts), counts)
         self.assertEqual(run("traffic", "--flows", "8").returncode, 64)
 
-    def test_the_seed_decides(self) -> None:
-        """The same seed has the same rows, and another one has other times; each device has times of its own."""
-        for kind in ("constant", "poisson", "bursts"):
-            words = ["--kind", kind, "--devices", "2", "--rate", "2000", "--seed"]
-            self.assertEqual(self.rows(*words, 1), self.rows(*words, 1))
-            times = [{(device, moment) for moment, device, _ in self.rows(*words, seed)} for seed in (1, 2)]
-            self.assertLess(len(times[0] & times[1]), len(times[0]) / 10, kind)
-            of = [{moment for device, moment in times[0] if device == number} for number in (1, 2)]
-            self.assertLess(len(of[0] & of[1]), len(of[0]) / 10, kind)
-
     def test_words_that_it_refuses(self) -> None:
         for words in (["--mix", "tx=1"], ["--devices", "4097"], ["--devices", "0"]):
-            self.assertEqual(run("traffic", "--arrivals", *words).returncode, 64)
+            self.ends_with(64, "traffic", "--arrivals", *words)

@@ -18,6 +18,7 @@ import cards
 import judging
 import live
 import rig
+import tried
 
 from fintaqush_tools import advice, bands, choosing, predicting
 from fintaqush_tools.bands import Doubt
@@ -55,8 +56,8 @@ def of_veth() -> Iterator[Case]:
 
 def of_cards() -> Iterator[Case]:
     """Yields the settings on emulated cards. The costs of timers are from another recording, so they aren't used."""
-    for card in cards.CARDS:
-        kept = judging.read_kept(cards.KEPT / card.driver)
+    for card in tried.CARDS:
+        kept = judging.read_kept(cards.KEPT / card.name)
         costs = {name: cost for name, cost in kept["costs"].items() if not name.startswith("timer")}
 
         def predict(costs: Mapping[str, int], setting: Any, card: Any = card, kept: Any = kept) -> Values:
@@ -274,11 +275,31 @@ class Coalescing(unittest.TestCase):
             self.assertEqual(list(advice.unmodelled_in(head, "eth0")), ["this napi_machine lacks --rx-gap 249856 of e1000"])
 
 
+class Ratios(unittest.TestCase):
+    """Processors on which polls take longer."""
+
+    @HAS_MACHINE
+    def test_each_has_its_own_times(self) -> None:
+        """A packet for each waits 1000 ns for the interrupt and 2500 in its poll, and on the second processor twice these. Each is used in 100 ns."""
+        costs = {"interrupt": 1000, "poll": 2000, "packet": 500, "use": 100, "wake": 0}
+        predictions = choosing.Predictions(MACHINE, costs, "ns,device,bytes\n0,1,60\n0,2,60\n", {1, 2})
+        predictions.doubt = Doubt(costs, [], {})
+        for ratios, waits in (((), [3500, 3500]), ((1.0, 2.0), [3500, 6000]), ((2.0, 1.0), [6000, 3500])):
+            predictions.ratios = ratios
+            found = [each["delivered_p50"] for each in predictions.on({"processors": 2})]
+            self.assertTrue(all(abs(one - other) < 8 for one, other in zip(found, waits)), (ratios, found))
+            values = predictions.of({"processors": 2})
+            self.assertEqual([values[name] for name in ("arrived", "lost", "used", "polls", "runs")], [2, 0, 2, 2, 2])
+        self.assertEqual(predictions.on_others("ns,device,bytes\n", set()).ratios, (2.0, 1.0))
+        self.assertEqual(predictions.of({"processors": 1})["delivered_p50"], predicting.predicted(MACHINE, predictions.layouts[0][0], costs)["delivered_p50"])
+
+
 class Choices(unittest.TestCase):
     """Which of several settings is advised. A setting's name has a letter for each change; with an A it moves the program."""
 
-    def chosen(self, goal: str, *settings: tuple[Any, ...]) -> str:
+    def chosen(self, goal: str, *settings: tuple[Any, ...], measured: float = 0) -> str:
         predictions = MadeUp(goal, *settings)
+        predictions.doubt = Doubt({}, [("used_p99", measured, 0, 0)], {})
         tried = [{"apart": int("A" in name), **{letter: int(letter in name) for letter in "xyz"}} for name, *_ in settings]
         predictions.names = {tuple(options.values()): name for options, (name, *_) in zip(tried, settings)}
         words = Words(goal=goal, max_drops=None, p99_below=None)
@@ -293,6 +314,16 @@ class Choices(unittest.TestCase):
         self.assertEqual(self.chosen("p99", ("-", 50), ("xA", 27.0), ("x", 29.0)), "xA")
         self.assertEqual(self.chosen("p99", ("-", 27.5), ("x", 27.0)), "-")
         self.assertEqual(self.chosen("cpu", ("-", 4), ("x", 2.5), ("xA", 2.5), ("y", 2.4)), "y")
+        choice = choosing.Choice.__new__(choosing.Choice)
+        choice.now = {"defer-hard-irqs": 2, "gro-flush-timeout": 100_000, "ring": 64}
+        for defer, flush, ring, count in ((2, 20_000, 64, 1), (0, 0, 64, 1), (0, 0, 256, 2)):  # both of deferral are one change
+            self.assertEqual(choice.changes_of({"defer-hard-irqs": defer, "gro-flush-timeout": flush, "ring": ring}), (False, count))
+
+    def test_a_percentile_that_is_missed(self) -> None:
+        """A 99th percentile was missed by 10 us: less than that is no reason for a change, and no miss of more than 30 us counts. Other goals don't ask."""
+        settings = ("-", 29_000), ("x", 20_000)
+        self.assertEqual([self.chosen("p99", *settings, measured=10_000), self.chosen("p99", *settings, measured=8000), self.chosen("p50", *settings, measured=10_000)], ["-", "x", "x"])
+        self.assertEqual(self.chosen("p99", ("-", 60_000), ("x", 20_000), measured=90_000), "x")
 
     def test_what_the_costs_leave_open(self) -> None:
         """With costs 20 % lower x is as good as xy; z is never."""

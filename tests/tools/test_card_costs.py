@@ -99,6 +99,25 @@ class Known(unittest.TestCase):
         cost = card_costs.arrival_interrupt_cost(arrivals, softirqs)
         self.assertEqual((cost and cost.value, cost and cost.count), (5005, 9))
 
+    def gaps(self, gap: int, late: int, phases: Sequence[int]) -> int:
+        """Returns the least time of a card that interrupts `late` ns after each arrival, but no sooner than `gap` after the last interrupt. After
+        each interrupt packets come by these phases, and a poll takes 20 us."""
+        now, arrivals, interrupts = 0, [], [0]
+        for phase in phases:
+            arrivals.append(now + phase)
+            now = max(now + phase + late, now + gap)
+            interrupts.append(now)
+        return card_costs.least_gap(arrivals, interrupts, [each + 20_000 for each in interrupts])
+
+    def test_the_least_time_between_interrupts(self) -> None:
+        phases = [25_000 + 7000 * (each % 13) for each in range(40)]
+        self.assertEqual(self.gaps(128_000, 1000, phases), 128_000)
+        self.assertEqual(self.gaps(128_000, 1000, phases[:5]), 0, "too few")
+        self.assertEqual(self.gaps(128_000, 1000, [10_000, 300_000] * 20), 0, "during polls, and after that time")
+        self.assertEqual(self.gaps(0, 1000, phases), 0, "none")
+        self.assertEqual(self.gaps(0, 50_000, phases), 0, "a card's timer, which the packet starts")
+        self.assertEqual(self.gaps(0, 50_000, [100_000] * 40), 0, "a processor that wakes late, and packets at one distance")
+
     def test_the_timeouts_that_timers_were_measured_at(self) -> None:
         head = {"device.a.gro_flush_timeout": "100000", "device.b.gro_flush_timeout": "0", "device.c.gro_flush_timeout": "20000"}
         self.assertEqual(card_costs.timeouts_of(head, ["a", "b", "d"]), [100000])

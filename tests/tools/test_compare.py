@@ -1,8 +1,11 @@
-"""Tests of how fintaqush compare compares results and recordings, and of the form of all results as JSON. Expected values are written by hand."""
+"""Tests of how fintaqush compare compares results and recordings, of the conditions of --fail-if, and of the form of all results as JSON.
+Expected values are written by hand."""
 
 from __future__ import annotations
 
+import contextlib
 import gzip
+import io
 import json
 import unittest
 from pathlib import Path
@@ -10,9 +13,10 @@ from typing import Any
 
 from tooltest import HAS_MACHINE, HERE, NO_WORDS, TOP, InFolder, run
 
-from fintaqush_tools import comparing, results
+from fintaqush_tools import comparing, results, thresholds
 from fintaqush_tools.comparing import Value
 from fintaqush_tools.errors import Refusal
+from fintaqush_tools.options import Parser
 
 RECORDED = HERE / "recorded-apart.rec"
 ARRIVALS = "ns,device,bytes\n" + "".join(f"{1000 * place},1,60\n" for place in range(50))
@@ -30,6 +34,28 @@ class Noise(unittest.TestCase):
             self.assertEqual(comparing.Change("", "x", Value(100, 3), Value(after, 4)).verdict(), verdict)
         self.assertEqual(comparing.Change("", "x", Value(100, None), Value(900, 4)).verdict(), "noise unknown")
         self.assertIsNone(comparing.Change("", "x", Value(0), Value(1)).percent)
+
+
+class Conditions(unittest.TestCase):
+    VALUES = {"dropped": 3, "p99": 250_000, "use_percent": 40.5}
+
+    def conditions(self, *texts: str) -> list[thresholds.Condition]:
+        parser = Parser()
+        thresholds.add_fail_if(parser, list(self.VALUES), ["p99"])
+        found: list[thresholds.Condition] = parser.parse_args([word for text in texts for word in ("--fail-if", text)]).fail_if
+        return found
+
+    def test_which_hold(self) -> None:
+        """A time without a unit is in ns, a share in percent with and without its sign."""
+        holds = ["dropped>2", "p99>200us", "p99 > 0.2ms", "p99>=250000", "p99>249999ns", "use_percent>40%", "use_percent>40", "use_percent<=40.5"]
+        fails = ["dropped>3", "p99>250us", "p99>1s", "use_percent>41%", "use_percent>41"]
+        self.assertEqual([it.holds(self.VALUES) for it in self.conditions(*holds, *fails)], [True] * len(holds) + [False] * len(fails))
+
+    def test_units_that_a_value_has_not(self) -> None:
+        for text in ("dropped>1%", "dropped>1us", "p99>1%", "use_percent>1us", "use%>1", "other>1", "p99>", "p99>-1"):
+            with contextlib.redirect_stderr(io.StringIO()), self.assertRaises(SystemExit, msg=text) as end:
+                self.conditions(text)
+            self.assertEqual(end.exception.code, 64)
 
 
 class Files(InFolder):
@@ -107,8 +133,6 @@ class Files(InFolder):
 class Json(InFolder):
     def test_all_results_have_one_form(self) -> None:
         """Each object begins with the version and the tool; --json FILE writes the file and prints as without it."""
-        (self.folder / "arrivals.csv").write_text(ARRIVALS)
-        report = "device 1 on arrived 0 dropped 0 polled 0 bytes 0 left 0 polls 0\nnapi 1 granted 0 missed 0 disabled 0 again 0 released 0 word 0\nlist\ntotal devices 1 runs 0 polls 0 work 0 squeezed 0\n"
         calls: dict[str, list[object]] = {"costs": [RECORDED], "compare": [RECORDED, RECORDED]}
         for name, words in calls.items():
             plain = self.succeeds(name, *words)
@@ -116,8 +140,6 @@ class Json(InFolder):
             lines = (self.folder / "out.json").read_text().splitlines()
             self.assertTrue(lines and all(list(json.loads(line).items())[:2] == [("version", 1), ("tool", name)] for line in lines))
             self.assertEqual(self.succeeds(name, *words, "--json").splitlines(), lines)
-        lines = self.succeeds("json", text=report).splitlines()
-        self.assertTrue(all(list(json.loads(line).items())[:2] == [("version", 1), ("tool", "replay")] for line in lines))
 
     @HAS_MACHINE
     def test_predictions(self) -> None:

@@ -112,6 +112,8 @@ class Costs(InFolder):
         self.assertIn("poll 1200 ns (0 to 2400), packet 1200 ns (0 to 2400): each of 40 polls took 1 packet, so only what they cost together is known, 2400 ns "
                       "(2400 to 2400); half of that counts for the poll. Traffic of which some polls take several packets separates them", told)
         self.assertTrue(told.endswith("--poll 1200 --packet 1200\n"), told)
+        few = self.told(polls_of([(1, 2400)] * 198 + [(2, 90_000)] * 2))  # of which a line would be through 90 us
+        self.assertIn("poll 1200 ns (0 to 2400), packet 1200 ns (0 to 2400): nearly each of 200 polls took 1 packet, so only", few)
         for polls, is_separated, packet in (([(3, 3300)] * 40, 0, {"value": 550, "low": 0, "high": 1100}), ([(3, 3200), (1, 2400)] * 20, 1, {"value": 400, "low": 400, "high": 400})):
             found = json.loads(self.told(polls_of(polls), "--json"))
             self.assertEqual((found["is_separated"], {key: found["costs"]["packet"][key] for key in packet}), (is_separated, packet))
@@ -121,6 +123,8 @@ class Costs(InFolder):
         fast = polls_of([(work, 1000 + 100 * work + off) for work in range(1, 10) for off in (-10, 0, 10)] * 4)
         slow = polls_of([(work, 1700 + 100 * work + off) for work in range(1, 10) for off in (-10, 0, 10)] * 2).replace("[001]", "[002]")
         told = self.told(fast + slow.replace(" 1.", " 3."))
+        ratios = {each["processor"]: each["ratio"] for each in json.loads(self.told(fast + slow.replace(" 1.", " 3."), "--json"))["ratios"]}
+        self.assertAlmostEqual(ratios[2] / ratios[1], 2200 / 1500, places=1)  # of the median polls, with five packets
         self.assertRegex(told, r"\non processor 2 54 polls take (69\d|70\d) ns more than polls of as many packets on all\n")
         self.assertNotIn("on processor 1 ", told)
         self.assertNotIn("on processor", self.told(fast + fast.replace("[001]", "[002]").replace(" 1.", " 3.")))

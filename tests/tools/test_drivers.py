@@ -59,6 +59,9 @@ class Drivers(unittest.TestCase):
             wanted |= {"modes"} if driver.modes else set()
             wanted |= {"takes"} if driver.takes else set()
             wanted |= {"spare"} if driver.spare else set()
+            if name != "vmxnet3":  # whose card decides it
+                wanted |= {"latched"} if driver.latched is not None else set()
+                wanted |= {"latched, MSI-X"} if driver.latched_msix not in (None, driver.latched) else set()
             self.assertLessEqual(wanted - ({"heedless"} if name == "veth" else set()), facts, name)
 
     def test_options_of_a_card(self) -> None:
@@ -69,6 +72,26 @@ class Drivers(unittest.TestCase):
         with_lro = {"ethtool.feature.large-receive-offload": "on", "irq.26.name": "eth0-rxtx-0"}
         self.assertEqual(self.options(head_of("vmxnet3", 0, with_lro), *names), (0, 0, 0, 1, 0, 1))
         self.assertEqual(self.options(head_of("e1000e", 3), "rx-gap", "rx-nsecs"), (0, 0))
+
+    def test_a_card_that_keeps_a_longer_time(self) -> None:
+        """QEMU's e1000 keeps 128 us between interrupts. A driver whose rx-usecs is no such time has none. With 3 the driver chooses the time."""
+        mode = head_of("e1000", 3, {drivers.LEAST: "128000"})
+        self.assertEqual((self.options(mode, "rx-gap"), drivers.coalescing_of(mode, "eth0", (0,))), ((128_000,), [{"rx-gap": 0}]))
+        self.assertTrue(drivers.is_least_open(mode, "eth0"))
+        for usecs, gap in ((0, 128_000), (100, 128_000), (250, 249_856)):
+            head = head_of("e1000", usecs, {drivers.LEAST: "128000"})
+            self.assertEqual(self.options(head, "rx-gap"), (gap,))
+        gaps = [each["rx-gap"] for each in drivers.coalescing_of(head, "eth0", (0, 100, 250))]
+        self.assertEqual(gaps, [128_000, 128_000, 249_856])
+        self.assertEqual([*drivers.notes_on(head, "eth0")], ["the card keeps at least 128.0 us between interrupts, so a lower rx-usecs changes nothing"])
+        self.assertEqual((drivers.is_least_open(head, "eth0"), drivers.is_least_open(head_of("e1000"), "eth0")), (False, True))
+        other = head_of("virtio_net", 50, {drivers.LEAST: "128000"})
+        self.assertEqual((self.options(other, "rx-gap"), drivers.is_least_open(other, "eth0")), ((0,), False))
+
+    def test_a_mode_is_called_by_its_rx_usecs(self) -> None:
+        """With rx-usecs 3 the driver chose 128 us; what 250 sets is called so."""
+        machine = advice.Machine(head_of("e1000", 3, {drivers.LEAST: "128000"}), "eth0", 0)
+        self.assertEqual([machine.usecs_in({"rx-gap": gap}, "rx-gap") for gap in (128_000, 0, 249_856)], [3, 0, 250])
 
     def test_an_interrupt_for_each_queue_is_msix(self) -> None:
         self.assertEqual(self.options(head_of("e1000e", 0, {"irq.26.name": "eth0-rx-0"}), "latched"), (1,))
@@ -89,7 +112,7 @@ class Drivers(unittest.TestCase):
             machine = advice.Machine(head, "eth0", 0)
             changes = machine.changes({**now, "ring": 512 - spare}, now)
             self.assertEqual([machine.line_of(each) for each in changes], ["ethtool -G eth0 rx 512"])
-            self.assertIn("ring 512", named({"ring": 512 - spare}, ["ring"], machine.spare))
+            self.assertIn("ring 512", named({"ring": 512 - spare}, ["ring"], machine))
 
     def test_an_unknown_driver_has_no_options(self) -> None:
         self.assertEqual(drivers.options_of(head_of("qlcnic", 20), "eth0"), {})

@@ -12,7 +12,7 @@ from collections.abc import Callable, Iterator
 from pathlib import Path
 from typing import Any
 
-from tooltest import HEADER, HERE, TOP, InFolder, limited, run
+from tooltest import HEADER, HERE, TOP, InFolder, captured, limited, run
 
 from fintaqush_tools import errors, files
 
@@ -96,24 +96,20 @@ class Replaced(InFolder):
 
 
 class AllOrNone(InFolder):
-    CAPTURED = "".join(f"100.{place:06} eth0  In  ifindex 2 02:00:00:00:00:01 ethertype IPv4 (0x0800), length 60: UDP\n" for place in range(200))
-
     def test_a_failure_behind_the_first_file(self) -> None:
         """With a file size limit of 1 kB the notes fit and the trace doesn't: neither file stays."""
-        self.write("captured", self.CAPTURED)
+        self.write("captured", "".join(captured(f"100.{place:06}") for place in range(200)))
         calls: list[tuple[str, list[object]]] = [
             ("from-pcap", ["captured", "made"]), ("from-pcap", ["captured", "made", "--arrivals"]),
             ("from-ftrace", [HERE / "recorded-apart.rec", "made"]), ("from-ftrace", [TOP / "examples/veth-backlog.rec", "made", "--arrivals"])]
         for tool, words in calls:
             done = limited("-f 1", tool, *words, folder=self.folder)
-            self.assertEqual((done.returncode, done.stdout, self.names()), (1, "", ["captured"]), done.stderr)
-            self.assertEqual(done.stderr, f"fintaqush {tool}: File too large\n")
-            done = run(tool, *words, folder=self.folder)  # with room for all, both are written
-            self.assertEqual((done.returncode, {"made.csv", "made.notes"} - set(self.names())), (0, set()), done.stderr)
+            self.assertEqual((done.stderr, done.stdout, done.returncode), (f"fintaqush {tool}: File too large\n", "", 1))
+            self.assertEqual(self.names(), ["captured"])
+            self.ends_with(0, tool, *words, folder=self.folder)  # with room for all, both are written
             self.assertLess((self.folder / "made.notes").stat().st_size, 1024)
             self.assertGreater((self.folder / "made.csv").stat().st_size, 1024)
-            for path in self.folder.glob("made.*"):
-                path.unlink()
+            self.forget("made")
 
     def test_whatever_the_failure_is(self) -> None:
         """The last of three files fails: its text raises an error or a signal, its name is taken, or its folder is gone."""

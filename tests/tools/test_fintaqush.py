@@ -40,8 +40,6 @@ class Fintaqush(InFolder):
         self.assertEqual(run("--names").stdout.split(), sorted(MODULES))
         self.assertEqual(run("help").stdout, done.stdout)
         self.assertEqual(run("help", "raise").stdout, run("raise", "--help").stdout)
-
-    def test_each_module_is_a_subcommand(self) -> None:
         modules = {path.stem for path in (TOP / "tools/fintaqush_tools/commands").glob("*.py")} - {"__init__"}
         self.assertEqual(set(MODULES.values()), modules)
 
@@ -57,12 +55,9 @@ class Fintaqush(InFolder):
             self.assertEqual("; 3 a condition of \\-\\-fail\\-if holds;" in page, "--fail-if" in text, page)
         for text in (run("--manual").stdout.replace("\\-", "-"), run("--help").stdout):
             self.assertIn("; 3 a condition of --fail-if holds;", text)
-        for words, wanted in (
-            (["raise", "none.csv"], ("fintaqush raise: none.csv: there is no such file\n", 1)),
-            (["replay", "none.csv"], ("fintaqush replay: none.csv: there is no such file\n", 66)),
-        ):
-            done = call(*words, folder=self.folder)
-            self.assertEqual((done.stderr, done.returncode), wanted)
+        for name, status in (("raise", 1), ("replay", 66)):
+            done = call(name, "none.csv", folder=self.folder)
+            self.assertEqual((done.stderr, done.returncode), (f"fintaqush {name}: none.csv: there is no such file\n", status))
         self.fails("fintaqush raise: error: unrecognized arguments: --buget", "raise", "x", "--buget", status=64)
 
     def test_a_subcommand_that_does_not_exist(self) -> None:
@@ -76,26 +71,19 @@ class Fintaqush(InFolder):
         (self.folder / "link").symlink_to(COMMAND)
         (self.folder / "second").symlink_to("link")
         for command in (self.folder / "link", self.folder / "second"):
-            self.assertEqual(call("raise", BURSTS, command=command, folder="/").stdout, self.raised())
-
-    def raised(self) -> str:
-        done = run("raise", BURSTS)
-        self.assertEqual(done.returncode, 0, done.stderr)
-        return done.stdout
+            self.assertEqual(call("raise", BURSTS, command=command, folder="/").stdout, self.ends_with(0, "raise", BURSTS).stdout)
 
     def test_what_it_runs_prints_what_the_program_prints(self) -> None:
         text = BURSTS.read_text()
-        calls: list[tuple[list[object], list[str]]] = [
-            (["--every", "10"], ["--every", "10"]),
-            ([BURSTS, "--every", "10"], ["--every", "10"]),
-            (["--raise", "--polls", "--budget", "2"], ["--raise", "--polls", "--budget", "2"]),
-            (["--rows", "--raise", "--restarts", "1", "--budget", "2"], ["--raise=1", "--rows", "--budget", "2"]),
-        ]
+        calls: list[tuple[list[object], str]] = [
+            (["--every", "10"], "--every 10"), ([BURSTS, "--every", "10"], "--every 10"),
+            (["--raise", "--polls", "--budget", "2"], "--raise --polls --budget 2"),
+            (["--rows", "--raise", "--restarts", "1", "--budget", "2"], "--raise=1 --rows --budget 2")]
         for words, own in calls:
-            expected = process(SERIES, *own, text=text)
+            expected = process(SERIES, *own.split(), text=text)
             self.assertEqual((expected.returncode, call("series", *words, text=text).stdout), (0, expected.stdout))
         for wrong in (["--every", "0"], ["--restarts", "1"], ["--rows", "--polls"], ["--rows", "--every", "2"]):
-            self.assertEqual(run("series", *wrong, text=text).returncode, 64)
+            self.ends_with(64, "series", *wrong, text=text)
 
     @HAS_MACHINE
     def test_the_machine(self) -> None:
@@ -103,8 +91,7 @@ class Fintaqush(InFolder):
         expected = process(MACHINE, "--budget", "16", text=arrivals.read_text())
         done = call("machine", arrivals, "--budget", "16")
         self.assertEqual((done.stdout, done.returncode), (expected.stdout, 0))
-        said = self.fails("fintaqush machine: none: ", "machine", "none", folder=self.folder)
-        self.assertEqual(said, "fintaqush machine: none: there is no such file\n")
+        self.assertEqual(self.fails("", "machine", "none", folder=self.folder), "fintaqush machine: none: there is no such file\n")
 
     def test_outputs_and_inputs_that_are_none(self) -> None:
         for words in (["--help"], ["plot", "--help"], ["--version"], ["completion", "bash"]):
@@ -146,21 +133,19 @@ class Options(InFolder):
         """One line of usage, whatever the subcommand's options are, and one with the error, which has the nearest option."""
         for name, words, near in (("what-if", ["--budgte", "3"], ": is --budget meant?"), ("record", ["--device", "lo", "--out", "x", "--progam=y"], ": is --program meant?"),
                                   ("plot", ["--series", "a", "b", "--json"], ""), ("traffic", ["--xyz"], "")):
-            done = run(name, *words)
-            usage, error = done.stderr.splitlines()
-            self.assertEqual((done.returncode, usage[:17], error.startswith(f"fintaqush {name}: error: ")), (64, "usage: fintaqush ", True))
-            self.assertTrue(error.endswith(near), error)
+            said = self.ends_with(64, name, *words).stderr
+            self.assertRegex(said, rf"^usage: fintaqush .*\nfintaqush {name}: error: .*{re.escape(near)}\n$")
 
     def test_each_option_means_one_thing(self) -> None:
         """The same name has the same form in all subcommands, but for what FILE and NAME are."""
-        forms: dict[str, set[tuple[object, ...]]] = {}
+        options = ("--program", "--binary", "--flows", "--device", "--force", "--json", "--quiet")
+        forms: dict[str, set[object]] = {option: set() for option in options}
         for name in MODULES:
             for action in parser_of(None, module_of(name).add_options)._actions:
-                for option in set(action.option_strings) & {"--program", "--binary", "--flows", "--device", "--force", "--json", "--quiet"}:
+                for option in forms.keys() & set(action.option_strings):
                     is_flag = action.nargs == 0 or action.const is not None
-                    forms.setdefault(option, set()).add((is_flag, str(action.metavar).partition("|")[0] if not is_flag else ""))
+                    forms[option].add(is_flag or str(action.metavar).partition("|")[0])
         self.assertEqual({option: len(each) for option, each in forms.items()}, dict.fromkeys(forms, 1), forms)
-        self.assertEqual(set(forms), {"--program", "--binary", "--flows", "--device", "--force", "--json", "--quiet"})
 
 
 class Starts(InFolder):
@@ -179,11 +164,11 @@ class Starts(InFolder):
         return str(few)
 
     def test_no_python(self) -> None:
-        done = call("plot", PATH=self.few(None))
-        self.assertEqual((done.stderr, done.returncode), ("fintaqush: there is no python3 on PATH; it needs Python 3.9 or later\n", 1))
-        for name in ("replay", "scripts/build.sh"):
-            done = call(command=TOP / name, PATH=self.few(None))
-            self.assertEqual((done.stderr.endswith(": there is no python3 on PATH\n"), done.returncode), (True, 69), done.stderr)
+        more = {"fintaqush": ("; it needs Python 3.9 or later", 1)}
+        for name, words in self.STARTS.items():
+            said, status = more.get(name, ("", 69))
+            done = call(*words, command=TOP / name, PATH=self.few(None))
+            self.assertEqual((done.stderr.partition(": ")[2], done.returncode), (f"there is no python3 on PATH{said}\n", status))
 
     def test_an_older_python_ends_by_a_line(self) -> None:
         """An older Python has to parse the file that compares the versions."""
@@ -248,6 +233,38 @@ class Starts(InFolder):
         os.close(keeps)
         for end in ends:
             end.result()
+
+
+    def test_a_signal_that_interrupts_no_read(self) -> None:
+        """A signal may come in the last instructions before a read: here another thread takes it, so the read isn't interrupted either."""
+        program = """
+import os, signal, sys, threading
+sys.path.insert(0, sys.argv[1])
+from fintaqush_tools import errors
+
+def main(_words):
+    mine, _ = os.pipe()
+    threading.Timer(0.2, lambda: signal.pthread_kill(threading.get_ident(), signal.SIGINT)).start()
+    os.read(mine, 1)
+
+errors.run("this", main, [])
+"""
+        done = process(sys.executable, "-Bc", program, TOP / "tools")
+        self.assertEqual((done.stdout, done.stderr, done.returncode), ("", "this: interrupted\n", 130))
+
+    def test_an_alarm_of_the_caller(self) -> None:
+        """It still ends the tool, and what takes the tool's place has none."""
+        os.mkfifo(self.folder / "fifo")
+        ended = "import os, signal, sys; signal.setitimer(signal.ITIMER_REAL, 2); os.execv(sys.argv[1], sys.argv[1:])"
+        keeps = os.open(self.folder / "fifo", os.O_RDWR)
+        done = process(sys.executable, "-c", ended, COMMAND, "json", self.folder / "fifo")
+        self.assertEqual((done.stdout, done.returncode), ("", -signal.SIGALRM), done.stderr)
+        child = started(COMMAND, "replay", "--mode", "serial", self.folder / "fifo")
+        time.sleep(1.5)
+        child.send_signal(signal.SIGINT)
+        said = child.communicate(timeout=100)[1]
+        self.assertIn(child.returncode, (-signal.SIGINT, 130), said)
+        os.close(keeps)
 
 
 class Completion(InFolder):

@@ -53,9 +53,7 @@ def series(words: Sequence[str], text: bytes) -> bytes:
 class Raise(InFolder):
     def raised(self, text: str, *words: object) -> list[str]:
         """Returns the rows of the resulting trace."""
-        done = run("raise", "-", *words, text=text)
-        self.assertEqual(done.returncode, 0, done.stderr)
-        return done.stdout.splitlines()[1:]
+        return self.ends_with(0, "raise", "-", *words, text=text).stdout.splitlines()[1:]
 
     def replay(self, text: str, *words: str) -> list[list[str]]:
         return report_of(text.splitlines()[1:], words, text[: text.index("\n") + 1])
@@ -188,21 +186,20 @@ class Raise(InFolder):
 
     def test_a_field_that_is_quoted_in_part(self) -> None:
         """The replay accepts `"so"ftirq` and `"3"0`: the text after a closing quote belongs to the field. So do all that add runs."""
-        for old, new, row in (("2,0,softirq", '2,0,"so"ftirq', 5), ("3,0,", '"3"0,0,', 6), ("moment,", '"mo"ment,', 0)):
-            text = self.BURST.replace(old, new, 1)
-            whole = HEADER + "".join(f"{row}\n" for row in self.raised(text, "--budget", "1", "--weight", "1"))
-            self.assertEqual(whole, HEADER + "".join(f"{row}\n" for row in self.raised(self.BURST.replace(old, new.replace('"', ""), 1), "--budget", "1", "--weight", "1")))
-            path, plain = self.write("x.csv", text), self.write("y.csv", self.BURST.replace(old, new.replace('"', ""), 1))
-            for words in (["compare", "--raise", "--budget", "1", "--"], ["plot", "--raise", "--budget", "1", "--json"]):
-                done, other = (run(words[0], each, *words[1:]) for each in (path, plain))
-                self.assertEqual((done.returncode, done.stdout), (0, other.stdout.replace("y.csv", "x.csv")), done.stderr)
+        for old, new in (("2,0,softirq", '2,0,"so"ftirq'), ("3,0,", '"3"0,0,'), ("moment,", '"mo"ment,')):
+            path = self.write("x.csv", self.BURST.replace(old, new, 1))
+            plain = self.write("y.csv", self.BURST.replace(old, new.replace('"', ""), 1))
+            for name, *words in (["raise", "--budget", "1", "--weight", "1"], ["compare", "--raise", "--budget", "1", "--"],
+                                 ["plot", "--raise", "--budget", "1", "--json"]):
+                other = run(name, plain, *words).stdout
+                self.assertEqual(self.ends_with(0, name, path, *words).stdout, other.replace("y.csv", "x.csv"))
 
     def test_a_disable_that_waits_for_the_runs(self) -> None:
         """In the given rows the enable row meets a pending disable; with the added runs it doesn't."""
         two = HEADER + "0,1,open,8\n0,2,open,8\n0,1,rx,60\n0,2,rx,60\n1,2,disable,0\n2,0,softirq,0\n3,2,enable,0\n"
-        self.assertEqual(self.raised(two, "--budget", "1", "--weight", "1")[5:-1].count("2,0,softirq,0") > 1, True)
-        self.assertIn("trace fault 12 Pending row 7", run("raise", "-", "--budget", "1", "--weight", "1", "--restarts", "0", text=two).stderr)
-        self.assertIn("trace fault 12 Pending row 6", run("raise", "-", text=two.replace("2,0,softirq,0\n", "")).stderr)
+        self.assertGreater(self.raised(two, "--budget", "1", "--weight", "1")[5:-1].count("2,0,softirq,0"), 1)
+        self.fails("trace fault 12 Pending row 7", "raise", "-", "--budget", "1", "--weight", "1", "--restarts", "0", text=two)
+        self.fails("trace fault 12 Pending row 6", "raise", "-", text=two.replace("2,0,softirq,0\n", ""))
 
     def test_as_many_rows_as_a_trace_has(self) -> None:
         """With one packet per run 49990 packets take 49991 runs, the last without a packet."""
@@ -215,7 +212,7 @@ class Raise(InFolder):
             self.fails("trace fault 9 TooManyRows row 100001", "raise", "-", *words, text=more)
 
     def test_refusals(self) -> None:
-        self.assertIn("trace fault 6 UnknownDevice row 1", run("raise", "-", text=HEADER + "0,1,rx,60\n").stderr)
+        self.fails("trace fault 6 UnknownDevice row 1", "raise", "-", text=HEADER + "0,1,rx,60\n")
         for words in (["--weight", "65"], ["--budget", "0"], ["--restarts", "-1"], ["--restarts", "x"]):
-            self.assertEqual(run("raise", "-", *words, text=HEADER).returncode, 64)
+            self.ends_with(64, "raise", "-", *words, text=HEADER)
         self.assertEqual(run("raise", "-", text=HEADER).stdout, HEADER)

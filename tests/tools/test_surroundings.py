@@ -14,7 +14,7 @@ from pathlib import Path
 from typing import Any
 
 import needs
-from tooltest import (HEADER, HERE, MACHINE, MOST_SECONDS, NO_WORDS, PROGRAMS, REPLAY, START, TOP, InFolder, call, failing, limited,
+from tooltest import (HEADER, HERE, MACHINE, MOST_SECONDS, NO_WORDS, PROGRAMS, REPLAY, START, TOP, InFolder, call, captured, failing, limited,
                       process, process_to, run, run_to, started)
 
 from fintaqush_tools import errors, files
@@ -31,7 +31,7 @@ WRITERS: dict[str, list[Any]] = {"raise": [TRACE], "json": ["-"], "traffic": [],
 if not os.path.exists(MACHINE):
     del WRITERS["what-if"], WRITERS["advise"]
 SERIES_HEAD = "row,moment,device,state,waiting,arrived,dropped,polled,in_flight,limit,avail,stopped,polls,work,squeezed\n"
-CAPTURED = "100.000000 eth0  In  ifindex 2 02:00:00:00:00:01 ethertype IPv4 (0x0800), length 60: 10.0.0.1 > 10.0.0.2: UDP\n"
+CAPTURED = captured("100.000000")
 ALL = sorted(MODULES.keys() - {"replay", "series", "machine"})
 # Each tool that reads a file, with the options that it needs besides.
 READERS: dict[str, list[str]] = {
@@ -103,12 +103,10 @@ class Surroundings(InFolder):
                 ("traffic", ["--rate", digits], "", 64), ("traffic", ["--seed", digits], "", 64), ("from-pcap", ["-", "other", "-c", digits], CAPTURED, 64),
                 ("raise", ["-"], HEADER + f"0,1,open,{digits}\n", 1), ("steps", ["-", "--out", "x.html"], HEADER + f"0,1,open,{digits}\n", 1)):
             self.write("made.work", f"polls {digits} work 1\n")
-            done = run(tool, *words, text=text, folder=self.folder)
-            self.assertEqual((done.returncode, done.stdout), (status, ""), (tool, done.stderr[:300]))
-            self.assertNotIn("Traceback", done.stderr)
-            self.assertNotIn("mistake of its own", done.stderr)
-            self.check_line(tool, done.stderr.splitlines(True)[-1])
-            self.assertLess(len(done.stderr), 3000)
+            said = self.fails("", tool, *words, status=status, text=text, folder=self.folder)
+            self.assertNotRegex(said, "Traceback|mistake of its own")
+            self.check_line(tool, said.splitlines(True)[-1])
+            self.assertLess(len(said), 3000)
 
     def test_want_of_memory(self) -> None:
         """In 100 MB, 60 MB can be read, but not decoded to text as well."""
@@ -129,8 +127,7 @@ class Surroundings(InFolder):
                 done = limited(f"-v {memory}", tool, *words, folder=self.folder)
                 if done.returncode in (0, 1) and "start.py" not in done.stderr:
                     statuses.add(done.returncode)
-                    self.assertNotIn(f'  File "{TOP}', done.stderr)
-                    self.assertNotIn("mistake of its own", done.stderr)
+                    self.assertNotRegex(done.stderr, f'  File "{TOP}|mistake of its own')
             self.assertIn(0, statuses)
 
     def ended(self, number: int, tool: str, *words: object, is_ready: Callable[[], bool] = lambda: True, **program: object) -> str:
@@ -238,20 +235,13 @@ class Surroundings(InFolder):
         before = rows.read_text()
         self.write("captured", CAPTURED)
         names = self.names()
-        words: dict[str, list[object]] = {
-            "raise": [TRACE, "--out", old],
-            "traffic": ["--out", old],
-            "json": ["-", "--out", old],
-        }
-        others: dict[str, list[object]] = {
-            **{tool: WRITERS[tool] for tool in ("from-ftrace", "from-pcap")},
-            "compare": [TRACE, "--out", old, "--budget", "1", "--"],
-            "plot": [TRACE, "--out", old, "--force"],
-            "sweep": [TRACE, "--resume", "--out", rows],
-        }
-        for limit, calls in ((1, words), (0, {**words, **others})):
-            for tool, each in calls.items():
-                done = limited(f"-f {limit}", tool, *each, text=long_report(), folder=self.folder)
+        long: dict[str, list[object]] = {"raise": [TRACE, "--out", old], "traffic": ["--out", old], "json": ["-", "--out", old]}
+        every: dict[str, list[object]] = {
+            **long, "from-ftrace": WRITERS["from-ftrace"], "from-pcap": WRITERS["from-pcap"], "plot": [TRACE, "--out", old, "--force"],
+            "compare": [TRACE, "--out", old, "--budget", "1", "--"], "sweep": [TRACE, "--resume", "--out", rows]}
+        for limit, calls in ((1, long), (0, every)):
+            for tool, words in calls.items():
+                done = limited(f"-f {limit}", tool, *words, text=long_report(), folder=self.folder)
                 self.check_line(tool, done.stderr.splitlines(True)[-1])
                 self.assertEqual((done.returncode, done.stdout), (1, ""), tool)
                 self.assertEqual((old.read_text(), rows.read_text(), self.names()), ("old\n", before, names), tool)
@@ -261,10 +251,8 @@ class Surroundings(InFolder):
         os.mkfifo(self.folder / "fifo.csv")
         for out, why in (("none/x.csv", "there is no such folder"), ("folder.csv", "this is a folder"), ("fifo.csv", "not a regular file")):
             for tool in ("raise", "traffic", "json"):
-                words = [TRACE] if tool == "raise" else []
-                done = run(tool, *words, "--out", out, text=REPORT, folder=self.folder)
-                self.assertIn(why, done.stderr)
-                self.assertEqual((done.returncode, self.names()), (1, ["fifo.csv", "folder.csv"]))
+                self.fails(why, tool, *[TRACE] * (tool == "raise"), "--out", out, text=REPORT, folder=self.folder)
+                self.assertEqual(self.names(), ["fifo.csv", "folder.csv"])
 
     def test_inputs_that_are_none(self) -> None:
         (self.folder / "folder.csv").mkdir()
@@ -273,15 +261,12 @@ class Surroundings(InFolder):
         del calls["compare-recording"]
         for tool, words in calls.items():
             for name in ("folder.csv", "none.csv", b"\xff.csv", "bytes", "/dev/zero"):
-                done = run(tool, name, *words, folder=self.folder)
-                self.assertEqual(done.returncode, 1, (tool, name, done.stderr))
-                self.check_line(tool, done.stderr)
+                self.check_line(tool, self.fails("", tool, name, *words, folder=self.folder))
 
     def test_names_stay_off_the_terminal(self) -> None:
         for tool in ("raise", "json", "from-ftrace", "from-pcap"):
-            done = run(tool, "\x1b[31m.csv", *(["made"] if tool.startswith("from") else []), folder=self.folder)
-            self.assertIn("\\x1b[31m.csv", done.stderr)
-            self.assertNotIn("\x1b", done.stderr)
+            said = self.fails("\\x1b[31m.csv", tool, "\x1b[31m.csv", *["made"] * tool.startswith("from"), folder=self.folder)
+            self.assertNotIn("\x1b", said)
 
     def test_a_fifo_is_read_once(self) -> None:
         os.mkfifo(self.folder / "fifo")
@@ -292,5 +277,4 @@ class Surroundings(InFolder):
             self.assertEqual(child.returncode, 0)
 
     def test_a_program_that_is_killed(self) -> None:
-        program = self.program("program", "kill -9 $$")
-        self.assertIn("ended with status -9", run("raise", "-", "--binary", program, text=HEADER).stderr)
+        self.fails("ended with status -9", "raise", "-", "--binary", self.program("program", "kill -9 $$"), text=HEADER)

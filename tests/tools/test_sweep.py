@@ -25,11 +25,6 @@ def slurm_block() -> str:
     return "".join(f"{line[4:]}\n" for line in lines[first:last])
 
 
-def has_slurm() -> bool:
-    """Returns whether a slurmd accepts jobs."""
-    return bool(shutil.which("sbatch")) and process("sinfo", "-h").returncode == 0
-
-
 class Sweep(InFolder):
     FAULTY = HEADER + "0,1,rx,60\n"
     BURST = HEADER + "0,1,open,8\n" + "0,1,rx,60\n" * 9 + "1,0,softirq,0\n0,1,tx,100\n0,1,done,1\n"
@@ -40,9 +35,9 @@ class Sweep(InFolder):
         self.write("faulty.csv", self.FAULTY)
         self.out = self.folder / "rows"
 
-    def sweep(self, *words: object, **variables: Any) -> Done:
+    def sweep(self, *words: object, status: int = 0, **variables: Any) -> Done:
         settings = ["--budget", "2,300", "--weight", "2,64", "--binary", REPLAY]
-        return run("sweep", self.folder, *settings, "--out", self.out, *words, **variables)
+        return self.ends_with(status, "sweep", self.folder, *settings, "--out", self.out, *words, **variables)
 
     def rows(self) -> list[dict[str, str]]:
         with open(self.out, newline="", encoding="utf-8") as file:
@@ -62,44 +57,38 @@ class Sweep(InFolder):
             self.assertEqual([row[name] for name in names], ["2", "trace fault 6 UnknownDevice row 1", "", "", "", "", "", ""])
 
     def test_every_trace_with_every_combination(self) -> None:
-        done = self.sweep()
-        self.assertEqual(done.returncode, 0)
-        self.assertIn("8 rows in", done.stderr)
+        said = self.sweep().stderr
+        self.assertIn("8 rows in", said)
+        self.assertRegex(said, r"fintaqush sweep: 4 of 8 rows, \d+ s\n")
         self.check_rows()
 
-    REPORT = """softirq 3 polls 1 work 10 squeezed 1
+    TURNS = """softirq 3 polls 1 work 10 squeezed 1
 busy 5 device 1 polls 200 work 3000
 kthread 7 device 2 polls 40000 work 500000
 softirq 8 polls 6 work 70 squeezed 1
 busy 9 device 2 polls 800 work 9000
-device 1 on arrived 0 dropped 1 polled 0 bytes 0 left 70 polls 0
-napi 1 granted 0 missed 0 disabled 0 again 0 released 0 word 0 held 0
-tx 1 sent 0 held 0 done 0 denied 0 limit 60 avail 60 stopped 0
-device 2 on arrived 0 dropped 20 polled 0 bytes 0 left 800 polls 0
-napi 2 granted 0 missed 0 disabled 0 again 0 released 0 word 0 held 0
-tx 2 sent 0 held 0 done 0 denied 0 limit 1500 avail 1500 stopped 0
-device 3 on arrived 0 dropped 300 polled 0 bytes 0 left 9000 polls 0
-napi 3 granted 0 missed 0 disabled 0 again 0 released 0 word 0 held 0
-tx 3 sent 0 held 0 done 0 denied 0 limit 700 avail 700 stopped 0
-list
-total devices 3 runs 2 polls 7 work 80 squeezed 2
 """
+    DEVICE = """device {0} on arrived 0 dropped {1} polled 0 bytes 0 left {2} polls 0
+napi {0} granted 0 missed 0 disabled 0 again 0 released 0 word 0 held 0
+tx {0} sent 0 held 0 done 0 denied 0 limit {3} avail {3} stopped 0
+"""
+    DEVICES = DEVICE.format(1, 1, 70, 60) + DEVICE.format(2, 20, 800, 1500) + DEVICE.format(3, 300, 9000, 700)
+    REPORT = f"{TURNS}{DEVICES}list\ntotal devices 3 runs 2 polls 7 work 80 squeezed 2\n"
 
     def test_each_value_is_of_all_rows_and_devices(self) -> None:
         """With a program that prints this report: rows of all three kinds poll, each number has a digit of its own, and the greatest limit is
         neither the first queue's nor the last one's."""
         program = self.program("program", f"cat > '{self.folder}/read'\ncat '{self.write('report', self.REPORT)}'")
-        done = run("sweep", self.folder / "burst.csv", "--out", self.out, "--binary", program)
-        self.assertEqual((done.returncode, len(self.rows())), (0, 1), done.stderr)
-        self.assertEqual([self.rows()[0][name] for name in ("polls", "work", "squeezed", "dropped", "left", "greatest_limit")],
-                         [str(1 + 200 + 40000 + 6 + 800), str(10 + 3000 + 500000 + 70 + 9000), "2", "321", "9870", "1500"])
+        self.ends_with(0, "sweep", self.folder / "burst.csv", "--out", self.out, "--binary", program)
+        names = ("polls", "work", "squeezed", "dropped", "left", "greatest_limit")
+        self.assertEqual([[row[name] for name in names] for row in self.rows()],
+                         [[str(1 + 200 + 40000 + 6 + 800), str(10 + 3000 + 500000 + 70 + 9000), "2", "321", "9870", "1500"]])
 
     def test_only_other_machines_need_parallel(self) -> None:
-        done = self.sweep(PATH=self.folder)
-        self.assertEqual(done.returncode, 0)
-        self.assertNotIn("parallel", done.stderr)
+        self.assertNotIn("parallel", self.sweep(PATH=self.folder).stderr)
         self.check_rows()
-        self.assertIn("needs GNU parallel", self.sweep("--resume", "--sshloginfile", self.write("machines", ":"), "--window", "7", PATH=self.folder).stderr)
+        words = ["--resume", "--sshloginfile", self.write("machines", ":"), "--window", "7"]
+        self.assertIn("needs GNU parallel", self.sweep(*words, PATH=self.folder, status=1).stderr)
 
     def test_it_goes_on_where_it_was(self) -> None:
         self.sweep()
@@ -120,21 +109,20 @@ total devices 3 runs 2 polls 7 work 80 squeezed 2
             lambda lines: [lines[0], lines[1], lines[2].replace(",", "", 3), *lines[3:]], lambda lines: ["trace;sum\n", *lines[1:]]]
         for damage in damages:
             self.out.write_text("".join(damage(whole.splitlines(True))))
-            done = self.sweep("--resume")
-            self.assertEqual(done.returncode, 1)
-            repair = group_in("`(sed .*)`", done.stderr)
+            repair = group_in("`(sed .*)`", self.sweep("--resume", status=1).stderr)
             self.assertEqual(process("sh", "-c", repair).returncode, 0)
-            self.assertEqual(self.sweep("--resume").returncode, 0)
+            self.sweep("--resume")
             self.assertEqual(self.out.read_text(), whole)
 
     def test_limits(self) -> None:
         """With --fail-if, a result beyond a limit sets exit status 3; by hand, a budget of 2 squeezes, and 300 doesn't."""
         for condition, status in (("squeezed>0", 3), ("squeezed>1", 0), ("dropped >= 1", 3), ("left==6", 3), ("work<2", 0)):
-            done = self.sweep("--resume", "--fail-if", condition)
-            self.assertEqual((done.returncode, done.stderr.count("fintaqush sweep: --fail-if")), (status, status // 3), condition)
-        self.assertIn("fintaqush sweep: --fail-if 'squeezed>0': squeezed is 1 with trace ", self.sweep("--resume", "--fail-if", "squeezed>0").stderr)
+            said = self.sweep("--resume", "--fail-if", condition, status=status).stderr
+            self.assertEqual(said.count("fintaqush sweep: --fail-if"), status // 3, condition)
+            if condition == "squeezed>0":
+                self.assertIn("fintaqush sweep: --fail-if 'squeezed>0': squeezed is 1 with trace ", said)
         for condition in ("squeezed", "squeezed>0us", "nothing>0", "squeezed>", "squeezed>1e3"):
-            self.assertEqual(self.sweep("--fail-if", condition).returncode, 64, condition)
+            self.sweep("--fail-if", condition, status=64)
 
     def test_two_calls_on_one_file_lose_no_row(self) -> None:
         """Each replays other windows, at the same time; the file has the rows of both, each once."""
@@ -152,18 +140,18 @@ total devices 3 runs 2 polls 7 work 80 squeezed 2
         played = self.folder / "played"
         program = self.program("program", f"echo >> '{played}'\nexec '{REPLAY}' \"$@\"")
         words = ["--resume", "--binary", program]
-        self.assertEqual(self.sweep(*words).returncode, 0)
+        self.sweep(*words)
         before = self.rows()
         played.unlink()
         os.rename(self.folder / "burst.csv", self.folder / "other.csv")
-        self.assertEqual(self.sweep(*words).returncode, 0)
+        self.sweep(*words)
         self.assertFalse(played.exists())
         rows = [{**row, "trace": Path(row["trace"]).name} for row in self.rows()]
         theirs = [{**row, "trace": "other.csv"} for row in before if row["trace"].endswith("burst.csv")]
         self.assertEqual([row for row in rows if row["trace"] == "other.csv"], theirs)
         self.assertEqual(len(rows), 12)
-        self.write("other.csv", self.BURST.replace("rx,60", "rx,60", 1).replace("1,0,softirq,0\n", ""))
-        self.assertEqual(self.sweep(*words).returncode, 0)
+        self.write("other.csv", self.BURST.replace("1,0,softirq,0\n", ""))
+        self.sweep(*words)
         self.assertEqual(played.read_text().count("\n"), 4)
         rows = [row for row in self.rows() if row["trace"].endswith("other.csv")]
         self.assertEqual([row["polls"] for row in rows], ["0"] * 4)
@@ -172,8 +160,8 @@ total devices 3 runs 2 polls 7 work 80 squeezed 2
         self.sweep()
         whole = self.out.read_text()
         self.out.write_text(whole[: whole.rindex("faulty") - 20])
-        self.assertEqual(self.sweep("--resume", "--budget", "2").returncode, 0)
-        self.assertEqual(self.sweep("--resume").returncode, 0)
+        self.sweep("--resume", "--budget", "2")
+        self.sweep("--resume")
         self.assertEqual(sorted(self.out.read_text().splitlines()), sorted(whole.splitlines()))
 
     def test_tasks_that_are_cancelled_and_resumed_have_the_rows_of_one_machine(self) -> None:
@@ -212,15 +200,13 @@ total devices 3 runs 2 polls 7 work 80 squeezed 2
         self.out = self.folder / "rows.csv"
         self.write(".hidden.csv", self.BURST)
         for words in (NO_WORDS, ["--resume"]):
-            self.assertEqual(self.sweep(*words).returncode, 0)
+            self.sweep(*words)
             self.check_rows()
 
     def test_rows_of_other_settings_stay(self) -> None:
         self.sweep()
         before = self.out.read_text()
-        done = self.sweep("--resume", "--window", "7", "--budget", "5")
-        self.assertEqual(done.returncode, 0)
-        self.assertIn("8 others of", done.stderr)
+        self.assertIn("8 others of", self.sweep("--resume", "--window", "7", "--budget", "5").stderr)
         self.assertTrue(self.out.read_text().startswith(before))
         self.assertEqual(len(self.rows()), 12)
 
@@ -229,26 +215,22 @@ total devices 3 runs 2 polls 7 work 80 squeezed 2
         for body in ("kill -9 $$", "exit 0", "echo hello", "echo 'memory fault 11 OutOfMemory' >&2; exit 4",
                      "echo 'trace fault 10 ReadFailed' >&2; exit 2", "exit 64"):
             program = self.program("program", f"{body}")
-            done = self.sweep("--resume", "--binary", program)
-            self.assertEqual(done.returncode, 1)
-            self.assertIn("8 rows are missing: --resume tries them again", done.stderr)
+            self.assertIn("8 rows are missing: --resume tries them again", self.sweep("--resume", "--binary", program, status=1).stderr)
             self.assertEqual(self.rows(), [])
-        program.write_text(f"#!/bin/sh\necho >> '{self.folder}/calls'\nexec '{REPLAY}' \"$@\"\n")
-        self.assertEqual(self.sweep("--resume", "--binary", program).returncode, 0)
+        self.sweep("--resume")
         self.check_rows()
         # It fails twice, and then succeeds.
         self.out.unlink()
-        program.write_text(f"#!/bin/sh\nd='{self.folder}/'$2-$4; if mkdir \"$d\" 2> /dev/null || mkdir \"$d\"b 2> /dev/null; then exit 7; fi\n"
-                           f"exec '{REPLAY}' \"$@\"\n")
-        self.assertEqual(self.sweep("--binary", program).returncode, 0)
+        self.program("program", f"d='{self.folder}/'$2-$4; if mkdir \"$d\" 2> /dev/null || mkdir \"$d\"b 2> /dev/null; then exit 7; fi\n"
+                                f"exec '{REPLAY}' \"$@\"")
+        self.sweep("--binary", program)
         self.check_rows()
 
     def test_runs_raised_anew(self) -> None:
         """With the recorded runs only, 5582 packets are dropped; Linux would have made more runs."""
         trace = TOP / "examples/linux-veth-bursts.csv"
         for words in (NO_WORDS, ["--raise"]):
-            done = run("sweep", trace, "--budget", "16", "--weight", "8", "--out", self.out, "--resume", *words)
-            self.assertEqual(done.returncode, 0, done.stderr)
+            self.ends_with(0, "sweep", trace, "--budget", "16", "--weight", "8", "--out", self.out, "--resume", *words)
         names = ["raise", "work", "dropped"]
         self.assertEqual([[row[name] for name in names] for row in self.rows()],
                          [["no", "8441", "5582"], ["all", "15245", "0"]])
@@ -256,21 +238,17 @@ total devices 3 runs 2 polls 7 work 80 squeezed 2
     def test_a_trace_of_version_2(self) -> None:
         """All nine packets of examples/busy-poll.csv are polled by a run, a thread or a busy poll, so none is left."""
         shutil.copy(TOP / "examples/busy-poll.csv", self.write("burst.csv", ""))
-        done = self.sweep()
-        self.assertEqual(done.returncode, 0, done.stderr)
+        self.sweep()
         row = self.rows()[3]
         self.assertEqual([row[name] for name in ("budget", "weight", "status", "fault", "dropped", "left")],
                          ["300", "64", "0", "", "0", "0"])
 
-    def test_progress_is_told(self) -> None:
-        self.assertRegex(self.sweep().stderr, r"fintaqush sweep: 4 of 8 rows, \d+ s\n")
-
     def test_what_it_finds_in_a_folder(self) -> None:
         (self.folder / "folder.csv").mkdir()
         os.mkfifo(self.folder / "fifo.csv")
-        done = self.sweep()
-        self.assertIn("folder.csv: skipped, because it isn't a regular file", done.stderr)
-        self.assertIn("fifo.csv: skipped", done.stderr)
+        said = self.sweep().stderr
+        self.assertIn("folder.csv: skipped, because it isn't a regular file", said)
+        self.assertIn("fifo.csv: skipped", said)
         self.check_rows()
         self.assertIn("or not a regular file", run("sweep", self.folder / "fifo.csv", "--out", self.out).stderr)
 
@@ -278,8 +256,7 @@ total devices 3 runs 2 polls 7 work 80 squeezed 2
         name = os.fsencode(self.folder) + b"/\xff;touch x,\x1b.csv"
         os.rename(self.folder / "burst.csv", name)
         os.unlink(self.folder / "faulty.csv")
-        done = run("sweep", self.folder, "--out", self.out)
-        self.assertEqual((done.returncode, "\x1b" in done.stderr), (0, False), done.stderr)
+        self.assertNotIn("\x1b", self.ends_with(0, "sweep", self.folder, "--out", self.out).stderr)
         self.assertIn(b"/\xff;touch x,\x1b.csv", self.out.read_bytes())
 
     # In place of ssh: it runs the command here instead of on a host, and a host called dead doesn't respond.
@@ -295,41 +272,37 @@ shift
 SHELL=/bin/bash exec bash -c "$*"  # as sshd does
 """
 
-    def by_ssh(self, *hosts: str, words: Sequence[object] = ()) -> tuple[Done, list[str]]:
-        """Runs a sweep over these machines, and returns the hosts that were used."""
+    def by_ssh(self, *hosts: str, words: Sequence[object] = (), status: int = 0) -> tuple[str, list[str]]:
+        """Runs a sweep over these machines, and returns its messages and the hosts that were used."""
         (self.folder / "bin").mkdir(exist_ok=True)
         self.write("bin/ssh", self.SSH).chmod(0o755)
         asked = self.write("hosts", "")
         machines = self.write("machines", "".join(f"2/{host}\n" for host in hosts))
         path = f"{self.folder}/bin:{os.environ['PATH']}"
-        done = self.sweep("--sshloginfile", machines, *words, PATH=path, HOSTS=asked)
-        return done, asked.read_text().split()
+        done = self.sweep("--sshloginfile", machines, *words, PATH=path, HOSTS=asked, status=status)
+        return done.stderr, asked.read_text().split()
 
     @skip_without("parallel")
     def test_two_machines(self) -> None:
-        done, asked = self.by_ssh("one", "two")
-        self.assertEqual(done.returncode, 0, done.stderr)
-        self.assertEqual(set(asked), {"one", "two"})
+        self.assertEqual(set(self.by_ssh("one", "two")[1]), {"one", "two"})
         self.check_rows()
 
     @skip_without("parallel")
     def test_a_machine_that_is_dead(self) -> None:
         """The other machine replays its rows, and no row is lost."""
-        done, asked = self.by_ssh("dead", "two")
-        self.assertEqual(done.returncode, 0, done.stderr)
+        said, asked = self.by_ssh("dead", "two")
         self.assertEqual(set(asked), {"dead", "two"})
-        self.assertIn("8 rows in", done.stderr)
+        self.assertIn("8 rows in", said)
         self.check_rows()
 
     @skip_without("parallel")
     def test_machines_that_are_all_dead(self) -> None:
         """No row, an exit status that says so, and the next call replays them."""
-        done, asked = self.by_ssh("dead")
-        self.assertEqual((done.returncode, self.rows()), (1, []))
-        self.assertIn("8 rows are missing: --resume tries them again", done.stderr)
+        said, asked = self.by_ssh("dead", status=1)
+        self.assertEqual(self.rows(), [])
+        self.assertIn("8 rows are missing: --resume tries them again", said)
         self.assertGreaterEqual(asked.count("dead"), 3 * 8)  # each row three times
-        done, _ = self.by_ssh("dead", "two", words=["--resume"])
-        self.assertEqual(done.returncode, 0, done.stderr)
+        self.by_ssh("dead", "two", words=["--resume"])
         self.check_rows()
 
     def by_slurm(self, *words: str, **variables: Any) -> None:
@@ -345,13 +318,12 @@ SHELL=/bin/bash exec bash -c "$*"  # as sshd does
         self.assertIn(f"`{together}` puts the parts together", (TOP / "docs/TOOLS.md").read_text())
         parts = process("bash", "-c", together, folder=self.folder).stdout.splitlines()
         settings = ["--budget", "64,300,1000", "--weight", "16,64", "--raise"]
-        done = run("sweep", "traces", *settings, "--out", self.out, folder=self.folder)
-        self.assertEqual(done.returncode, 0, done.stderr)
+        self.ends_with(0, "sweep", "traces", *settings, "--out", self.out, folder=self.folder)
         whole = self.out.read_text().splitlines()
         self.assertEqual((parts[0], sorted(parts[1:])), (whole[0], sorted(whole[1:])))
         self.assertEqual(len(whole), 13)
 
-    @unittest.skipUnless(has_slurm(), "slurmd")
+    @unittest.skipUnless(shutil.which("sbatch") and process("sinfo", "-h").returncode == 0, "slurmd")  # one accepts jobs
     def test_the_block_for_slurm(self) -> None:
         self.by_slurm("--wait")
 
@@ -375,15 +347,15 @@ for job in range(first, last + 1):
 
     def test_a_file_is_not_overwritten(self) -> None:
         self.out.write_text("mine\n")
-        self.assertIn("exists: --resume continues it", self.sweep().stderr)
-        self.assertIn("not a file of sweep", self.sweep("--resume").stderr)
+        self.assertIn("exists: --resume continues it", self.sweep(status=1).stderr)
+        self.assertIn("not a file of sweep", self.sweep("--resume", status=1).stderr)
         self.assertEqual(self.out.read_text(), "mine\n")
 
     def test_words_that_it_refuses(self) -> None:
         for words in (["--budget", "64,x"], ["--part", "4/3"], NO_WORDS, ["--budget", "0"], ["--weight", "65"], ["--jobs", "0"],
                       ["--restarts", "3"], ["--window", "65536"]):
-            done = run("sweep", *([self.folder] if words else []), *words, "--out", self.out)
-            self.assertEqual((done.returncode, self.out.exists()), (64, False), words)
-        self.assertIn("no such trace", run("sweep", self.folder / "none", "--binary", REPLAY).stderr)
-        self.assertIn("not a program", run("sweep", self.folder, "--binary", "/dev/null", "--out", self.out).stderr)
-        self.assertIn("no such folder", run("sweep", self.folder, "--out", self.folder / "none/rows").stderr)
+            self.ends_with(64, "sweep", *([self.folder] if words else []), *words, "--out", self.out)
+            self.assertFalse(self.out.exists(), words)
+        self.fails("no such trace", "sweep", self.folder / "none", "--binary", REPLAY)
+        self.fails("not a program", "sweep", self.folder, "--binary", "/dev/null", "--out", self.out)
+        self.fails("no such folder", "sweep", self.folder, "--out", self.folder / "none/rows")

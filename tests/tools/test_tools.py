@@ -2,6 +2,7 @@
 
 from __future__ import annotations
 
+import itertools
 import json
 import os
 import re
@@ -10,7 +11,8 @@ import unittest
 from collections.abc import Iterable
 from typing import Any
 
-from tooltest import HEADER, HERE, NO_WORDS, REPLAY, START, TOP, InFolder, process, run, skip_without
+from tooltest import (ENTRY, EXIT, HEADER, HERE, NO_WORDS, REPLAY, START, TOP, InFolder, captured, ftrace, polled, process, run, sent,
+                      skip_without)
 
 from fintaqush_tools import reports
 from fintaqush_tools.errors import Refusal
@@ -19,6 +21,8 @@ PAIRS = [word for number in range(1, 7) for word in ("--pair", f"va{number}:vb{n
 
 
 class FromFtrace(InFolder):
+    THREAD: dict[str, Any] = {"task": "napi/vb1-8-9", "cpu": 1}
+
     def convert(self, text: str, *words: object) -> tuple[list[str], list[str], list[str]]:
         """Returns the rows, the work and the notes of a recording."""
         rows, work, notes = self.converted("from-ftrace", "-", *words, ends=("csv", "work", "notes"), text=text)
@@ -35,6 +39,21 @@ class FromFtrace(InFolder):
             self.convert((HERE / f"{name}.txt").read_text(), *PAIRS)
             for end in ("csv", "work"):
                 self.assertEqual((self.folder / f"made.{end}").read_text(), (HERE / f"{name}.{end}").read_text())
+
+    def test_arrivals_within_a_poll_of_a_thread_are_noted(self) -> None:
+        """It begins with what its processor did before, because some kernels record no switch from the idle task: the second packet comes during the poll."""
+        events = [("swapper-0", 1, "local_timer_exit: vector=236"), ("a-7", 0, "net_dev_xmit: dev=va1 skbaddr=0x1 len=90 rc=0"), ("napi/vb1-9-50", 1, "netif_receive_skb: dev=vb1 skbaddr=0x1 len=76"),
+                  ("a-7", 0, "net_dev_xmit: dev=va1 skbaddr=0x2 len=90 rc=0"), ("napi/vb1-9-50", 1, "napi_poll: napi poll on napi struct 0 for device vb1 work 1 budget 64"),
+                  ("napi/vb1-9-50", 1, "sched_switch: prev_comm=napi/vb1-9 prev_pid=50 prev_prio=120 prev_state=S ==> next_comm=swapper/1 next_pid=0 next_prio=120")]
+        text = "".join(f"{task.rjust(20)} [{cpu:03}] b....  5.{place:06}: {said}\n" for place, (task, cpu, said) in enumerate(events, 1))
+        for lines, within in ((text, 2), ("".join(text.splitlines(True)[1:]), 1)):
+            *_, notes = self.convert(lines, "--pair", "va1:vb1")
+            self.assertIn(f"row 6: packets that arrived while it was under way and stand before it: {within}; which poll had them isn't recorded, and later rows carry the difference on",
+                          notes)
+
+    def test_a_backlog(self) -> None:
+        text = re.sub(r"device \S+ work", "device (no_device) work", (HERE / "soft-tcp.txt").read_text())
+        self.refused("only a processor's backlog polls in it, which a trace doesn't have: record again with GRO", text, *PAIRS)
 
     def test_arrivals_within_a_run_are_noted(self) -> None:
         rows, _, notes = self.convert((HERE / "soft-gso-23.txt").read_text(), *PAIRS)
@@ -67,38 +86,21 @@ class FromFtrace(InFolder):
 
     def test_what_trace_cmd_says_of_lost_events(self) -> None:
         """As `trace-cmd report` writes it (trace-read.c)."""
-        _, _, notes = self.convert("""cpus=2
-CPU:1 [7 EVENTS DROPPED]
-   a-1  [000] b....  5.000003: net_dev_xmit: dev=va1 skbaddr=0 len=61 rc=0
-   a-1  [000] ..s1.  5.000005: softirq_entry: vec=3 [action=NET_RX]
-   a-1  [000] ..s1.  5.000007: napi_poll: napi poll on napi struct 0 for device vb1 work 1 budget 64
-""")
+        _, _, notes = self.convert("cpus=2\nCPU:1 [7 EVENTS DROPPED]\n" + ftrace((3, sent("va1")), (5, ENTRY), (7, polled("vb1", 1))))
         self.assertIn("line 2 of the recording: the kernel lost 7 events", notes)
 
     def test_threads_are_rows_of_their_own(self) -> None:
-        rows, work, notes = self.convert("""# tracer: nop
-   python3-7     [000] b....  5.000000: net_dev_xmit: dev=va1 skbaddr=00000000a len=60 rc=0
-   napi/vb1-8-9  [001] b....  5.001000: napi_poll: napi poll on napi struct 0 for device vb1 work 64 budget 64
-   napi/vb1-8-9  [001] b....  5.002000: napi_poll: napi poll on napi struct 0 for device vb1 work 3 budget 64
-   napi/vb1-8-9  [001] b....  5.003000: napi_poll: napi poll on napi struct 0 for device vb1 work 1 budget 64
-""")
+        text = "# tracer: nop\n" + ftrace((0, sent("va1")), task="python3-7", flags="b....")
+        polls = (1000, polled("vb1", 64)), (2000, polled("vb1", 3)), (3000, polled("vb1", 1))
+        rows, work, notes = self.convert(text + ftrace(*polls, **self.THREAD, flags="b...."))
         self.assertEqual(rows, ["0,1,open,256", "0,1,threaded,1", "0,2,open,256", "0,1,rx,60", "2,1,kthread,0", "3,1,kthread,0"])
         self.assertEqual(work, ["polls 2 work 67", "polls 1 work 1"])
         self.assertIn("row 5: the thread may have yielded between its 2 polls; it isn't recorded", notes)
 
     def test_what_is_in_no_row_is_noted(self) -> None:
-        rows, work, notes = self.convert("""CPU:0 [LOST 12 EVENTS]
-   a-1  [000] ..s1.  5.000000: napi_poll: napi poll on napi struct 0 for device vb1 work 2 budget 64
-   a-1  [000] b....  5.000001: net_dev_xmit: dev=va1 skbaddr=0 len=60 rc=16
-   a-1  [000] b....  5.000002: net_dev_xmit: dev=eth0 skbaddr=0 len=60 rc=0
-   a-1  [000] b....  5.000003: net_dev_xmit: dev=va1 skbaddr=0 len=61 rc=0
-   a-1  [000] ..s1.  5.000004: softirq_entry: vec=1 [action=TIMER]
-   a-1  [000] ..s1.  5.000005: softirq_entry: vec=3 [action=NET_RX]
-   a-1  [000] ..s1.  5.000006: napi_poll: napi poll on napi struct 0 for device eth0 work 5 budget 64
-   a-1  [000] ..s1.  5.000007: napi_poll: napi poll on napi struct 0 for device vb1 work 1 budget 64
-   a-1  [000] ..s1.  5.000008: softirq_exit: vec=3 [action=NET_RX]
-   a-1  [000] ..s1.  5.000009: napi_poll: napi poll on napi struct 0 for device vb1 work 2 budget 64
-""")
+        events = (polled("vb1", 2), sent("va1", code=16), sent("eth0"), sent("va1", 61), "softirq_entry: vec=1 [action=TIMER]", ENTRY,
+                  polled("eth0", 5), polled("vb1", 1), EXIT, polled("vb1", 2))
+        rows, work, notes = self.convert("CPU:0 [LOST 12 EVENTS]\n" + ftrace(*enumerate(events)))
         self.assertEqual(rows[2:], ["0,1,rx,61", "0,0,softirq,0"])
         self.assertEqual(work, ["polls 1 work 1"])
         self.assertEqual(notes, [
@@ -109,7 +111,7 @@ CPU:1 [7 EVENTS DROPPED]
             "no row: polls whose softirq began before the recording, or in none: vb1, 2"])
 
     def test_refusals(self) -> None:
-        packet = "   a-1  [000] b....  5.000000: net_dev_xmit: dev=va1 skbaddr=0 len={} rc=0\n"
+        packet = ftrace((0, sent("va1", "{}")))
         for why, text, *words in (
                 ("there is no event in it", "# nothing\n"), ("line 2: no line of ftrace", packet.format(60) + "what\n"),
                 ("line 1: net_dev_xmit says", packet.format("x")), ("a packet of 65536 bytes", packet.format(65536)),
@@ -119,12 +121,8 @@ CPU:1 [7 EVENTS DROPPED]
             self.refused(why, text, *words)
 
     def test_a_change_between_thread_and_softirq_is_refused(self) -> None:
-        self.refused("vb1: polled by a thread and in softirqs", """
-   python3-7     [000] b....  5.000900: net_dev_xmit: dev=va1 skbaddr=0 len=60 rc=0
-   napi/vb1-8-9  [001] b....  5.001000: napi_poll: napi poll on napi struct 0 for device vb1 work 1 budget 64
-   napi/vb1-8-9  [001] ..s1.  5.000005: softirq_entry: vec=3 [action=NET_RX]
-   napi/vb1-8-9  [001] ..s1.  5.002000: napi_poll: napi poll on napi struct 0 for device vb1 work 3 budget 64
-""")
+        text = ftrace((900, sent("va1")), task="python3-7", flags="b....") + ftrace((1000, polled("vb1", 1)), **self.THREAD, flags="b....")
+        self.refused("vb1: polled by a thread and in softirqs", text + ftrace((1500, ENTRY), (2000, polled("vb1", 3)), **self.THREAD))
 
     def test_where_nothing_polls_it_says_why(self) -> None:
         text = (HERE / "soft-tcp.txt").read_text()
@@ -145,8 +143,7 @@ CPU:1 [7 EVENTS DROPPED]
         self.assertEqual((done.stderr, done.returncode), ("", 0))
         self.succeeds("from-ftrace", "recording.txt", "made", "--pair", "va1:vb1", folder=self.folder)
         self.assertTrue(max(int(line.split()[3]) for line in (self.folder / "made.work").read_text().splitlines()) > 30)
-        done = run("compare-recording", "made", folder=self.folder)
-        self.assertEqual(done.returncode, 0, done.stdout)
+        self.compared()
 
     def test_some_rows(self) -> None:
         whole = (HERE / "soft-gso-23.csv").read_text().splitlines()
@@ -169,90 +166,72 @@ CPU:1 [7 EVENTS DROPPED]
             self.succeeds("from-ftrace", HERE / "soft-gso-23.txt", self.folder / f"from{first}", *PAIRS, "--rows", f"{first}:100000")
             self.succeeds("compare-recording", self.folder / f"from{first}")
 
+    def compared(self, *words: object, status: int = 0) -> str:
+        """Returns what compare-recording prints of the files that were made."""
+        return self.ends_with(status, "compare-recording", self.folder / "made", *words).stdout
+
     def test_a_replay_is_compared_with_the_recording(self) -> None:
         """Six packets arrive during three runs; the replay gives each to that run, the kernel to the next."""
         run("from-ftrace", HERE / "soft-gso-23.txt", self.folder / "made", *PAIRS)
-        done = run("compare-recording", self.folder / "made")
-        self.assertEqual(done.returncode, 0)
-        self.assertIn("row 67: work 48, the kernel 42: noted\nrow 68: work 0, the kernel 6: carries on the difference of row 67",
-                      done.stdout)
+        told = self.compared()
+        self.assertIn("row 67: work 48, the kernel 42: noted\nrow 68: work 0, the kernel 6: carries on the difference of row 67", told)
         rows = len((self.folder / "made.work").read_text().splitlines())
-        self.assertTrue(done.stdout.endswith(f"; {rows - 6} rows agree, 0 differ, 6 others are accounted for by notes: as the kernel\n"), done.stdout)
-        few = run("compare-recording", self.folder / "made", "--lines", "2").stdout.splitlines()
+        self.assertTrue(told.endswith(f"; {rows - 6} rows agree, 0 differ, 6 others are accounted for by notes: as the kernel\n"), told)
+        few = self.compared("--lines", "2").splitlines()
         self.assertEqual((len(few), few[2]), (4, "and 4 more rows accounted for by notes: --lines 6 prints them"))
         notes = (self.folder / "made.notes").read_text()
         self.assertIn("later rows carry the difference on", notes)
         self.write("made.notes", "".join(line for line in notes.splitlines(True) if not line.startswith("row 138:")))
-        done = run("compare-recording", self.folder / "made")
-        self.assertEqual(done.returncode, 1)
-        self.assertIn("row 138: work 69, the kernel 63: OTHER THAN THE KERNEL", done.stdout)
+        self.assertIn("row 138: work 69, the kernel 63: OTHER THAN THE KERNEL", self.compared(status=1))
         self.write("made.work", "polls 1\n")
-        self.assertIn(".work: line 1 isn't of the form", run("compare-recording", self.folder / "made").stderr)
-        done = run("compare-recording", TOP / "examples/linux-veth-small-budget", "--budget", "64")
-        self.assertEqual((done.returncode, done.stdout), (0, "544 rows, 15647 packets; the kernel 15647; 544 rows agree, 0 differ, "
-                                                          "0 others are accounted for by notes: as the kernel\n"))
+        self.fails(".work: line 1 isn't of the form", "compare-recording", self.folder / "made")
+        done = self.ends_with(0, "compare-recording", TOP / "examples/linux-veth-small-budget", "--budget", "64")
+        self.assertEqual(done.stdout, "544 rows, 15647 packets; the kernel 15647; 544 rows agree, 0 differ, "
+                                      "0 others are accounted for by notes: as the kernel\n")
 
     def test_a_file_that_is_falsified(self) -> None:
         """Each row of .work that isn't noted, by one packet more; and a noted row by more than its note explains, which is six packets."""
         run("from-ftrace", HERE / "soft-gso-23.txt", self.folder / "made", *PAIRS)
         work = (self.folder / "made.work").read_text().splitlines()
-        polls = [number for number, row in enumerate((self.folder / "made.csv").read_text().splitlines()) if ",softirq," in row]
         for place, line in enumerate(work):
             kernel = int(line.split()[3])
-            for other in (kernel + 1, kernel - 7, 0, 1000):
-                if other in (kernel, -1) or other < 0:
-                    continue
+            for other in {each for each in (kernel + 1, kernel - 7, 0, 1000) if each >= 0} - {kernel}:
                 self.write("made.work", "".join(f"{each}\n" for each in [*work[:place], f"polls 1 work {other}", *work[place + 1 :]]))
-                done = run("compare-recording", self.folder / "made")
-                self.assertEqual(done.returncode, 1, (polls[place], other, done.stdout))
-                self.assertIn(": other than the kernel", done.stdout.splitlines()[-1])
+                self.assertIn(": other than the kernel", self.compared(status=1).splitlines()[-1])
         self.write("made.work", "".join(f"polls 1 work {int(line.split()[3]) + 1}\n" for line in work))
-        self.assertIn("9 rows, 190 packets; the kernel 199; 0 rows agree", run("compare-recording", self.folder / "made").stdout)
+        self.assertIn("9 rows, 190 packets; the kernel 199; 0 rows agree", self.compared(status=1))
 
     def test_an_end_that_the_backlog_polls(self) -> None:
         """The receiver answers each packet, and NAPI doesn't poll the sender's end: the answers are in no row. Without that they would wait in the
         trace, and the run that takes the last packet would take them too."""
-        lines = []
-        for burst in range(20):
-            begin = 1000 * burst
-            lines += [f"a-1  [000] b....  5.{begin + place:06}: net_dev_xmit: dev=va1 skbaddr=0 len=60 rc=0" for place in range(3)]
-            lines += [f"a-1  [000] ..s1.  5.{begin + 100:06}: softirq_entry: vec=3 [action=NET_RX]",
-                      f"a-1  [000] b....  5.{begin + 101:06}: net_dev_xmit: dev=va1 skbaddr=0 len=60 rc=0" if burst == 0 else "",
-                      f"a-1  [000] ..s1.  5.{begin + 110:06}: napi_poll: napi poll on napi struct 0 for device vb1 work {4 if burst == 1 else 3} budget 64"]
-            lines += [f"b-2  [000] b....  5.{begin + 200 + place:06}: net_dev_xmit: dev=vb1 skbaddr=0 len=60 rc=0" for place in range(3)]
-            lines += [f"a-1  [000] ..s1.  5.{begin + 300:06}: softirq_entry: vec=3 [action=NET_RX]",
-                      f"a-1  [000] ..s1.  5.{begin + 310:06}: napi_poll: napi poll on napi struct 0 for device (no_device) work 3 budget 64"]
-        rows, work, notes = self.convert("\n".join(each for each in lines if each) + "\n", "--pair", "va1:vb1")
+        events: list[tuple[int, str]] = []
+        for burst, begin in enumerate(range(0, 20000, 1000)):
+            events += [*((begin + place, sent("va1")) for place in range(3)), (begin + 100, ENTRY)]
+            events += [(begin + 101, sent("va1"))] * (burst == 0) + [(begin + 110, polled("vb1", 4 if burst == 1 else 3))]
+            events += [*((begin + 200 + place, sent("vb1")) for place in range(3)), (begin + 300, ENTRY), (begin + 310, polled("(no_device)", 3))]
+        rows, work, notes = self.convert(ftrace(*events), "--pair", "va1:vb1")
         self.assertEqual((sum(",1,rx," in row for row in rows), sum(",2,rx," in row for row in rows), len(work)), (61, 0, 20))
         self.assertIn("no row: packets to an end that no NAPI poll in it has, so its processor's backlog: va1, 60", notes)
-        done = run("compare-recording", self.folder / "made")
-        self.assertEqual((done.returncode, done.stdout.splitlines()[-1]), (0, "20 rows, 61 packets; the kernel 61; 18 rows agree, 0 differ, 2 others are "
-                                                                              "accounted for by notes: as the kernel"))
+        self.assertEqual(self.compared().splitlines()[-1], "20 rows, 61 packets; the kernel 61; 18 rows agree, 0 differ, 2 others are "
+                                                           "accounted for by notes: as the kernel")
 
     def test_a_packet_that_is_polled_before_its_event(self) -> None:
         """The event of a packet follows its sending: the kernel polled it, and the trace has it after the row."""
-        rows, work, notes = self.convert("""   a-1  [000] b....  5.000000: net_dev_xmit: dev=va1 skbaddr=0 len=60 rc=0
-   b-1  [001] ..s1.  5.000005: softirq_entry: vec=3 [action=NET_RX]
-   b-1  [001] ..s1.  5.000006: napi_poll: napi poll on napi struct 0 for device vb1 work 2 budget 64
-   a-1  [000] b....  5.000007: net_dev_xmit: dev=va1 skbaddr=0 len=60 rc=0
-   a-1  [000] b....  5.000008: net_dev_xmit: dev=va1 skbaddr=0 len=60 rc=0
-   b-1  [001] ..s1.  5.000015: softirq_entry: vec=3 [action=NET_RX]
-   b-1  [001] ..s1.  5.000016: napi_poll: napi poll on napi struct 0 for device vb1 work 1 budget 64
-""", "--pair", "va1:vb1")
+        text = ftrace((0, sent("va1"))) + ftrace((5, ENTRY), (6, polled("vb1", 2)), task="b-1", cpu=1)
+        text += ftrace((7, sent("va1")), (8, sent("va1"))) + ftrace((15, ENTRY), (16, polled("vb1", 1)), task="b-1", cpu=1)
+        rows, work, notes = self.convert(text, "--pair", "va1:vb1")
         self.assertEqual((len(rows), work), (7, ["polls 1 work 2", "polls 1 work 1"]))
         self.assertIn("row 4: packets that it polled and that were sent after it or before the recording, by their events: 1", notes)
-        done = run("compare-recording", self.folder / "made")
-        self.assertIn("row 4: work 1, the kernel 2: noted\nrow 7: work 2, the kernel 1: carries on the difference of row 4, which is noted\n", done.stdout)
-        self.assertEqual(done.returncode, 0)
+        self.assertIn("row 4: work 1, the kernel 2: noted\nrow 7: work 2, the kernel 1: carries on the difference of row 4, which is noted\n",
+                      self.compared())
 
     def test_a_replay_that_is_other_than_the_kernel(self) -> None:
         """One packet comes before each of 30 runs, and the kernel polled two, 30 times; ten of those lines are printed, and a line counts the rest."""
         self.write("made.csv", HEADER + "0,1,open,256\n" + "".join(f"{place},1,rx,60\n{place},0,softirq,0\n" for place in range(30)))
         self.write("made.work", "polls 1 work 2\n" * 30)
-        done = run("compare-recording", self.folder / "made")
-        lines = done.stdout.splitlines()
-        self.assertEqual((done.returncode, len(lines), lines[0], lines[10]), (1, 12, "row 3: work 1, the kernel 2: OTHER THAN THE KERNEL",
-                                                                            "and 20 more rows without a reason: --lines 30 prints them"))
+        lines = self.compared(status=1).splitlines()
+        self.assertEqual((len(lines), lines[0], lines[10]), (12, "row 3: work 1, the kernel 2: OTHER THAN THE KERNEL",
+                                                             "and 20 more rows without a reason: --lines 30 prints them"))
         self.assertEqual(lines[11], "30 rows, 30 packets; the kernel 60; 0 rows agree, 30 differ, 0 others are accounted for by notes: other than the kernel")
         self.write("made.csv", HEADER + "0,1,open,256\n" + "0,0,softirq,0\n" * 30)
         said = self.fails("made.csv: it has no arrivals, so there is nothing to compare", "compare-recording", self.folder / "made")
@@ -322,7 +301,7 @@ class FromPcap(InFolder):
 
     def test_more_interfaces_than_devices(self) -> None:
         """No interface is dropped: the user has to name them."""
-        text = "".join(f"100.{number:06} eth{number}  In  ifindex 2 02:00:00:00:00:01 ethertype IPv4 (0x0800), length 60: UDP\n" for number in range(17))
+        text = "".join(captured(f"100.{number:06}", name=f"eth{number}") for number in range(17))
         self.fails("17 interfaces, and a trace has at most 16 devices: name some by --to: eth0, eth1,", "from-pcap", "-", self.folder / "made", text=text)
         self.assertEqual(self.names(), [])
         self.succeeds("from-pcap", "-", self.folder / "made", "--to", "eth16", "--to", "eth3", text=text)
@@ -342,18 +321,12 @@ class FromPcap(InFolder):
         (self.folder / "cut.pcap").write_bytes(self.capture()[:20])
         self.assertIn("cut.pcap: tcpdump: ", run("from-pcap", "cut.pcap", "cut", folder=self.folder).stderr)
 
-    TEXT = """100.000000 eth0  In  ifindex 2 02:00:00:00:00:01 ethertype IPv4 (0x0800), length 60: 10.0.0.1 > 10.0.0.2: UDP
-\tmore of it
-100.000200 eth0  Out ifindex 2 02:00:00:00:00:02 ethertype IPv4 (0x0800), length 61: 10.0.0.2 > 10.0.0.1: UDP
-100.000300 eth1  In  ifindex 3 02:00:00:00:00:01 ethertype IPv4 (0x0800), length 62: 10.0.0.1 > 10.0.0.2: UDP
-"""
-
-    LINE = "100.{:06} eth0  In  ifindex 2 02:00:00:00:00:01 ethertype IPv4 (0x0800), length {}: UDP\n"
+    TEXT = captured("100.000000") + "\tmore of it\n" + captured("100.000200", 61, way="Out") + captured("100.000300", 62, "eth1")
     NO_LENGTH = "no row: packets without a length of 1 to 65535 bytes, "
 
     def test_every_length_that_a_row_has(self) -> None:
         """1 and 65,535 bytes are the minimum and the maximum; packets beyond are counted in the notes. The same for a capture."""
-        text = "".join(self.LINE.format(place, size) for place, size in enumerate((1, 65535, 0, 65536, 65534, 100000, 2)))
+        text = "".join(captured(f"100.{place:06}", size) for place, size in enumerate((1, 65535, 0, 65536, 65534, 100000, 2)))
         for words, rows in ((["--unit", "us"], [f"{place},1,rx,{size}" for place, size in ((0, 1), (1, 65535), (4, 65534), (6, 2))]),
                             (["--arrivals"], [f"{1000 * place},1,{size}" for place, size in ((0, 1), (1, 65535), (4, 65534), (6, 2))])):
             made, notes = self.converted("from-pcap", "-", *words, text=text)
@@ -371,7 +344,7 @@ class FromPcap(InFolder):
         in_order = [(1, 900), (2, 64), (2, 62), (2, 1500), (2, 60), (2, 63), (3, 500)]
         out_of_order = [*in_order[1:4], in_order[6], in_order[0], *in_order[4:6]]
         for seen in (in_order, out_of_order):
-            text = "".join(self.LINE.format(*each) for each in seen)
+            text = "".join(captured(f"100.{place:06}", size) for place, size in seen)
             for words, column in ((NO_WORDS, 3), (["--arrivals"], 2)):
                 rows = [row.split(",") for row in self.converted("from-pcap", "-", *words, text=text)[0].splitlines()[1:]]
                 sizes = [int(row[column]) for row in rows if "open" not in row and "softirq" not in row]
@@ -385,8 +358,10 @@ class FromPcap(InFolder):
 
     def test_refusals(self) -> None:
         self.fails("fintaqush from-pcap: none.pcap: there is no such file\n", "from-pcap", "none.pcap", "made", folder=self.folder)
-        for text, why in (("", "no packet arrives"), ("what\n", "line 1: not in the format of `tcpdump -tt -n -e`"), (self.TEXT * 60000, "more than")):
-            self.fails(why if why != "more than" else "and a trace has at most 100000", "from-pcap", "-", self.folder / "made", text=text)
+        for text, why in (("", "no packet arrives"), ("what\n", "line 1: not in the format of `tcpdump -tt -n -e`"),
+                          ("fintaqush-recording 1\n", "this is a file of fintaqush record, which from-ftrace, costs and advise read"),
+                          (self.TEXT * 60000, "and a trace has at most 100000")):
+            self.fails(why, "from-pcap", "-", self.folder / "made", text=text)
             self.assertEqual(self.names(), [])
 
 
@@ -413,16 +388,20 @@ class Traffic(InFolder):
         self.assertEqual([int(after[0]) - int(before[0]) for before, after in zip(rows, rows[1:]) if after[2] == "softirq"], [3] * 5)
 
     def test_the_seed_decides(self) -> None:
-        """The same seed has the same rows, and another one has other times, for each kind of traffic; each device has times of its own."""
+        """The same seed has the same rows, and another one other times, for each kind of traffic, in a trace and in arrivals; each device
+        has times of its own. Arrivals begin at 0, so by some seeds a device has the same times."""
         words = ["--kind", "poisson", "--devices", "3", "--mix", "tx=20,done=20,disable=5"]
         self.assertEqual(self.rows(*words, "--seed", "1"), self.rows(*words, "--seed", "1"))
-        for kind in ("constant", "poisson", "bursts"):
-            words = ["--kind", kind, "--devices", "2", "--unit", "us", "--rate", "2000", "--seconds", "0.5", "--bytes", "60"]
-            times = [{(row[1], int(row[0])) for row in self.rows(*words, "--seed", seed) if row[2] == "rx"} for seed in (1, 2, 3)]
-            for first, second in ((0, 1), (0, 2), (1, 2)):
-                self.assertLess(len(times[first] & times[second]), len(times[first]) / 10, kind)
-            of = [{moment for device, moment in times[0] if device == str(number)} for number in (1, 2)]
-            self.assertLess(len(of[0] & of[1]), len(of[0]) / 10, kind)
+        forms = ((["--unit", "us", "--bytes", "60"], (2, 3)), (["--arrivals"], (2,)))
+        for kind, (form, others) in itertools.product(("constant", "poisson", "bursts"), forms):
+            words = ["--kind", kind, "--devices", "2", "--rate", "2000", "--seconds", "0.5", *form, "--seed"]
+            of_seeds = [self.rows(*words, seed) for seed in (1, *others, 1)]
+            self.assertEqual(of_seeds[0], of_seeds.pop())
+            times = [{(row[1], int(row[0])) for row in rows if "--arrivals" in form or row[2] == "rx"} for rows in of_seeds]
+            for first, second in itertools.combinations(times, 2):
+                self.assertLess(len(first & second), len(first) / 10, words)
+            one, other = ({moment for device, moment in times[0] if device == number} for number in ("1", "2"))
+            self.assertLess(len(one & other), len(one) / 10, words)
 
     def test_packets_of_one_moment_stand_as_they_come(self) -> None:
         """A millisecond has many packets of five devices: their order is that of the same trace in microseconds."""
@@ -446,8 +425,8 @@ class Traffic(InFolder):
 
     def test_words_that_it_refuses(self) -> None:
         for words in (["--mix", "busy=1"], ["--mix", "rx=1"], ["--bytes", "9:1"], ["--devices", "17"], ["--rate", "0"]):
-            self.assertEqual(run("traffic", *words).returncode, 64)
-        self.assertIn("more than 100000 packets", run("traffic", "--rate", "9999999", "--seconds", "99999").stderr)
+            self.ends_with(64, "traffic", *words)
+        self.fails("more than 100000 packets", "traffic", "--rate", "9999999", "--seconds", "99999")
 
 
 class CompareRuns(InFolder):
@@ -465,34 +444,31 @@ class CompareRuns(InFolder):
         trace = TOP / "examples/linux-veth-bursts.csv"
         words = ["--budget", "16", "--weight", "8", "--", "--budget", "300"]
         self.assertRegex(run("compare", trace, *words).stdout, r"total +work +8441 +15245 +\+6804\n")
-        raised = run("compare", trace, "--raise", *words).stdout
-        self.assertNotIn("dropped", raised)
-        self.assertNotIn("total      work", raised)
+        self.assertNotRegex(run("compare", trace, "--raise", *words).stdout, "dropped|total +work")
 
     def test_a_trace_of_version_2(self) -> None:
         """examples/busy-poll.csv has nine packets, and with the added runs neither budget loses any."""
-        done = run("compare", TOP / "examples/busy-poll.csv", "--raise", "--budget", "1", "--weight", "1", "--", "--weight", "64")
-        self.assertEqual(done.returncode, 0)
-        self.assertIn("the same: list", done.stdout)
-        self.assertNotIn("polled", done.stdout)
+        told = self.succeeds("compare", TOP / "examples/busy-poll.csv", "--raise", "--budget", "1", "--weight", "1", "--", "--weight", "64")
+        self.assertIn("the same: list", told)
+        self.assertNotIn("polled", told)
 
     def test_refusals(self) -> None:
         trace = self.write("burst.csv", self.BURST)
-        self.assertEqual(run("compare", trace, "--budget", "1").returncode, 64)
-        self.assertEqual(run("compare", trace, "--", "--budget", "0").returncode, 64)
-        self.assertIn("trace fault 1 BadHeader row 0", run("compare", "-", "--", text="x\n").stderr)
+        self.ends_with(64, "compare", trace, "--budget", "1")
+        self.ends_with(64, "compare", trace, "--", "--budget", "0")
+        self.fails("trace fault 1 BadHeader row 0", "compare", "-", "--", text="x\n")
 
 
 class Report2Json(InFolder):
-    def objects_in(self, text: str) -> list[dict[str, Any]]:
+    def objects_of(self, report: str) -> list[dict[str, Any]]:
         """Returns the objects of a report, without what all of them begin with: the version, and the tool."""
-        objects: list[dict[str, Any]] = list(map(json.loads, text.splitlines()))
+        objects: list[dict[str, Any]] = list(map(json.loads, self.succeeds("json", text=report).splitlines()))
         for each in objects:
             self.assertEqual([(name, each.pop(name)) for name in list(each)[:2]], [("version", 1), ("tool", "replay")])
         return objects
 
     def test_every_line_of_a_report(self) -> None:
-        done = run("json", text="""softirq 4 polls 2 work 3 squeezed 1
+        objects = self.objects_of("""softirq 4 polls 2 work 3 squeezed 1
 kthread 5 device 16 polls 6 work 7
 device 1 pending arrived 1 dropped 2 polled 3 bytes 4 left 5 polls 6
 napi 1 granted 1 missed 2 disabled 3 again 4 released 5 word 8589935361
@@ -504,9 +480,8 @@ napi 3 granted 0 missed 0 disabled 0 again 0 released 0 word 4294967297
 list 3 1
 total devices 3 runs 1 polls 2 work 3 squeezed 1
 """)
-        self.assertEqual(done.stderr, "")
         napi = {"line": "napi", "granted": 0, "missed": 0, "disabled": 0, "again": 0, "released": 0}
-        self.assertEqual(self.objects_in(done.stdout), [
+        self.assertEqual(objects, [
             {"line": "softirq", "row": 4, "polls": 2, "work": 3, "squeezed": True},
             {"line": "kthread", "row": 5, "device": 16, "polls": 6, "work": 7},
             {"line": "device", "device": 1, "state": "pending", "arrived": 1, "dropped": 2, "polled": 3, "bytes": 4, "left": 5,
@@ -523,13 +498,12 @@ total devices 3 runs 1 polls 2 work 3 squeezed 1
         ])
 
     def test_version_2(self) -> None:
-        done = run("json", text="""busy 7 device 1 polls 4 work 2
+        objects = self.objects_of("""busy 7 device 1 polls 4 work 2
 device 1 on arrived 2 dropped 0 polled 2 bytes 120 left 0 polls 4
 napi 1 granted 0 missed 0 disabled 0 again 0 released 1 word 65 held 3
 list
 total devices 1 runs 0 polls 0 work 0 squeezed 0
 """)
-        objects = self.objects_in(done.stdout)
         self.assertEqual(objects[0], {"line": "busy", "row": 7, "device": 1, "polls": 4, "work": 2})
         self.assertEqual((objects[2]["held"], objects[2]["flags"]), (3, ["SCHED", "IN_BUSY_POLL"]))
 
@@ -542,12 +516,12 @@ total devices 1 runs 0 polls 0 work 0 squeezed 0
         self.assertFalse({"argparse", "json", "re", "subprocess", "tempfile", "pathlib"} & imported)
 
     def test_threads_mode(self) -> None:
-        done = run("json", text="""device 1 arrived 3 bytes 1620
+        objects = self.objects_of("""device 1 arrived 3 bytes 1620
 device 2 arrived 2 bytes 160
 tx 2 sent 1 held 0 done 1 denied 0 limit 100 avail 100 stopped 1
 total devices 2
 """)
-        self.assertEqual(self.objects_in(done.stdout), [
+        self.assertEqual(objects, [
             {"line": "device", "device": 1, "arrived": 3, "bytes": 1620}, {"line": "device", "device": 2, "arrived": 2, "bytes": 160},
             {"line": "tx", "device": 2, "sent": 1, "held": 0, "done": 1, "denied": 0, "limit": 100, "avail": 100, "stopped": True},
             {"line": "total", "devices": 2}])

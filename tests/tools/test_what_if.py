@@ -4,9 +4,12 @@ from __future__ import annotations
 
 import csv
 import io
+import itertools
 import json
 import os
 import re
+import tempfile
+import unittest.mock
 from fractions import Fraction
 from typing import Any
 
@@ -28,10 +31,12 @@ class WhatIf(InFolder):
         rows = sorted((40000 * burst + 2500 * place, device) for burst in range(20) for place in range(5) for device in (1, 2, 3))
         self.arrivals = self.write("arrivals.csv", HEADER + "".join(f"{moment},{device},60\n" for moment, device in rows))
 
+    def rows_of(self, *words: object, **others: Any) -> list[dict[str, str]]:
+        with unittest.mock.patch.object(tempfile, "tempdir", str(self.folder)):  # where no temporary file may be left
+            return list(csv.DictReader(io.StringIO(self.ends_with(0, "what-if", *words, **others).stdout)))
+
     def rows(self, *words: object, **others: Any) -> list[dict[str, str]]:
-        done = run("what-if", self.arrivals, *words, **others)
-        self.assertEqual(done.returncode, 0, done.stderr)
-        return list(csv.DictReader(io.StringIO(done.stdout)))
+        return self.rows_of(self.arrivals, *words, **others)
 
     def modelled(self, text: str, *words: str) -> dict[str, str]:
         """Returns the values of a row, by the plain program."""
@@ -52,9 +57,9 @@ class WhatIf(InFolder):
 
     def test_each_combination(self) -> None:
         rows = self.rows("--budget", "0,2,300", "--weight", "1,64", "--processors=2", "--ring=4")
-        self.assertEqual([(row.pop("budget"), row.pop("weight")) for row in rows],
-                         [("0", "1"), ("0", "64"), ("2", "1"), ("2", "64"), ("300", "1"), ("300", "64")])
-        for row, (budget, weight) in zip(rows, (each for each in ((0, 1), (0, 64), (2, 1), (2, 64), (300, 1), (300, 64)))):
+        wanted = list(itertools.product(("0", "2", "300"), ("1", "64")))
+        self.assertEqual([(row.pop("budget"), row.pop("weight")) for row in rows], wanted)
+        for row, (budget, weight) in zip(rows, wanted):
             self.assertEqual(row, self.modelled(self.arrivals.read_text(), f"--budget={budget}", f"--weight={weight}", "--processors=2", "--ring=4"))
         self.assertGreater(int(rows[0]["dropped"]), 0)
 
@@ -103,9 +108,7 @@ class WhatIf(InFolder):
         self.assertEqual(len(out.read_text().splitlines()), 7)
 
     def said(self, *words: object) -> str:
-        done = run("what-if", self.arrivals, *words)
-        self.assertEqual(done.returncode, 0, done.stderr)
-        return done.stderr
+        return self.ends_with(0, "what-if", self.arrivals, *words).stderr
 
     def test_a_budget_with_one_queue(self) -> None:
         """It changes only squeezes, and the tool says so; with three queues it doesn't."""
@@ -131,13 +134,9 @@ class WhatIf(InFolder):
 
     def test_a_load_moves_the_moments(self) -> None:
         """At half the load a time is doubled, at 1.5 it is two thirds, rounded down; no temporary file is left."""
-        before = set(os.listdir("/tmp"))
         rows = {row.pop("load"): row for row in self.rows("--load", "0.5,1,1.5", "--use", "4000")}
-        for load, (up, down) in {"0.5": (2, 1), "1": (1, 1), "1.5": (2, 3)}.items():
-            scaled = HEADER + "".join(f"{int(moment) * up // down},{device},{size}\n" for moment, device, size in
-                                      (line.split(",") for line in self.arrivals.read_text().split()[1:]))
-            self.assertEqual(rows[load], self.modelled(scaled, "--use", "4000"))
-        self.assertEqual({name for name in set(os.listdir("/tmp")) - before if name.startswith("what-if")}, set())
+        self.assertEqual(rows, {load: self.modelled(self.at_load(load), "--use", "4000") for load in ("0.5", "1", "1.5")})
+        self.assertEqual(self.names(), ["arrivals.csv"])
         self.arrivals.write_text(HEADER + '0,1,60\n"7",1,60\n')
         self.fails("row 2: only times that are plain numbers can be scaled", "what-if", self.arrivals, "--load", "2")
 
@@ -153,24 +152,23 @@ class WhatIf(InFolder):
         words: list[object] = [self.arrivals, "--budget", "2,300", "--band", "0"]
         told, out = run("what-if", *words, "--json").stdout, self.folder / "q.json"
         for form in (NO_WORDS, ["--table"]):
-            done = run("what-if", *words, *form, "--json", out)
-            self.assertEqual((done.returncode, done.stdout, out.read_text(), len(told.splitlines())), (0, run("what-if", *words, *form).stdout, told, 2), done.stderr)
+            printed = self.ends_with(0, "what-if", *words, *form, "--json", out).stdout
+            self.assertEqual((printed, out.read_text(), len(told.splitlines())), (run("what-if", *words, *form).stdout, told, 2))
         others: list[list[object]] = [["--csv"], ["--table"], ["--out", self.folder / "other"]]
         for more in others:
-            self.assertEqual(run("what-if", *words, *more, "--json").returncode, 64)
-        searched = run("what-if", self.arrivals, "--until", "drops", "--ring", "8", "--json", out)
-        self.assertEqual((searched.returncode, json.loads(out.read_text())["until"]), (0, "drops"), searched.stderr)
+            self.ends_with(64, "what-if", *words, *more, "--json")
+        self.ends_with(0, "what-if", self.arrivals, "--until", "drops", "--ring", "8", "--json", out)
+        self.assertEqual(json.loads(out.read_text())["until"], "drops")
 
     def test_a_trace_is_named(self) -> None:
         self.fails("bursts.csv: a trace, whose runs are given; arrivals are made by --arrivals of", "what-if", TOP / "examples/bursts.csv")
+        self.fails("veth-backlog.rec: not arrivals; arrivals are made by --arrivals of", "what-if", TOP / "examples/veth-backlog.rec")
 
     def test_json_keys_are_identifiers(self) -> None:
         """Also with generated traffic and a searched load; each object has the format's version."""
         calls: list[list[object]] = [[self.arrivals], [self.arrivals, "--until", "drops", "--ring", "8"], ["--traffic", "--rate 1000", "--seeds", "2"]]
         for words in calls:
-            done = run("what-if", *words, "--json")
-            self.assertEqual(done.returncode, 0, done.stderr)
-            told = json.loads(done.stdout)
+            told = json.loads(self.ends_with(0, "what-if", *words, "--json").stdout)
             self.assertEqual((told["version"], [name for name in told if not name.isidentifier()]), (1, []))
             self.assertEqual((told["gro_flush_timeout"], told["app_wake"]), (0, 0))
 
@@ -208,7 +206,7 @@ class WhatIf(InFolder):
                 self.assertEqual(done.returncode, 0, done.stderr)
                 self.assertTrue(end.read(100).startswith(begins))
         self.assertTrue(run("what-if", self.arrivals, "--budget", "1,300").stdout.startswith("budget,"))
-        self.assertEqual(run("what-if", self.arrivals, "--csv", "--table").returncode, 64)
+        self.ends_with(64, "what-if", self.arrivals, "--csv", "--table")
 
     def test_what_follows(self) -> None:
         """Rings of 1 and 256 of bursts of five packets; an order that depends on the costs (test_the_band_of_costs); budgets."""
@@ -224,11 +222,14 @@ class WhatIf(InFolder):
         self.assertIn("in the model, with one queue on each processor, net.core.netdev_budget changes no latency and no drops, only how many runs are squeezed", told)
         self.assertIn("no setting here changes the 99th percentile of waits to the end of use", told)
 
+    def at_load(self, load: str) -> str:
+        """Returns the arrivals at so many times their rate."""
+        rows = (line.split(",") for line in self.arrivals.read_text().split()[1:])
+        return HEADER + "".join(f"{int(moment) // Fraction(load)},{device},{size}\n" for moment, device, size in rows)
+
     def lost_at(self, load: str, *words: str) -> tuple[int, int]:
         """Returns the drops in the plain program for these arrivals at a load, and its 99th percentile of waits."""
-        rows = (line.split(",") for line in self.arrivals.read_text().split()[1:])
-        scaled = HEADER + "".join(f"{int(int(moment) // Fraction(load))},{device},{size}\n" for moment, device, size in rows)
-        told = self.modelled(scaled, *words)
+        told = self.modelled(self.at_load(load), *words)
         return int(told["dropped"]) + int(told["refused"]), int(told["used_p99"])
 
     def test_the_load_at_which_it_breaks(self) -> None:
@@ -256,25 +257,20 @@ class WhatIf(InFolder):
         self.assertEqual((row["holds_at"], row["breaks_at"], row["packets_per_second"]), ("1024", "", ""))
         row, = self.rows("--until", "p99=1", "--band", "0")  # an interrupt takes 4 us
         self.assertEqual((row["holds_at"], row["breaks_at"]), ("", "0.000977"))
-        self.assertEqual(sorted(name for name in self.names() if name != "arrivals.csv"), [])
+        self.assertEqual(self.names(), ["arrivals.csv"])
 
     def test_made_traffic_over_seeds(self) -> None:
         """The median, the minimum and the maximum of the plain program's values for each seed's arrivals; one row per setting."""
-        words, before = ["--kind", "poisson", "--rate", "100000", "--seconds", "0.01"], set(os.listdir("/tmp"))
+        words = ["--kind", "poisson", "--rate", "100000", "--seconds", "0.01"]
         of = [run("traffic", "--arrivals", *words, "--seed", seed).stdout for seed in (1, 2, 3)]
-        told = self.repeated(" ".join(words), "--seeds", "3", "--threaded", "0,1")
+        told = self.rows_of("--traffic", " ".join(words), "--seeds", "3", "--threaded", "0,1")
         self.assertEqual([row["threaded"] for row in told], ["0", "1"])
         for row in told:
-            values = sorted(int(self.modelled(text, "--threaded", row["threaded"])["used_p99"]) for text in of)
-            self.assertEqual([int(row[name]) for name in ("used_p99_least", "used_p99", "used_p99_most")], values)
-            shares = sorted(float(self.modelled(text, "--threaded", row["threaded"])["poll_percent"]) for text in of)
-            self.assertEqual([float(row[name]) for name in ("poll_percent_least", "poll_percent", "poll_percent_most")], shares)
-        self.assertEqual({name for name in set(os.listdir("/tmp")) - before if name.startswith("what-if")}, set())
-
-    def repeated(self, traffic: str, *words: object) -> list[dict[str, str]]:
-        done = run("what-if", "--traffic", traffic, *words)
-        self.assertEqual(done.returncode, 0, done.stderr)
-        return list(csv.DictReader(io.StringIO(done.stdout)))
+            every = [self.modelled(text, "--threaded", row["threaded"]) for text in of]
+            for name in ("used_p99", "poll_percent"):
+                values = sorted(float(each[name]) for each in every)
+                self.assertEqual([float(row[each]) for each in (f"{name}_least", name, f"{name}_most")], values)
+        self.assertEqual(self.names(), ["arrivals.csv"])
 
     def test_made_traffic_in_a_table(self) -> None:
         done = run("what-if", "--table", "--traffic", "--kind poisson --rate 100000 --seconds 0.01", "--seeds", "3", "--interrupt", "4000,4050")
@@ -305,7 +301,7 @@ class WhatIf(InFolder):
             self.rows("--budget", "1,300", "--load", "0.5,1,2", "--plot", self.folder / name)
             self.assertTrue((self.folder / name).read_bytes().startswith(begins))
         text = (self.folder / "x.svg").read_text()
-        costs = "interrupt 4000, poll 1000, packet 1000, use 2000, wake 0, app-wake 0, timer 4000, timer-wake 0"
+        costs = "interrupt 4000, poll 1000, packet 1000, use 2000, wake 0, app-wake 0, take 0, timer 4000, timer-wake 0"
         for told in ("arrivals.csv: load 0.5, 1, 2; budget 1, 300", f"Costs are given, in ns: {costs}.",
                      "99th percentile of waits", "dropped and refused, %", "share, %", "budget 1<", "budget 300<", "load (times the arrivals)"):
             self.assertIn(told, text.replace("&apos;", "'"))
@@ -324,18 +320,17 @@ class WhatIf(InFolder):
     @skip_without("matplotlib")
     def test_the_picture_of_words_that_it_cannot_tell_apart(self) -> None:
         for words, why in ((NO_WORDS, "no option has several values"), (["--budget", "1,2,3", "--weight", "1,2,3", "--load", "1,2"], "9 curves")):
-            done = run("what-if", self.arrivals, *words, "--plot", self.folder / "x.png")
-            self.assertEqual((done.returncode, (self.folder / "x.png").exists()), (1, False))
-            self.assertIn(why, done.stderr)
+            self.fails(why, "what-if", self.arrivals, *words, "--plot", self.folder / "x.png")
+            self.assertFalse((self.folder / "x.png").exists())
 
     def test_what_is_refused(self) -> None:
         for words in (["--budget", "65536"], ["--load", "0"], ["--load", "1e3"], ["--weight", "0"], ["--slice", "1"], ["--longest", "1"], ["--threaded", "2"], ["--band", "91"], ["--band", "20", "--part", "1/2"], ["--budget", "1,,2"], ["--plot", "x.pdf"], ["--resume"],
                       ["--until", "drop"], ["--until", "p99=x"], ["--until", "drops", "--load", "1,2"], ["--until", "drops", "--out", "x"], ["--seeds", "2"], ["--traffic", "--rate 1"],
                       ["--until", "drops", "--plot", "x.png"]):
-            self.assertEqual(run("what-if", self.arrivals, *words).returncode, 64, words)
-        self.assertEqual(run("what-if").returncode, 64)
-        self.assertIn("there is no such file", run("what-if", self.folder / "none").stderr)
-        self.assertIn("a regular file", run("what-if", "-", text="").stderr)
+            self.ends_with(64, "what-if", self.arrivals, *words)
+        self.ends_with(64, "what-if")
+        self.fails("there is no such file", "what-if", self.folder / "none")
+        self.fails("a regular file", "what-if", "-", text="")
         self.arrivals.write_text(HEADER + "1,1,60\n0,1,60\n")
         self.fails("arrivals.csv: arrivals fault 8 Falls row 2", "what-if", self.arrivals, "--budget", "1,2")
 

@@ -67,14 +67,14 @@ class Made:
             self.sent(time + 700, works[0])
         return time
 
-    def timer_round(self, end: int, flush: int) -> int:
-        """Adds NAPI's timer, which a poll started at its end, and a softirq whose poll finds no packet; returns its end."""
+    def timer_round(self, end: int, flush: int, work: int = 0) -> int:
+        """Adds NAPI's timer, which a poll started at its end, and a softirq whose poll finds so many packets; returns its end."""
         due = end + flush
         self.event(end - 1, POLLER, "<idle>-0", f"hrtimer_start: hrtimer=1 function=napi_watchdog expires={due} softexpires=0 mode=REL|PINNED")
         begin = due + self.costs["wake"]
         time = self.handler(begin, "local_timer", f"hrtimer_expire_entry: hrtimer=1 function=napi_watchdog now={begin}")
         self.event(time, POLLER, "<idle>-0", "softirq_entry: vec=3 [action=NET_RX]")
-        time = self.polled(time, "<idle>-0", 0)
+        time = self.polled(time, "<idle>-0", work)
         self.event(time, POLLER, "<idle>-0", "softirq_exit: vec=3 [action=NET_RX]")
         return time
 

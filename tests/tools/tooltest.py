@@ -44,6 +44,7 @@ BROWSER: str | None = next(filter(None, map(shutil.which, ("chromium", "chromium
 HAS_BROWSER = unittest.skipUnless(BROWSER, "chromium")
 HAS_MACHINE = unittest.skipUnless(os.path.exists(MACHINE), "g++")
 HEADER = "moment,device,event,value\n"
+ENTRY, EXIT = "softirq_entry: vec=3 [action=NET_RX]", "softirq_exit: vec=3 [action=NET_RX]"
 NO_WORDS: list[str] = []  # among lists of words: mypy takes the type of [] for another one
 MOST_SECONDS = 300  # for anything that a test waits for
 
@@ -168,6 +169,24 @@ def process_to(kind: str, *command: object, **others: Any) -> tuple[str, int]:
         return done.stderr, done.returncode
 
 
+def sent(device: str, size: object = 60, code: int = 0) -> str:
+    return f"net_dev_xmit: dev={device} skbaddr=0 len={size} rc={code}"
+
+
+def polled(device: str, work: int) -> str:
+    return f"napi_poll: napi poll on napi struct 0 for device {device} work {work} budget 64"
+
+
+def ftrace(*events: tuple[int, str], task: str = "a-1", cpu: int = 0, flags: str = "..s1.") -> str:
+    """Returns events of a task as ftrace prints them, each by its time, in us after 5 s."""
+    return "".join(f"   {task}  [{cpu:03}] {flags}  5.{time:06}: {said}\n" for time, said in events)
+
+
+def captured(time: str, size: int = 60, name: str = "eth0", way: str = "In", said: str = "UDP") -> str:
+    """Returns a packet as `tcpdump -tt -n -e` prints it: its time, in s, its size, the interface, and whether it comes in."""
+    return f"{time} {name}  {way:3} ifindex 2 02:00:00:00:00:01 ethertype IPv4 (0x0800), length {size}: {said}\n"
+
+
 def keys_of(told: object) -> Iterator[str]:
     if isinstance(told, dict):
         yield from told
@@ -243,10 +262,16 @@ class InFolder(unittest.TestCase):
     def names(self) -> list[str]:
         return sorted(path.name for path in self.folder.iterdir())
 
+    def ends_with(self, status: int, name: str, *words: object, **others: Any) -> Done:
+        """Calls a subcommand that has to end with this status."""
+        done = run(name, *words, **others)
+        self.assertEqual(done.returncode, status, (words, done.stdout[-500:], done.stderr))
+        return done
+
     def succeeds(self, name: str, *words: object, **others: Any) -> str:
         """Calls a subcommand that has to succeed without a message, and returns what it prints."""
-        done = run(name, *words, **others)
-        self.assertEqual((done.stderr, done.returncode), ("", 0), words)
+        done = self.ends_with(0, name, *words, **others)
+        self.assertEqual(done.stderr, "", words)
         return done.stdout
 
     def converted(self, tool: str, source: object, *words: object, ends: Sequence[str] = ("csv", "notes"), **others: Any) -> list[str]:
@@ -257,7 +282,7 @@ class InFolder(unittest.TestCase):
 
     def fails(self, why: str, name: str, *words: object, status: int = 1, **others: Any) -> str:
         """Calls a subcommand that has to fail with this part of a message and print nothing else; returns the message."""
-        done = run(name, *words, **others)
-        self.assertEqual((done.stdout, done.returncode), ("", status), (words, done.stderr))
+        done = self.ends_with(status, name, *words, **others)
+        self.assertEqual(done.stdout, "", words)
         self.assertIn(why, done.stderr, words)
         return done.stderr

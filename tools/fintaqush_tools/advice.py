@@ -211,6 +211,11 @@ class Machine:
         self.interrupts: dict[str, int] = {}  # the processor of each interrupt with layout MOVED
         self.queues = 0  # that have packets with layout SPREAD
 
+    def usecs_in(self, options: Mapping[str, int], name: str) -> int:
+        """Returns the rx-usecs of a setting, of which `name` is the time: the recorded one if that time is as recorded, because a mode sets it too."""
+        is_recorded = drivers.options_of(self.head, self.device).get(name) == options.get(name, 0)
+        return drivers.usecs_in(self.head, self.device) if is_recorded else usecs_of(options.get(name, 0))
+
     def idle_processors(self) -> list[int]:
         """Returns the processors that were nearly always idle, the one that was for longest first."""
         return [number for number, share in sorted(self.idle.items(), key=lambda pair: -pair[1]) if share >= IDLE]
@@ -239,7 +244,7 @@ class Machine:
             changes.append(Change("ring", "rx", chosen["ring"] + self.spare, now["ring"] + self.spare))
         for name in filter(is_new, COALESCING):
             usecs = drivers.usecs_in(self.head, self.device)
-            changes.append(Change("coalesce", "rx-usecs", usecs_of(chosen[name]), usecs))
+            changes.append(Change("coalesce", "rx-usecs", self.usecs_in(chosen, name), usecs))
         if chosen.get("layout") == SPREAD:
             changes.append(Change("table", "equal", self.queues, None))
         if chosen.get("layout") == MOVED:
@@ -264,6 +269,7 @@ class Machine:
                 yield "irqbalance may move these interrupts back, if it runs"
             elif change.kind == "threads":
                 yield f"the thread is pinned to processor {change.value}, which polls now; any other one that does nothing else is as good"
+                yield "what waking the thread takes isn't in the recording, so waits may be some us longer than predicted"
             elif change.kind == "sysfs" and change.name == "threaded" and not change.value:
                 yield "without a thread the processor polls that takes the interrupt, or on which a veth pair's sender runs"
             elif change.kind == "program" and change.value != self.processor:

@@ -55,9 +55,11 @@ class PollBegins:
     ended: dict[int, tuple[int, int, bool]]
     began: dict[int, int]
     by_card: dict[int, bool]
+    interrupt: dict[int, int]
 
     def __init__(self) -> None:
         self.handlers, self.ended, self.began, self.by_card = {}, {}, {}, {}  # by processor
+        self.interrupt = {}  # by processor: the card's that asked for the next poll
 
     def looks_at(self, name: str) -> list[Look]:
         """Returns what handles the events of this name."""
@@ -96,6 +98,7 @@ class PollBegins:
         asked, ended, by_card = self.ended.pop(event.cpu, (0, 0, False))
         is_soon = ended > 0 and event.time - ended <= SOON
         self.began[event.cpu], self.by_card[event.cpu] = asked if is_soon else event.time, is_soon and by_card
+        self.interrupt[event.cpu] = asked if is_soon and by_card else 0
 
     def of(self, event: Event) -> int:
         return self.began.get(event.cpu, event.time)

@@ -17,7 +17,7 @@ from collections.abc import Iterable, Mapping, Sequence
 from typing import Any
 
 from fintaqush_tools.machine import COSTS, OPTIONS, WAITS
-from fintaqush_tools.predicting import FEW, MEASURED, Compared
+from fintaqush_tools.predicting import FEW, LATE, MEASURED, Compared
 
 Costs = Mapping[str, int]  # in ns, by the names of the machine's options, TIMERS and `app-wake-apart`
 Interval = tuple[float, float]
@@ -30,9 +30,8 @@ MOVED = 100  # % by which costs were higher with the program on another processo
 TIMES = 2  # how much further than at the recorded setting a prediction may be off
 ALIKE = 0.03  # relative difference between recordings of one setting
 # If no NAPI timer was recorded: ns that its handler may take longer than an interrupt's, of which 3 to 6 us were
-# measured; and by which its polls may be late, because waking a processor after a long idle time took 16 to 40 us. One
-# in a hundred packets may always be so late.
-TIMER, LATE = 5_000, 30_000
+# measured. Its polls may be late by `LATE`, because waking a processor after a long idle time took 16 to 40 us.
+TIMER = 5_000
 POLLS = ("polls", "runs", "timers")  # which a late timer makes fewer
 LIKE = {"lost": "dropped", "kernel_percent": "poll_percent"}  # predicted values whose error is that of another one
 
@@ -103,6 +102,11 @@ class Doubt:
         and read a packet wait for each other's caches, which the recording doesn't show."""
         is_moved = self.apart is not None and options.get("apart", 0) != self.apart
         return [costs for _, costs in self.sides] + [self.elsewhere] * is_moved
+
+    def missed(self, name: str) -> float:
+        """Returns by how much the recorded setting's value was missed, as far as that may be chance."""
+        _, measured, predicted, _ = self.rows.get(name, (name, 0, 0, 0))
+        return min(LATE, abs(measured - predicted))
 
     def moved(self, name: str, value: float) -> float:
         """Returns a predicted value if it is missed further than at the recorded setting."""

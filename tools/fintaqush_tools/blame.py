@@ -7,24 +7,27 @@ import bisect
 from collections import Counter
 from collections.abc import Collection, Iterable, Iterator, Sequence
 
+from fintaqush_tools.errors import Refusal
 from fintaqush_tools.layout import Layout
-from fintaqush_tools.receiving import Receiving
+from fintaqush_tools.predicting import LATE, percentile, us
+from fintaqush_tools.receiving import Deliveries, Receiving
 from fintaqush_tools.recording import Head
 from fintaqush_tools.tasks import KERNEL_TASKS, Tasks
 from fintaqush_tools.texts import shown
 
 Span = tuple[int, int, int]  # a processor, and when a wait there begins and ends
 
+FEWEST = 1000  # waits, of which a percentile is known
 NOTABLE = 0.1  # least share that is worth a line
 SLOWEST = 100  # one in so many waits
 MOST = 20_000  # waits that are looked at
 NAMED = 3  # tasks
 
 
-def spans_of(seen: Receiving, layout: Layout) -> list[tuple[int, list[Span]]]:
+def spans_of(seen: Receiving, deliveries: Deliveries) -> list[tuple[int, list[Span]]]:
     """Returns for each delivered packet its wait, from its arrival to the end of its poll, and the part of it before the poll began: while polls
     run in a softirq, the task that they interrupted counts as running."""
-    found = [each for matched in layout.deliveries.values() for each in matched]
+    found = [each for matched in deliveries.values() for each in matched]
     spans = []
     for packet, poll, _ in found[:: len(found) // MOST + 1]:
         begin, end = seen.sent[packet], seen.begun[poll] or seen.ended[poll]
@@ -55,6 +58,23 @@ def told(waits: Sequence[tuple[int, list[Span]]], tasks: Tasks, known: Collectio
     return sum(taken.values()) / whole, names
 
 
+def check_waits(seen: Receiving, goal: str, known: Collection[int]) -> None:
+    """Fails if a wait by which the fit for a goal is judged is twice what it would be without the time in which other tasks had the processors,
+    because no prediction fits then. `seen` may be of a part of the recording."""
+    waits = spans_of(seen, seen.deliveries())
+    whole = sorted(wait for wait, _ in waits)
+    own = sorted(wait - sum(others_in(seen.tasks, spans, known).values()) for wait, spans in waits)
+    for each in {"p50", goal} if len(waits) >= FEWEST else ():
+        most, least = (percentile(some, 10 * int(each[1:])) for some in (whole, own))
+        if most > 2 * least and most - least > LATE * (each == "p99"):
+            share, names = told(waits, seen.tasks, known)
+            raise Refusal(
+                f"of the waits to delivery of its first {len(seen.sent)} packets {100 * share:.0f} % passed while another task had the processor ({names}), so "
+                f"their {each} is {us(most)} us instead of {us(least)}, and no prediction of waits fits: priorities and other processors for these tasks change "
+                "that; --goal cpu and --goal drops need no wait"
+            )
+
+
 def lines_of_socket(head: Head) -> Iterator[str]:
     """Yields a line about packets that were delivered and then dropped, because the socket's buffer was full."""
     before, after = map(int, head.get("udp.RcvbufErrors", "0 0").split())
@@ -65,9 +85,24 @@ def lines_of_socket(head: Head) -> Iterator[str]:
         )
 
 
+def lines_of_traffic(seen: Receiving) -> Iterator[str]:
+    """Yields a line about polls with packets of other devices too, and one about packets that are sent within the thread that polls, if they are many."""
+    if seen.shared >= NOTABLE * max(1, len(seen.ended)):
+        yield (
+            f"{seen.shared} of {len(seen.ended)} polls took packets of other devices too, as the replies that a program here sends over a veth pair or lo: "
+            "these aren't arrivals of the prediction, and a packet waits for them, or is polled with them"
+        )
+    if seen.by_threads >= NOTABLE * max(1, len(seen.sent)):
+        yield (
+            f"{100 * seen.by_threads / len(seen.sent):.0f} % of the packets were sent by softirqs that interrupted the thread which polls, as a sender on this "
+            "machine does when it gets an acknowledgement: the thread polls only afterwards, the ring may be full by then, and neither is predicted: record "
+            "without threads, or traffic of another machine"
+        )
+
+
 def lines_of(seen: Receiving, layout: Layout, known: Collection[int]) -> Iterator[str]:
     """Yields a line about all waits and the slowest of them, if other tasks have a notable share."""
-    waits = sorted(spans_of(seen, layout), key=lambda each: each[0])
+    waits = sorted(spans_of(seen, layout.deliveries), key=lambda each: each[0])
     slowest = waits[-max(1, len(waits) // SLOWEST) :]
     (share, names), (slow_share, slow_names) = (told(each, seen.tasks, known) for each in (waits, slowest))
     if max(share, slow_share) >= NOTABLE:

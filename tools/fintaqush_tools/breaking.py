@@ -2,11 +2,11 @@
 
 from __future__ import annotations
 
+import itertools
 import os
 import re
 from collections.abc import Callable, Mapping, Sequence
 from concurrent.futures import ThreadPoolExecutor
-from dataclasses import dataclass
 from fractions import Fraction
 from typing import Any, Optional
 
@@ -15,6 +15,7 @@ from fintaqush_tools.options import wrong
 
 Key = tuple[str, ...]  # of a combination of settings
 Ends = tuple[Optional[Fraction], Optional[Fraction]]  # the load that holds and the load that breaks
+Found = Mapping[Key, Mapping[int, Ends]]  # the ends of each combination, by the percentage of the costs
 
 LOWEST, HIGHEST = Fraction(1, 1024), Fraction(1024)
 APART = Fraction(101, 100)  # ratio of the two loads between which it breaks
@@ -77,34 +78,26 @@ def rate_of(path: str) -> float:
     return (lines - 1) * 10**9 / (int(last) - int(first))
 
 
-@dataclass
-class Breaking:
-    """The load at which a setting breaks, for the given costs and for lower and higher ones."""
-
-    key: Key
-    ends: dict[int, Ends]  # for each percentage of the costs: the load that holds and the load that breaks
-
-
 Breaks = Callable[[Key, int, Fraction], bool]
 Step = Callable[[], None]
 
 
-def breakings(keys: Sequence[Key], percents: Sequence[int], breaks: Breaks, jobs: int, step: Step) -> list[Breaking]:
-    """Returns the Breaking of each key. `breaks` returns whether a key breaks at a percentage and a load; `step` is called after each search."""
+def breakings(keys: Sequence[Key], percents: Sequence[int], breaks: Breaks, jobs: int, step: Step) -> Found:
+    """Returns the ends of each key. `breaks` returns whether a key breaks at a percentage and a load; `step` is called after each search."""
 
     def searched(job: tuple[Key, int]) -> tuple[tuple[Key, int], Ends]:
         key, percent = job
         return job, search(lambda load: breaks(key, percent, load))
 
-    found = {key: Breaking(key, {}) for key in keys}
+    found: dict[Key, dict[int, Ends]] = {key: {} for key in keys}
     pool = ThreadPoolExecutor(jobs)
     try:
-        for (key, percent), ends in pool.map(searched, [(key, percent) for key in keys for percent in percents]):
-            found[key].ends[percent] = ends
+        for (key, percent), ends in pool.map(searched, itertools.product(keys, percents)):
+            found[key][percent] = ends
             step()
     finally:
         pool.shutdown(cancel_futures=True)
-    return list(found.values())
+    return found
 
 
 def load_text(load: Fraction) -> str:
@@ -121,9 +114,9 @@ def about(load: Fraction) -> str:
     return f"{float(load):.3g}"
 
 
-def told(until: str, each: Breaking, rate: float, percents: Sequence[int]) -> str:
+def told(until: str, ends: Mapping[int, Ends], rate: float, percents: Sequence[int]) -> str:
     """Returns the sentence that describes a combination of settings."""
-    holds, broken = each.ends[100]
+    holds, broken = ends[100]
     over = f"the 99th percentile of waits is over {until.partition('=')[2]} µs"
     what = "packets are lost" if until == "drops" else over
     if broken is None:
@@ -131,7 +124,7 @@ def told(until: str, each: Breaking, rate: float, percents: Sequence[int]) -> st
     if holds is None:
         return f"it breaks at {about(broken)} times this load, the lowest one tried: {what}"
     line = f"it breaks at {about(broken)} times this load ({rate * float(broken) / 1000:.3g} k packets/s): {what}"
-    sides = [each.ends[percent][1] for percent in percents if percent != 100]
+    sides = [ends[percent][1] for percent in percents if percent != 100]
     known = sorted(side for side in sides if side is not None)
     if not known or len(known) < len(sides):
         return line

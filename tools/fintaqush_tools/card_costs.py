@@ -20,6 +20,7 @@ GIVEN = fields_by(r"dev=(\S+) ")
 TO_GRO = {"napi_gro_receive_entry", "napi_gro_frags_entry"}  # a driver passes a packet to GRO
 QUIET = 200_000  # ns without a poll before an arrival, after which the card and the processor are idle
 SLOW = 100_000  # ns: a wake-up that takes longer waits for the scheduler, if another task had the processor
+NEAR = 0.1  # share by which the times that a card keeps may differ, and by more of which the waits for them do
 SOON = 10_000  # ns from such an arrival to the softirq that its interrupt requests
 
 
@@ -145,6 +146,23 @@ def arrival_interrupt_cost(arrivals: Sequence[int], softirqs: Sequence[int]) -> 
         if len(came) == 1 and came[0] - before > QUIET and entry - came[0] < SOON:
             took.append(entry - came[0])
     return cost_of(took, "single packets for an idle processor")
+
+
+def least_gap(arrivals: Sequence[int], interrupts: Sequence[int], ended: Sequence[int]) -> int:
+    """Returns the least time that a card keeps between interrupts, in ns; 0 if these don't show one. All are sorted: packets' arrivals at the
+    card, the interrupts that asked for polls, and the ends of polls. Packets that come when no poll is under way wait for it, and wait the longer
+    the sooner after the last interrupt they come."""
+    gaps, waits = [], []
+    for before, now in zip(interrupts, interrupts[1:]):
+        poll = bisect.bisect_left(ended, now)
+        first = bisect.bisect_right(arrivals, max(before, ended[poll - 1] if poll else 0))
+        if first < len(arrivals) and arrivals[first] + SOON < now:
+            gaps.append(now - before)
+            waits.append(now - arrivals[first])
+    gap, wait = cost_of(gaps, "interrupts"), cost_of(waits, "packets")
+    if not gap or not wait or gap.middle[1] > (1 + NEAR) * gap.middle[0]:
+        return 0
+    return round(gap.value) if wait.middle[1] - wait.middle[0] > NEAR * gap.value else 0
 
 
 def known_costs(

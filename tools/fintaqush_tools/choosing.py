@@ -9,7 +9,7 @@ from typing import Any, Optional
 
 from fintaqush_tools import predicting
 from fintaqush_tools.bands import ALIKE, Costs, Doubt, Interval
-from fintaqush_tools.machine import COSTS, values_of, values_on
+from fintaqush_tools.machine import COSTS, of_processors, values_of, values_on
 from fintaqush_tools.options import Words
 from fintaqush_tools.progress import Progress
 
@@ -53,10 +53,16 @@ def settings_of(costs: Mapping[str, int], options: Options) -> Options:
     return {**values, **options}
 
 
+def slowed(costs: Costs, ratio: float) -> dict[str, int]:
+    """Returns the costs of polls on a processor on which they take so many times as long."""
+    return {name: round(ratio * costs[name]) for name in ("poll", "packet")}
+
+
 class Predictions:
     """Runs napi_machine for several settings at once."""
 
     doubt: Doubt  # needed for bands
+    ratios: tuple[float, ...] = ()  # for each processor, how many times as long its polls take, if they differ
 
     def __init__(self, made: str, costs: Costs, arrivals: str, devices: Collection[int]) -> None:
         """`costs` are those of `settings_of`. `devices` are those whose waits count."""
@@ -67,12 +73,18 @@ class Predictions:
     def on_others(self, arrivals: str, devices: Collection[int]) -> Predictions:
         """Returns predictions by the same costs for other arrivals."""
         others = Predictions(self.made, self.costs, arrivals, devices)
-        others.doubt = self.doubt
+        others.doubt, others.ratios = self.doubt, self.ratios
         return others
 
     def report(self, options: Options, costs: Costs | None = None) -> str:
-        settings = settings_of(costs or self.costs, {name: options[name] for name in options if name != "layout"})
-        return predicting.reported(self.made, self.layouts[options.get("layout", 0)][0], settings)
+        own = {name: options[name] for name in options if name != "layout"}
+        arrivals, all_of = self.layouts[options.get("layout", 0)][0], costs or self.costs
+        ratios = self.ratios if len(self.ratios) == options.get("processors", 1) else (1.0,)
+        reports = {
+            ratio: predicting.reported(self.made, arrivals, settings_of({**all_of, **slowed(all_of, ratio)}, own))
+            for ratio in set(ratios)
+        }
+        return of_processors([reports[ratio] for ratio in ratios]) if len(reports) > 1 else reports[ratios[0]]
 
     def of(self, options: Options, costs: Costs | None = None) -> Values:
         """Returns the results of a setting, with other costs if some are given."""
@@ -121,6 +133,7 @@ class Choice:
         self.now, today = self.tried[0]
         self.most = today["lost"] if words.max_drops is None else words.max_drops
         self.below = None if words.p99_below is None else words.p99_below * 1000
+        self.noise = predictions.doubt.missed(f"{end}_p99") if self.goal == "p99" else 0
         self.order = sorted(self.tried, key=lambda pair: (*self.key(pair[1]), *self.changes_of(pair[0])))
         allowed = [pair for pair in self.order if self.is_allowed(pair[1])]
         safe = next((pair for pair in allowed if self.is_safe(pair[0])), None)
@@ -132,10 +145,10 @@ class Choice:
             self.best = self.fewest_changes(self.best, allowed)
 
     def fewest_changes(self, best: Tried, allowed: Sequence[Tried]) -> Tried:
-        """Returns the setting with the fewest changes among those that are as good as the best one: within 3 % of it, with the costs as they are
-        or as they may be."""
+        """Returns the setting with the fewest changes among those that are as good as the best one: within 3 % of it, or a 99th percentile within
+        what the recorded one was missed by; with the costs as they are or as they may be."""
         sides = self.predictions.sides_of(best[0])
-        most = max(self.value(values) for values in (best[1], *sides)) * (1 + ALIKE)
+        most = max(self.value(values) for values in (best[1], *sides)) * (1 + ALIKE) + self.noise
         near = [pair for pair in allowed if self.value(pair[1]) <= most]
         for pair in sorted(near, key=lambda pair: (*self.changes_of(pair[0]), *self.key(pair[1]))):
             others = self.predictions.sides_of(pair[0])
@@ -149,11 +162,12 @@ class Choice:
         return max((int(values["lost"]) for values in self.predictions.sides_of(pair[0])), default=0)
 
     def is_alike(self, values: Values, best: Values) -> bool:
-        return self.value(values) <= self.value(best) * (1 + ALIKE)
+        return self.value(values) <= self.value(best) * (1 + ALIKE) + self.noise
 
     def changes_of(self, options: Options) -> tuple[bool, int]:
-        """Returns whether a setting moves the program, and how many options it changes."""
-        changed = {name for name in options if options[name] != self.now.get(name) and name != "processors"}
+        """Returns whether a setting moves the program, and how many options it changes; both of deferral are one."""
+        differ = (name for name in options if options[name] != self.now.get(name) and name != "processors")
+        changed = {"gro-flush-timeout" if name == "defer-hard-irqs" else name for name in differ}
         return "apart" in changed, len(changed)
 
     def value(self, values: Mapping[str, Any]) -> float:

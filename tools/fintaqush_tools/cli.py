@@ -42,6 +42,23 @@ def module_of(name: str) -> ModuleType:
         errors.Signals.resume()
 
 
+def page(name: str) -> str:
+    """Returns the manual page of a subcommand, or without a name that of the command."""
+    from fintaqush_tools import manual, options
+
+    if not name:
+        return "\n".join(manual.page_of_command(GROUPS))
+    module = module_of(name)
+    return "\n".join(manual.page_of(options.parser_of(module.__doc__, module.add_options)))
+
+
+def write_pages(folder: str) -> None:
+    """Writes all manual pages into a folder."""
+    for name in ["", *MODULES]:
+        with open(f"{folder}/fintaqush{'-' * bool(name)}{name}.1", "w", encoding="utf-8") as file:
+            print(page(name), file=file)
+
+
 def about(asked: str) -> int:
     """Prints what is asked about the command itself."""
     if asked in ("-h", "--help", "help"):
@@ -53,9 +70,7 @@ def about(asked: str) -> int:
 
         print(f"fintaqush of Fintaqush {version()}")
     elif asked == "--manual":
-        from fintaqush_tools import manual
-
-        print(*manual.page_of_command(GROUPS), sep="\n")
+        print(page(""))
     else:
         say(unknown(asked) if asked else "no subcommand; fintaqush --help lists them")
         return errors.BAD_USAGE
@@ -67,15 +82,15 @@ def main(words: Sequence[str]) -> int:
     name, *rest = words or [""]
     if name == "help" and rest:
         name, rest = rest[0], ["--help"]
+    if name == "--manual" and rest:  # for scripts
+        write_pages(rest[0])
+        return 0
     if name not in MODULES:
         return about(name)
-    module = module_of(name)
     if rest == ["--manual"]:
-        from fintaqush_tools import manual, options
-
-        print(*manual.page_of(options.parser_of(module.__doc__, module.add_options)), sep="\n")
+        print(page(name))
         return 0
-    return int(module.main(rest) or 0)
+    return int(module_of(name).main(rest) or 0)
 
 
 def start(words: Sequence[str]) -> None:

@@ -205,10 +205,6 @@ class Combinations:
         finally:
             pool.shutdown(cancel_futures=True)
 
-    def rows_of(self, made: str, keys: Sequence[Key], words: Words) -> Iterator[Row]:
-        """Returns the rows of these keys, as they finish."""
-        return (self.rows_by_parallel if words.sshloginfile else self.rows_here)(made, keys, words)
-
     def key_of(self, row: Row) -> Key:
         return tuple(row[name] for name in self.key)
 
@@ -264,9 +260,10 @@ class Combinations:
         told = {key[1:]: row for key, row in rows.items()}
         known = [{**told[key[1:]], self.key[0]: key[0]} for key in missing if key[1:] in told]
         unknown = [key for key in missing if key[1:] not in told]
+        rows_by = self.rows_by_parallel if words.sshloginfile else self.rows_here
         there = set()  # if GNU parallel runs a process again, its first rows come twice
         with Progress(f"making {len(missing)} row{'s' * (len(missing) > 1)}", counted.how_far):
-            for row in itertools.chain(known, self.rows_of(made, unknown, words) if unknown else []):
+            for row in itertools.chain(known, rows_by(made, unknown, words) if unknown else []):
                 if self.key_of(row) not in there:
                     there.add(self.key_of(row))
                     self.append(words.out, row)

@@ -11,6 +11,7 @@ from typing import Optional
 from fintaqush_tools.recording import Head
 
 GAP, TIMER, NONE, UNKNOWN = "gap", "timer", "none", "unknown"
+LEAST = "interrupts.least_ns"  # of a device in a head: the least time between interrupts that a capture shows
 MOST_BATCH = 64  # packets, which the machine's --gro-batch takes
 
 
@@ -100,6 +101,24 @@ def latched_in(head: Head, device: str) -> Optional[int]:
     return driver.latched_msix if has_msix(head, device) else driver.latched
 
 
+def least_in(head: Head, device: str) -> int:
+    """Returns the least time between interrupts that the recorded device's card kept beyond that of rx-usecs, in ns; 0 if none is known."""
+    driver = driver_in(head, device)
+    return number_in(head, f"device.{device}.{LEAST}") if driver and driver.coalescing == GAP else 0
+
+
+def least_of(head: Head, device: str) -> int:
+    """Returns the least time between interrupts that the card keeps whatever rx-usecs is; 0 if none is known, as in a mode, whose driver chooses it."""
+    driver = driver_in(head, device)
+    return 0 if driver and usecs_in(head, device) in driver.modes else least_in(head, device)
+
+
+def is_least_open(head: Head, device: str) -> bool:
+    """Returns whether the recorded device's card may keep a longer time between interrupts than rx-usecs sets."""
+    driver = driver_in(head, device)
+    return driver is not None and driver.coalescing == GAP and not least_of(head, device)
+
+
 def options_of(head: Head, device: str) -> dict[str, int]:
     """Returns the machine's options for what the recorded device's driver and card do; none if the driver is unknown. What isn't known
     of a known driver is 0, and `notes_on` says so."""
@@ -110,7 +129,7 @@ def options_of(head: Head, device: str) -> dict[str, int]:
     batch = number_in(head, "sysctl.net.core.gro_normal_batch", 8) if calls_gro else 0
     is_timer = driver.coalescing == TIMER and usecs not in driver.modes
     return {
-        "rx-gap": driver.gap_of(usecs),
+        "rx-gap": max(least_in(head, device), driver.gap_of(usecs)),
         "rx-nsecs": 1000 * usecs if is_timer else 0,
         "rx-frames": number_in(head, f"device.{device}.ethtool.coalesce.rx-frames") if is_timer else 0,
         "latched": latched_in(head, device) or 0,
@@ -133,7 +152,7 @@ def coalescing_of(head: Head, device: str, choices: Sequence[int]) -> list[dict[
         return [{"rx-nsecs": 1000 * usecs} for usecs in choices]
     taken = [usecs for usecs in choices if driver.accepts(usecs)]
     if driver.coalescing == GAP:
-        return [{"rx-gap": driver.gap_of(usecs)} for usecs in taken]
+        return [{"rx-gap": max(least_of(head, device), driver.gap_of(usecs))} for usecs in taken]
     return [{"rx-nsecs": 1000 * usecs} for usecs in taken] if driver.coalescing == TIMER else []
 
 
@@ -148,5 +167,7 @@ def notes_on(head: Head, device: str) -> Iterator[str]:
         yield f"rx-usecs {usecs} of {name} is a mode, in which the driver chooses the time between interrupts itself"
     elif usecs and driver.coalescing == UNKNOWN:
         yield f"what rx-usecs of {name} sets isn't known"
+    if least := least_of(head, device):
+        yield f"the card keeps at least {least / 1000:.1f} us between interrupts, so a lower rx-usecs changes nothing"
     if latched_in(head, device) is None:
         yield f"whether a cause of {name}'s card outlives its packet isn't known"

@@ -69,13 +69,29 @@ class Signals:
 
     @classmethod
     def handle(cls) -> None:
-        """Handles the signals that end a program, but for those that its caller ignores. The scripts that start Python block SIGINT."""
+        """Handles the signals that end a program, but for those that its caller ignores. The scripts that start Python block SIGINT. A signal
+        that comes in the last instructions before a read doesn't interrupt that read: a timer does, once a second.
+        """
         import signal  # which is slow to import
 
         for number in (signal.SIGINT, signal.SIGTERM, signal.SIGHUP):
             if signal.getsignal(number) in (signal.SIG_DFL, signal.default_int_handler):
                 signal.signal(number, cls.take)
+        if not any(signal.getitimer(signal.ITIMER_REAL)):  # its caller's alarm is kept
+            signal.signal(signal.SIGALRM, lambda *_: None)
+            signal.setitimer(signal.ITIMER_REAL, 1, 1)
         signal.pthread_sigmask(signal.SIG_UNBLOCK, {signal.SIGINT})
+
+    @classmethod
+    def leave(cls) -> None:
+        """Undoes that, for the program that takes this one's place."""
+        import signal
+
+        if callable(signal.getsignal(signal.SIGALRM)):
+            signal.setitimer(signal.ITIMER_REAL, 0)
+        for number in (signal.SIGINT, signal.SIGTERM, signal.SIGHUP):
+            if callable(signal.getsignal(number)):
+                signal.signal(number, signal.SIG_DFL)
 
 
 def why(error: BaseException) -> str:

@@ -46,18 +46,25 @@ class Layout:
 
     def delay_arrivals(self, cpus: Sequence[int]) -> None:
         """Lets a packet that its polling processor sent arrive when the next softirq begins there, or its poll if that
-        is earlier: the sender has the processor until then."""
+        is earlier: the sender has the processor until then. One that waits for NAPI's timer has arrived before."""
         seen = self.seen
         if not seen.senders or seen.is_by_thread:
             return
-        began = {packet: seen.begun[poll] for matched in self.deliveries.values() for packet, poll, _ in matched}
+        began = {
+            packet: seen.begun[poll]
+            for matched in self.deliveries.values()
+            for packet, poll, _ in matched
+            if not seen.by_timer[poll]
+        }
         for packet, (time, cpu) in enumerate(zip(seen.sent, cpus)):
-            if seen.sent_on[packet] == cpu:
+            if seen.sent_on[packet] != cpu:
+                continue
+            self.own_packets += 1
+            if packet in began or not seen.held.deferrals:
                 entries = seen.entries[cpu]
                 at = bisect.bisect_left(entries, time)
                 entry = entries[at] if at < len(entries) else time
                 seen.sent[packet] = max(time, min(entry, began.get(packet) or entry))
-                self.own_packets += 1
 
     def is_sent_here(self) -> bool:
         """Returns whether the processors that poll sent most of the packets."""

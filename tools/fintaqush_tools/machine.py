@@ -3,6 +3,7 @@
 from __future__ import annotations
 
 import json
+from collections import Counter
 from collections.abc import Collection, Mapping, Sequence
 from pathlib import Path
 from typing import Any, Union
@@ -16,9 +17,8 @@ Line = Mapping[str, int]  # the numbers of a line of a report, by their names
 # The options, made of their table by scripts/options.py.
 TABLE: list[dict[str, Any]] = json.loads(Path(__file__).with_name("options.json").read_text(encoding="utf-8"))
 # The minimum, maximum and default of each option; what each is; and those that are times. A name as default: the value of that option.
-OPTIONS: dict[str, tuple[int, int, Union[int, str]]] = {
-    it["name"]: (it["least"], it["most"], it["default"]) for it in TABLE
-}
+Option = tuple[int, int, Union[int, str]]
+OPTIONS: dict[str, Option] = {it["name"]: (it["least"], it["most"], it["default"]) for it in TABLE}
 MEANS: dict[str, str] = {it["name"]: it["what"] for it in TABLE}
 IN_NS = tuple(it["name"] for it in TABLE if it["unit"] == "ns")
 NAMES = ("interrupt", "poll", "packet", "use", "wake", "app-wake", "take", "timer", "timer-wake")
@@ -29,6 +29,7 @@ PERCENTILES = {"p50": "wait50", "p99": "wait99", "p999": "wait999"}
 WAITS = [f"{end}_{name}" for end in ("delivered", "used") for name in PERCENTILES]
 TOTALS = ("arrived", "dropped", "refused", "used")
 COUNTS = ("interrupts", "timers", "runs", "polls", "squeezed", "late")
+SUMS = {"device": ("arrived", "dropped", "polled"), "processor": ("refused", "used")}  # of the total line
 # What each result is, for --help and pages.
 ARE = {
     "arrived": "packets that arrived",
@@ -86,6 +87,22 @@ def lines_of(report: str) -> dict[str, list[dict[str, int]]]:
     if len(lines["total"]) != 1 or not report.endswith("\n"):
         raise Refusal("the report is cut: it ends in no total line")
     return lines
+
+
+def of_processors(reports: Sequence[str]) -> str:
+    """Returns the report of processors that differ: the lines of each are from its own report, because processors don't affect each other."""
+    lines, sums = [], Counter[str]()
+    for alike in zip(*(report.splitlines() for report in reports)):
+        kind, number, *fields = alike[0].split()
+        if kind == "total":
+            continue
+        own = alike[(int(number) - (kind == "device")) % len(reports)]
+        lines.append(own)
+        fields = own.split()[2:]
+        sums.update({name: int(value) for name, value in zip(fields[::2], fields[1::2]) if name in SUMS.get(kind, ())})
+    devices = sum(line.startswith("device ") for line in lines)
+    total = " ".join(f"{name} {value}" for name, value in sums.items())
+    return "\n".join([*lines, f"total devices {devices} {total}\n"])
 
 
 def greatest_waits(lines: Sequence[Line], what: str, numbers: Collection[int] | None = None) -> dict[str, int]:

@@ -10,8 +10,9 @@ DOCS = f"{TOP}/docs/" if os.path.exists(f"{TOP}/docs/TOOLS.md") and not IS_CHECK
 
 
 def with_pages(text: str) -> str:
-    """Returns a text that names pages as docs/NAME.md, with their place in an installation."""
-    return text.replace("docs/", DOCS)
+    """Returns a text that names pages as docs/NAME.md, and examples, with their place in an installation."""
+    place = f" {DOCS.removesuffix('docs/')}examples"
+    return text.replace("docs/", DOCS).replace(" examples/", f"{place}/").replace(" examples --", f"{place} --")
 
 
 def version() -> str:

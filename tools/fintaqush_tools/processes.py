@@ -127,7 +127,5 @@ def become(command: Sequence[str], path: str | None) -> NoReturn:
     elif sys.stdin.isatty():
         raise Refusal("no file is named, and standard input is a terminal")
     signal.signal(signal.SIGPIPE, signal.SIG_DFL)
-    for each in (signal.SIGINT, signal.SIGTERM, signal.SIGHUP):
-        if callable(signal.getsignal(each)):
-            signal.signal(each, signal.SIG_DFL)
+    Signals.leave()
     os.execv(command[0], list(command))

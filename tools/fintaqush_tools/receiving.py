@@ -15,6 +15,7 @@ from fintaqush_tools.instances import ANY, Place, Routes
 from fintaqush_tools.recording import NET_RX, POLLED, SENT, SOFTIRQ, Event, Look, fields_by, is_by_thread
 from fintaqush_tools.tasks import Tasks
 
+Deliveries = dict[Place, list[tuple[int, int, int]]]  # for each instance what `matched` returns
 Marked = Union[int, tuple[str, int]]  # a processor, or a thread
 
 TIMER = fields_by(r"hrtimer=\S+ function=(\w+)")
@@ -56,8 +57,8 @@ class Held:
         # For each instance: the end of its last poll, how often its interrupt is still deferred, and when a poll last began that wasn't deferred.
         self.before = {}
 
-    def spread(self, place: Place, packets: Sequence[Received], work: int, ended: int) -> None:
-        """Changes the arrivals of the packets that a poll took."""
+    def spread(self, place: Place, packets: Sequence[Received], work: int, ended: int) -> bool:
+        """Changes the arrivals of the packets that a poll took. Returns whether NAPI's timer asked for the poll."""
         end, left, asked = self.before.get(place, (0, 0, 0))
         begun = packets[0].time if packets else ended
         by_timer = left > 0 and not (
@@ -68,6 +69,7 @@ class Held:
         for number, packet in enumerate(packets if end else ()):
             packet.time = since + int((begun - since) * (number + is_held / 2) / len(packets))
         self.before[place] = ended, self.deferrals if work else max(0, left - 1), asked if by_timer else begun
+        return by_timer
 
 
 class Receiving:
@@ -90,6 +92,7 @@ class Receiving:
     on: array[int]
     places: list[Place]
     run: array[int]
+    interrupts: array[int]
     entries: defaultdict[int, array[int]]
     timers: Counter[int]
     reads: list[tuple[int, int]]
@@ -98,7 +101,7 @@ class Receiving:
     received: dict[str, list[Received]]
     taken: defaultdict[int, list[Received]]
     packets_of: Counter[Place]
-    known: Optional[dict[Place, list[tuple[int, int, int]]]]
+    known: Optional[Deliveries]
 
     def __init__(
         self,
@@ -118,16 +121,20 @@ class Receiving:
         self.flows = array("L")  # of a card's packets: the hash of the flow, or 0
         # The packets whose instance isn't known yet; how many packets a backlog received since its last poll.
         self.unplaced, self.moved, self.taken = {}, Counter(), defaultdict(list)
+        # Polls in which a backlog took packets of other devices too; packets that softirqs sent while a NAPI thread had the processor.
+        self.shared = self.by_threads = 0
         # For each poll.
-        self.ended, self.begun, self.work, self.on, self.is_thread = (
+        self.ended, self.begun, self.work, self.on, self.is_thread, self.by_timer = (
             array("Q"),
             array("Q"),
             array("L"),
             array("H"),
             bytearray(),
+            bytearray(),
         )
         # Its instance, and the number of its softirq among the entries on its processor, or 0.
         self.places, self.run, self.packets_of = [], array("L"), Counter()
+        self.interrupts = array("Q")  # a card's that asked for polls
         # By processor: when its softirqs began; its NAPI timers.
         self.entries, self.timers = (defaultdict(lambda: array("Q")), Counter())
         self.reads, self.reading = [], {}  # for each read its end, and the beginning of the next read by that task
@@ -163,6 +170,8 @@ class Receiving:
 
     def switch(self, event: Event) -> None:
         found = self.tasks.switch(event)
+        if found.last[0].startswith("napi/"):
+            self.mark["thread", found.last[1]] = 0  # some kernels record no switch from the idle task to it
         if found.is_napi:
             self.mark["thread", found.next[1]] = event.time
 
@@ -179,6 +188,7 @@ class Receiving:
             place, packet = self.routes.of_sent(sender, event)
             self.append_packet(event.time, code in ("0", "0x0"), event.cpu, sender, place)
             self.sending.add(event.task)
+            self.by_threads += event.task.startswith("napi/")
             if place is None and self.has_come[-1]:
                 self.unplaced[packet] = len(self.sent) - 1
 
@@ -195,6 +205,8 @@ class Receiving:
             if place and address in self.unplaced:
                 self.sent_to[self.unplaced.pop(address)] = place
                 self.moved[event.cpu] += 1
+        if not self.receivers:
+            return
         name, _, flow = packet_of(event)
         if name in self.receivers:
             by_card = self.begins.by_card.get(event.cpu, False)
@@ -209,10 +221,13 @@ class Receiving:
         if is_own and self.routes.moved:  # a backlog has packets of other devices too
             work = self.moved.pop(event.cpu, 0)
             is_own = work > 0
+            self.shared += 0 < work < int(count)
         if is_own:
             place = (device, napi) if self.receivers else self.routes.of_poll(device, napi)
             taken = self.taken.pop(event.cpu, [])
-            self.held.spread(place, taken, work, event.time)
+            self.by_timer.append(self.held.spread(place, taken, work, event.time))
+            if asked := self.begins.interrupt.pop(event.cpu, 0):
+                self.interrupts.append(asked)
             for packet in taken:
                 packet.place = place
             self.packets_of[device, napi] += work
@@ -242,6 +257,12 @@ class Receiving:
             self.flows.append(packet.flow)
         return kind
 
+    def share_in_polls(self, times: Sequence[int]) -> float:
+        """Returns the share of these times at which a poll was under way."""
+        polls = [bisect.bisect_left(self.ended, time) for time in times]
+        within = sum(0 < self.begun[poll] <= time for time, poll in zip(times, polls) if poll < len(self.ended))
+        return within / len(times)
+
     def replace_arrivals(self, times: Sequence[int], device: str) -> None:
         """Takes other arrivals at the one instance that polls."""
         count, self.flows = len(times), array("L")
@@ -257,7 +278,9 @@ class Receiving:
         for name in ("ended", "begun", "work", "on", "run"):
             column = getattr(self, name)
             setattr(self, name, array(column.typecode, (column[number] for number in kept)))
-        self.is_thread = bytearray(self.is_thread[number] for number in kept)
+        self.is_thread, self.by_timer = (
+            bytearray(map(each.__getitem__, kept)) for each in (self.is_thread, self.by_timer)
+        )
         self.places = [self.places[number] for number in kept]
 
     def place_dropped(self) -> None:
@@ -298,12 +321,15 @@ class Receiving:
         return {(processor, number) for processor, number in zip(self.on, self.run) if number}
 
     def poll_percent(self) -> float:
-        """Returns the share of the time from the first packet to the last poll that polls took, of all processors that polled."""
-        if not self.sent or not self.ended:
+        """Returns the share of the time from the first packet to the last poll that took one, of all processors that polled. Polls of which the
+        beginning isn't known count as long as the others. Empty polls may come long before and after: some drivers raise an interrupt now and then.
+        """
+        known = [ended - begun for ended, begun in zip(self.ended, self.begun) if begun]
+        took = [ended for ended, work in zip(self.ended, self.work) if work]
+        if not self.sent or not known or not took:
             return 0
-        took = sum(ended - begun for ended, begun in zip(self.ended, self.begun) if begun)
-        whole = max(1, self.ended[-1] - min(self.sent[0], self.ended[0]))
-        return 100 * took / whole / len(set(self.on))
+        whole = max(1, took[-1] - min(self.sent[0], took[0]))
+        return 100 * sum(known) / len(known) * len(self.ended) / whole / len(set(self.on))
 
     @staticmethod
     def place_of(place: Optional[Place]) -> Place:
@@ -349,7 +375,7 @@ class Receiving:
         times = [(self.sent[packet], self.ended[poll]) for packet, poll, _ in found]
         return found if at <= len(came) and agree(times) else []
 
-    def deliveries(self) -> dict[Place, list[tuple[int, int, int]]]:
+    def deliveries(self) -> Deliveries:
         """Returns the matched packets of each instance; those that are known already, because arrivals may have been
         delayed since then. Returns nothing if polls of several instances count as those of one."""
         if self.known is not None:

@@ -2,19 +2,23 @@
 
 from __future__ import annotations
 
-from fintaqush_tools import predicting
+from functools import partial
+
+from fintaqush_tools import card_costs, drivers, predicting
 from fintaqush_tools.advice import options_of
+from fintaqush_tools.blame import check_waits
 from fintaqush_tools.captured import arrivals_within
 from fintaqush_tools.errors import Refusal
 from fintaqush_tools.instances import ANY, NapiInstance, Routes, instances_in
 from fintaqush_tools.layout import Layout
 from fintaqush_tools.options import Words
-from fintaqush_tools.receiving import Receiving
+from fintaqush_tools.receiving import SLACK, Receiving
 from fintaqush_tools.recording import BACKLOG, check_lost, head_of, read
 from fintaqush_tools.texts import shown
 from fintaqush_tools.timeline import Timeline
 from fintaqush_tools.tracing import STACK
 
+BY_KERNEL = 0.9  # share of a capture's packets in polls, from which the kernel stamped them
 DISTURBED = 0.02  # share of the processor's time that other tasks may take
 OF_BOTH = "a veth pair's are what its other end sends (fintaqush record --sender), a card's what polls take"
 CAPTURED = "or name a capture that was made meanwhile by --capture"
@@ -33,23 +37,45 @@ class Recording:
             raise Refusal("not a file of fintaqush record, which includes the settings")
         self.device, self.sender = self.chosen(words.device)
         self.polled = BACKLOG if self.head["polled"] == BACKLOG else self.device
-        self.capture = words.capture
+        self.capture, self.is_captured = words.capture, bool(words.capture) and not self.sender
         self.check_head()
         pairs = {self.sender: self.device} if self.sender else {}
         receivers, routes = set[str]() if pairs else {self.device}, Routes(self.head, pairs)
         self.seen = Receiving({self.polled}, set(pairs), receivers, routes, options_of(self.head, self.device, 0))
 
-    def read(self, times: Timeline | None = None) -> Recording:
-        """Reads the events, also for `times`, which costs are estimated from. Fails if the recording can't be predicted."""
+    def read(self, times: Timeline | None = None, goal: str = "") -> Recording:
+        """Reads the events, also for `times`, which costs are estimated from. Fails if the recording can't be predicted, and early if other tasks make the
+        waits that the goal is about."""
         lost: list[str] = []
-        read(self.path, lost, lambda _: [self.seen, *([times] if times else [])])
+        ends_with_delivery = len({cpu for each in self.own_instances() for cpu in each.polls}) > 1
+        look = (
+            partial(check_waits, self.seen, goal, self.program_pids())
+            if goal in ("p50", "p99") and ends_with_delivery
+            else None
+        )
+        read(self.path, lost, lambda _: [self.seen, *([times] if times else [])], look)
         check_lost(lost)
         self.by = self.seen.settle()
         self.check()
-        if self.capture:
-            self.seen.replace_arrivals(arrivals_within(self.capture, self.head, self.device), self.device)
+        if self.is_captured:
+            self.take_capture()
         self.layout = Layout(self.seen)
         return self
+
+    def take_capture(self) -> None:
+        """Takes the arrivals of the capture, unless the kernel stamped its packets when polls took them: the recording has these times too."""
+        times = arrivals_within(self.capture, self.head, self.device)
+        self.is_captured = not self.by or self.seen.share_in_polls(times) < BY_KERNEL
+        if self.is_captured:
+            self.seen.replace_arrivals(times, self.device)
+            self.take_gap()
+
+    def take_gap(self) -> None:
+        """Adds to the head the least time between interrupts that the card keeps, if it is longer than rx-usecs sets."""
+        seen, gap = self.seen, options_of(self.head, self.device, 0).get("rx-gap", 0)
+        least = card_costs.least_gap(seen.sent, seen.interrupts, seen.ended)
+        if least > SLACK * gap:
+            self.head[f"device.{self.device}.{drivers.LEAST}"] = str(least)
 
     def chosen(self, named: str | None) -> tuple[str, str]:
         """Returns the device to examine, and the other end of its veth pair."""
@@ -73,12 +99,10 @@ class Recording:
         own = self.own_instances()
         if not own and instances_in(self.head):
             raise Refusal(f"no poll of {shown(self.polled)} took a packet: record while packets arrive")
-        if self.sender and self.capture:
-            raise Refusal("--capture is for a card: the arrivals at the end of a veth pair are in the recording")
-        if self.capture and len(own) > 1:
+        if self.is_captured and len(own) > 1:
             why = "a capture doesn't say which of them gets a packet"
             raise Refusal(f"{len(own)} instances of {shown(self.polled)} poll, and {why}")
-        if own and not self.sender and not self.capture and f"received.{self.device}" not in self.head:
+        if own and not self.sender and not self.is_captured and f"received.{self.device}" not in self.head:
             raise Refusal(NO_ARRIVAL)
         if self.sender and len(own) > 1:
             self.check_instances(own)
@@ -86,7 +110,7 @@ class Recording:
     def check_instances(self, own: list[NapiInstance]) -> None:
         """Fails if it isn't recorded which of several instances gets a packet of a pair."""
         if self.polled == BACKLOG and STACK not in self.head.get("events", "").split():
-            why = "which of them gets a packet isn't recorded: it is if RPS is set, or GRO is off, when the recording begins"
+            why = "which of them gets a packet isn't in this recording (netif_receive_skb): record again"
             raise Refusal(f"the backlogs of {len(own)} processors poll, and {why}")
         if self.polled != BACKLOG and any(each.queue is None for each in own):
             why = "which of them has which queue isn't known: record for longer, or more packets"

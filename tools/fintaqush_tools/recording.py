@@ -3,19 +3,22 @@
 from __future__ import annotations
 
 import contextlib
+import gc
 import gzip
 import io
-import itertools
 import re
 import zlib
-from collections.abc import Callable, Iterable, Iterator, Sequence
-from typing import IO, Any, NamedTuple, Optional, Protocol, TypeVar
+from collections.abc import Callable, Iterator, Sequence
+from dataclasses import dataclass
+from itertools import chain, count
+from typing import IO, Any, Optional, Protocol
 
 from fintaqush_tools import files
 from fintaqush_tools.arrivals import seconds
 from fintaqush_tools.errors import Refusal
 from fintaqush_tools.files import check_input
 from fintaqush_tools.progress import Progress, share_of
+from fintaqush_tools.splitting import MOST_KNOWN, Columns, Known, Parsed, split
 from fintaqush_tools.texts import is_number, shown
 
 Head = dict[str, str]  # of a file of fintaqush record
@@ -47,33 +50,14 @@ LINE = re.compile(
 LOST = re.compile(r"\[LOST (\d+) EVENTS\]|\[(\d+) EVENTS DROPPED\]|PERF_RECORD_LOST lost (\d+)")
 # The lines of a call chain, which perf writes after an event.
 NO_EVENT = re.compile(r"\s*(#.*|cpus=\d+|version = .*|CPU:? ?\d+ is empty|[0-9a-f]{4,16} .* \(.*\))?$")
-# A line as fintaqush record writes it: the task with its processor and flags, which `FRONT` splits; the time in ns; the name; and what the event
-# says. `LINE` finds the same in each of them.
-QUICK = re.compile(
-    r"^([^\[\n]+\[\d{1,6}\] \S+) +(\d{1,10})\.(\d{9}): (\w+: |sys_\w+(?: -> |(?=\()))(.{0,4000})\n", re.M
-)
+# The front of a line that `columns_of` splits.
 FRONT = re.compile(r"\s*(\S.*?)(?:-|\s+(?:\d{1,9}/)?)(\d{1,9})\s+(?:\([\s\d-]+\)\s+)?\[(\d+)\] (\S+)")
 
-MOST_KNOWN = 1 << 14  # texts of an event whose fields are kept, because most texts come again and again
 PIECE = 1 << 16  # characters that are read at once; what is made of more doesn't stay in a processor's cache
 MOST_HEAD = 1 << 24  # characters
+EARLY = 50_000  # events after which a recording can be looked at before the rest is read
 
-Parsed = TypeVar("Parsed")
 Fields = Optional[tuple[str, ...]]
-
-
-class Known(dict[str, Parsed]):
-    """What texts say, by `parse`, and kept, because most of them come again and again."""
-
-    def __init__(self, parse: Callable[[str], Parsed]) -> None:
-        super().__init__()
-        self.parse = parse
-
-    def __missing__(self, text: str) -> Parsed:
-        if len(self) >= MOST_KNOWN:
-            self.clear()
-        self[text] = parsed = self.parse(text)
-        return parsed
 
 
 def fields_by(pattern: str) -> Known[Fields]:
@@ -92,9 +76,12 @@ POLLED = fields_by(r"napi poll on napi struct (\S+) for (?:network )?device (\S+
 SOFTIRQ = fields_by(r"vec=(\d{1,9})")
 
 
-class Event(NamedTuple):
-    """A line of the recording, with its time in nanoseconds."""
+@dataclass
+class Event:
+    """A line of the recording, with its time in nanoseconds. What handles it gets the same object for each line, which is faster, so what is to be
+    kept has to be copied."""
 
+    __slots__ = ("line", "task", "cpu", "flags", "time", "name", "said", "pid")
     line: int
     task: str
     cpu: int
@@ -102,7 +89,7 @@ class Event(NamedTuple):
     time: int
     name: str
     said: str
-    pid: int = 0
+    pid: int
 
     def parts(self, texts: Known[Optional[Parsed]]) -> Parsed:
         """Returns what the event says, by the texts of its kind. Fails if its text has an unknown form."""
@@ -127,9 +114,11 @@ class Reader(Protocol):
 Task = tuple[str, int, int]  # its name, its number and its priority
 
 
-class Switch(NamedTuple):
+@dataclass
+class Switch:
     """What a task switch says: the task that leaves the processor, whether it sleeps, the next task, and whether that is a NAPI thread."""
 
+    __slots__ = ("last", "is_sleep", "next", "is_napi")
     last: Task
     is_sleep: bool
     next: Task
@@ -197,13 +186,6 @@ def event_of(number: int, found: re.Match[str], threads: Threads) -> Event:
     return Event(number, own, int(cpu), flags or "", time, name, said.rstrip(), int(pid))
 
 
-def name_of(word: str) -> str:
-    """Returns the name of an event by the word before what it says: ftrace writes `sys_read(..` and `sys_read -> ..`."""
-    if word.endswith(": "):
-        return word[:-2]
-    return word.replace("sys_", "sys_exit_", 1)[:-4] if word.endswith("> ") else word.replace("sys_", "sys_enter_", 1)
-
-
 class Texts:
     """Passes the events of texts, one after the other and each of whole lines, to the readers that handle events of their names."""
 
@@ -214,36 +196,36 @@ class Texts:
         self.readers: list[Reader] = [self.threads, *readers]
         self.looks = Known(self.looks_at)
 
-    def looks_at(self, word: str) -> tuple[str, list[Look]]:
-        """Returns the name of an event by the word before what it says, and what handles it."""
-        name = name_of(word)
-        return name, [look for reader in self.readers for look in reader.looks_at(name)]
+    def looks_at(self, name: str) -> list[Look]:
+        """Returns what handles the events of this name."""
+        return [look for reader in self.readers for look in reader.looks_at(name)]
 
-    def add(self, text: str) -> None:
-        """Passes the events of the next text on. If all its lines are as fintaqush record writes them, it is parsed at once, which is much faster."""
-        found, first = QUICK.findall(text), self.line
-        self.line += text.count("\n")
-        if text.endswith("\n") and first + len(found) == self.line:
-            self.count += len(found)
-            self.reach(int(found[0][1] + found[0][2]))
-            self.add_quick(found, first)
-            self.reach(int(found[-1][1] + found[-1][2]))
+    def add(self, text: str, columns: Optional[Columns] = None) -> None:
+        """Passes the events of the next text on, by its columns if it has them, which is much faster."""
+        first = self.line
+        if columns:
+            self.line += len(columns[0])
+            self.count += len(columns[0])
+            self.add_quick(columns, first)
         else:
+            self.line += text.count("\n")
             self.add_slow(text, first)
 
     def reach(self, time: int) -> None:
         """Handles the time of an event, if no other one has come since then."""
         self.span = self.span[0] or time, time
 
-    def add_quick(self, found: Iterable[tuple[str, ...]], first: int) -> None:
-        threads, looks, new = self.threads, self.looks, tuple.__new__
-        for number, (front, whole, fraction, word, said) in enumerate(found, first):
-            name, handles = looks[word]
+    def add_quick(self, columns: Columns, first: int) -> None:
+        threads, looks, event = self.threads, self.looks, Event(0, "", 0, "", 0, "", "", 0)
+        fronts, times, said_by = columns[0], memoryview(columns[1]).cast("Q"), columns[2]
+        self.reach(times[0])
+        for event.line, front, event.time, (event.name, event.said) in zip(count(first), fronts, times, said_by):
+            handles = looks[event.name]
             if handles:
-                task, cpu, flags, pid = threads[front]
-                event = new(Event, (number, task, cpu, flags, int(whole + fraction), name, said.strip(), pid))
+                event.task, event.cpu, event.flags, event.pid = threads[front]
                 for handle in handles:
                     handle(event)
+        self.reach(times[-1])
 
     def add_slow(self, text: str, first: int) -> None:
         for number, line in enumerate(re.findall(r"[^\n]*\n|[^\n]+", text), first):
@@ -252,7 +234,7 @@ class Texts:
                 self.count += 1
                 event = event_of(number, found, self.threads)
                 self.reach(event.time)
-                for handle in self.looks[f"{event.name}: "][1]:
+                for handle in self.looks[event.name]:
                     handle(event)
 
     def end(self) -> None:
@@ -267,12 +249,16 @@ class Events(list[Event]):
 
     def looks_at(self, _name: str) -> list[Look]:
         """Returns what handles the events of any name."""
-        return [self.append]
+        return [self.keep]
+
+    def keep(self, event: Event) -> None:
+        parts = event.line, event.task, event.cpu, event.flags, event.time, event.name, event.said, event.pid
+        self.append(Event(*parts))
 
 
 def is_event(number: int, line: str, is_found: bool, lost: list[str], has_head: bool) -> bool:
     """Returns whether a line is an event. Fails if it is cut, too long or of no known form."""
-    if len(line) > MOST_LINE:
+    if len(line) - line.endswith("\n") >= MOST_LINE:
         raise Refusal(f"line {number}: longer than any line of ftrace")
     if not line.endswith("\n") and (has_head or not is_found):
         raise Refusal(f"it is cut: line {number} isn't whole")
@@ -286,15 +272,16 @@ def is_event(number: int, line: str, is_found: bool, lost: list[str], has_head: 
 
 def texts_of(file: IO[str]) -> Iterator[str]:
     """Yields an open text in pieces of whole lines."""
-    number, rest = 1, ""
+    rest = ""
     with Progress("reading", lambda: share_of(file)):
         while piece := file.read(PIECE):
-            text, end, rest = (rest + piece).rpartition("\n")
-            number += text.count("\n") + len(end)
-            if len(rest) >= MOST_LINE:
-                raise Refusal(f"line {number}: longer than any line of ftrace")
+            text = rest + piece
+            end = text.rfind("\n") + 1
+            if len(text) - end >= MOST_LINE:  # which `is_event` refuses
+                end = len(text)
+            rest = text[end:]
             if end:
-                yield text + end
+                yield text[:end]
     if rest:
         yield rest
 
@@ -326,7 +313,7 @@ def parts_of(texts: Iterator[str]) -> tuple[Head, Iterator[str]]:
     if first != HEAD and first.startswith(HEAD.split()[0]):
         raise Refusal(f"{first.strip()[:60]!r}: another version of fintaqush record wrote it; this one reads version 1")
     if first != HEAD:
-        return {}, itertools.chain([text], texts)
+        return {}, chain([text], texts)
     while TRACE not in text:
         more = next(texts, "")
         if not more or len(text) > MOST_HEAD:
@@ -334,7 +321,7 @@ def parts_of(texts: Iterator[str]) -> tuple[Head, Iterator[str]]:
         text += more
     head, _, text = text.partition(TRACE)
     pairs = (line.partition(" ") for line in head.split("\n")[1:])
-    return {key: value for key, _, value in pairs}, itertools.chain([text] if text else [], texts)
+    return {key: value for key, _, value in pairs}, chain([text] if text else [], texts)
 
 
 def head_of(recording: str) -> Head:
@@ -343,15 +330,31 @@ def head_of(recording: str) -> Head:
         return parts_of(texts)[0]
 
 
-def read(recording: str, lost: list[str], readers: Callable[[Head], Sequence[Reader]]) -> Head:
-    """Reads a file, also as .gz, or standard input for `-`, passes its events to the readers, which `readers` makes for its head, and returns the head."""
+@contextlib.contextmanager
+def uncollected() -> Iterator[None]:
+    """Keeps Python from looking for cycles in what is read, again and again: there are none."""
+    gc.disable()
+    try:
+        yield
+    finally:
+        gc.enable()
+
+
+def read(
+    recording: str, lost: list[str], readers: Callable[[Head], Sequence[Reader]], look: Callable[[], None] | None = None
+) -> Head:
+    """Reads a file, also as .gz, or standard input for `-`, passes its events to the readers, which `readers` makes for its head, and returns the head.
+    `look` is called once after `EARLY` events."""
     with opened(recording) as pieces:
         head, pieces = parts_of(pieces)
         if is_number(head.get("lost", "0")) and int(head.get("lost", "0")):
             lost.append(f"the kernel lost {head['lost']} events")
         texts = Texts(readers(head), lost, len(head) + 3 if head else 1)
-        for piece in pieces:
-            texts.add(piece)
+        with uncollected(), contextlib.closing(split(pieces)) as parts:
+            for part in parts:
+                texts.add(*part)
+                if look and texts.count > EARLY:
+                    look = look()
         texts.end()
         if head and head.get("lines") != str(texts.count):
             raise Refusal(

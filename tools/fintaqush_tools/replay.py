@@ -79,12 +79,8 @@ def about() -> str:
     serial, every = ("proved and built" if it else "not built here yet" for it in built)
     what = "it replays traces of version 1 and 2 by the NAPI polling of Linux 6.6"
     lines = [f"replay of Fintaqush {version()}", what, f"sources: {sources or 'no git history here'}"]
-    lines += [
-        f"program of serial mode: {serial}",
-        f"program of every mode: {every}",
-        f"kit: {of_kit or 'no rt on PATH'}",
-    ]
-    return "\n".join([*lines, ""])
+    lines += [f"program of serial mode: {serial}", f"program of every mode: {every}"]
+    return "\n".join([*lines, f"kit: {of_kit or 'no rt on PATH'}", ""])
 
 
 class Run:

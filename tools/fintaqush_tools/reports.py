@@ -56,16 +56,11 @@ def fits(part: str, word: str) -> bool:
     return word in STATES.get(part, (part,))
 
 
-def is_of(shape: Sequence[str], words: Sequence[str]) -> bool:
-    """Returns whether the fields of a line have this shape."""
-    return len(shape) == len(words) and all(map(fits, shape, words))
-
-
 def object_of(line: str) -> Line:
     words = line.split(" ")
     if words[0] == "list" and all(map(is_number, words[1:])):
         return {"line": "list", "devices": [int(word) for word in words[1:]]}
-    shape = next((shape for shape in SHAPES if is_of(shape, words)), None)
+    shape = next((shape for shape in SHAPES if len(shape) == len(words) and all(map(fits, shape, words))), None)
     if shape is None:
         raise Refusal("no line of a report")
     told: Line = {"line": words[0]}

@@ -11,7 +11,6 @@ from fintaqush_tools.texts import aligned
 Row = Mapping[str, Any]
 
 HEADINGS = {
-    "load": "load",
     "used_per_second": "used k/s",
     **{name: name.replace("_", " ") + " µs" for name in WAITS},
     **{name: name.replace("_percent", " %") for name in VALUES if name.endswith("_percent")},

@@ -17,7 +17,9 @@ UNITS = {"ns": 1, "us": 1000, "ms": 10**6, "s": 10**9}  # in ns, the unit of res
 CONDITION = re.compile(rf"([a-z]\w*) *({'|'.join(SIGNS)}) *([+-]?)(\d{{1,15}}(?:\.\d{{1,9}})?) *({'|'.join(UNITS)}|%)?")
 
 
-NONE: dict[str, Any] = {}
+Values = Mapping[str, Any]
+Result = tuple[str, Values]  # its name, and its values
+NONE: Values = {}
 
 
 class Condition(NamedTuple):
@@ -30,7 +32,7 @@ class Condition(NamedTuple):
     unit: str
     is_relative: bool = False
 
-    def value(self, values: Mapping[str, Any], before: Mapping[str, Any] = NONE) -> Decimal:
+    def value(self, values: Values, before: Values = NONE) -> Decimal:
         """Returns the value, or its change, in the condition's unit."""
         value, base = Decimal(str(values[self.name])), Decimal(str(before.get(self.name, 0)))
         change = value - base if self.is_relative else value
@@ -38,10 +40,10 @@ class Condition(NamedTuple):
             return 100 * change / abs(base) if base else change * Decimal("Infinity") if change else change
         return change / UNITS.get(self.unit, 1)
 
-    def holds(self, values: Mapping[str, Any], before: Mapping[str, Any] = NONE) -> bool:
+    def holds(self, values: Values, before: Values = NONE) -> bool:
         return bool(SIGNS[self.sign](self.value(values, before), self.limit))
 
-    def told(self, values: Mapping[str, Any], before: Mapping[str, Any]) -> str:
+    def told(self, values: Values, before: Values) -> str:
         value, unit = self.value(values, before), f" {self.unit}" * bool(self.unit)
         return f"{self.name} changed by {value:+.1f}{unit}" if self.is_relative else f"{self.name} is {value}{unit}"
 
@@ -91,12 +93,7 @@ def add_condition(parser: Parser, read: Any, when: str) -> None:
     parser.many("--fail-if", "CONDITION", what, type=read)
 
 
-Result = tuple[str, Mapping[str, Any]]  # its name, and its values
-
-
-def status_of(
-    conditions: Sequence[Condition], results: Sequence[Result], before: Sequence[Mapping[str, Any]] = ()
-) -> int:
+def status_of(conditions: Sequence[Condition], results: Sequence[Result], before: Sequence[Values] = ()) -> int:
     """Returns the exit status for results (name, values), and prints a line for each condition that holds, with the first such result.
     `before` has the values that relative limits compare each of them with."""
     status = 0

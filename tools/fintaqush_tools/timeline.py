@@ -18,11 +18,11 @@ from fintaqush_tools.recording import (
     SOFTIRQ,
     SWITCH,
     Event,
-    Known,
     Look,
     fields_by,
     is_by_thread,
 )
+from fintaqush_tools.splitting import Known
 
 Handler = list[Any]  # its name, its beginning, and whether it may request polls
 
@@ -37,6 +37,7 @@ APIC = {"thermal_apic", "threshold_apic", "deferred_error_apic", "error_apic", "
 HANDLERS = BETWEEN | APIC | {"irq_handler", "local_timer", "irq_work", "x86_platform_ipi"}
 SOON = 50_000  # ns, from the end of an interrupt to the softirq that it requested
 SAME_CLOCK = 1_000_000  # ns
+RARE = 0.01  # share of the polls
 EARLY = 100_000  # ns by which a poll may precede its sender's event, which follows the sending
 
 
@@ -446,9 +447,11 @@ class Timeline:
         self.where = Counter(self.places)
         return self
 
-    def is_even(self) -> bool:
-        """Returns whether all polls took the same number of packets."""
-        return len({work for work, _ in self.polls}) == 1
+    def size(self) -> int | None:
+        """Returns how many packets each poll took, but for one in a hundred: a line over so few others is decided by chance."""
+        size, count = Counter(work for work, _ in self.polls).most_common(1)[0]
+        others = len(self.polls) - count
+        return size if not others or size and others <= RARE * len(self.polls) else None
 
     def processor(self) -> int | None:
         """Returns the processor that polls most, if any does."""

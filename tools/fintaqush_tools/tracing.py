@@ -20,11 +20,10 @@ CLOCK_SOURCE = "/sys/devices/system/clocksource/clocksource0/current_clocksource
 NEW_MOUNTS, RECURSIVE, PRIVATE = 0x20000, 0x4000, 0x40000  # CLONE_NEWNS, MS_REC, MS_PRIVATE
 NET_RX = 3
 POLLS = ("napi/napi_poll", "irq/softirq_entry", "irq/softirq_exit")  # without these no poll is known
+TIMERS = ("timer/hrtimer_start", "timer/hrtimer_expire_entry")
 FILTERS = {
-    "irq/softirq_entry": f"vec == {NET_RX}",
-    "irq/softirq_exit": f"vec == {NET_RX}",
-    "timer/hrtimer_start": "function.function == napi_watchdog",
-    "timer/hrtimer_expire_entry": "function.function == napi_watchdog",
+    **dict.fromkeys(POLLS[1:], f"vec == {NET_RX}"),
+    **dict.fromkeys(TIMERS, "function.function == napi_watchdog"),
 }
 STACK, START = "net/netif_receive_skb", "net/net_dev_start_xmit"
 RECEIVED = ("net/napi_gro_receive_entry", "net/napi_gro_frags_entry", STACK)
@@ -51,8 +50,11 @@ def mount_tracefs() -> str:
     )
     for name, *words in calls:
         if getattr(libc, name)(*words) != 0:
+            number = ctypes.get_errno()
             why = "a container needs CAP_SYS_ADMIN for it, and a kernel that is locked down has no tracing"
-            raise Refusal(f"tracefs can't be mounted: {os.strerror(ctypes.get_errno())}; {why}")
+            if number == errno.EINVAL:  # its root is no place where something is mounted
+                why = f"in a chroot `mount -t tracefs nodev {PLACES[0]}` does it"
+            raise Refusal(f"tracefs can't be mounted: {os.strerror(number)}; {why}")
     return PLACES[0]
 
 
@@ -62,7 +64,8 @@ class Sources:
 
     program: str = ""  # the filter for the program whose reads are recorded
     receivers: Collection[str] = ()  # devices without a known sender, of which the received packets are recorded
-    moved: Collection[str] = ()  # devices whose packets a processor's backlog gets, by RPS or without NAPI
+    # devices whose packets a backlog may get: by RPS, without GRO, or if their sender has TSO
+    moved: Collection[str] = ()
     senders: Collection[str] = ()  # devices that send to several queues
 
 
@@ -166,7 +169,7 @@ class Instance:
         interrupts = [f"irq_vectors/{name}" for name in sorted(names) if name.endswith(("_entry", "_exit"))]
         interrupts = interrupts or ["ipi/ipi_entry", "ipi/ipi_exit"]
         events = [*POLLS, "net/net_dev_xmit", "irq/irq_handler_entry", "irq/irq_handler_exit", *interrupts]
-        events += ["sched/sched_switch", "timer/hrtimer_start", "timer/hrtimer_expire_entry"]
+        events += ["sched/sched_switch", *TIMERS]
         chosen = {name: FILTERS.get(name) for name in events}
         chosen |= {name: of_devices(sources.receivers) for name in RECEIVED if sources.receivers}
         if sources.moved:
@@ -238,6 +241,7 @@ class Stamps:
     """Converts the counter's stamps in the trace's lines to seconds of CLOCK_MONOTONIC with nine digits."""
 
     LINE = re.compile(rb"(.{16}-\d+\s+\[\d+\] \S+ +)(\d+)(?:\.(\d{1,9}))?(: .*)", re.S)
+    WRITTEN = re.compile(rb" (\d+): tracing_mark_write: " + MARK.encode() + rb" (\d+)\s*$")
 
     def __init__(self, clock: str, marks: dict[int, tuple[int, int]]) -> None:
         self.clock, self.marks = clock, marks
@@ -249,9 +253,7 @@ class Stamps:
 
     def look(self, line: bytes) -> bool:
         """Stores a mark's stamp. Returns whether the line is a mark."""
-        if self.is_mark(line) and (
-            found := re.search(rb" (\d+): tracing_mark_write: " + MARK.encode() + rb" (\d+)\s*$", line)
-        ):
+        if self.is_mark(line) and (found := self.WRITTEN.search(line)):
             self.seen[int(found[2])] = int(found[1])
         return self.is_mark(line)
 

@@ -82,6 +82,14 @@ class Verdict:
             return "better"
         return "worse" if min(self.advised) > max(self.today) else "alike"
 
+    def failure(self) -> str:
+        """Returns why the advised settings aren't known to be better, or nothing if they are."""
+        judgement = self.judgement()
+        if judgement == "unknown":
+            few = f"{min(len(self.today), len(self.advised))} of {TIMES} recordings of a setting"
+            return f"whether the advised settings are better isn't known, because only {few} measured it; today's are set again"
+        return "" if judgement == "better" else "the advised settings weren't better than today's, which are set again"
+
     def told(self, values: Sequence[float]) -> str:
         """Returns the median of values, and their range."""
         middle, low, high = (told_value(self.name, each) for each in (median(values), min(values), max(values)))

@@ -12,26 +12,15 @@ VERSION = "2.0.0"
 MESSAGE_ROOM = 96
 UNTIL_EMPTY = 4294967295
 FAULTS = {
-    1: "BadHeader",
-    2: "BadFields",
-    3: "BadNumber",
-    4: "BadEvent",
-    5: "OutOfRange",
-    6: "UnknownDevice",
-    7: "OpenTwice",
-    8: "WrongState",
-    9: "TooManyRows",
-    10: "ReadFailed",
-    11: "OutOfMemory",
-    12: "Pending",
+    1: "BadHeader", 2: "BadFields", 3: "BadNumber", 4: "BadEvent", 5: "OutOfRange", 6: "UnknownDevice", 7: "OpenTwice", 8: "WrongState",
+    9: "TooManyRows", 10: "ReadFailed", 11: "OutOfMemory", 12: "Pending",
 }
 
 
 class Status(enum.IntEnum):
-    """The statuses that calls return, each with the calls that it is of, if not of all, and its message. 0: success. 1
-    to 15: errors of a queue limit; the operation isn't made. 16 to 99: results. After FQ_NOT_THERE, FQ_BUSY,
-    FQ_CHANGED, FQ_STOPPED, FQ_MORE_THAN_SENT and FQ_NOT_DUE nothing has changed, and after FQ_FULL neither, except for
-    a burst. 100 and above: errors; the operation isn't made."""
+    """The statuses that calls return, each with the calls that it is of, if not of all, and its message. 0: success. 1 to 15: errors of a
+    queue limit; the operation isn't made. 16 to 99: results. After FQ_NOT_THERE, FQ_BUSY, FQ_CHANGED, FQ_STOPPED, FQ_MORE_THAN_SENT and
+    FQ_NOT_DUE nothing has changed, and after FQ_FULL neither, except for a burst. 100 and above: errors; the operation isn't made."""
 
     OK = 0
     BAD_BOUNDS = 1
@@ -90,8 +79,8 @@ class Next(enum.IntEnum):
 
 
 class Word(enum.IntFlag):
-    """The bits of a state word: the kernel's NAPI_STATE_.., and two of this library. The kernel's NAPI_STATE_LISTED is
-    a different flag, bit 4, which the library doesn't have."""
+    """The bits of a state word: the kernel's NAPI_STATE_.., and two of this library. The kernel's NAPI_STATE_LISTED is a different flag,
+    bit 4, which the library doesn't have."""
 
     SCHED = 1 << 0
     MISSED = 1 << 1
@@ -105,8 +94,8 @@ class Word(enum.IntFlag):
 
 
 class What(enum.IntEnum):
-    """What has to be done. After FQ_TODO_SLEEP, FQ_TODO_ENDED and FQ_TODO_FAILED there is nothing to report, and
-    fq_driver_done does nothing. A switch over it has no default, so that a compiler names an action that it forgets."""
+    """What has to be done. After FQ_TODO_SLEEP, FQ_TODO_ENDED and FQ_TODO_FAILED there is nothing to report, and fq_driver_done does
+    nothing. A switch over it has no default, so that a compiler names an action that it forgets."""
 
     SLEEP = 0
     MASK = 1
@@ -115,11 +104,12 @@ class What(enum.IntEnum):
     FETCH = 4
     ENDED = 5
     FAILED = 6
+    TIMER = 7
 
 
 class Rearm(enum.IntEnum):
-    """Whether a fetch also unmasked the card and then looked at it, as FQ_TODO_UNMASK and FQ_TODO_LOOK do. A fetch that
-    unmasked the card has to be reported. A number that isn't listed counts as FQ_REARM_MORE."""
+    """Whether a fetch also unmasked the card and then looked at it, as FQ_TODO_UNMASK and FQ_TODO_LOOK do. A fetch that unmasked the card
+    has to be reported. A number that isn't listed counts as FQ_REARM_MORE."""
 
     NO = 0
     EMPTY = 1
@@ -140,16 +130,8 @@ class Dql(ctypes.Structure):
 
 class Napi(ctypes.Structure):
     _fields_ = [
-        ("sched", u8),
-        ("missed", u8),
-        ("disable", u8),
-        ("npsvc", u8),
-        ("in_busy_poll", u8),
-        ("threaded", u8),
-        ("sched_threaded", u8),
-        ("place", u8),
-        ("owner", u32),
-        ("controller", u32),
+        ("sched", u8), ("missed", u8), ("disable", u8), ("npsvc", u8), ("in_busy_poll", u8), ("threaded", u8), ("sched_threaded", u8),
+        ("place", u8), ("owner", u32), ("controller", u32),
     ]
 
 
@@ -198,14 +180,7 @@ class RingShown(ctypes.Structure):
 
 
 class TxShown(ctypes.Structure):
-    _fields_ = [
-        ("size", size),
-        ("queued", u32),
-        ("completed", u32),
-        ("limit", u32),
-        ("avail", i64),
-        ("stopped", boolean),
-    ]
+    _fields_ = [("size", size), ("queued", u32), ("completed", u32), ("limit", u32), ("avail", i64), ("stopped", boolean)]
 
 
 class TxWatchdog(ctypes.Structure):
@@ -214,13 +189,7 @@ class TxWatchdog(ctypes.Structure):
 
 class Answers(ctypes.Structure):
     _fields_ = [
-        ("size", size),
-        ("granted", u64),
-        ("missed", u64),
-        ("disabled", u64),
-        ("released", u64),
-        ("again", u64),
-        ("held", u64),
+        ("size", size), ("granted", u64), ("missed", u64), ("disabled", u64), ("released", u64), ("again", u64), ("held", u64),
         ("changed", u64),
     ]
 
@@ -231,27 +200,17 @@ class RunReport(ctypes.Structure):
 
 class Todo(ctypes.Structure):
     _fields_ = [
-        ("size", size),
-        ("number", u64),
-        ("what", u32),
-        ("device", u32),
-        ("most", u32),
-        ("packets", u32),
-        ("status", u32),
-        ("rearm", u32),
-        ("run", RunReport),
+        ("size", size), ("number", u64), ("what", u32), ("device", u32), ("most", u32), ("packets", u32), ("status", u32), ("rearm", u32),
+        ("nanoseconds", u64), ("run", RunReport),
     ]
+
+
+class DeviceSettings(ctypes.Structure):
+    _fields_ = [("size", size), ("weight", u32), ("defer_hard_irqs", u32), ("gro_flush_timeout", u64), ("empty_polls", u32)]
 
 
 class DeviceShown(ctypes.Structure):
-    _fields_ = [
-        ("size", size),
-        ("state", u32),
-        ("scheduled", boolean),
-        ("missed", boolean),
-        ("polls", u64),
-        ("packets", u64),
-    ]
+    _fields_ = [("size", size), ("state", u32), ("scheduled", boolean), ("missed", boolean), ("polls", u64), ("packets", u64)]
 
 
 class Settings(ctypes.Structure):
@@ -264,44 +223,16 @@ class Replayed(ctypes.Structure):
 
 class MachineSettings(ctypes.Structure):
     _fields_ = [
-        ("size", size),
-        ("processors", u32),
-        ("queues", u32),
-        ("ring", u32),
-        ("socket", u32),
-        ("backlog", u32),
-        ("budget", u32),
-        ("weight", u32),
-        ("window", u32),
-        ("time_limit", u32),
-        ("rx_nsecs", u32),
-        ("rx_frames", u32),
-        ("defer_hard_irqs", u32),
-        ("gro_flush_timeout", u32),
-        ("threaded", u32),
-        ("apart", u32),
-        ("app_wake", u32),
-        ("interrupt", u32),
-        ("poll", u32),
-        ("packet", u32),
-        ("use_time", u32),
-        ("wake", u32),
-        ("heedless", u32),
-        ("rx_gap", u32),
-        ("timer", u32),
-        ("timer_wake", u32),
+        ("size", size), ("processors", u32), ("queues", u32), ("ring", u32), ("socket", u32), ("backlog", u32), ("budget", u32),
+        ("weight", u32), ("window", u32), ("time_limit", u32), ("rx_nsecs", u32), ("rx_frames", u32), ("defer_hard_irqs", u32),
+        ("gro_flush_timeout", u32), ("threaded", u32), ("apart", u32), ("app_wake", u32), ("interrupt", u32), ("poll", u32),
+        ("packet", u32), ("use_time", u32), ("wake", u32), ("heedless", u32), ("rx_gap", u32), ("timer", u32), ("timer_wake", u32),
+        ("latched", u32), ("gro_batch", u32), ("take", u32),
     ]
 
 
 class MachineRan(ctypes.Structure):
-    _fields_ = [
-        ("size", size),
-        ("length", size),
-        ("row", u64),
-        ("fault", u32),
-        ("setting", u32),
-        ("message", ctypes.c_char * 64),
-    ]
+    _fields_ = [("size", size), ("length", size), ("row", u64), ("fault", u32), ("setting", u32), ("message", ctypes.c_char * 64)]
 
 
 # The structs whose size the library returns, by their numbers.
@@ -342,10 +273,7 @@ CALLS: dict[str, tuple[Any, dict[str, Any]]] = {
     "ring_new": (Status, {"ring": pointer(Ring), "capacity": size}),
     "ring_put": (Status, {"ring": pointer(Ring), "number": u64, "bytes": u32}),
     "ring_put_all": (Status, {"ring": pointer(Ring), "packets": pointer(Packet), "len": size, "count": pointer(size)}),
-    "ring_poll": (
-        Status,
-        {"ring": pointer(Ring), "weight": size, "out": pointer(Packet), "len": size, "count": pointer(size)},
-    ),
+    "ring_poll": (Status, {"ring": pointer(Ring), "weight": size, "out": pointer(Packet), "len": size, "count": pointer(size)}),
     "count_sized": (Status, {"handle": pointer(Handle), "counts": pointer(Counts)}),
     "ring_show_sized": (Status, {"ring": pointer(Ring), "shown": pointer(RingShown)}),
     "ring_split": (Status, {"ring": pointer(Ring), "out": pointer(Ring)}),
@@ -354,14 +282,8 @@ CALLS: dict[str, tuple[Any, dict[str, Any]]] = {
     "tx_send": (Status, {"tx": pointer(Tx), "bytes": u32}),
     "tx_done": (Status, {"tx": pointer(Tx), "count": u32, "now_ms": u64}),
     "tx_state_sized": (Status, {"tx": pointer(Tx), "state": pointer(TxShown)}),
-    "tx_watch": (
-        Status,
-        {"tx": pointer(Tx), "watchdog": pointer(TxWatchdog), "limit_ms": u64, "now_ms": u64, "stuck": pointer(boolean)},
-    ),
-    "shared_new": (
-        Status,
-        {"ring": pointer(Ring), "control": pointer(Control), "callers": pointer(Caller), "count": size},
-    ),
+    "tx_watch": (Status, {"tx": pointer(Tx), "watchdog": pointer(TxWatchdog), "limit_ms": u64, "now_ms": u64, "stuck": pointer(boolean)}),
+    "shared_new": (Status, {"ring": pointer(Ring), "control": pointer(Control), "callers": pointer(Caller), "count": size}),
     "shared_bare": (Status, {"control": pointer(Control), "callers": pointer(Caller), "count": size}),
     "caller_schedule": (Status, {"caller": pointer(Caller)}),
     "caller_schedule_prep": (Status, {"caller": pointer(Caller)}),
@@ -369,10 +291,7 @@ CALLS: dict[str, tuple[Any, dict[str, Any]]] = {
     "caller_busy_take": (Status, {"caller": pointer(Caller)}),
     "caller_set_threaded": (Status, {"caller": pointer(Caller), "threaded": boolean}),
     "caller_hand": (Status, {"caller": pointer(Caller), "kind": u32}),
-    "caller_poll": (
-        Status,
-        {"caller": pointer(Caller), "weight": size, "out": pointer(Packet), "len": size, "count": pointer(size)},
-    ),
+    "caller_poll": (Status, {"caller": pointer(Caller), "weight": size, "out": pointer(Packet), "len": size, "count": pointer(size)}),
     "caller_requeue": (Status, {"caller": pointer(Caller)}),
     "caller_complete": (Status, {"caller": pointer(Caller)}),
     "caller_complete_done": (Status, {"caller": pointer(Caller)}),
@@ -394,51 +313,26 @@ CALLS: dict[str, tuple[Any, dict[str, Any]]] = {
     "run_next": (Status, {"list": pointer(List), "id": pointer(u32)}),
     "run_polled": (Status, {"list": pointer(List), "work": u32, "next": u32}),
     "run_end_sized": (Status, {"list": pointer(List), "report": pointer(RunReport)}),
-    "driver_new_salted": (
-        Status,
-        {"driver": pointer(Driver), "devices": u32, "budget": u32, "weight": u32, "window": u32, "salt": u16},
-    ),
+    "driver_new_salted": (Status, {"driver": pointer(Driver), "devices": u32, "budget": u32, "weight": u32, "window": u32, "salt": u16}),
     "driver_open": (Status, {"driver": pointer(Driver), "device": u32}),
     "driver_stop": (Status, {"driver": pointer(Driver), "device": u32}),
     "driver_interrupt": (Status, {"driver": pointer(Driver), "device": u32}),
     "driver_next_sized": (Status, {"driver": pointer(Driver), "todo": pointer(Todo)}),
     "driver_done": (Status, {"driver": pointer(Driver), "todo": pointer(Todo)}),
     "driver_step_sized": (Status, {"driver": pointer(Driver), "todo": pointer(Todo)}),
+    "driver_timer": (Status, {"driver": pointer(Driver), "device": u32}),
+    "driver_set_sized": (Status, {"driver": pointer(Driver), "device": u32, "settings": pointer(DeviceSettings)}),
     "driver_end_run": (Status, {"driver": pointer(Driver)}),
     "driver_show_sized": (Status, {"driver": pointer(Driver), "device": u32, "shown": pointer(DeviceShown)}),
-    "replay_sized": (
-        Status,
-        {
-            "settings": pointer(Settings),
-            "trace": text,
-            "len": size,
-            "report": text,
-            "room": size,
-            "replayed": pointer(Replayed),
-        },
-    ),
-    "raise_sized": (
-        Status,
-        {
-            "settings": pointer(Settings),
-            "restarts": u32,
-            "trace": text,
-            "len": size,
-            "out": text,
-            "room": size,
-            "replayed": pointer(Replayed),
-        },
-    ),
+    "replay_sized": (Status, {
+        "settings": pointer(Settings), "trace": text, "len": size, "report": text, "room": size, "replayed": pointer(Replayed),
+    }),
+    "raise_sized": (Status, {
+        "settings": pointer(Settings), "restarts": u32, "trace": text, "len": size, "out": text, "room": size,
+        "replayed": pointer(Replayed),
+    }),
     "machine_default_sized": (Status, {"settings": pointer(MachineSettings)}),
-    "machine_sized": (
-        Status,
-        {
-            "settings": pointer(MachineSettings),
-            "arrivals": text,
-            "len": size,
-            "report": text,
-            "room": size,
-            "ran": pointer(MachineRan),
-        },
-    ),
+    "machine_sized": (Status, {
+        "settings": pointer(MachineSettings), "arrivals": text, "len": size, "report": text, "room": size, "ran": pointer(MachineRan),
+    }),
 }

@@ -14,7 +14,8 @@ _made = itertools.count()
 
 
 class Todo:
-    """An action: mask or unmask the card of `device`, look whether it has packets, or fetch at most `most` of them; `run` is the report of
+    """An action: mask or unmask the card of `device`, look whether it has packets, fetch at most `most` of them, or set its timer to
+    `nanoseconds`; `run` is the report of
     a run that ended, with ENDED and SLEEP. `packets` are those that a look found or a fetch took, set for the report; before, 1 for a look.
     `rearm` says whether a fetch also unmasked the card and looked at it. A new one is no action."""
 
@@ -32,6 +33,10 @@ class Todo:
     @property
     def most(self) -> int:
         return int(self._raw.most)
+
+    @property
+    def nanoseconds(self) -> int:
+        return int(self._raw.nanoseconds)
 
     @property
     def packets(self) -> int:
@@ -57,7 +62,8 @@ class Todo:
 class Cards(Protocol):
     """The cards of a driver, by the numbers of their devices. `look` returns whether a card has packets; `fetch` takes packets from it, at
     most this many, delivers them, and returns how many. If they also have `rearm(device)`, which unmasks a card and then returns whether it
-    has packets, a fetch of fewer packets calls it, which saves two actions."""
+    has packets, a fetch of fewer packets calls it, which saves two actions; leave it out for devices with deferral or busy polling. With
+    deferral they also have `timer(device, nanoseconds)`, which sets a timer."""
 
     def mask(self, device: int) -> object: ...
     def unmask(self, device: int) -> object: ...
@@ -95,6 +101,17 @@ class Driver(_Owned):
         each act: a device that always has packets keeps the driver from sleeping."""
         return Status(c.driver_interrupt(self._at, device))
 
+    def timer(self, device: int) -> bool:
+        """Reports that the timer of a device expired (`napi_watchdog`), at any time; returns whether that requested a poll. BAD_DEVICE."""
+        return bool(c.driver_timer(self._at, device) == Status.GRANTED)
+
+    def set(self, device: int, weight: int = 64, defer_hard_irqs: int = 0, gro_flush_timeout: int = 0, empty_polls: int = 0) -> bool:
+        """Sets the weight of a closed device, the deferral of its interrupt, for `gro_flush_timeout` nanoseconds (`napi_defer_hard_irqs`), and
+        busy polling until `empty_polls` empty polls in a row. Returns False if it isn't closed. BAD_DEVICE, BAD_WEIGHT."""
+        settings = c.sized(abi.DeviceSettings, weight=weight, defer_hard_irqs=defer_hard_irqs, gro_flush_timeout=gro_flush_timeout,
+                           empty_polls=empty_polls)
+        return bool(c.driver_set_sized(self._at, device, settings) == Status.OK)
+
     def end_run(self) -> bool:
         """Ends the run in progress, by a clock of the caller (`netdev_budget_usecs`): a fetch that is due already is still made, and then the
         run has ended and is squeezed. Returns False if no run is in progress."""
@@ -131,6 +148,8 @@ class Driver(_Owned):
             cards.unmask(todo.device)
         elif what is What.LOOK:
             packets = int(bool(cards.look(todo.device)))
+        elif what is What.TIMER:
+            getattr(cards, "timer")(todo.device, todo.nanoseconds)
         elif what is What.FETCH:
             packets = cards.fetch(todo.device, todo.most)
             rearm = getattr(cards, "rearm", None)

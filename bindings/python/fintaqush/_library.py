@@ -86,9 +86,24 @@ def _declared(name: str) -> Callable[..., Any]:
     return call
 
 
-def sized(kind: Any) -> Any:
-    """Returns a struct that begins with its size, with zeros after it."""
-    return kind(ctypes.sizeof(kind))
+def sized(kind: Any, **members: int) -> Any:
+    """Returns a struct that begins with its size, with these members, each of which is checked, and zeros."""
+    types = dict(kind._fields_)
+    return kind(ctypes.sizeof(kind), **{name: number(value, name, types[name]) for name, value in members.items()})
+
+
+def grown(call: Callable[[Any, int], Any], room: int, told: Any) -> tuple[Status, bytes]:
+    """Returns the status of a call, and what it writes to an array, which grows until there is room; `told` has the length."""
+    while True:
+        out = ctypes.create_string_buffer(room)
+        if (said := Status(call(out, room))) is not Status.NO_ROOM:
+            return said, ctypes.string_at(out, told.length)
+        room = told.length
+
+
+def fields(words: list[str], **kinds: Callable[[int], Any]) -> dict[str, Any]:
+    """Returns the numbers of a line of a report by name, some of them converted."""
+    return {name: kinds.get(name, int)(int(word)) for name, word in zip(words[::2], words[1::2])}
 
 
 def shown(as_tuple: Callable[..., Tuple], kind: Any, call: Callable[..., Any], *values: Any) -> Tuple:

@@ -2,7 +2,6 @@
 report."""
 from __future__ import annotations
 
-import ctypes
 from typing import NamedTuple
 
 from . import _abi as abi
@@ -97,28 +96,19 @@ SETTINGS = [name for name, _ in abi.MachineSettings._fields_ if name != "size"]
 
 
 def _text_of(arrivals: bytes, settings: abi.MachineSettings) -> str:
-    ran, room = c.sized(abi.MachineRan), 65536
-    while True:
-        report = ctypes.create_string_buffer(room)
-        said = Status(c.machine_sized(settings, arrivals, len(arrivals), report, room, ran))
-        if said is Status.BAD_ARRIVALS:
-            raise ArrivalsFault(said, ran.fault, ran.row, ran.message.decode())
-        if said is Status.BAD_SETTING:
-            raise SettingFault(said, SETTINGS[ran.setting - 1])
-        if said is not Status.NO_ROOM:
-            c.checked(said)
-            return ctypes.string_at(report, ran.length).decode()
-        room = ran.length
-
-
-def _fields(words: list[str]) -> dict[str, int]:
-    """Returns the numbers of a line, by name."""
-    return {name: int(word) for name, word in zip(words[::2], words[1::2])}
+    ran = c.sized(abi.MachineRan)
+    said, report = c.grown(lambda out, room: c.machine_sized(settings, arrivals, len(arrivals), out, room, ran), 65536, ran)
+    if said is Status.BAD_ARRIVALS:
+        raise ArrivalsFault(said, ran.fault, ran.row, ran.message.decode())
+    if said is Status.BAD_SETTING:
+        raise SettingFault(said, SETTINGS[ran.setting - 1])
+    c.checked(said)
+    return report.decode()
 
 
 def _with_waits(words: list[str]) -> tuple[dict[str, int], Waits]:
     """Returns the numbers of a line by name, and the waits, which are its last numbers."""
-    return _fields(words[:-12]), Waits(**_fields(words[-12:]))
+    return c.fields(words[:-12]), Waits(**c.fields(words[-12:]))
 
 
 def _report_of(text: str) -> MachineReport:
@@ -134,10 +124,10 @@ def _report_of(text: str) -> MachineReport:
         elif kind == "processor":
             counts, waits = _with_waits(words)
         elif kind == "time":
-            times = Times(**_fields(words))
+            times = Times(**c.fields(words))
             processors.append(Processor(number=int(number), waits=waits, times=times, application=None, **counts))
         elif kind == "application":
-            processors[-1] = processors[-1]._replace(application=Application(**_fields(words)))
+            processors[-1] = processors[-1]._replace(application=Application(**c.fields(words)))
         else:
-            total = _fields(words[1:])
+            total = c.fields(words[1:])
     return MachineReport(queues, processors, text=text, **total)

@@ -1,7 +1,6 @@
 """The whole replay of a trace on one thread, with its report as objects. docs/FORMATS.md describes traces, reports and errors."""
 from __future__ import annotations
 
-import ctypes
 from typing import Any, Callable, NamedTuple
 
 from . import _abi as abi
@@ -79,29 +78,20 @@ def raise_runs(trace: bytes, budget: int = 300, weight: int = 64, window: int = 
     return _written(c.raise_sized, trace, _settings(trace, budget, weight, window), most)
 
 
-def _settings(trace: bytes, budget: int, weight: int, window: int) -> abi.Settings:
+def _settings(trace: bytes, budget: int, weight: int, window: int) -> Any:
     if not isinstance(trace, bytes):
         raise TypeError("a trace is bytes")
-    return abi.Settings(ctypes.sizeof(abi.Settings), c.number(budget, "budget"), c.number(weight, "weight"), c.number(window, "window"))
+    return c.sized(abi.Settings, budget=budget, weight=weight, window=window)
 
 
 def _written(call: Callable[..., Any], trace: bytes, *settings: Any) -> bytes:
-    """Returns what a call writes for a trace, to an array that grows until there is room."""
-    replayed, room = c.sized(abi.Replayed), 2 * len(trace) + 4096
-    while True:
-        out = ctypes.create_string_buffer(room)
-        said = Status(call(*settings, trace, len(trace), out, room, replayed))
-        if said is Status.BAD_TRACE:
-            raise TraceFault(said, replayed.fault, replayed.row)
-        if said is not Status.NO_ROOM:
-            c.checked(said)
-            return ctypes.string_at(out, replayed.length)
-        room = replayed.length
-
-
-def _fields(words: list[str], **kinds: Callable[[int], Any]) -> dict[str, Any]:
-    """Returns the numbers of a line by name, some of them converted."""
-    return {name: kinds.get(name, int)(int(word)) for name, word in zip(words[::2], words[1::2])}
+    """Returns what a call writes for a trace."""
+    replayed = c.sized(abi.Replayed)
+    said, out = c.grown(lambda out, room: call(*settings, trace, len(trace), out, room, replayed), 2 * len(trace) + 4096, replayed)
+    if said is Status.BAD_TRACE:
+        raise TraceFault(said, replayed.fault, replayed.row)
+    c.checked(said)
+    return out
 
 
 def _report_of(text: str) -> Report:
@@ -114,13 +104,13 @@ def _report_of(text: str) -> Report:
         if kind == "list":
             listed = list(map(int, words))
         elif kind == "total":
-            total = _fields(words[2:])
+            total = c.fields(words[2:])
         elif kind == "device":
-            devices[int(words[0])] = {"number": int(words[0]), "state": words[1], **_fields(words[2:])}
+            devices[int(words[0])] = {"number": int(words[0]), "state": words[1], **c.fields(words[2:])}
         elif kind == "napi":
-            devices[int(words[0])].update(_fields(words[1:], word=Word))
+            devices[int(words[0])].update(c.fields(words[1:], word=Word))
         elif kind == "tx":
-            devices[int(words[0])]["transmit"] = Transmit(**_fields(words[1:], stopped=bool))
+            devices[int(words[0])]["transmit"] = Transmit(**c.fields(words[1:], stopped=bool))
         else:
-            turns.append(Turn(kind, int(words[0]), **_fields(words[1:], squeezed=bool)))
+            turns.append(Turn(kind, int(words[0]), **c.fields(words[1:], squeezed=bool)))
     return Report(turns, {number: Device(**device) for number, device in devices.items()}, listed, text=text, **total)

@@ -19,11 +19,25 @@ from fintaqush_tools import reports  # noqa: E402
 import simulation  # noqa: E402
 
 
+def together(*calls):
+    """Makes these calls at the same time, each in a thread."""
+    threads = [threading.Thread(target=call, daemon=True) for call in calls]
+    for thread in threads:
+        thread.start()
+    for thread in threads:
+        thread.join(60)
+
+
 class Refusals(unittest.TestCase):
-    def refused(self, status, call, *values, **more):
-        with self.assertRaises(ValueError) as raised:
+    def raised(self, kind, call, *values, **more):
+        """Returns the exception of this kind that a call raises."""
+        with self.assertRaises(kind) as raised:
             call(*values, **more)
-        self.assertEqual((str(raised.exception), raised.exception.status), (f"FQ_{status.name}", status))
+        return raised.exception
+
+    def refused(self, status, call, *values, **more):
+        fault = self.raised(ValueError, call, *values, **more)
+        self.assertEqual((str(fault), fault.status), (f"FQ_{status.name}", status))
 
 
 class TestLimit(Refusals):
@@ -60,8 +74,7 @@ class TestLimit(Refusals):
             with self.assertRaisesRegex(ValueError, line):
                 call(*values)
         for call, values in ((Dql, (1.5,)), (limit.queued, ("1",)), (replay, ("moment,device,event,value\n",)), (replay, (None,))):
-            with self.assertRaises(TypeError):
-                call(*values)
+            self.raised(TypeError, call, *values)
 
     def test_nothing_is_copied(self):
         for one in Dql(), SerialNapi(), Ring(1), List(), TxRing(1), Driver(1), *shared(1)[:2], *shared(1)[2]:
@@ -75,45 +88,30 @@ class TestNapi(Refusals):
 
     def test_a_turn(self):
         napi = SerialNapi(controller=1)
-        self.assertEqual(napi.word, 9)
-        self.assertEqual(napi.schedule(), Status.MISSED)
-        self.assertEqual(napi.word, 11)
+        self.assertEqual((napi.word, napi.schedule(), napi.word), (9, Status.MISSED, 11))
         napi = SerialNapi(controller=1)
         self.refused(Status.NOT_ALLOWED, napi.enable, who=2)
         napi.enable(who=1)
-        self.assertEqual(napi.word, 0)
-        self.assertEqual(napi.schedule(2), Status.GRANTED)
-        self.assertEqual(napi.word, Word.SCHED)
+        self.assertEqual((napi.word, napi.schedule(2), napi.word), (0, Status.GRANTED, Word.SCHED))
         self.refused(Status.NOT_ALLOWED, napi.hand, 3)
         self.refused(Status.BAD_KIND, napi.hand, 2, 2)
         napi.hand(2)
-        self.assertEqual(napi.word, 4294967297)
-        self.assertEqual(napi.schedule(2), Status.MISSED)
-        self.assertEqual(napi.word, 4294967299)
-        self.assertFalse(napi.take(4, Kind.THREAD))
-        self.assertTrue(napi.take(4))
-        self.assertEqual(napi.word, 3)
+        self.assertEqual((napi.word, napi.schedule(2), napi.word), (4294967297, Status.MISSED, 4294967299))
+        self.assertEqual((napi.take(4, Kind.THREAD), napi.take(4), napi.word), (False, True, 3))
         self.refused(Status.NOT_ALLOWED, napi.complete, 2)
         self.assertEqual(napi.complete(4), Status.AGAIN)
         napi.hand(4)
-        self.assertTrue(napi.take(4))
-        self.assertEqual(napi.complete(4), Status.RELEASED)
-        self.assertEqual(napi.word, 0)
+        self.assertEqual((napi.take(4), napi.complete(4), napi.word), (True, Status.RELEASED, 0))
 
     def test_a_thread_and_busy_polling(self):
         napi = SerialNapi()
         napi.enable(threaded=True)
-        self.assertEqual(napi.word, 256)
-        napi.schedule()
+        self.assertEqual((napi.word, napi.schedule()), (256, Status.GRANTED))
         napi.hand(kind=Kind.THREAD)
-        self.assertEqual(napi.word, 8589935361)
-        self.assertTrue(napi.take(kind=Kind.THREAD))
-        self.assertEqual(napi.word, 769)
+        self.assertEqual((napi.word, napi.take(kind=Kind.THREAD), napi.word), (8589935361, True, 769))
         napi.complete()
         napi.set_threaded(False)
-        self.assertTrue(napi.busy_take())
-        self.assertFalse(napi.busy_take(5))
-        self.assertEqual(napi.word, Word.SCHED | Word.IN_BUSY_POLL)
+        self.assertEqual((napi.busy_take(), napi.busy_take(5), napi.word), (True, False, Word.SCHED | Word.IN_BUSY_POLL))
         self.assertEqual(napi.complete(), Status.HELD)
         napi.busy_stop()
         self.assertEqual(napi.complete(), Status.RELEASED)
@@ -124,13 +122,9 @@ class TestNapi(Refusals):
         napi.schedule()
         napi.hand()
         napi.mark_disable()
-        self.assertEqual(napi.schedule(), Status.DISABLED)
-        self.assertFalse(napi.take_disable())
-        napi.take()
-        napi.complete()
-        self.assertEqual(napi.word, 4)
-        self.assertTrue(napi.take_disable())
-        self.assertEqual(napi.word, 13)
+        self.assertEqual((napi.schedule(), napi.take_disable(), napi.take()), (Status.DISABLED, False, True))
+        self.assertEqual((napi.complete(), napi.word), (Status.RELEASED, 4))
+        self.assertEqual((napi.take_disable(), napi.word), (True, 13))
         napi.unmark()
         self.assertEqual(napi.word, 9)
 
@@ -153,18 +147,14 @@ class TestNapi(Refusals):
         self.assertEqual((napi.end(False), napi.take(kind=Kind.THREAD), napi.end(False)), (Next.AGAIN_THREAD, True, Next.GONE))
 
     def test_a_fault_says_what_it_means(self):
-        with self.assertRaises(Fault) as raised:
-            SerialNapi().end(True)
-        self.assertEqual(raised.exception.message, "the state of the object does not allow this call")
+        self.assertEqual(self.raised(Fault, SerialNapi().end, True).message, "the state of the object does not allow this call")
 
 
 class TestRing(Refusals):
     def test_order_and_room(self):
         ring = Ring(3)
         self.assertEqual([ring.put(number, 60) for number in (5, 2**64 - 1, 7, 8)], [True, True, True, False])
-        self.assertEqual(ring.poll(2), [Packet(5, 60), Packet(2**64 - 1, 60)])
-        self.assertEqual(ring.poll(), [Packet(7, 60)])
-        self.assertEqual(ring.poll(), [])
+        self.assertEqual([ring.poll(2), ring.poll(), ring.poll()], [[Packet(5, 60), Packet(2**64 - 1, 60)], [Packet(7, 60)], []])
         self.assertEqual(ring.counts[1:], (3, 180))
 
     def test_what_is_refused(self):
@@ -177,15 +167,13 @@ class TestRing(Refusals):
         self.assertEqual(len(ring.poll(64)), 1)
 
     def test_threads_may_share_it(self):
-        ring = Ring(65536)
-        threads = [threading.Thread(target=lambda first=first: [ring.put(first + i, 1) for i in range(10000)]) for first in (0, 10000, 20000)]
-        for thread in threads:
-            thread.start()
-        polled = []
-        while len(polled) < 30000:
-            polled += ring.poll()
-        for thread in threads:
-            thread.join()
+        ring, polled = Ring(65536), []
+
+        def poll():
+            while len(polled) < 30000:
+                polled.extend(ring.poll())
+
+        together(poll, *(lambda first=first: [ring.put(first + i, 1) for i in range(10000)] for first in (0, 10000, 20000)))
         self.assertEqual(sorted(packet.number for packet in polled), list(range(30000)))
         self.assertEqual(ring.counts.packets, 30000)
 
@@ -193,12 +181,9 @@ class TestRing(Refusals):
 class TestTx(Refusals):
     def test_it_is_stopped_and_started(self):
         ring = TxRing(2, 1000, 1000)
-        self.assertEqual(ring.send(600), Status.OK)
-        self.assertEqual(ring.state, TxState(600, 0, 1000, 400, False))
-        self.assertEqual(ring.send(600), Status.OK)
-        self.assertEqual((ring.send(1), ring.done(3, 1)), (Status.STOPPED, False))
-        self.assertEqual(ring.state, TxState(1200, 0, 1000, -200, True))
-        self.assertTrue(ring.done(1, 1))
+        self.assertEqual((ring.send(600), ring.state), (Status.OK, TxState(600, 0, 1000, 400, False)))
+        self.assertEqual((ring.send(600), ring.send(1), ring.done(3, 1)), (Status.OK, Status.STOPPED, False))
+        self.assertEqual((ring.state, ring.done(1, 1)), (TxState(1200, 0, 1000, -200, True), True))
         self.assertEqual((ring.send(100), ring.send(100)), (Status.OK, Status.FULL))
 
     def test_it_is_watched(self):
@@ -286,11 +271,7 @@ class TestShared(Refusals):
                         break
 
         control.enable()
-        threads = [threading.Thread(target=call, daemon=True) for call in (arrive, poll)]
-        for thread in threads:
-            thread.start()
-        for thread in threads:
-            thread.join(60)
+        together(arrive, poll)
         self.assertEqual(polled, list(range(packets)))
 
 
@@ -344,12 +325,10 @@ class TestRuns(Refusals):
         softirq = List()
         for device in 1, 2, 3:
             softirq.push(device)
-        with self.assertRaises(fault) as raised:
-            softirq.run(lambda device, weight: poll(softirq) if device == 2 else (64, Next.REPOLL))
-        polled = []
+        found, polled = self.raised(fault, softirq.run, lambda device, weight: poll(softirq) if device == 2 else (64, Next.REPOLL)), []
         report = softirq.run(lambda device, weight: (polled.append(device) or 0, Next.GONE))
         self.assertEqual((sorted(polled), report), ([1, 3], (2, 0, False)))
-        return raised.exception
+        return found
 
     def test_a_poll_that_raises(self):
         def poll(_):
@@ -404,22 +383,24 @@ class Card:
         return count
 
 
+def acted(driver, card):
+    """Acts until there is nothing to do, and returns the actions."""
+    return list(iter(lambda: driver.act(card), What.SLEEP))
+
+
 class TestDriver(Refusals):
     def test_a_card(self):
-        driver, card, did = Driver(2), Card(), []
+        driver, card = Driver(2), Card()
         self.assertEqual((driver.act(card), driver.shown(1)), (What.SLEEP, (DeviceState.CLOSED, True, False, 0, 0)))
         card.waiting = 100
         self.assertEqual((driver.open(1), driver.open(1)), (True, False))
-        while not did or did[-1] is not What.SLEEP:
-            did.append(driver.act(card))
-        self.assertEqual([one for one in did if one is not What.ENDED],
-                         [What.UNMASK, What.LOOK, What.MASK, What.FETCH, What.FETCH, What.UNMASK, What.LOOK, What.SLEEP])
+        self.assertEqual([one for one in acted(driver, card) if one is not What.ENDED],
+                         [What.UNMASK, What.LOOK, What.MASK, What.FETCH, What.FETCH, What.UNMASK, What.LOOK])
         self.assertEqual((card.masked, card.taken, driver.shown(1)), (False, 100, (DeviceState.OPEN, False, False, 2, 100)))
         self.assertEqual([driver.interrupt(1), driver.interrupt(1)], [Status.GRANTED, Status.MISSED])
         self.assertEqual((driver.stop(1), driver.stop(1), driver.shown(1).state), (True, False, DeviceState.STOPPING))
         self.assertEqual(driver.interrupt(1), Status.DISABLED)
-        while driver.act(card) is not What.SLEEP:
-            pass
+        acted(driver, card)
         self.assertEqual((card.masked, driver.shown(1).state), (True, DeviceState.CLOSED))
 
     def test_a_fetch_that_rearms(self):
@@ -430,8 +411,7 @@ class TestDriver(Refusals):
 
         driver, card = Driver(1), RearmCard()
         driver.open(0)
-        while driver.act(card) is not What.SLEEP:
-            pass
+        acted(driver, card)
         card.waiting = 1
         self.assertEqual(driver.interrupt(0), Status.GRANTED)
         self.assertEqual([driver.act(card) for _ in range(2)], [What.MASK, What.FETCH])
@@ -468,6 +448,21 @@ class TestDriver(Refusals):
         with self.assertRaises(ValueError):
             todo.packets = -1
 
+    def test_settings(self):
+        driver, card, timers = Driver(1), Card(), []
+        card.waiting = 9
+        card.timer = lambda device, nanoseconds: timers.append((device, nanoseconds))
+        self.refused(Status.BAD_WEIGHT, driver.set, 0, 65)
+        self.refused(Status.BAD_DEVICE, driver.set, 1)
+        self.assertTrue(driver.set(0, weight=8, defer_hard_irqs=1, gro_flush_timeout=5000))
+        self.assertFalse(driver.timer(0))
+        driver.open(0)
+        self.assertFalse(driver.set(0, empty_polls=3))
+        acted(driver, card)
+        self.assertEqual(timers, [(0, 5000)])
+        self.assertTrue(driver.timer(0))
+        self.assertEqual((driver.act(card), driver.act(card)), (What.FETCH, What.UNMASK))
+
     def test_reports(self):
         driver, card = Driver(1, weight=8), Card()
         driver.open(0)
@@ -488,12 +483,9 @@ class TestDriver(Refusals):
         card.fetch = lambda device, most: most + 1
         self.refused(Status.BAD_WORK, driver.act, card)
         card.fetch = lambda device, most: [][0]
-        with self.assertRaises(IndexError):
-            while driver.act(card) is not What.SLEEP:
-                pass
+        self.raised(IndexError, acted, driver, card)
         card.fetch = lambda device, most: 0
-        while driver.act(card) is not What.SLEEP:
-            pass
+        acted(driver, card)
         self.assertEqual((driver.shown(0).packets, driver.shown(0).state), (8, DeviceState.OPEN))
 
     def test_what_is_refused(self):
@@ -533,19 +525,15 @@ class TestMachine(Refusals):
     def test_faults(self):
         for arrivals, number, row, line in ((b"", 1, 0, "arrivals fault 1 BadHeader row 0"),
                                             (b"ns,device,bytes\n5,1,60\n4,1,60\n", 8, 2, "arrivals fault 8 Falls row 2")):
-            with self.assertRaises(ArrivalsFault) as raised:
-                machine(arrivals)
-            fault = raised.exception
+            fault = self.raised(ArrivalsFault, machine, arrivals)
             self.assertEqual((fault.status, fault.number, fault.row, str(fault)), (Status.BAD_ARRIVALS, number, row, line))
             self.assertEqual(str(pickle.loads(pickle.dumps(fault))), line)
-        for name, value in (("weight", 65), ("backlog", 2), ("wake", 10**9 + 1), ("timer", 10**9 + 1), ("processors", 0)):
-            with self.assertRaisesRegex(SettingFault, f"^FQ_BAD_SETTING: {name}$"):
-                machine(self.ARRIVALS, **{name: value})
-        with self.assertRaisesRegex(SettingFault, "^FQ_BAD_SETTING: rx_gap$"):
-            machine(self.ARRIVALS, rx_gap=20000, rx_frames=2)
-        for values in ((self.ARRIVALS.decode(), {}), (self.ARRIVALS, {"size": 96}), (self.ARRIVALS, {"use": 1})):
-            with self.assertRaises(TypeError):
-                machine(values[0], **values[1])
+        for settings in ({"weight": 65}, {"backlog": 2}, {"wake": 10**9 + 1}, {"timer": 10**9 + 1}, {"processors": 0},
+                         {"rx_gap": 20000, "rx_frames": 2}, {"take": 501, "packet": 500}):
+            fault = self.raised(SettingFault, machine, self.ARRIVALS, **settings)
+            self.assertEqual(str(fault), f"FQ_BAD_SETTING: {next(iter(settings))}")
+        for arrivals, settings in ((self.ARRIVALS.decode(), {}), (self.ARRIVALS, {"size": 96}), (self.ARRIVALS, {"use": 1})):
+            self.raised(TypeError, machine, arrivals, **settings)
 
 
 class TestRaising(Refusals):
@@ -559,9 +547,7 @@ class TestRaising(Refusals):
 
     def test_a_trace_that_gets_too_long(self):
         trace = b"moment,device,event,value\n0,1,open,65536\n" + b"0,1,rx,60\n" * 60000 + b"1,0,softirq,0\n"
-        with self.assertRaises(TraceFault) as raised:
-            raise_runs(trace, 1, 1)
-        self.assertEqual(str(raised.exception), "trace fault 9 TooManyRows row 100001")
+        self.assertEqual(str(self.raised(TraceFault, raise_runs, trace, 1, 1)), "trace fault 9 TooManyRows row 100001")
         self.assertEqual(len(raise_runs(trace, 1, 1, restarts=100)), len(trace) + 100 * len(b"1,0,softirq,0\n"))
 
     def test_by_hand(self):
@@ -574,15 +560,11 @@ class TestRaising(Refusals):
     def test_faults(self):
         pending = b"moment,device,event,value\n0,1,open,4\n1,1,rx,10\n1,1,disable,0\n1,1,enable,0\n"
         for trace, line in ((b"", "trace fault 1 BadHeader row 0"), (pending, "trace fault 12 Pending row 4")):
-            with self.assertRaises(TraceFault) as raised:
-                raise_runs(trace)
-            self.assertEqual(str(raised.exception), line)
+            self.assertEqual(str(self.raised(TraceFault, raise_runs, trace)), line)
         self.refused(Status.BAD_WEIGHT, raise_runs, pending, weight=0)
         for restarts in (-1, 2**32):
-            with self.assertRaises(ValueError):
-                raise_runs(pending, restarts=restarts)
-        with self.assertRaises(TypeError):
-            raise_runs("moment")
+            self.raised(ValueError, raise_runs, pending, restarts=restarts)
+        self.raised(TypeError, raise_runs, "moment")
 
 
 class TestReplay(Refusals):
@@ -644,9 +626,7 @@ class TestReplay(Refusals):
         for trace, number, name, row in (("", 1, "BadHeader", 0), (head + "1,2\n", 2, "BadFields", 1), (head + "x,1,rx,1\n", 3, "BadNumber", 1),
                                          (head + "1,1,open,4\n1,1,xr,1\n", 4, "BadEvent", 2), (head + "1,17,open,4\n", 5, "OutOfRange", 1),
                                          (head + "1,1,rx,1\n", 6, "UnknownDevice", 1)):
-            with self.assertRaises(TraceFault) as raised:
-                replay(trace.encode())
-            fault = raised.exception
+            fault = self.raised(TraceFault, replay, trace.encode())
             self.assertEqual((fault.status, fault.number, fault.name, fault.row), (Status.BAD_TRACE, number, name, row))
             self.assertEqual(str(fault), f"trace fault {number} {name} row {row}")
             self.assertEqual(str(pickle.loads(pickle.dumps(fault))), str(fault))

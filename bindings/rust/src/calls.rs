@@ -437,6 +437,20 @@ pub(crate) fn driver_step_sized(driver: &mut fq_driver, todo: &mut fq_todo) -> u
     unsafe { fq_driver_step_sized(driver, todo) }
 }
 
+pub(crate) fn driver_timer(driver: &mut fq_driver, device: u32) -> u32 {
+    // SAFETY: each reference and each slice leads to whole objects, to which no other argument leads.
+    unsafe { fq_driver_timer(driver, device) }
+}
+
+pub(crate) fn driver_set_sized(
+    driver: &mut fq_driver,
+    device: u32,
+    settings: &fq_device_settings,
+) -> u32 {
+    // SAFETY: each reference and each slice leads to whole objects, to which no other argument leads.
+    unsafe { fq_driver_set_sized(driver, device, settings) }
+}
+
 pub(crate) fn driver_end_run(driver: &mut fq_driver) -> u32 {
     // SAFETY: each reference and each slice leads to whole objects, to which no other argument leads.
     unsafe { fq_driver_end_run(driver) }

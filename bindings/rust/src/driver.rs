@@ -29,6 +29,13 @@ pub enum What {
         /// The most packets that may be taken.
         most: u32,
     },
+    /// Set the timer of this device, so that it expires once, and then report it by [`Driver::timer`].
+    Timer {
+        /// The number of the device.
+        device: u32,
+        /// The time until it expires.
+        nanoseconds: u64,
+    },
     /// A run ended (`net_rx_action`): it was squeezed, or devices wait for the next run. Do other work first, if there is some.
     Ended(RunReport),
 }
@@ -68,7 +75,12 @@ impl Todo {
 
     /// Returns the action.
     pub fn what(&self) -> What {
-        let sys::fq_todo { device, most, .. } = self.raw;
+        let sys::fq_todo {
+            device,
+            most,
+            nanoseconds,
+            ..
+        } = self.raw;
         match self.raw.what {
             // a failed step has returned why
             sys::FQ_TODO_SLEEP | sys::FQ_TODO_FAILED => What::Sleep,
@@ -76,6 +88,10 @@ impl Todo {
             sys::FQ_TODO_UNMASK => What::Unmask(device),
             sys::FQ_TODO_LOOK => What::Look(device),
             sys::FQ_TODO_FETCH => What::Fetch { device, most },
+            sys::FQ_TODO_TIMER => What::Timer {
+                device,
+                nanoseconds,
+            },
             sys::FQ_TODO_ENDED => What::Ended(self.raw.run),
             what => unexpected("driver_next", what),
         }
@@ -94,9 +110,31 @@ pub trait Cards {
     fn fetch(&mut self, device: u32, most: u32) -> u32;
     /// Unmasks the interrupt of a card after a fetch of fewer packets, then looks at the card, and returns whether it has any. This
     /// saves two actions. `None`, which is the default, does nothing: an unmask and a look follow.
+    /// With deferral or busy polling of the device it has to be `None`.
     fn rearm(&mut self, _device: u32) -> Option<bool> {
         None
     }
+    /// Sets the timer of a device, so that it expires once; a timer that is still set is replaced. Only for a device with deferral.
+    ///
+    /// # Panics
+    ///
+    /// The default panics.
+    fn timer(&mut self, device: u32, nanoseconds: u64) {
+        panic!("fintaqush: these cards have no timer of {nanoseconds} ns for device {device}")
+    }
+}
+
+/// The settings of a device, for [`Driver::set`].
+#[derive(Clone, Copy, Debug, Default, PartialEq, Eq)]
+pub struct DeviceSettings {
+    /// The packets that a fetch may take (`netif_napi_add_weight`): at most the driver's weight.
+    pub weight: Weight,
+    /// How many completions in a row defer the interrupt after the last fetch with packets (`napi_defer_hard_irqs`).
+    pub defer_hard_irqs: u32,
+    /// For how many nanoseconds each does; 0 turns deferral off.
+    pub gro_flush_timeout: u64,
+    /// With busy polling, the empty fetches in a row after which the card is unmasked; 0: no busy polling.
+    pub empty_polls: u32,
 }
 
 /// Whether a device is open.
@@ -129,8 +167,8 @@ pub struct DeviceShown {
 /// done at a card, and the caller reports that it was done.
 ///
 /// Calls may come in any order: what isn't due fails with [`NOT_DUE`](Fault::NOT_DUE) and changes nothing. The driver returns
-/// [`What::Sleep`] only if the card of each open device was unmasked, was looked at after that and had no packets, and no poll
-/// is requested.
+/// [`What::Sleep`] only if the card of each open device was unmasked, was looked at after that and had no packets, or its timer was
+/// set, and no poll is requested.
 ///
 /// ```
 /// use fintaqush::{Cards, Driver, Fault, Weight, What};
@@ -188,7 +226,7 @@ pub struct DeviceShown {
 ///             packets -= taken;
 ///             todo.set_packets(taken);
 ///         }
-///         What::Ended(_) => {}
+///         What::Timer { .. } | What::Ended(_) => {}
 ///     }
 /// }
 /// assert_eq!((masked, packets), (false, 0));
@@ -233,6 +271,31 @@ impl Driver {
             said => Prep::of("driver_interrupt", said)
                 .map_or_else(|| unexpected("driver_interrupt", said), Ok),
         }
+    }
+
+    /// Reports that the timer of a device expired (`napi_watchdog`), at any time. Returns whether that requested a poll. Fails with
+    /// [`BAD_DEVICE`](Fault::BAD_DEVICE).
+    pub fn timer(&mut self, device: u32) -> Result<bool, Fault> {
+        match calls::driver_timer(self.at.raw(), device) {
+            sys::FQ_GRANTED => Ok(true),
+            sys::FQ_NOT_DUE => Ok(false),
+            sys::FQ_BAD_DEVICE => Err(Fault::BAD_DEVICE),
+            said => unexpected("driver_timer", said),
+        }
+    }
+
+    /// Sets the settings of a closed device: its weight, the deferral of its interrupt, and busy polling. Fails with
+    /// [`NOT_DUE`](Fault::NOT_DUE) if it isn't closed, with [`BAD_WEIGHT`](Fault::BAD_WEIGHT) if its weight is above the driver's, and
+    /// with [`BAD_DEVICE`](Fault::BAD_DEVICE).
+    pub fn set(&mut self, device: u32, settings: DeviceSettings) -> Result<(), Fault> {
+        let raw = sys::fq_device_settings {
+            weight: settings.weight.get() as u32,
+            defer_hard_irqs: settings.defer_hard_irqs,
+            gro_flush_timeout: settings.gro_flush_timeout,
+            empty_polls: settings.empty_polls,
+            ..sys::fq_device_settings::INIT
+        };
+        Fault::unless_made(calls::driver_set_sized(self.at.raw(), device, &raw))
     }
 
     /// Ends the run in progress, by a clock of the caller (`netdev_budget_usecs`): a fetch that is due already is still made, and
@@ -289,6 +352,13 @@ impl Driver {
                 0
             }
             What::Look(device) => u32::from(cards.look(device)),
+            What::Timer {
+                device,
+                nanoseconds,
+            } => {
+                cards.timer(device, nanoseconds);
+                0
+            }
             What::Fetch { device, most } => {
                 let taken = cards.fetch(device, most);
                 if let Some(has_more) = (taken < most).then(|| cards.rearm(device)).flatten() {

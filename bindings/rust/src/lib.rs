@@ -76,7 +76,7 @@ pub use caller::{Caller, Granted};
 pub use card::{Card, Look, Poll};
 pub use control::{Control, Marked, Mode, Off, On};
 pub use dql::Dql;
-pub use driver::{Cards, DeviceShown, DeviceState, Driver, Todo, What};
+pub use driver::{Cards, DeviceSettings, DeviceShown, DeviceState, Driver, Todo, What};
 pub use fault::Fault;
 pub use list::{List, Polled, Pushes, RunReport};
 pub use machine::{machine, MachineFault, MachineSettings};

@@ -34,6 +34,12 @@ impl Weight {
     }
 }
 
+impl Default for Weight {
+    fn default() -> Weight {
+        Weight::MAX
+    }
+}
+
 /// A buffer for the packets of one poll.
 #[derive(Clone)]
 pub struct Batch {

@@ -126,6 +126,9 @@ pub const FQ_TODO_FETCH: u32 = 4;
 pub const FQ_TODO_ENDED: u32 = 5;
 /// Nothing, because the call failed, with the error `status`: a loop has to end.
 pub const FQ_TODO_FAILED: u32 = 6;
+/// Set the device's timer, so that it expires once, after `nanoseconds`; one that is still set is replaced. The card
+/// stays masked. When it expires, call `fq_driver_timer`. Only for a device with deferral (`fq_driver_set`).
+pub const FQ_TODO_TIMER: u32 = 7;
 
 /// It didn't: the card is still masked.
 pub const FQ_REARM_NO: u32 = 0;
@@ -474,7 +477,7 @@ pub struct fq_todo {
     pub what: u32,
     /// The device; 0 if the action is at none.
     pub device: u32,
-    /// The packets that a fetch may take, the driver's weight; 0 for anything else.
+    /// The packets that a fetch may take, the device's weight; 0 for anything else.
     pub most: u32,
     /// Set by the program after a look and a fetch; before that 1 for a look, so that packets aren't forgotten, else
     /// 0.
@@ -483,6 +486,8 @@ pub struct fq_todo {
     pub status: u32,
     /// Set by the program after a fetch that also unmasked the card and looked at it; before that `FQ_REARM_NO`.
     pub rearm: u32,
+    /// The time of `FQ_TODO_TIMER`; 0 for anything else.
+    pub nanoseconds: u64,
     /// The report of the run that ended, for `FQ_TODO_ENDED` and `FQ_TODO_SLEEP`; its numbers are 0 if none did.
     pub run: fq_run_report,
 }
@@ -498,12 +503,40 @@ impl fq_todo {
         packets: 0,
         status: 0,
         rearm: 0,
+        nanoseconds: 0,
         run: fq_run_report {
             size: std::mem::size_of::<fq_run_report>(),
             polls: 0,
             work: 0,
             squeezed: false,
         },
+    };
+}
+
+/// The settings of a device.
+#[repr(C)]
+#[derive(Clone, Copy, Debug, PartialEq, Eq)]
+pub struct fq_device_settings {
+    /// The size of this struct.
+    pub size: usize,
+    /// The packets that a fetch may take (`netif_napi_add_weight`), 1 to the driver's weight, which is its default.
+    pub weight: u32,
+    /// How many completions in a row defer the interrupt after the last fetch with packets (`napi_defer_hard_irqs`).
+    pub defer_hard_irqs: u32,
+    /// For how many nanoseconds each does (`gro_flush_timeout`); 0, the default, turns deferral off.
+    pub gro_flush_timeout: u64,
+    /// With busy polling, the empty fetches in a row after which the card is unmasked; 0, the default: none.
+    pub empty_polls: u32,
+}
+
+impl fq_device_settings {
+    /// Its size, and zeros.
+    pub const INIT: fq_device_settings = fq_device_settings {
+        size: std::mem::size_of::<fq_device_settings>(),
+        weight: 0,
+        defer_hard_irqs: 0,
+        gro_flush_timeout: 0,
+        empty_polls: 0,
     };
 }
 
@@ -655,6 +688,15 @@ pub struct fq_machine_settings {
     /// Time to wake an idle processor by an expired NAPI timer, which counts as interrupt time, 0 to 1000000000 ns
     /// (`UINT32_MAX`: that of wake).
     pub timer_wake: u32,
+    /// 1: a packet that comes while the interrupt is raised or masked sets a cause, which raises the interrupt when
+    /// the driver unmasks it (igb, igc, ixgbe, vmxnet3); 2: the interrupt's handler also clears it (e1000, e1000e
+    /// without MSI-X), 0 to 2 (0).
+    pub latched: u32,
+    /// Packets that a poll takes before it hands them over (net.core.`gro_normal_batch`), for drivers that call
+    /// `napi_gro_receive`; 0: each at once, 0 to 64 (0).
+    pub gro_batch: u32,
+    /// With gro-batch the part of packet that taking one from the ring and GRO take, 0 to 1000000000 ns (0).
+    pub take: u32,
 }
 
 impl fq_machine_settings {
@@ -686,6 +728,9 @@ impl fq_machine_settings {
         rx_gap: 0,
         timer: 0,
         timer_wake: 0,
+        latched: 0,
+        gro_batch: 0,
+        take: 0,
     };
 }
 
@@ -701,8 +746,8 @@ pub struct fq_machine_ran {
     pub row: u64,
     /// The number of that fault, 1 to 8; 0 if they have none.
     pub fault: u32,
-    /// The first setting that is out of its range, or `rx_gap` if it excludes another: 1 for processors, 2 for queues
-    /// and so on; 0 if none is rejected.
+    /// The first setting that is out of its range, or `rx_gap` if it excludes another, or take if it is above packet:
+    /// 1 for processors, 2 for queues and so on; 0 if none is rejected.
     pub setting: u32,
     /// The message of the fault of the arrivals, as `napi_machine` prints it, with a terminating 0; otherwise empty.
     pub message: [c_char; 64],

@@ -920,6 +920,61 @@ fn a_driver_polls_what_came_before_it_was_opened() {
     assert!(!card.open);
 }
 
+// A card with a timer.
+#[derive(Default)]
+struct TimedCard {
+    masked: bool,
+    packets: u32,
+    timer: u64,
+}
+
+impl Cards for TimedCard {
+    fn mask(&mut self, _: u32) {
+        self.masked = true;
+    }
+    fn unmask(&mut self, _: u32) {
+        self.masked = false;
+    }
+    fn look(&mut self, _: u32) -> bool {
+        self.packets > 0
+    }
+    fn fetch(&mut self, _: u32, most: u32) -> u32 {
+        let taken = most.min(self.packets);
+        self.packets -= taken;
+        taken
+    }
+    fn timer(&mut self, _: u32, nanoseconds: u64) {
+        self.timer = nanoseconds;
+    }
+}
+
+#[test]
+fn a_device_defers_its_interrupt() {
+    let settings = DeviceSettings {
+        weight: Weight::new(8).unwrap(),
+        defer_hard_irqs: 1,
+        gro_flush_timeout: 5000,
+        empty_polls: 0,
+    };
+    let mut card = TimedCard {
+        packets: 9,
+        ..TimedCard::default()
+    };
+    let mut driver = Driver::new(1, 300, Weight::MAX, 1024).unwrap();
+    assert_eq!(driver.set(1, settings), Err(Fault::BAD_DEVICE));
+    driver.set(0, settings).unwrap();
+    assert_eq!(driver.timer(0), Ok(false));
+    driver.open(0).unwrap();
+    assert_eq!(driver.set(0, settings), Err(Fault::NOT_DUE));
+    while driver.act(&mut card) != Ok(What::Sleep) {}
+    assert_eq!((card.masked, card.packets, card.timer), (true, 0, 5000));
+    assert_eq!(driver.shown(0).unwrap().polls, 2);
+    assert_eq!(driver.timer(0), Ok(true));
+    assert_eq!(driver.timer(1), Err(Fault::BAD_DEVICE));
+    while driver.act(&mut card) != Ok(What::Sleep) {}
+    assert!(!card.masked);
+}
+
 // A card that is unmasked and looked at in a fetch.
 struct RearmCard(EdgeCard);
 
@@ -996,7 +1051,7 @@ fn a_loop_needs_only_steps() {
                 assert_eq!(driver.step(&mut todo), Ok(What::Fetch { device, most }));
                 todo.set_packets(card.fetch(device, most));
             }
-            What::Ended(_) => {}
+            What::Timer { .. } | What::Ended(_) => {}
         }
     }
     let shown = driver.shown(0).unwrap();

@@ -5,7 +5,7 @@ use Rattle.{napi_calls.specs.{Made.Made, Packets.TriesToGiveBack, declared.types
 use Rattle.napi_model.{proofs.Histories.legal_back, specs.{History.LegalHistory, Step.{opening, event}, declared.state.Seen.Seen}}
 use Rattle.napi_calls.specs.declared.state.CallerState.{CallerState}
 use Rattle.c_handles.specs.{Endings.EndsByReply}
-use Rattle.c_handles.specs.{Tries.{Is, try_completed}, SeatCalls.{CallerCompletes, RestsWith, GrantedWith}}
+use Rattle.c_handles.specs.{Tries.{Is, try_completed}, CallerCalls.{CallerCompletes, RestsWith, GrantedWith}}
 use Rattle.c_handles.specs.{Status.{HELD, NOT_ALLOWED}}
 use Rattle.napi_model.specs.declared.event.Done.TheVariants as done
 use Rattle.napi_model.specs.declared.event.Operation.TheVariants as operation

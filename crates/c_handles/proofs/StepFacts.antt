@@ -115,6 +115,7 @@ says size after b e todo next is = rw is (record {
   again = next.again;
   devices = next.devices;
   counts = next.counts;
+  pacings = next.pacings;
   stops = next.stops;
 })
 

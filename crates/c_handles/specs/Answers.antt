@@ -1,4 +1,4 @@
--- The counts of the results of a caller's calls (a caller of a shared instance is a "seat" in C): each result is counted once,
+-- The counts of the results of a caller's calls: each result is counted once,
 -- and each count saturates.
 use Rattle.std.specs.Prelude.{ℕ, ◌+◌, ◌==◌, if◌then◌else◌}
 use Rattle.{rx_ring.specs.ReceiveRing.capped, c_handles.specs.Status.{GRANTED, MISSED}}

@@ -1,20 +1,21 @@
 -- A driver for C: what it asks for, as numbers, and the status and the effect of each call.
-use Rattle.std.specs.Prelude.{◌≡◌, ◌≢◌, ◌⊎◌, ◌↔◌, ℕ, ◌+◌, ◌*◌, ◌≤◌, ◌==◌, ◌||◌, false, true, nat_le, if◌then◌else◌}
+use Rattle.std.specs.Prelude.{◌≡◌, ◌≢◌, ◌⊎◌, ◌↔◌, ℕ, ◌+◌, ◌*◌, ◌≤◌, ◌<◌, ◌==◌, ◌||◌, false, true, nat_le, if◌then◌else◌}
 use Rattle.std.specs.Prelude.{length, IsSome, ⊤, Result, Ok, Err}
 use Rattle.napi_model.specs.declared.event.Prep.{Prep, TheVariants.{Granted, Missed, Disabled}}
 use Rattle.napi_model.specs.Step.{schedule_reply}
 use Rattle.driver_core.specs.{Device.{after_interrupt, is_stopping, after_open, after_stop, MayStop}, Steps.{stage_is_scheduled, napi_of}}
+use Rattle.driver_core.specs.{Device.after_timer, Steps.is_unscheduled, declared.pacing.DeviceSettings.DeviceSettings}
 use Rattle.driver_core.specs.Driver.{poll_counts_of, device_of, driver_devices, driver_limits, said_number_of, polled_device, stage_of}
 use Rattle.driver_core.specs.Driver.{is_ending, is_running}
 use Rattle.driver_core.specs.Driver.{AreClosed, EndsRun, EndsSqueezed, IsDue, AwaitsNothing, IsIdle, IsNumberedWhat, IsReport, IsUncounted}
-use Rattle.driver_core.specs.Driver.{PutsDevice, Reports}
+use Rattle.driver_core.specs.Driver.{ArePlain, PutsDevice, Reports, SetsDevice}
 use Rattle.driver_core.specs.declared.{driver.Driver.Driver, device.Stage.{Stage, TheVariants.Closed}}
 use Rattle.driver_core.specs.declared.device.Rearm.{Rearm, TheVariants.{No, Empty, More}}
 use Rattle.driver_core.specs.declared.todo.Refused.{Refused, TheVariants.{NotDue, TooMany}}
-use Rattle.driver_core.specs.declared.todo.What.{What, TheVariants.{Mask, Unmask, Look, Fetch, Ended, Sleep}}
+use Rattle.driver_core.specs.declared.todo.What.{What, TheVariants.{Mask, Unmask, Look, Timer, Fetch, Ended, Sleep}}
 use Rattle.c_handles.specs.Status.{OK, GRANTED, MISSED, DISABLED, NOT_DUE, BAD_DEVICE, BAD_WORK, BAD_COUNT}
 use Rattle.c_handles.specs.{Status.{BAD_BUDGET, BAD_WEIGHT}, declared.lister.FqRunReport.FqRunReport}
-use Rattle.c_handles.specs.declared.drive.{FqTodo.FqTodo, FqDeviceShown.FqDeviceShown}
+use Rattle.c_handles.specs.declared.drive.{FqTodo.FqTodo, FqDeviceSettings.FqDeviceSettings, FqDeviceShown.FqDeviceShown}
 
 -- ---- a new driver
 
@@ -28,6 +29,7 @@ pub record IsNewDriver (devices budget weight window salt : ℕ) (d : Driver) : 
   pub closed : AreClosed devices d
   pub idle : IsIdle d
   pub counts : IsUncounted d
+  pub pacings : ArePlain devices d
   pub limits : ((driver_limits d).budget ≡ budget) × ((driver_limits d).weight ≡ weight) × ((driver_limits d).window ≡ window)
   -- drivers with different salts number their actions differently
   pub number : said_number_of d ≡ salt * 281474976710656 + 1
@@ -45,17 +47,23 @@ what_in (Unmask id) = 2
 what_in (Look id) = 3
 what_in (Fetch id most) = 4
 what_in (Ended report) = 5
+what_in (Timer id nanoseconds) = 7
 
 abbrev pub device_in : What → ℕ
 device_in (Mask id) = id
 device_in (Unmask id) = id
 device_in (Look id) = id
 device_in (Fetch id most) = id
+device_in (Timer id nanoseconds) = id
 device_in _ = 0
 
 abbrev pub most_in : What → ℕ
 most_in (Fetch id most) = most
 most_in _ = 0
+
+abbrev pub nanoseconds_in : What → ℕ
+nanoseconds_in (Timer id nanoseconds) = nanoseconds
+nanoseconds_in _ = 0
 
 -- the packets of an action whose caller doesn't set them: a look that was forgotten leads to a poll
 abbrev pub unset_packets : What → ℕ
@@ -77,6 +85,7 @@ todo_in size number what = record {
   packets = unset_packets what;
   status = OK;
   rearm = 0;
+  nanoseconds = nanoseconds_in what;
   run = todo_run_in what;
 }
 
@@ -91,6 +100,7 @@ failed_in size status = record {
   packets = 0;
   status = status;
   rearm = 0;
+  nanoseconds = 0;
   run = no_run;
 }
 
@@ -108,6 +118,7 @@ pub record Says (size : ℕ) (d : Driver) (todo : FqTodo) (e : Driver) : Type 0 
   pub again : ¬ AwaitsNothing d → (e ≡ d) × (todo.number ≡ said_number_of d)
   pub devices : driver_devices e ≡ driver_devices d
   pub counts : e.counts ≡ d.counts
+  pub pacings : e.pacings ≡ d.pacings
   -- a run that the caller has ended makes no further poll, and counts as squeezed
   pub stops : is_ending d ≡ true → AwaitsNothing d → EndsSqueezed what
 
@@ -172,6 +183,29 @@ pub record IsDriverStop (device : ℕ) (d : Driver) (n : ℕ) (e : Driver) : Typ
   pub status : (n ≡ OK) ⊎ (n ≡ NOT_DUE) ⊎ (n ≡ BAD_DEVICE)
   pub when : n ≢ BAD_DEVICE → (n ≡ OK) ↔ MayStop (stage_of d device)
   pub puts : n ≡ OK → PutsDevice device (after_stop (device_of d device)) d e
+  pub kept : n ≢ OK → e ≡ d
+
+pub record IsDriverTimer (device : ℕ) (d : Driver) (n : ℕ) (e : Driver) : Type 0 where
+  pub bad : IsNoDevice device d n e
+  pub reply : n ≢ BAD_DEVICE → n ≡ (if is_unscheduled (stage_of d device) then GRANTED else NOT_DUE)
+  pub puts : n ≢ BAD_DEVICE → PutsDevice device (after_timer (device_of d device)) d e
+
+-- ---- the settings of a device (`struct fq_device_settings`)
+
+abbrev pub settings_in : FqDeviceSettings → DeviceSettings
+settings_in s = record {
+  weight = s.weight;
+  defer_hard_irqs = s.defer_hard_irqs;
+  gro_flush_timeout = s.gro_flush_timeout;
+  empty_polls = s.empty_polls;
+}
+
+pub record IsDriverSet (device : ℕ) (s : FqDeviceSettings) (d : Driver) (n : ℕ) (e : Driver) : Type 0 where
+  pub bad : IsNoDevice device d n e
+  pub weight : n ≢ BAD_DEVICE → (n ≡ BAD_WEIGHT) ↔ ((s.weight ≡ 0) ⊎ ((driver_limits d).weight < s.weight))
+  pub status : (n ≡ OK) ⊎ (n ≡ NOT_DUE) ⊎ (n ≡ BAD_DEVICE) ⊎ (n ≡ BAD_WEIGHT)
+  pub when : n ≢ BAD_DEVICE → n ≢ BAD_WEIGHT → (n ≡ OK) ↔ (stage_of d device ≡ Closed)
+  pub sets : n ≡ OK → SetsDevice device (settings_in s) d e
   pub kept : n ≢ OK → e ≡ d
 
 pub record IsDriverEndRun (d : Driver) (n : ℕ) (e : Driver) : Type 0 where

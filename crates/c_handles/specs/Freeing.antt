@@ -16,10 +16,10 @@ abbrev pub is_control_off : ControlState → Bool
 is_control_off (controller.Off c) = true
 is_control_off _ = false
 
--- no other object depends on it: a caller (a "seat" in C) that owns nothing, the controller of a disabled instance, a list
+-- no other object depends on it: a caller that owns nothing, the controller of a disabled instance, a list
 -- without a run, a driver, a ring
 abbrev pub is_freeable : Object → Bool
-is_freeable (body.Seat s) = is_resting s.state
+is_freeable (body.Caller s) = is_resting s.state
 is_freeable (body.Controller c) = is_control_off c.state
 is_freeable (body.List l) = not (is_some (list_run l.value))
 is_freeable _ = true

@@ -2,12 +2,12 @@
 -- the wrong kind, gets BAD_HANDLE and is unchanged.
 use Rattle.std.specs.Prelude.{◌≡◌, ◌⊎◌, ℕ, List, Option, Some, None}
 use Rattle.napi_model.specs.{declared.state.Seen.Seen, Word.word_of}
-use Rattle.{rx_ring.specs.declared.packet.Packet.Packet, c_handles.specs.declared.seat.{CallerObject.CallerObject, Controller.Controller}}
+use Rattle.{rx_ring.specs.declared.packet.Packet.Packet, c_handles.specs.declared.caller.{CallerObject.CallerObject, Controller.Controller}}
 use Rattle.driver_core.specs.declared.driver.Driver.{Driver}
 use Rattle.c_handles.specs.declared.{lister.ListObject.ListObject, body.Object.Object, handle.FqHandle.FqHandle}
 use Rattle.napi_calls.specs.declared.state.{CallerState.CallerState, ControlState.ControlState}
 use Rattle.c_handles.specs.{Answers.count_answer, Status.{OK, NOT_ALLOWED, BAD_HANDLE}}
-use Rattle.c_handles.specs.SeatCalls.{SeatLooks, SeatPolls}
+use Rattle.c_handles.specs.CallerCalls.{CallerLooks, CallerReceives}
 use Rattle.c_handles.specs.declared.body.Object.TheVariants as body
 
 -- for an object of the wrong kind: BAD_HANDLE, and it is unchanged
@@ -20,51 +20,51 @@ OnHandle P None n after = (n ≡ BAD_HANDLE) × (after ≡ None)
 OnHandle P (Some x) n None = ⊥
 OnHandle P (Some x) n (Some y) = P x n y
 
--- ---- callers of a shared instance ("seats" in C)
+-- ---- callers of a shared instance
 
 -- the object is a caller with this property
 abbrev pub IsCallerWith : (CallerObject → Type 0) → Object → Type 0
-IsCallerWith P (body.Seat s) = P s
+IsCallerWith P (body.Caller s) = P s
 IsCallerWith P _ = ⊥
 
 -- the effect if the object is a caller; any other object is of the wrong kind
-abbrev pub OnSeat : (CallerObject → ℕ → Object → Type 0) → Object → ℕ → Object → Type 0
-OnSeat P (body.Seat s) n after = P s n after
-OnSeat P other n after = OtherKind other n after
+abbrev pub OnCaller : (CallerObject → ℕ → Object → Type 0) → Object → ℕ → Object → Type 0
+OnCaller P (body.Caller s) n after = P s n after
+OnCaller P other n after = OtherKind other n after
 
 -- a call of a caller had this effect on its state, and its status is counted
-abbrev pub SeatStep : (CallerState → ℕ → CallerState → Type 0) → CallerObject → ℕ → CallerObject → Type 0
-SeatStep P s n t = P s.state n t.state × (t.answers ≡ count_answer n s.answers)
+abbrev pub CallerStep : (CallerState → ℕ → CallerState → Type 0) → CallerObject → ℕ → CallerObject → Type 0
+CallerStep P s n t = P s.state n t.state × (t.answers ≡ count_answer n s.answers)
 
-abbrev pub SeatDoesIn : (CallerObject → ℕ → CallerObject → Type 0) → Object → ℕ → Object → Type 0
-SeatDoesIn P = OnSeat (λ s n after. IsCallerWith (λ t. P s n t) after)
+abbrev pub AtCallerIn : (CallerObject → ℕ → CallerObject → Type 0) → Object → ℕ → Object → Type 0
+AtCallerIn P = OnCaller (λ s n after. IsCallerWith (λ t. P s n t) after)
 
 -- for a handle with a caller: the call returned this status, and the handle then has that caller
-abbrev pub SeatDoes : (CallerObject → ℕ → CallerObject → Type 0) → FqHandle → ℕ → FqHandle → Type 0
-SeatDoes P old n new = OnHandle (SeatDoesIn P) old.held.body n new.held.body
+abbrev pub AtCaller : (CallerObject → ℕ → CallerObject → Type 0) → FqHandle → ℕ → FqHandle → Type 0
+AtCaller P old n new = OnHandle (AtCallerIn P) old.held.body n new.held.body
 
-abbrev pub SeatMakesIn : (CallerState → ℕ → CallerState → Type 0) → Object → ℕ → Object → Type 0
-SeatMakesIn P = SeatDoesIn (SeatStep P)
+abbrev pub CallerMakesIn : (CallerState → ℕ → CallerState → Type 0) → Object → ℕ → Object → Type 0
+CallerMakesIn P = AtCallerIn (CallerStep P)
 
-abbrev pub SeatGivesIn : ℕ → List Packet → Object → ℕ → Object → Type 0
-SeatGivesIn weight given = SeatDoesIn (λ s n t. SeatPolls weight given s.state n t.state × (t.answers ≡ s.answers))
+abbrev pub CallerGivesIn : ℕ → List Packet → Object → ℕ → Object → Type 0
+CallerGivesIn weight given = AtCallerIn (λ s n t. CallerReceives weight given s.state n t.state × (t.answers ≡ s.answers))
 
 -- A look shows this word. Of the two words, the first is the caller's variable before the call, and the second after it.
 abbrev pub ShowsWord : ℕ → ℕ → CallerState → ℕ → CallerState → Type 0
-ShowsWord before after h n k = ((n ≡ OK) × ((x : Seen) × SeatLooks h (Some x) k × (after ≡ word_of x)))
-    ⊎ ((n ≡ NOT_ALLOWED) × SeatLooks h None k × (after ≡ before))
+ShowsWord before after h n k = ((n ≡ OK) × ((x : Seen) × CallerLooks h (Some x) k × (after ≡ word_of x)))
+    ⊎ ((n ≡ NOT_ALLOWED) × CallerLooks h None k × (after ≡ before))
 
-abbrev pub SeatShowsIn : ℕ → ℕ → Object → ℕ → Object → Type 0
-SeatShowsIn before after = SeatDoesIn (λ s n t. ShowsWord before after s.state n t.state × (t.answers ≡ s.answers))
+abbrev pub CallerShowsIn : ℕ → ℕ → Object → ℕ → Object → Type 0
+CallerShowsIn before after = AtCallerIn (λ s n t. ShowsWord before after s.state n t.state × (t.answers ≡ s.answers))
 
-abbrev pub SeatShows : ℕ → ℕ → FqHandle → ℕ → FqHandle → Type 0
-SeatShows before after old n new = OnHandle (SeatShowsIn before after) old.held.body n new.held.body
+abbrev pub CallerShows : ℕ → ℕ → FqHandle → ℕ → FqHandle → Type 0
+CallerShows before after old n new = OnHandle (CallerShowsIn before after) old.held.body n new.held.body
 
-abbrev pub SeatMakes : (CallerState → ℕ → CallerState → Type 0) → FqHandle → ℕ → FqHandle → Type 0
-SeatMakes P = SeatDoes (SeatStep P)
+abbrev pub CallerMakes : (CallerState → ℕ → CallerState → Type 0) → FqHandle → ℕ → FqHandle → Type 0
+CallerMakes P = AtCaller (CallerStep P)
 
-abbrev pub SeatGives : ℕ → List Packet → FqHandle → ℕ → FqHandle → Type 0
-SeatGives weight given old n new = OnHandle (SeatGivesIn weight given) old.held.body n new.held.body
+abbrev pub CallerGives : ℕ → List Packet → FqHandle → ℕ → FqHandle → Type 0
+CallerGives weight given old n new = OnHandle (CallerGivesIn weight given) old.held.body n new.held.body
 
 -- ---- controllers
 

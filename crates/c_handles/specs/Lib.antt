@@ -5,12 +5,12 @@ pub mod Answers
 pub mod Inputs
 pub mod Rings
 pub mod Transmits
-pub mod Seats
+pub mod Callers
 pub mod Lists
 pub mod Loans
 pub mod Runs
 pub mod Tries
-pub mod SeatCalls
+pub mod CallerCalls
 pub mod Drivers
 pub mod Handles
 pub mod Freeing

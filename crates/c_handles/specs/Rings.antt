@@ -4,7 +4,8 @@ use Rattle.{rx_ring.specs.Ends.{capacity_of, received_list}}
 use Rattle.{c_handles.specs.declared.{body.{Ring.Ring, Object.Object}, input.RingInput.RingInput}}
 use Rattle.std.specs.Prelude.{◌≡◌, ℕ, ◌==◌, if◌then◌else◌, List, Option, Some, None, [], ◌++◌, length}
 use Rattle.c_handles.specs.Status.{BAD_HANDLE}
-use Rattle.c_handles.specs.{declared.handle.FqHandle.FqHandle, SeatCalls.{ctx_counts, caller_counts, controller_counts}, Status.{OK, FULL}}
+use Rattle.c_handles.specs.{declared.handle.FqHandle.FqHandle, Status.{OK, FULL}}
+use Rattle.c_handles.specs.CallerCalls.{ctx_counts, caller_counts, controller_counts}
 use Rattle.c_handles.specs.declared.body.Object.TheVariants as body
 
 -- the handle has this ring as its object
@@ -85,7 +86,7 @@ pub record IsAfterPoll (weight : ℕ) (before : Ring) (given : List Packet) (aft
 abbrev pub ring_counts_in : Object → Option RxCounts
 ring_counts_in (body.Ring ring) = Some (ctx_counts ring.ctx)
 ring_counts_in (body.Ctx ctx) = Some (ctx_counts ctx)
-ring_counts_in (body.Seat seat) = caller_counts seat.state
+ring_counts_in (body.Caller s) = caller_counts s.state
 ring_counts_in (body.Controller controller) = controller_counts controller.state
 ring_counts_in _ = None
 

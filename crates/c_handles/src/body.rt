@@ -1,9 +1,9 @@
 //! The objects of C's handles.
 ghost use Rattle.rx_ring.specs.Ends.{IsOneRing};
 
+use crate::caller::{CallerObject, Controller};
 use crate::input::RingInput;
 use crate::lister::ListObject;
-use crate::seat::{CallerObject, Controller};
 use driver_core::Driver;
 use rx_ring::RxCtx;
 use std::alloc::Global;
@@ -34,7 +34,7 @@ pub enum Object {
     /// A driver.
     Driver(Box<Driver, Global>),
     /// A caller of a shared instance (`fq_caller_..` in C).
-    Seat(CallerObject),
+    Caller(CallerObject),
     /// The controller of a shared instance.
     Controller(Controller),
     /// A transmit ring.

@@ -2,11 +2,13 @@
 
 ghost use Rattle.std.specs.Prelude.{◌≡◌, length, nat_lt};
 ghost use Rattle.driver_core.specs.Driver.{driver_devices};
-ghost use Rattle.c_handles.specs.Drivers.{device_in, most_in, rearm_in, unset_packets, reply_status, todo_run_in, shown_of, device_state_in, todo_in, what_in, IsDriverEndRun, IsDriverInterrupt, IsDriverNext, IsDriverOpen, IsDriverStep, IsTodoReport, IsDriverShow, IsDriverStop, report_status};
+ghost use Rattle.c_handles.specs.Drivers.{device_in, most_in, rearm_in, unset_packets, reply_status, todo_run_in, nanoseconds_in, settings_in, shown_of, device_state_in, todo_in, what_in, IsDriverEndRun, IsDriverInterrupt, IsDriverNext, IsDriverOpen, IsDriverSet, IsDriverStep, IsDriverTimer, IsTodoReport, IsDriverShow, IsDriverStop, report_status};
 
 use crate::lister::FqRunReport;
 use crate::status;
-use driver_core::{Driver, DriverDevice, Rearm, Refused, Stage, Todo, TodoPlace, What};
+use driver_core::{
+    DeviceSettings, Driver, DriverDevice, Rearm, Refused, Stage, Todo, TodoPlace, What,
+};
 use napi_model::Prep;
 use std::mem::size_of;
 
@@ -30,8 +32,26 @@ pub struct FqTodo {
     pub status: u32,
     /// Whether a fetch also unmasked the card and then looked at it (`enum fq_rearm`): set by the caller.
     pub rearm: u32,
+    /// The time after which the device's timer has to expire.
+    pub nanoseconds: u64,
     /// The report of a run that ended.
     pub run: FqRunReport,
+}
+
+/// The settings of a device: `struct fq_device_settings`.
+#[repr(C)]
+#[derive(Clone, Copy)]
+pub struct FqDeviceSettings {
+    /// The size of this struct in bytes.
+    pub size: usize,
+    /// The packets that one poll takes at most.
+    pub weight: u32,
+    /// How many completions in a row defer the interrupt.
+    pub defer_hard_irqs: u32,
+    /// For how many nanoseconds they do.
+    pub gro_flush_timeout: u64,
+    /// The empty polls in a row after which busy polling ends.
+    pub empty_polls: u32,
 }
 
 /// The state of a device, for display: `struct fq_device_shown`.
@@ -74,6 +94,7 @@ fn what_in(what: What) -> u32
         What::Look(_) => 3,
         What::Fetch(_, _) => 4,
         What::Ended(_) => 5,
+        What::Timer(_, _) => 7,
     }
 }
 
@@ -84,9 +105,22 @@ fn where_in(what: What) -> (u32, u32)
     ensures most { result.1 ≡ most_in what }
 {
     match what {
-        What::Mask(device) | What::Unmask(device) | What::Look(device) => (device, 0),
+        What::Mask(device) | What::Unmask(device) | What::Look(device) | What::Timer(device, _) => (
+            device, 0,
+        ),
         What::Fetch(device, most) => (device, most),
         What::Sleep(_) | What::Ended(_) => (0, 0),
+    }
+}
+
+// Returns the time of a timer.
+#[inline(always)]
+fn nanoseconds_in(what: What) -> u64
+    ensures { result ≡ nanoseconds_in what }
+{
+    match what {
+        What::Timer(_, nanoseconds) => nanoseconds,
+        _ => 0,
     }
 }
 
@@ -138,6 +172,7 @@ impl TodoPlace for FqTodo {
         self.run.squeezed = run.squeezed;
         self.status = status::OK;
         self.rearm = 0;
+        self.nanoseconds = nanoseconds_in(what);
     }
 }
 
@@ -158,6 +193,7 @@ impl FqTodo {
             packets: 0,
             status,
             rearm: 0,
+            nanoseconds: 0,
             run: NO_RUN,
         };
         status
@@ -260,6 +296,48 @@ pub fn interrupt(driver: &mut Driver, device: u32) -> u32
     }
 }
 
+/// Reports that the timer of a device expired (`Driver::timer`).
+pub fn timer(driver: &mut Driver, device: u32) -> u32
+    ensures { IsDriverTimer device driver.old result driver.new }
+{
+    if !has_device(driver, device) {
+        return status::BAD_DEVICE;
+    }
+    if driver.timer(device) {
+        status::GRANTED
+    } else {
+        status::NOT_DUE
+    }
+}
+
+// Returns these settings.
+fn settings_of(settings: &FqDeviceSettings) -> DeviceSettings
+    ensures { result ≡ settings_in settings.now }
+{
+    DeviceSettings {
+        weight: settings.weight,
+        defer_hard_irqs: settings.defer_hard_irqs,
+        gro_flush_timeout: settings.gro_flush_timeout,
+        empty_polls: settings.empty_polls,
+    }
+}
+
+/// Sets the settings of a device that is closed (`Driver::set`).
+pub fn set(driver: &mut Driver, device: u32, settings: &FqDeviceSettings) -> u32
+    ensures { IsDriverSet device settings.now driver.old result driver.new }
+{
+    if !has_device(driver, device) {
+        return status::BAD_DEVICE;
+    }
+    if settings.weight == 0 || settings.weight > driver.limits().weight {
+        return status::BAD_WEIGHT;
+    }
+    match driver.set(device, settings_of(settings)) {
+        Ok(()) => status::OK,
+        Err(_) => status::NOT_DUE,
+    }
+}
+
 /// Ends the run in progress (`Driver::end_run`).
 pub fn end_run(driver: &mut Driver) -> u32
     ensures { IsDriverEndRun driver.old result driver.new }
@@ -304,7 +382,7 @@ fn state_of(device: DriverDevice) -> u32
         Stage::Closed => 0,
         Stage::Closing => 2,
         Stage::Masking(stopping) | Stage::Listed(stopping) => { if stopping { 2 } else { 1 } }
-        Stage::Unmasking | Stage::Looking | Stage::Armed => 1,
+        Stage::Unmasking | Stage::Looking | Stage::Armed | Stage::Deferring | Stage::Deferred => 1,
     }
 }
 

@@ -23,6 +23,7 @@ impl Model for OwnedPtr {
     ghost also_owns = { λ h. held_owns h.alloc h.ptr h.body };
 }
 
+// A raw pointer isn't `Send`. C may pass a handle to another thread because its value, an `Object`, is proved to be `Send`.
 unsafe impl Send for OwnedPtr {}
 
 impl OwnedPtr {
@@ -63,6 +64,7 @@ impl OwnedPtr {
         ensures* writes_back { sem 𝓛 (LendsHeld self.entry result) }
         ensures value { self.old.body ≡ Some result.now }
     {
+        // C keeps the pointer, so no `Box` can be borrowed: the value is owned by this struct (`also_owns`), and lent by it.
         unsafe { &mut *(self.ptr as *mut Object) }
     }
 

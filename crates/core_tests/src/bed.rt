@@ -1,7 +1,8 @@
 //! An instance with two callers, and calls that return what a test expects; any other result fails the test.
 
-ghost use Rattle.std.specs.Prelude.{◌≡◌, ℕ, [], ◌∷◌, length, slice_get, Some, true, false};
-ghost use Rattle.rx_ring.specs.Ends.{IsOneRing, received_list};
+ghost use Rattle.std.specs.Prelude.{◌≡◌, ◌≤◌, ℕ, [], ◌∷◌, length, slice_get, Some, true, false};
+ghost use Rattle.rx_ring.specs.Ends.{IsOneRing, SameIn, received_list};
+ghost use Rattle.rx_ring.specs.ReceiveRing.{NAPI_POLL_WEIGHT};
 ghost use Rattle.napi_model.specs.declared.state.Seen.{Seen};
 ghost use Rattle.napi_model.specs.declared.state.Kind.TheVariants as kind;
 ghost use Rattle.napi_model.specs.declared.event.Prep.TheVariants as prep;
@@ -16,7 +17,7 @@ ghost use Rattle.napi_calls.specs.Closed.{IsClosed};
 
 use napi_calls::{Caller, Control, Granted, Napi, Off, On, Polling, TryDone, TryPrep, TryTake};
 use napi_model::{Kind, encode};
-use rx_ring::{RxCtx, RxIn, ring};
+use rx_ring::{Batch, Packet, RxCtx, RxIn, ring};
 use std::alloc::Global;
 use std::process::Abort;
 
@@ -90,6 +91,57 @@ pub fn make_bed(rt: &impl Abort, alloc: Global) -> Bed
         panic!(rt; "no instance")
     };
     seat_two(rt, input, napi, callers, control)
+}
+
+/// Puts a packet, for which there has to be room.
+pub fn put(rt: &impl Abort, input: &mut RxIn, packet: Packet)
+    ensures { SameIn input.old input.new }
+{
+    assert_eq!(rt; input.put(packet), Ok(()));
+}
+
+/// Puts four packets of 60 bytes, with the numbers 0 to 3.
+fn put_four(rt: &impl Abort, input: &mut RxIn)
+    ensures { SameIn input.old input.new }
+{
+    for number in 0u64..4 {
+        put(rt, input, Packet { number, bytes: 60 });
+    }
+}
+
+/// Returns a new instance with these four packets in its ring.
+pub fn make_full_bed(rt: &impl Abort, alloc: Global) -> Bed
+    ensures first { IsNewSeat result.napi 0 result.first.pass }
+    ensures second { IsNewSeat result.napi 1 result.second.pass }
+    ensures control { IsNewSeat result.napi 2 result.control.pass }
+    ensures input { PutsIntoRingOf result.input result.first.pass }
+    ensures nothing { received_list (first_of_instance result.napi) ≡ [] }
+{
+    let Bed {
+        mut input,
+        napi,
+        first,
+        second,
+        control,
+    } = make_bed(rt, alloc);
+    put_four(rt, &mut input);
+    Bed {
+        input,
+        napi,
+        first,
+        second,
+        control,
+    }
+}
+
+/// Polls with this weight, which has to return these packets.
+pub fn polls(rt: &impl Abort, polling: &mut Polling, weight: usize, packets: &[Packet])
+    requires { (1 ≤ weight) × (weight ≤ NAPI_POLL_WEIGHT) }
+    ensures { polling.new.pass ≡ polling.old.pass }
+{
+    let mut batch = Batch::new();
+    polling.poll(weight, &mut batch);
+    assert_eq!(rt; batch.as_slice(), packets);
 }
 
 /// Reads the state word, which has to be this one.

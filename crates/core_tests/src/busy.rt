@@ -2,7 +2,7 @@
 
 ghost use Rattle.napi_calls.specs.Instance.{IsSeatOf};
 
-use crate::bed::{Bed, again, closed, handed, make_bed, missed, released, taken};
+use crate::bed::{Bed, again, closed, handed, make_bed, missed, put, released, taken};
 use napi_calls::{Busy, Caller, Napi};
 use napi_model::Kind;
 use rx_ring::Packet;
@@ -64,7 +64,7 @@ fn busy_polls_give_what_was_put(rt: HostRuntime) -> Result<(), Fail> {
         control,
     } = make_bed(&rt, rt.alloc());
     let control = control.enable(&rt, &napi, false);
-    assert_eq!(rt; input.put(PACKET), Ok(()));
+    put(&rt, &mut input, PACKET);
     let busy = busy_twice(&rt, &napi, first);
     let second = not_taken(&rt, &napi, second);
     let second = missed(&rt, &napi, second);

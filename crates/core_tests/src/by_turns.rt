@@ -3,12 +3,11 @@
 ghost use Rattle.napi_calls.specs.Instance.{IsSeatOf};
 
 use crate::bed::{
-    Bed, again, closed, disabled, enabled, granted, handed, make_bed, missed, not_there, released,
-    taken,
+    Bed, again, closed, disabled, enabled, granted, handed, make_bed, missed, not_there, polls,
+    released, taken,
 };
 use napi_calls::{Caller, DropBomb, Napi, meet};
 use napi_model::Kind;
-use rx_ring::Batch;
 use std::process::Abort;
 use std::sync::{Condvar, Mutex, Wait};
 use std::test::Fail;
@@ -51,7 +50,7 @@ fn first_turns<R: Wait + Abort>(rt: &R, napi: &Napi, first: Caller, turns: &Turn
     end_turn(rt, turns, 3);
     await_turn(rt, turns, 4);
     let mut poller = taken(rt, napi, first, Kind::List);
-    assert_eq!(rt; poller.poll(64, &mut Batch::new()), 0);
+    polls(rt, &mut poller, 64, &[]);
     released(rt, napi, poller)
 }
 

@@ -1,9 +1,9 @@
 //! A test bench: a card, its driver, and the thread that does what the driver asks for.
 
-ghost use Rattle.std.specs.Prelude.{◌≡◌, length, IfOk};
+ghost use Rattle.std.specs.Prelude.{◌≡◌, ◌≤◌, length, IfOk};
 ghost use Rattle.driver_core.specs.Driver.{driver_devices};
 
-use driver_core::{Driver, DriverDevice, Limits, Rearm, Stage, What};
+use driver_core::{DeviceSettings, Driver, DriverDevice, Limits, Pacing, Rearm, Stage, What};
 use std::alloc::{AllocError, Global};
 
 /// A model of a card. It interrupts when a packet arrives, and loses that interrupt while it is masked.
@@ -17,10 +17,12 @@ pub struct TestCard {
     pub masked: bool,
     /// Whether it has raised an interrupt that isn't reported to the driver yet.
     pub interrupting: bool,
+    /// Whether the device's timer is set.
+    pub timer: bool,
 }
 
 /// What the thread is doing: what the driver asked for, done or not yet.
-#[derive(Clone, Copy, PartialEq, Eq, PartialOrd, Ord, Debug)]
+#[derive(Clone, Copy, PartialEq, Eq, PartialOrd, Ord)]
 pub enum Hand {
     /// Nothing: it calls the driver next.
     Free,
@@ -30,12 +32,16 @@ pub enum Hand {
     ToUnmask,
     /// It has to look at the card.
     ToLook,
+    /// It has to set the timer.
+    ToSetTimer,
     /// It has to take packets from the card, at most this many.
     ToFetch(u32),
     /// It has masked the card.
     Masked,
     /// It has unmasked the card.
     Unmasked,
+    /// It has set the timer.
+    TimerSet,
     /// It has looked at the card; true if it saw packets.
     Saw(bool),
     /// It has taken this many packets.
@@ -47,12 +53,14 @@ pub enum Hand {
 }
 
 /// One step of the card or of the thread, or an open or stop of the device. The steps may come in any order.
-#[derive(Clone, Copy, PartialEq, Eq, Debug)]
+#[derive(Clone, Copy, PartialEq)]
 pub enum DriverStep {
     /// A packet arrives at the card.
     Arrive,
     /// The card's interrupt is reported to the driver.
     Interrupt,
+    /// The timer expires, which is reported to the driver.
+    Expire,
     /// The thread calls the driver, which returns what to do.
     Say,
     /// The thread does that at the card.
@@ -70,9 +78,10 @@ pub enum DriverStep {
 }
 
 /// All steps.
-pub const STEPS: [DriverStep; 9] = [
+pub const STEPS: [DriverStep; 10] = [
     DriverStep::Arrive,
     DriverStep::Interrupt,
+    DriverStep::Expire,
     DriverStep::Say,
     DriverStep::Act,
     DriverStep::Rearm,
@@ -83,7 +92,7 @@ pub const STEPS: [DriverStep; 9] = [
 ];
 
 /// The counts of a run so far.
-#[derive(Clone, Copy, PartialEq, Eq, PartialOrd, Ord, Debug)]
+#[derive(Clone, Copy, PartialEq, Eq, PartialOrd, Ord)]
 pub struct RunSoFar {
     /// The polls of the run.
     pub polls: u32,
@@ -103,9 +112,11 @@ impl RunSoFar {
 }
 
 /// The state of a test bench. Two benches in the same state behave alike from then on.
-#[derive(Clone, Copy, PartialEq, Eq, PartialOrd, Ord, Debug)]
+#[derive(Clone, Copy, PartialEq, Eq, PartialOrd, Ord)]
 pub struct DriverState {
     device: DriverDevice,
+    deferrals: u32,
+    empty: u32,
     card: TestCard,
     hand: Hand,
     run: Option<RunSoFar>,
@@ -131,7 +142,6 @@ pub struct DriverBench {
     pub taken: u32,
     /// The counts of the run in progress, if there is one.
     pub run: Option<RunSoFar>,
-    weight: u32,
     /// Whether the driver returned that there is nothing to do, and nothing has happened since.
     pub sleeps: bool,
     ghost one: { length (driver_devices driver) ≡ 1 },
@@ -142,16 +152,23 @@ impl DriverBench {
     pub fn new(
         alloc: Global,
         limits: Limits,
+        settings: DeviceSettings,
         to_come: u32,
         stops: u32,
-    ) -> Result<DriverBench, AllocError> {
+    ) -> Result<DriverBench, AllocError>
+        requires { (1 ≤ settings.weight) × (settings.weight ≤ limits.weight) }
+    {
+        let mut driver = Driver::new(alloc, 1, limits, 0)?;
+        // a new device is closed, so that its settings may be set
+        let _ = driver.set(0, settings);
         Ok(DriverBench {
-            driver: Driver::new(alloc, 1, limits, 0)?,
+            driver,
             card: TestCard {
                 to_come,
                 packets: 0,
                 masked: true,
                 interrupting: false,
+                timer: false,
             },
             hand: Hand::Free,
             number: 0,
@@ -159,7 +176,6 @@ impl DriverBench {
             stops,
             taken: 0,
             run: None,
-            weight: limits.weight,
             sleeps: false,
         })
     }
@@ -183,6 +199,15 @@ impl DriverBench {
         true
     }
 
+    fn expire(&mut self) -> bool {
+        if !self.card.timer {
+            return false;
+        }
+        self.card.timer = false;
+        self.driver.timer(0);
+        true
+    }
+
     fn say(&mut self) -> bool {
         if self.hand != Hand::Free || self.sleeps {
             return false;
@@ -201,6 +226,7 @@ impl DriverBench {
             What::Mask(_) => self.hand = Hand::ToMask,
             What::Unmask(_) => self.hand = Hand::ToUnmask,
             What::Look(_) => self.hand = Hand::ToLook,
+            What::Timer(_, _) => self.hand = Hand::ToSetTimer,
             What::Fetch(_, most) => {
                 self.hand = Hand::ToFetch(most);
                 self.run = self.run.or(Some(RunSoFar::NONE));
@@ -220,6 +246,10 @@ impl DriverBench {
                 Hand::Unmasked
             }
             Hand::ToLook => Hand::Saw(self.card.packets > 0),
+            Hand::ToSetTimer => {
+                self.card.timer = true;
+                Hand::TimerSet
+            }
             Hand::ToFetch(most) => {
                 let taken = self.card.packets.min(most);
                 self.card.packets -= taken;
@@ -244,7 +274,7 @@ impl DriverBench {
 
     fn report(&mut self) -> bool {
         let (packets, rearm) = match self.hand {
-            Hand::Masked | Hand::Unmasked => (0, Rearm::No),
+            Hand::Masked | Hand::Unmasked | Hand::TimerSet => (0, Rearm::No),
             Hand::Saw(has_more) => (u32::from(has_more), Rearm::No),
             Hand::Took(taken) => (taken, Rearm::No),
             Hand::Rearmed(taken, false) => (taken, Rearm::Empty),
@@ -262,8 +292,15 @@ impl DriverBench {
 
     // Counts a poll that is reported.
     fn count(&mut self, taken: u32, rearm: Rearm) {
-        let is_full = taken == self.weight && rearm == Rearm::No;
-        let stays = self.driver.device(0).stage == Stage::Listed(false) && is_full;
+        let pacing = self.driver.pacing(0);
+        let empty = if taken == 0 {
+            pacing.empty.saturating_add(1)
+        } else {
+            0
+        };
+        let goes_on = taken == pacing.settings.weight || empty < pacing.settings.empty_polls;
+        let is_open = self.driver.device(0).stage == Stage::Listed(false);
+        let stays = is_open && goes_on && rearm == Rearm::No;
         self.taken = self.taken.saturating_add(taken);
         if let Some(run) = &mut self.run {
             run.polls = run.polls.saturating_add(1);
@@ -309,8 +346,15 @@ impl DriverBench {
     /// Returns the state of the bench. The packets taken needn't be part of it: they are those that are neither in the card nor
     /// still to come.
     pub fn state(&self) -> DriverState {
+        let Pacing {
+            deferrals,
+            empty,
+            ..
+        } = self.driver.pacing(0);
         DriverState {
             device: self.driver.device(0),
+            deferrals,
+            empty,
             card: self.card,
             hand: self.hand,
             run: self.run,
@@ -324,6 +368,7 @@ impl DriverBench {
         let made = match step {
             DriverStep::Arrive => self.arrive(),
             DriverStep::Interrupt => self.interrupt(),
+            DriverStep::Expire => self.expire(),
             DriverStep::Say => return self.say(),
             DriverStep::Act => self.act(),
             DriverStep::Rearm => self.rearm(),

@@ -7,7 +7,7 @@ ghost use Rattle.napi_calls.specs.Instance.{IsSeatOf};
 ghost use Rattle.napi_calls.specs.Calls.{seat_of};
 
 use crate::bed::{Bed, again, enabled, granted, handed, looked, make_bed, missed, taken};
-use napi_calls::{Between, Caller, Napi, TryBusy, TryDone, TryPrep, TryStop, TryTake};
+use napi_calls::{Between, Caller, Granted, Napi, TryBusy, TryDone, TryPrep, TryStop, TryTake};
 use napi_model::Kind;
 use std::process::Abort;
 use std::test::Fail;
@@ -51,6 +51,28 @@ impl SchedulesBetween<'_> {
         };
         answer
     }
+
+    // Returns the instance, which the schedule has to be granted.
+    fn granted(self, rt: &impl Abort) -> Granted
+        ensures { IsSeatOf self.entry.napi.now result.pass }
+    {
+        let answer = self.answered(rt);
+        let TryPrep::Granted(granted) = answer else {
+            panic!(rt; "the other isn't granted")
+        };
+        granted
+    }
+
+    // Returns the caller, whose schedule has to be missed.
+    fn missed(self, rt: &impl Abort) -> Caller
+        ensures { IsSeatOf self.entry.napi.now result.pass }
+    {
+        let answer = self.answered(rt);
+        let TryPrep::Missed(caller) = answer else {
+            panic!(rt; "the other isn't missed")
+        };
+        caller
+    }
 }
 
 // Another caller, which sets the instance threaded during a call.
@@ -87,10 +109,7 @@ fn schedule_loses_to_a_schedule(rt: HostRuntime) -> Result<(), Fail> {
     let TryPrep::Changed(first) = answer else {
         panic!(rt; "the first isn't changed")
     };
-    let middle = other.answered(&rt);
-    let TryPrep::Granted(owner) = middle else {
-        panic!(rt; "the second isn't granted")
-    };
+    let owner = other.granted(&rt);
     let second = handed(&napi, owner, Kind::List);
     let mut first = missed(&rt, &napi, first);
     looked(&rt, &napi, &mut first, 4294967299);
@@ -123,10 +142,7 @@ fn complete_loses_to_a_schedule(rt: HostRuntime) -> Result<(), Fail> {
     let TryDone::Changed(poller) = answer else {
         panic!(rt; "the second isn't changed")
     };
-    let middle = other.answered(&rt);
-    let TryPrep::Missed(mut first) = middle else {
-        panic!(rt; "the first isn't missed")
-    };
+    let mut first = other.missed(&rt);
     let owner = again(&rt, &napi, poller);
     looked(&rt, &napi, &mut first, 1);
     first.abandon();
@@ -189,10 +205,7 @@ fn enable_loses_to_a_schedule(rt: HostRuntime) -> Result<(), Fail> {
     let Err(control) = answer else {
         panic!(rt; "not changed")
     };
-    let middle = other.answered(&rt);
-    let TryPrep::Missed(first) = middle else {
-        panic!(rt; "the first isn't missed")
-    };
+    let first = other.missed(&rt);
     looked(&rt, &napi, &mut second, 11);
     let control = enabled(&rt, &napi, control, true);
     looked(&rt, &napi, &mut second, 258);
@@ -222,10 +235,7 @@ fn busy_loses_to_a_schedule(rt: HostRuntime) -> Result<(), Fail> {
     let TryBusy::Changed(first) = answer else {
         panic!(rt; "not changed")
     };
-    let middle = other.answered(&rt);
-    let TryPrep::Granted(owner) = middle else {
-        panic!(rt; "the second isn't granted")
-    };
+    let owner = other.granted(&rt);
     let answer = first.try_busy(&napi);
     let TryBusy::Refused(first) = answer else {
         panic!(rt; "not refused")
@@ -260,10 +270,7 @@ fn stop_loses_to_a_schedule(rt: HostRuntime) -> Result<(), Fail> {
     let TryStop::Changed(busy) = answer else {
         panic!(rt; "not changed")
     };
-    let middle = other.answered(&rt);
-    let TryPrep::Missed(mut second) = middle else {
-        panic!(rt; "the second isn't missed")
-    };
+    let mut second = other.missed(&rt);
     let answer = busy.try_stop(&napi);
     let TryStop::Stopped(polling) = answer else {
         panic!(rt; "not stopped")

@@ -3,17 +3,17 @@
 
 ghost use Rattle.std.specs.Prelude.{◌≡◌, List, [], length};
 ghost use Rattle.rx_ring.specs.declared.packet.Packet.{Packet};
-ghost use Rattle.rx_ring.specs.Ends.{put_list, received_list, SameIn};
+ghost use Rattle.rx_ring.specs.Ends.{put_list, received_list};
 ghost use Rattle.rx_ring.specs.ReceiveRing.{capped};
 ghost use Rattle.napi_calls.specs.Instance.{IsSeatOf, IsNewSeat, first_of_instance};
 ghost use Rattle.napi_calls.specs.Seats.{SameSeat, PutsIntoRingOf};
 ghost use Rattle.napi_calls.specs.Packets.{Quiet};
 ghost use Rattle.napi_calls.specs.Dealt.{Delivers, IsDealt};
 
-use crate::bed::{Bed, closed, make_bed};
+use crate::bed::{Bed, closed, make_full_bed};
 use napi_calls::{Caller, Completed, DropBomb, Napi, Sched};
 use napi_model::Kind;
-use rx_ring::{Batch, Packet, RxIn, Totals, finish};
+use rx_ring::{Batch, Totals, finish};
 use std::alloc::Global;
 use std::process::Abort;
 use std::sync::Wait;
@@ -138,44 +138,9 @@ fn deal<R: Threads + Wait + Abort + Copy + Drop + Send>(
     (one, two, finish(input, ctx))
 }
 
-// Puts four packets.
-fn fill(rt: &impl Abort, input: &mut RxIn)
-    ensures { SameIn input.old input.new }
-{
-    for number in 0u64..4 {
-        let packet = Packet { number, bytes: 60 };
-        assert_eq!(rt; input.put(packet), Ok(()));
-    }
-}
-
-// Returns a new instance with four packets in its ring.
-fn filled(rt: &impl Abort, alloc: Global) -> Bed
-    ensures first { IsNewSeat result.napi 0 result.first.pass }
-    ensures second { IsNewSeat result.napi 1 result.second.pass }
-    ensures control { IsNewSeat result.napi 2 result.control.pass }
-    ensures input { PutsIntoRingOf result.input result.first.pass }
-    ensures nothing { received_list (first_of_instance result.napi) ≡ [] }
-{
-    let Bed {
-        mut input,
-        napi,
-        first,
-        second,
-        control,
-    } = make_bed(rt, alloc);
-    fill(rt, &mut input);
-    Bed {
-        input,
-        napi,
-        first,
-        second,
-        control,
-    }
-}
-
 #[test]
 fn two_pollers_are_dealt_each_packet_once(rt: HostRuntime) -> Result<(), Fail> {
-    let bed = filled(&rt, rt.alloc());
+    let bed = make_full_bed(&rt, rt.alloc());
     let (one, two, totals) = deal(rt, rt.alloc(), bed);
     assert_eq!(rt; (one.len(), two.len()), (2, 2));
     assert_eq!(rt; (totals.put, totals.polled, totals.left), (4, 4, 0));

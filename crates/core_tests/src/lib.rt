@@ -19,17 +19,15 @@ mod dealing;
 #[cfg(test)]
 mod events;
 #[cfg(test)]
-mod interleavings;
+mod faults;
 #[cfg(test)]
-mod limits;
+mod interleavings;
 #[cfg(test)]
 mod model;
 #[cfg(test)]
 mod pausing;
 #[cfg(test)]
 mod receive;
-#[cfg(test)]
-mod refusals;
 #[cfg(test)]
 mod threads;
 #[cfg(test)]

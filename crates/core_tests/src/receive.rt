@@ -1,9 +1,12 @@
 //! Tests of a ring, of what no contract says: that later puts find room, that polls find what was put, and that both work from
 //! two threads.
 
+ghost use Rattle.std.specs.Prelude.{◌≤◌};
 ghost use Rattle.rx_ring.specs.Ends.{SameIn, SameCtx};
+ghost use Rattle.rx_ring.specs.ReceiveRing.{NAPI_POLL_WEIGHT};
 
-use rx_ring::{Batch, Packet, RingFault, RxCtx, RxIn, Totals, beside, finish, ring};
+use crate::bed::put;
+use rx_ring::{Batch, Packet, RxCtx, RxIn, Totals, beside, finish, ring};
 use std::alloc::Global;
 use std::process::Abort;
 use std::sync::Wait;
@@ -46,31 +49,25 @@ fn rings_of_many_capacities(rt: HostRuntime) -> Result<(), Fail> {
     Ok(())
 }
 
-#[test]
-fn faults_have_numbers_and_texts(rt: HostRuntime) -> Result<(), Fail> {
-    for (fault, number, text) in [
-        (RingFault::OutOfMemory, 1, "out of memory"),
-        (RingFault::BadCapacity, 2, "the capacity is out of range"),
-    ] {
-        assert_eq!(rt; fault.number(), number);
-        assert_eq!(rt; format!(in rt.alloc(); "{fault}")?.as_str(), text);
-    }
-    Ok(())
+/// Polls with this weight, which has to return these packets.
+pub fn polls(rt: &impl Abort, ctx: &mut RxCtx, weight: usize, packets: &[Packet])
+    requires { (1 ≤ weight) × (weight ≤ NAPI_POLL_WEIGHT) }
+{
+    let mut batch = Batch::new();
+    ctx.poll(weight, &mut batch);
+    assert_eq!(rt; batch.as_slice(), packets);
 }
 
 // a poll right after `beside` returns what was in the ring then, and the next poll returns what was put since
 #[test]
 fn put_after_beside_waits_for_the_next_poll(rt: HostRuntime) -> Result<(), Fail> {
     let (mut input, mut ctx) = ring(rt.alloc(), 4)?;
-    let mut batch = Batch::new();
-    assert_eq!(rt; input.put(packet(1, 10)), Ok(()));
+    put(&rt, &mut input, packet(1, 10));
     beside(&mut input, &mut ctx);
-    assert_eq!(rt; input.put(packet(2, 20)), Ok(()));
-    assert_eq!(rt; ctx.poll(64, &mut batch), 1);
-    assert_eq!(rt; ctx.poll(64, &mut batch), 1);
-    assert_eq!(rt; batch.as_slice(), [packet(2, 20)].as_slice());
-    assert_eq!(rt; ctx.poll(64, &mut batch), 0);
-    assert!(rt; batch.is_empty());
+    put(&rt, &mut input, packet(2, 20));
+    polls(&rt, &mut ctx, 64, &[packet(1, 10)]);
+    polls(&rt, &mut ctx, 64, &[packet(2, 20)]);
+    polls(&rt, &mut ctx, 64, &[]);
     Ok(())
 }
 
@@ -79,34 +76,39 @@ fn put_after_beside_waits_for_the_next_poll(rt: HostRuntime) -> Result<(), Fail>
 #[test]
 fn a_poll_finds_what_was_put_after_a_million_packets(rt: HostRuntime) -> Result<(), Fail> {
     let (mut input, mut ctx) = ring(rt.alloc(), 64)?;
-    let mut batch = Batch::new();
     for number in 0..1_024_000 {
-        assert_eq!(rt; input.put(packet(number, u32::MAX)), Ok(()));
-        assert_eq!(rt; ctx.poll(64, &mut batch), 1);
+        put(&rt, &mut input, packet(number, u32::MAX));
+        polls(&rt, &mut ctx, 64, &[packet(number, u32::MAX)]);
     }
-    assert_eq!(rt; ctx.counts().packets, 1_024_000);
     Ok(())
+}
+
+// Puts three packets, for which there has to be room.
+fn put_burst(rt: &impl Abort, input: &mut RxIn, burst: &[Packet; 3]) {
+    assert_eq!(rt; input.put_all(burst), 3);
+}
+
+// Polls into an array, which has to return this many packets.
+fn polls_into(rt: &impl Abort, ctx: &mut RxCtx, weight: usize, count: usize)
+    requires { (1 ≤ weight) × (weight ≤ 4) }
+{
+    let mut packets = [packet(9, 90); 4];
+    assert_eq!(rt; ctx.poll_into(weight, &mut packets), count);
 }
 
 // no contract says that either: a poll that knows of packets, but of fewer than its weight, finds what was put since
 #[test]
 fn a_poll_that_knows_of_too_few_reads_the_ring(rt: HostRuntime) -> Result<(), Fail> {
     let (mut input, mut ctx) = ring(rt.alloc(), 4)?;
-    let mut batch = Batch::new();
-    let mut packets = [packet(9, 90); 4];
     let burst = [packet(1, 10), packet(2, 20), packet(3, 30)];
-    assert_eq!(rt; input.put_all(&burst), 3);
-    assert_eq!(rt; ctx.poll(1, &mut batch), 1);
-    assert_eq!(rt; input.put(packet(4, 40)), Ok(()));
-    assert_eq!(rt; ctx.poll(3, &mut batch), 3);
-    assert_eq!(rt;
-        batch.as_slice(),
-        [burst[1], burst[2], packet(4, 40)].as_slice()
-    );
-    assert_eq!(rt; input.put_all(&burst), 3);
-    assert_eq!(rt; ctx.poll_into(1, &mut packets), 1);
-    assert_eq!(rt; input.put(packet(4, 40)), Ok(()));
-    assert_eq!(rt; ctx.poll_into(4, &mut packets), 3);
+    put_burst(&rt, &mut input, &burst);
+    polls(&rt, &mut ctx, 1, &burst[..1]);
+    put(&rt, &mut input, packet(4, 40));
+    polls(&rt, &mut ctx, 3, &[burst[1], burst[2], packet(4, 40)]);
+    put_burst(&rt, &mut input, &burst);
+    polls_into(&rt, &mut ctx, 1, 1);
+    put(&rt, &mut input, packet(4, 40));
+    polls_into(&rt, &mut ctx, 4, 3);
     Ok(())
 }
 
@@ -114,15 +116,13 @@ fn a_poll_that_knows_of_too_few_reads_the_ring(rt: HostRuntime) -> Result<(), Fa
 #[test]
 fn context_given_away_overlooks_nothing(rt: HostRuntime) -> Result<(), Fail> {
     let (mut input, mut ctx) = ring(rt.alloc(), 4)?;
-    let mut batch = Batch::new();
     beside(&mut input, &mut ctx);
-    assert_eq!(rt; input.put(packet(1, 10)), Ok(()));
+    put(&rt, &mut input, packet(1, 10));
     ctx.apart();
     let mut slot = Some(ctx);
-    assert_eq!(rt; input.put(packet(2, 20)), Ok(()));
+    put(&rt, &mut input, packet(2, 20));
     let mut ctx = slot.take().ok_or("the slot is empty")?;
-    assert_eq!(rt; ctx.poll(64, &mut batch), 2);
-    assert_eq!(rt; batch.as_slice(), [packet(1, 10), packet(2, 20)].as_slice());
+    polls(&rt, &mut ctx, 64, &[packet(1, 10), packet(2, 20)]);
     Ok(())
 }
 

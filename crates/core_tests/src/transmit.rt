@@ -1,4 +1,4 @@
-//! Tests of transmit rings: memory, texts of errors, and packets without bytes, which no trace has.
+//! Tests of transmit rings: memory, and packets without bytes, which no trace has.
 
 use dql_core::Dql;
 use std::alloc::Global;
@@ -67,30 +67,5 @@ fn packets_of_no_bytes(rt: HostRuntime) -> Result<(), Fail> {
     assert_eq!(rt; ring.state(), stopped);
     ring.done(1, 6)?;
     assert_eq!(rt; ring.state(), shown(10, 10, 10, 10, false));
-    Ok(())
-}
-
-#[test]
-fn faults_have_numbers_and_texts(rt: HostRuntime) -> Result<(), Fail> {
-    for (fault, number, text) in [
-        (TxFault::Stopped, 1, "the queue is stopped"),
-        (TxFault::Full, 2, "the ring is full"),
-        (TxFault::TooLarge, 3, "the packet is too large"),
-        (
-            TxFault::TooMuchInFlight,
-            4,
-            "too many bytes would be in flight",
-        ),
-        (
-            TxFault::MoreThanSent,
-            5,
-            "more packets are complete than were sent",
-        ),
-        (TxFault::BadCapacity, 6, "the capacity is out of range"),
-        (TxFault::OutOfMemory, 7, "out of memory"),
-    ] {
-        assert_eq!(rt; fault.number(), number);
-        assert_eq!(rt; format!(in rt.alloc(); "{fault}")?.as_str(), text);
-    }
     Ok(())
 }

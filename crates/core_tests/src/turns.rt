@@ -1,34 +1,30 @@
 //! The packets of an instance that two callers poll.
 
 use crate::bed::{
-    Bed, closed, disabled, enabled, granted, handed, make_bed, released, requeued, taken,
+    Bed, closed, disabled, enabled, granted, handed, make_bed, make_full_bed, polls, put, released,
+    requeued, taken,
 };
+use crate::receive;
 use napi_model::Kind;
-use rx_ring::{Batch, Packet};
+use rx_ring::Packet;
 use std::test::Fail;
 
 // calls that return or take the context lose no packets: all batches together are the packets put
 #[test]
 fn no_packet_is_thrown_away(rt: HostRuntime) -> Result<(), Fail> {
     let Bed {
-        mut input,
+        input: _,
         napi,
         first,
         second,
         control,
-    } = make_bed(&rt, rt.alloc());
-    for number in 0u64..4 {
-        let packet = Packet { number, bytes: 60 };
-        assert_eq!(rt; input.put(packet), Ok(()));
-    }
+    } = make_full_bed(&rt, rt.alloc());
     let control = enabled(&rt, &napi, control, false);
     let owner = granted(&rt, &napi, first);
     let mut caller = handed(&napi, owner, Kind::List);
-    let mut batch = Batch::new();
     for number in 0u64..3 {
         let mut poller = taken(&rt, &napi, caller, Kind::List);
-        assert_eq!(rt; poller.poll(1, &mut batch), 1);
-        assert_eq!(rt; batch.as_slice(), [Packet { number, bytes: 60 }].as_slice());
+        polls(&rt, &mut poller, 1, &[Packet { number, bytes: 60 }]);
         caller = requeued(&napi, poller);
     }
     let poller = taken(&rt, &napi, caller, Kind::List);
@@ -36,15 +32,11 @@ fn no_packet_is_thrown_away(rt: HostRuntime) -> Result<(), Fail> {
     let control = disabled(&rt, &napi, control);
     assert_eq!(rt; control.counts().packets, 3);
     let mut ctx = closed(&rt, rt.alloc(), napi, first, second, control);
-    assert_eq!(rt; ctx.poll(64, &mut batch), 1);
-    assert_eq!(rt;
-        batch.as_slice(),
-        [Packet {
-            number: 3,
-            bytes: 60
-        }]
-        .as_slice()
-    );
+    let last = Packet {
+        number: 3,
+        bytes: 60,
+    };
+    receive::polls(&rt, &mut ctx, 64, &[last]);
     Ok(())
 }
 
@@ -68,11 +60,9 @@ fn what_is_put_behind_a_meeting_is_polled(rt: HostRuntime) -> Result<(), Fail> {
         number: 7,
         bytes: 60,
     };
-    assert_eq!(rt; input.put(packet), Ok(()));
+    put(&rt, &mut input, packet);
     let mut poller = taken(&rt, &napi, second, Kind::List);
-    let mut batch = Batch::new();
-    assert_eq!(rt; poller.poll(64, &mut batch), 1);
-    assert_eq!(rt; batch.as_slice(), [packet].as_slice());
+    polls(&rt, &mut poller, 64, &[packet]);
     let second = released(&rt, &napi, poller);
     let control = disabled(&rt, &napi, control);
     let ctx = closed(&rt, rt.alloc(), napi, first, second, control);

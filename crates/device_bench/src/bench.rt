@@ -1,10 +1,11 @@
 //! The devices of a replay, by their numbers.
 
-ghost use Rattle.std.specs.Prelude.{◌≡◌, None, Some, false, is_some, length};
+ghost use Rattle.std.specs.Prelude.{◌≡◌, length};
 ghost use Rattle.device_bench.specs.Kept.{IsKept};
 
 use crate::counts::DeviceCounts;
 use crate::device::{BenchDevice, PolledBytes};
+use crate::places::put_back;
 use crate::receive_side::ReceiveSide;
 use crate::serial_receive::SerialReceive;
 use crate::table::{DeviceTable, empty_table};
@@ -15,7 +16,6 @@ use poll_runs::{
     Bench, BusyReport, Next, Once, ThreadReport, poll_busy_of, poll_once_of, poll_thread_of,
 };
 use std::alloc::{AllocError, Global};
-use std::mem;
 
 /// At most sixteen devices, by number, on which the rows of a trace act. A call with a number that has no device changes
 /// nothing.
@@ -36,17 +36,6 @@ pub struct DeviceBench<S: ReceiveSide> {
 
 /// The devices of one thread.
 pub type SerialBench = DeviceBench<SerialReceive>;
-
-// Puts a value into an empty entry.
-fn fill<T>(place: &mut Option<T>, value: T)
-    requires { is_some place.old ≡ false }
-    ensures { place.new ≡ Some value }
-{
-    match mem::replace(place, Some(value)) {
-        None => {}
-        Some(_) => unreachable!(),
-    }
-}
 
 impl DeviceBench<SerialReceive> {
     ghost use Rattle.std.specs.Prelude.{IfOk};
@@ -110,7 +99,7 @@ impl<S: ReceiveSide> DeviceBench<S> {
             return Ok(());
         }
         let opened = BenchDevice::new(S::open(&self.kit, alloc, capacity)?);
-        fill(&mut self.devices[device as usize], opened);
+        put_back(&mut self.devices[device as usize], opened);
         Ok(())
     }
 

@@ -7,6 +7,7 @@
 mod bench;
 mod counts;
 mod device;
+mod places;
 mod receive_side;
 mod serial_receive;
 mod table;
@@ -14,6 +15,7 @@ mod transmit;
 
 pub use bench::{DeviceBench, SerialBench};
 pub use counts::{DeviceCounts, DeviceState};
+pub use places::{put_back, take_out};
 pub use receive_side::ReceiveSide;
 pub use serial_receive::SerialReceive;
 pub use table::DeviceTable;

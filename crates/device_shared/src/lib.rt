@@ -13,7 +13,6 @@ mod closed_side;
 mod ending;
 mod meeting;
 mod opening;
-mod places;
 mod receiving;
 mod seats;
 mod shared_receive;

@@ -175,6 +175,7 @@ impl Dql {
     /// Fails with [`TooLarge`](DqlFault::TooLarge) if `count` is over [`MAX_OBJECT`](crate::MAX_OBJECT), otherwise with
     /// [`TooMuchInFlight`](DqlFault::TooMuchInFlight) if more than [`MAX_IN_FLIGHT`](crate::MAX_IN_FLIGHT) bytes would be in
     /// flight; nothing is queued then.
+    #[inline(always)]
     pub fn queued(&mut self, count: u32) -> Result<(), DqlFault>
         ensures ok { (s : Limit) → Shows self.old s
             → OnOk result (Shows self.new (after_queued s count)) }
@@ -200,6 +201,7 @@ impl Dql {
     ///
     /// Fails with [`MoreThanQueued`](DqlFault::MoreThanQueued) if fewer than `count` bytes are in flight; nothing is completed
     /// then.
+    #[inline(always)]
     pub fn completed(&mut self, count: u32, now: u64) -> Result<(), DqlFault>
         ensures ok { (s : Limit) → Shows self.old s
             → OnOk result (Shows self.new (after_completed s count now)) }
@@ -280,8 +282,11 @@ impl Dql {
         requires { count ≤ bytes_in_flight self.now }
         ensures { (s : Limit) → Shows self.now s → result ≡ is_starved s count }
     {
-        (self.over() != 0 && self.in_flight() == count)
-            || (self.previous_over != 0 && self.completes_previous(count))
+        // a completion of all bytes also completes those queued at the previous one
+        if self.in_flight() == count {
+            return self.over() != 0 || self.previous_over != 0;
+        }
+        self.previous_over != 0 && self.completes_previous(count)
     }
 
     fn is_busy(&self, count: u32) -> bool

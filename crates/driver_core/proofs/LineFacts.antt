@@ -7,7 +7,7 @@ use Rattle.std.specs.List.{concat}
 use Rattle.poll_runs.specs.{Driven.held, Plain.{HasListRoom, NothingBehind, OwnPushes, all_held}, Turn.{HandsOn, Refills, asked_for}}
 use Rattle.poll_runs.specs.{Steps.{Asks, Begins, HoldsNothing, has_spent}, declared.polling_run.PollingRun.PollingRun}
 use Rattle.driver_core.specs.Device.{stage_is_listed}
-use Rattle.driver_core.specs.Driver.{PutsOnList, ReportsOf, driver_devices, line_of, polled_device, said_of}
+use Rattle.driver_core.specs.Driver.{PutsDevice, PutsOnList, ReportsOf, driver_devices, joining, line_of, polled_device, said_of, stage_of}
 use Rattle.driver_core.specs.Turns.{CallPolls, CallsPoll, PolledInTurn}
 use Rattle.driver_core.specs.declared.{device.{Chore.Chore, DriverDevice.DriverDevice, Rearm.Rearm}, driver.Driver.Driver}
 
@@ -68,6 +68,13 @@ polled_line list after run run' id true asked rests own h =
 
 -- ---- the law
 
+joined : (before after : Driver) (id : ℕ) (to : DriverDevice) → PutsDevice id to before after
+    → (more : List ℕ) × (line_of after ≡ line_of before ++ more)
+joined before after id to puts =
+    let joins : List ℕ = joining id (stage_of before id) to.stage in
+    let first = asked_for before.run.asked ++ before.run.own in
+    (joins, rw (puts.same.run, puts.list) (sym (append_assoc first before.list joins)))
+
 listed : (before after : Driver) (id : ℕ) (to : DriverDevice) → PutsOnList id to before after
     → (more : List ℕ) × (line_of after ≡ line_of before ++ more)
 listed before after id to puts =
@@ -91,7 +98,7 @@ one-call before after polled (inl (packets, rearm, reports, is)) =
     (line.0, rw is line.1)
 one-call before after polled (inr (inl (todo, asks, is))) = (asks.line.0, rw is asks.line.1)
 one-call before after polled (inr (inr (inl (id, to, puts, is)))) =
-    let line = stays before after (rw (puts.same.run, puts.list) refl) in
+    let line = joined before after id to puts in
     (line.0, rw is line.1)
 one-call before after polled (inr (inr (inr (ends, is)))) =
     let line = stays before after (rw (ends.run, ends.list) refl) in

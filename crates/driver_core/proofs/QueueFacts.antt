@@ -1,8 +1,9 @@
 -- The effect of calls on the poll list and on the run over it.
 use Rattle.std.proofs.Common.{◌≡◌, ◌≢◌, ◌∙◌, inl, inr, ◌⊎◌, ℕ, ◌+◌, ◌<◌, ◌≤◌, Bool, true, false, cond, List, [], ◌∷◌, ◌++◌, length}
 use Rattle.std.proofs.Common.{refl, sym, ap, arith}
-use Rattle.std.proofs.Common.{Option, Some, None, get_or, set, MatchOption, length-append}
+use Rattle.std.proofs.Common.{Option, Some, None, get_or, replicate, set, MatchOption, length-append}
 use Rattle.std.proofs.lemmas.{List.{append-nil, get_or-set_other, get_or-set_same, get_or_default, get_or_past}}
+use Rattle.std.proofs.lemmas.List.Elements.{All-get_or, All-replicate, All-set}
 use Rattle.std.proofs.lemmas.{List.Sums.{sum_by-append, sum_by-set, count_by-le-length}}
 use Rattle.std.proofs.lemmas.{Bool.{cases_Bool, cases_eq, cases_lt, eq-eqb}, Bool.Decides.eqb_tells}
 use Rattle.std.proofs.Math.ListN.{length-set}
@@ -15,9 +16,12 @@ use Rattle.poll_runs.specs.{Polls.{is_arrival, is_repoll}, Steps.{Asks, Begins, 
 use Rattle.poll_runs.specs.{declared.{bench.Next.Next, polling_run.PollingRun.PollingRun}}
 use Rattle.driver_core.specs.Device.{in_stage, chore_at, completed_at, stage_is_listed, is_stopping, after_driver_poll, after_poll_at}
 use Rattle.driver_core.specs.Device.{IsAtRest, rearmed_at}
-use Rattle.driver_core.specs.{Queue.{IsStillDue, IsQueue, device_at, listed_at, listed_in, occurs}}
+use Rattle.driver_core.specs.{Queue.{IsStillDue, HasWeights, IsQueue, device_at, listed_at, listed_in, occurs}}
+use Rattle.driver_core.specs.{Driver.no_pacing, Pacing.{is_paced, paced_after, paced_count, new_pacing, plain_settings}}
+use Rattle.driver_core.specs.declared.{limits.Limits.Limits, pacing.{DeviceSettings.DeviceSettings, Pacing.Pacing}}
 use Rattle.driver_core.specs.declared.device.{Chore.Chore, DriverDevice.DriverDevice, Rearm.{Rearm, TheVariants.{No, Empty, More}}}
 use Rattle.driver_core.specs.declared.device.{Stage.{Stage, TheVariants.{Closed, Masking, Closing, Listed, Unmasking, Looking, Armed}}}
+use Rattle.driver_core.specs.declared.device.Stage.TheVariants.{Deferring, Deferred}
 
 -- ---- devices
 
@@ -46,6 +50,44 @@ put_same devices list run id to lt same q = record {
   ]));
   size = let s = sum-set devices id to lt in let t = rw same at s in omega (arith, t, q.size);
 }
+
+-- ---- weights
+
+pub new_weights : (limits : Limits) (count : ℕ) → 1 ≤ limits.weight
+    → HasWeights limits (replicate count (new_pacing (plain_settings limits.weight)))
+new_weights limits count some =
+    All-replicate (λ (q : Pacing). (1 ≤ q.settings.weight) × (q.settings.weight ≤ limits.weight)) count
+    (new_pacing (plain_settings limits.weight)) (some, omega arith)
+
+-- a device gets settings with a weight within the driver's
+pub put_weights : (limits : Limits) (pacings : List Pacing) (id : ℕ) (p : Pacing) → 1 ≤ p.settings.weight
+    → p.settings.weight ≤ limits.weight → HasWeights limits pacings → HasWeights limits (set pacings id p)
+put_weights limits pacings id p some most each =
+    All-set (λ (q : Pacing). (1 ≤ q.settings.weight) × (q.settings.weight ≤ limits.weight)) pacings id p (some, most) each
+
+pub weight_within : (limits : Limits) (pacings : List Pacing) (id : ℕ) → id < length pacings → HasWeights limits pacings
+    → (1 ≤ (get_or pacings id no_pacing).settings.weight) × ((get_or pacings id no_pacing).settings.weight ≤ limits.weight)
+weight_within limits pacings id lt each =
+    All-get_or (λ (q : Pacing). (1 ≤ q.settings.weight) × (q.settings.weight ≤ limits.weight)) pacings id no_pacing lt each
+
+kept-if : (paced completes : Bool) (packets : ℕ) (p : Pacing)
+    → (if paced then paced_count completes packets p else p).settings ≡ p.settings
+kept-if true true packets p = refl
+kept-if true false packets p = refl
+kept-if false completes packets p = refl
+
+kept-settings : (completes : Bool) (packets : ℕ) (p : Pacing) → (paced_after completes packets p).settings ≡ p.settings
+kept-settings completes packets p = kept-if (is_paced p.settings) completes packets p
+
+-- after a poll each weight is within the driver's
+pub polled_weights : (limits : Limits) (pacings : List Pacing) (id : ℕ) (completes : Bool) (packets : ℕ) → id < length pacings
+    → HasWeights limits pacings → HasWeights limits (set pacings id (paced_after completes packets (get_or pacings id no_pacing)))
+polled_weights limits pacings id completes packets lt each =
+    let p = get_or pacings id no_pacing in
+    let within = weight_within limits pacings id lt each in
+    let same : (paced_after completes packets p).settings.weight ≡ p.settings.weight =
+    ap (λ (s : DeviceSettings). s.weight) (kept-settings completes packets p) in
+    put_weights limits pacings id (paced_after completes packets p) (omega (arith, same, within.0)) (omega (arith, same, within.1)) each
 
 -- ---- numbers
 
@@ -292,6 +334,8 @@ rests-at (Listed stopping) c l = cc
 rests-at Unmasking c l = cc
 rests-at Looking c l = cc
 rests-at Armed c l = tt
+rests-at Deferring c l = cc
+rests-at Deferred c l = tt
 
 flag-none : (b : Bool) → flag b ≡ 0 → b ≡ false
 flag-none true h = absurd (omega arith)
@@ -316,17 +360,18 @@ all_rest devices list run chores empty nothing q k d lt =
 
 -- ---- the devices
 
-after-completion : (stopping missed : Bool)
-    → stage_is_listed (completed_at stopping missed).0.stage ≡ comes_back (completed_at stopping missed).1
-after-completion stopping true = refl
-after-completion false false = refl
-after-completion true false = refl
+after-completion : (defers stopping missed : Bool)
+    → stage_is_listed (completed_at defers stopping missed).0.stage ≡ comes_back (completed_at defers stopping missed).1
+after-completion defers stopping true = refl
+after-completion true false false = refl
+after-completion false false false = refl
+after-completion defers true false = refl
 
-after-poll : (full stopping missed : Bool)
-    → stage_is_listed (after_poll_at full stopping missed).0.stage ≡ comes_back (after_poll_at full stopping missed).1
-after-poll true false missed = refl
-after-poll true true missed = after-completion true missed
-after-poll false stopping missed = after-completion stopping missed
+after-poll : (stays defers stopping missed : Bool)
+    → stage_is_listed (after_poll_at stays defers stopping missed).0.stage ≡ comes_back (after_poll_at stays defers stopping missed).1
+after-poll true defers false missed = refl
+after-poll true defers true missed = after-completion defers true missed
+after-poll false defers stopping missed = after-completion defers stopping missed
 
 after-rearm : (has_more stopping missed : Bool) → stage_is_listed (rearmed_at has_more stopping missed).stage ≡ false
 after-rearm has_more stopping true = refl
@@ -335,11 +380,11 @@ after-rearm true false false = refl
 after-rearm false false false = refl
 
 -- after a poll, a device is listed exactly if its number goes back to the list
-pub polled_listed : (full : Bool) (rearm : Rearm) (d : DriverDevice)
-    → stage_is_listed (after_driver_poll full rearm d).0.stage ≡ comes_back (after_driver_poll full rearm d).1
-polled_listed full No d = after-poll full (is_stopping d.stage) d.missed
-polled_listed full Empty d = after-rearm false (is_stopping d.stage) d.missed
-polled_listed full More d = after-rearm true (is_stopping d.stage) d.missed
+pub polled_listed : (stays defers : Bool) (rearm : Rearm) (d : DriverDevice)
+    → stage_is_listed (after_driver_poll stays defers rearm d).0.stage ≡ comes_back (after_driver_poll stays defers rearm d).1
+polled_listed stays defers No d = after-poll stays defers (is_stopping d.stage) d.missed
+polled_listed stays defers Empty d = after-rearm false (is_stopping d.stage) d.missed
+polled_listed stays defers More d = after-rearm true (is_stopping d.stage) d.missed
 
 -- ---- the last action that was asked for
 
@@ -367,6 +412,20 @@ put_asked devices run-asked said kept id to lt same due a =
       ];
       alone = λ k chore e. a.alone k chore (was k chore e);
     }
+
+same-pair : (one other : ℕ × Chore) → Some one ≡ Some other → (other.0 ≡ one.0) × (one.1 ≡ other.1)
+same-pair one other e =
+    let pair : one ≡ other = cc e in
+    (sym (ap (λ (x : ℕ × Chore). x.0) pair), ap (λ (x : ℕ × Chore). x.1) pair)
+
+-- the action that is asked for now is due
+pub said_due : (devices : List DriverDevice) (polled : Option ℕ) (id : ℕ) (chore : Chore) → id < length devices
+    → chore_at (device_at devices id).stage ≡ Some chore → polled ≡ None → IsStillDue devices polled (Some (id, chore))
+said_due devices polled id chore lt is idle = record {
+  range = λ k c e. omega (arith, lt, (same-pair (id, chore) (k, c) e).0);
+  chore = λ k c e. let same = same-pair (id, chore) (k, c) e in rw same.0 (is ∙ ap (λ (x : Chore). Some x) same.1);
+  alone = λ k c e. idle;
+}
 
 -- while a device is being polled, no action at a card is asked for
 pub asked_alone : (devices : List DriverDevice) (polled : Option ℕ) (id : ℕ) (said : Option (ℕ × Chore)) → polled ≡ Some id

@@ -1,9 +1,10 @@
 -- The rule of one device of a driver: an instance (`struct napi_struct`), the mask of its card's interrupt, and the effect of
 -- each call on them. A card interrupts when a packet arrives, and loses that interrupt while it is masked.
 use Rattle.std.specs.Prelude.{◌≡◌, Bool, true, false, Option, Some, None}
-use Rattle.driver_core.specs.declared.device.{Chore.{Chore, TheVariants.{Mask, Unmask, Look}}, DriverDevice.DriverDevice}
+use Rattle.driver_core.specs.declared.device.{Chore.{Chore, TheVariants.{Mask, Unmask, Look, Timer}}, DriverDevice.DriverDevice}
 use Rattle.driver_core.specs.declared.device.Rearm.{Rearm, TheVariants.{No, Empty, More}}
 use Rattle.driver_core.specs.declared.device.Stage.{Stage, TheVariants.{Closed, Masking, Closing, Listed, Unmasking, Looking, Armed}}
+use Rattle.driver_core.specs.declared.device.Stage.TheVariants.{Deferring, Deferred}
 use Rattle.poll_runs.specs.declared.bench.Next.{Next, TheVariants.{Gone, Again, Repoll}}
 use Rattle.napi_model.specs.declared.state.Kind.TheVariants as kind
 
@@ -20,6 +21,8 @@ chore_at (Listed stopping) = None
 chore_at Unmasking = Some Unmask
 chore_at Looking = Some Look
 chore_at Armed = None
+chore_at Deferring = Some Timer
+chore_at Deferred = None
 
 -- ---- the card interrupts (`napi_schedule_prep`)
 
@@ -35,8 +38,22 @@ interrupted_at (Listed true) missed = in_stage (Listed true) missed
 interrupted_at Unmasking missed = in_stage (Masking false) missed
 interrupted_at Looking missed = in_stage (Masking false) missed
 interrupted_at Armed missed = in_stage (Masking false) missed
+interrupted_at Deferring missed = in_stage (Masking false) missed
+interrupted_at Deferred missed = in_stage (Masking false) missed
 
--- ---- an action at its card was done: mask, unmask, look
+-- ---- the timer of a deferred interrupt expires (`napi_watchdog`)
+
+-- Unless the instance is scheduled, disabled or being disabled, a poll is requested; nothing is missed. If the card is masked, the
+-- instance is queued at once.
+abbrev pub timed_out_at : Stage → Stage
+timed_out_at Unmasking = Masking false
+timed_out_at Looking = Masking false
+timed_out_at Armed = Masking false
+timed_out_at Deferring = Listed false
+timed_out_at Deferred = Listed false
+timed_out_at stage = stage
+
+-- ---- an action was done: mask, unmask, look, set the timer
 
 -- After the card was masked, a granted instance goes on the poll list (`____napi_schedule`); an instance that was stopped while
 -- no poll was pending is disabled.
@@ -55,19 +72,26 @@ looked_at true Looking = Masking false
 looked_at false Looking = Armed
 looked_at has_more stage = stage
 
+-- the timer was set
+abbrev pub timer_set_at : Stage → Stage
+timer_set_at Deferring = Deferred
+timer_set_at stage = stage
+
 -- ---- the device was polled (`__napi_poll`, `napi_complete_done`)
 
--- the instance is completed: queued again if a request was missed, otherwise released; a pending stop ends here
-abbrev pub completed_at : Bool → Bool → DriverDevice × Next
-completed_at stopping true = (in_stage (Listed stopping) false, Again kind.List)
-completed_at false false = (in_stage Unmasking false, Gone)
-completed_at true false = (in_stage Closed false, Gone)
+-- The instance is completed: queued again if a request was missed, otherwise released; a pending stop ends here. If the interrupt is
+-- deferred, the card stays masked, and a timer is set.
+abbrev pub completed_at : Bool → Bool → Bool → DriverDevice × Next
+completed_at defers stopping true = (in_stage (Listed stopping) false, Again kind.List)
+completed_at true false false = (in_stage Deferring false, Gone)
+completed_at false false false = (in_stage Unmasking false, Gone)
+completed_at defers true false = (in_stage Closed false, Gone)
 
--- after a poll that used its whole weight the instance stays scheduled, unless it is being disabled
-abbrev pub after_poll_at : Bool → Bool → Bool → DriverDevice × Next
-after_poll_at true false missed = (in_stage (Listed false) missed, Repoll)
-after_poll_at true true missed = completed_at true missed
-after_poll_at false stopping missed = completed_at stopping missed
+-- an instance that stays scheduled after a poll is polled again, unless it is being disabled
+abbrev pub after_poll_at : Bool → Bool → Bool → Bool → DriverDevice × Next
+after_poll_at true defers false missed = (in_stage (Listed false) missed, Repoll)
+after_poll_at true defers true missed = completed_at defers true missed
+after_poll_at false defers stopping missed = completed_at defers stopping missed
 
 -- After a poll whose fetch unmasked the card and then looked at it: another poll is requested if a request was missed or the card has
 -- packets, and the card is masked first. Otherwise the instance is released. A pending stop ends after the card is masked again.
@@ -91,6 +115,8 @@ stopped_at (Listed stopping) = Listed true
 stopped_at Unmasking = Closing
 stopped_at Looking = Closing
 stopped_at Armed = Closing
+stopped_at Deferring = Closing
+stopped_at Deferred = Closing
 stopped_at stage = stage
 
 abbrev pub MayStop : Stage → Type 0
@@ -112,6 +138,12 @@ is_stopping _ = false
 abbrev pub after_interrupt : DriverDevice → DriverDevice
 after_interrupt d = interrupted_at d.stage d.missed
 
+abbrev pub after_timer : DriverDevice → DriverDevice
+after_timer d = in_stage (timed_out_at d.stage) d.missed
+
+abbrev pub timer_set : DriverDevice → DriverDevice
+timer_set d = in_stage (timer_set_at d.stage) d.missed
+
 abbrev pub masked : DriverDevice → DriverDevice
 masked d = in_stage (masked_at d.stage) d.missed
 
@@ -127,17 +159,24 @@ after_open d = in_stage (opened_at d.stage) d.missed
 abbrev pub after_stop : DriverDevice → DriverDevice
 after_stop d = in_stage (stopped_at d.stage) d.missed
 
--- the action at its card was done; for a look, the flag says whether the card had packets
+-- the action was done; for a look, the flag says whether the card had packets
 abbrev pub did : Chore → Bool → DriverDevice → DriverDevice
 did Mask has_more d = masked d
 did Unmask has_more d = unmasked d
 did Look has_more d = after_look has_more d
+did Timer has_more d = timer_set d
 
--- the device after a poll, and how the poll ends
-abbrev pub after_driver_poll : Bool → Rearm → DriverDevice → DriverDevice × Next
-after_driver_poll full No d = after_poll_at full (is_stopping d.stage) d.missed
-after_driver_poll full Empty d = (rearmed_at false (is_stopping d.stage) d.missed, Gone)
-after_driver_poll full More d = (rearmed_at true (is_stopping d.stage) d.missed, Gone)
+-- The device after a poll, and how the poll ends. The first flag says whether the instance stays scheduled after it, the second whether
+-- the interrupt is deferred if it doesn't.
+abbrev pub after_driver_poll : Bool → Bool → Rearm → DriverDevice → DriverDevice × Next
+after_driver_poll stays defers No d = after_poll_at stays defers (is_stopping d.stage) d.missed
+after_driver_poll stays defers Empty d = (rearmed_at false (is_stopping d.stage) d.missed, Gone)
+after_driver_poll stays defers More d = (rearmed_at true (is_stopping d.stage) d.missed, Gone)
+
+-- the poll completed the instance
+abbrev pub completes : Bool → Rearm → DriverDevice → Bool
+completes true No d = is_stopping d.stage
+completes stays rearm d = true
 
 -- ---- properties that contracts use
 
@@ -150,8 +189,9 @@ IsMasking (Masking stopping) = Unit {0}
 IsMasking Closing = Unit {0}
 IsMasking _ = ⊥
 
--- the device is closed; or its card was unmasked and then looked at, and had no packets
+-- the device is closed; or its card was unmasked and then looked at, and had no packets; or its timer was set
 abbrev pub IsAtRest : Stage → Type 0
 IsAtRest Closed = Unit {0}
 IsAtRest Armed = Unit {0}
+IsAtRest Deferred = Unit {0}
 IsAtRest _ = ⊥

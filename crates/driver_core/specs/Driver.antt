@@ -1,6 +1,6 @@
 -- The state of a driver, and what it asks the caller to do.
 use Rattle.std.specs.Prelude.{◌≡◌, ◌≢◌, ◌⊎◌, ◌≤◌, ◌<◌, ◌+◌, ℕ, Bool, true, false, List, [], ◌∷◌, ◌++◌, length, replicate}
-use Rattle.std.specs.Prelude.{slice_set, Option, Some, None, ◌==◌, nat_lt, if◌then◌else◌, slice_index_or}
+use Rattle.std.specs.Prelude.{slice_set, Option, Some, None, ◌&&◌, not, nat_lt, if◌then◌else◌, slice_index_or}
 use Rattle.std.specs.Prelude.{◌↔◌, ⊤, Result, IsOk, OnOk, OnErr, IfErr, IsSome}
 use Rattle.std.specs.List.{All}
 use Rattle.poll_runs.specs.{Laws.IsPlainRun, declared.run.RunReport.RunReport}
@@ -11,10 +11,13 @@ use Rattle.driver_core.specs.declared.device.{Chore.Chore, DriverDevice.DriverDe
 use Rattle.driver_core.specs.declared.device.Chore.TheVariants as chore
 use Rattle.driver_core.specs.declared.device.Rearm.{Rearm}
 use Rattle.driver_core.specs.{Counts.{count_one_poll, no_counts}, declared.counts.PollCounts.PollCounts}
-use Rattle.driver_core.specs.{Device.{in_stage, chore_at, did, stage_is_listed, after_driver_poll, IsAtRest}, Queue.{device_at, following}}
+use Rattle.driver_core.specs.Pacing.{paced_after, defers, new_pacing, plain_settings, keeps_polling}
+use Rattle.driver_core.specs.declared.pacing.{DeviceSettings.DeviceSettings, Pacing.Pacing}
+use Rattle.driver_core.specs.Device.{in_stage, chore_at, did, stage_is_listed, after_driver_poll, completes, IsAtRest}
+use Rattle.driver_core.specs.Queue.{device_at, following}
 use Rattle.driver_core.specs.Todo.{ended_in}
 use Rattle.driver_core.specs.declared.{driver.Driver.Driver, todo.Todo.Todo, todo.Refused.{Refused, TheVariants.TooMany}}
-use Rattle.driver_core.specs.declared.todo.What.{What, TheVariants.{Mask, Unmask, Look, Fetch, Ended, Sleep}}
+use Rattle.driver_core.specs.declared.todo.What.{What, TheVariants.{Mask, Unmask, Look, Timer, Fetch, Ended, Sleep}}
 
 abbrev pub driver_devices : Driver → List DriverDevice
 driver_devices driver = driver.devices.all.items
@@ -27,6 +30,21 @@ stage_of driver id = (device_of driver id).stage
 
 abbrev pub poll_counts_of : Driver → ℕ → PollCounts
 poll_counts_of driver id = slice_index_or driver.counts.items id no_counts
+
+abbrev pub no_pacing : Pacing
+no_pacing = new_pacing (plain_settings 0)
+
+-- the settings of a device, and what is counted for them
+abbrev pub pacing_of : Driver → ℕ → Pacing
+pacing_of driver id = slice_index_or driver.pacings.items id no_pacing
+
+-- the packets that a poll of this device takes at most
+abbrev pub weight_of : Driver → ℕ → ℕ
+weight_of driver id = (pacing_of driver id).settings.weight
+
+-- the time of this device's timer
+abbrev pub timeout_of : Driver → ℕ → ℕ
+timeout_of driver id = (pacing_of driver id).settings.gro_flush_timeout
 
 -- no poll is counted
 abbrev pub IsUncounted : Driver → Type 0
@@ -80,14 +98,19 @@ pub record SameRun (before after : Driver) : Type 0 where
   pub runs : after.runs ≡ before.runs
   pub ending : after.ending ≡ before.ending
   pub limits : after.limits ≡ before.limits
+  pub pacings : after.pacings ≡ before.pacings
   pub counts : after.counts ≡ before.counts
   pub number : after.number ≡ before.number
 
--- the device with this number is replaced, and nothing else changes, except that the action asked for last may not be due any
--- more
+-- the device joins the list when it comes from the first stage to the second
+abbrev pub joining : ℕ → Stage → Stage → List ℕ
+joining id from to = if not (stage_is_listed from) && stage_is_listed to then id ∷ [] else []
+
+-- the device with this number is replaced, and if it is listed only now, it is the last one on the list; nothing else changes, except
+-- that the action asked for last may not be due any more
 pub record PutsDevice (id : ℕ) (to : DriverDevice) (before after : Driver) : Type 0 where
   pub devices : driver_devices after ≡ slice_set (driver_devices before) id to
-  pub list : after.list ≡ before.list
+  pub list : after.list ≡ before.list ++ joining id (stage_of before id) to.stage
   pub same : SameRun before after
   pub said : (said_of after ≡ said_of before) ⊎ (said_of after ≡ None)
   -- an action that is still due stays asked for
@@ -105,6 +128,19 @@ pub record PutsOnList (id : ℕ) (to : DriverDevice) (before after : Driver) : T
 abbrev pub DoesChore : ℕ → Chore → Bool → Driver → Driver → Type 0
 DoesChore id chore has_more before after = PutsOnList id (did chore has_more (device_of before id)) before after
 
+-- the device gets these settings, and nothing else changes
+pub record SetsDevice (id : ℕ) (settings : DeviceSettings) (before after : Driver) : Type 0 where
+  pub pacings : after.pacings.items ≡ slice_set before.pacings.items id (new_pacing settings)
+  pub devices : after.devices ≡ before.devices
+  pub list : after.list ≡ before.list
+  pub run : after.run ≡ before.run
+  pub runs : after.runs ≡ before.runs
+  pub ending : after.ending ≡ before.ending
+  pub limits : after.limits ≡ before.limits
+  pub counts : after.counts ≡ before.counts
+  pub number : after.number ≡ before.number
+  pub said : said_of after ≡ said_of before
+
 -- the run in progress makes no further poll, and nothing else changes
 pub record EndsRun (before after : Driver) : Type 0 where
   pub ending : is_ending after ≡ true
@@ -113,13 +149,24 @@ pub record EndsRun (before after : Driver) : Type 0 where
   pub run : after.run ≡ before.run
   pub runs : after.runs ≡ before.runs
   pub limits : after.limits ≡ before.limits
+  pub pacings : after.pacings ≡ before.pacings
   pub counts : after.counts ≡ before.counts
   pub number : after.number ≡ before.number
   pub said : said_of after ≡ said_of before
 
+-- the instance stays scheduled after a poll that took this many packets
+abbrev pub stays_of : ℕ → ℕ → Driver → Bool
+stays_of id packets driver = keeps_polling packets (pacing_of driver id)
+
 -- the device after a poll that took this many packets, and how the poll ended
 abbrev pub after_poll_of : ℕ → ℕ → Rearm → Driver → DriverDevice × Next
-after_poll_of id packets rearm driver = after_driver_poll (packets == driver.limits.weight) rearm (device_of driver id)
+after_poll_of id packets rearm driver =
+    after_driver_poll (stays_of id packets driver) (defers packets (pacing_of driver id)) rearm (device_of driver id)
+
+-- its counts after that poll
+abbrev pub pacing_after : ℕ → ℕ → Rearm → Driver → Pacing
+pacing_after id packets rearm driver =
+    paced_after (completes (stays_of id packets driver) rearm (device_of driver id)) packets (pacing_of driver id)
 
 abbrev pub poll_of : ℕ → ℕ → Rearm → Driver → Poll
 poll_of id packets rearm driver = record { id = id; once = record { work = packets; next = (after_poll_of id packets rearm driver).1 } }
@@ -128,6 +175,7 @@ poll_of id packets rearm driver = record { id = id; once = record { work = packe
 pub record Ends (id packets : ℕ) (rearm : Rearm) (before after : Driver) : Type 0 where
   pub devices : driver_devices after ≡ slice_set (driver_devices before) id (after_poll_of id packets rearm before).0
   pub counts : after.counts.items ≡ slice_set before.counts.items id (count_one_poll packets (poll_counts_of before id))
+  pub pacings : after.pacings.items ≡ slice_set before.pacings.items id (pacing_after id packets rearm before)
   pub limits : after.limits ≡ before.limits
   pub number : said_number_of after ≡ said_number_of before
   pub ending : is_ending after ≡ is_ending before
@@ -137,16 +185,16 @@ pub record Ends (id packets : ℕ) (rearm : Rearm) (before after : Driver) : Typ
 
 -- ---- reports
 
--- the driver waits for this report: of a poll that took at most the weight, or of an action at a card
-abbrev pub IsAwaited : ℕ → ℕ → Option (ℕ × Chore) → Option ℕ → Type 0
-IsAwaited packets weight said (Some id) = packets ≤ weight
-IsAwaited packets weight (Some said) None = Unit {0}
-IsAwaited packets weight None None = ⊥
+-- the driver waits for this report: of a poll that took at most the device's weight, or of another action
+abbrev pub IsAwaited : Driver → ℕ → Option (ℕ × Chore) → Option ℕ → Type 0
+IsAwaited driver packets said (Some id) = packets ≤ weight_of driver id
+IsAwaited driver packets (Some said) None = Unit {0}
+IsAwaited driver packets None None = ⊥
 
 -- a report under this number is due
 abbrev pub IsReport : ℕ → ℕ → Driver → Type 0
 IsReport number packets driver =
-    (number ≡ said_number_of driver) × IsAwaited packets (driver_limits driver).weight (said_of driver) (polled_device driver)
+    (number ≡ said_number_of driver) × IsAwaited driver packets (said_of driver) (polled_device driver)
 
 abbrev pub ReportsOf : ℕ → Rearm → Driver → Driver → Option (ℕ × Chore) → Option ℕ → Type 0
 ReportsOf packets rearm before after said (Some id) = Ends id packets rearm before after
@@ -197,6 +245,10 @@ EndsSqueezed what = Unit {0}
 abbrev pub AreClosed : ℕ → Driver → Type 0
 AreClosed count driver = driver_devices driver ≡ replicate count (in_stage Closed false)
 
+-- each of these devices has the driver's weight, without deferral and without busy polling
+abbrev pub ArePlain : ℕ → Driver → Type 0
+ArePlain count driver = driver.pacings.items ≡ replicate count (new_pacing (plain_settings (driver_limits driver).weight))
+
 -- a run with this report kept to the limits
 abbrev pub KeepsLimits : Limits → RunReport → Type 0
 KeepsLimits limits report = (report.polls ≤ limits.window) × (report.work < limits.budget + limits.weight)
@@ -210,8 +262,10 @@ abbrev pub IsDue : Driver → What → Type 0
 IsDue driver (Mask id) = (id < length (driver_devices driver)) × (chore_at (stage_of driver id) ≡ Some chore.Mask)
 IsDue driver (Unmask id) = (id < length (driver_devices driver)) × (chore_at (stage_of driver id) ≡ Some chore.Unmask)
 IsDue driver (Look id) = (id < length (driver_devices driver)) × (chore_at (stage_of driver id) ≡ Some chore.Look)
+IsDue driver (Timer id nanoseconds) = (id < length (driver_devices driver)) × (chore_at (stage_of driver id) ≡ Some chore.Timer)
+    × (nanoseconds ≡ timeout_of driver id)
 IsDue driver (Fetch id most) = (id < length (driver_devices driver)) × (polled_device driver ≡ Some id)
-    × (stage_is_listed (stage_of driver id) ≡ true) × (most ≡ (driver_limits driver).weight)
+    × (stage_is_listed (stage_of driver id) ≡ true) × (most ≡ weight_of driver id) × (most ≤ (driver_limits driver).weight)
 IsDue driver (Ended report) = HoldsNothing driver.run × KeepsLimits (driver_limits driver) report
     × ((report.squeezed ≡ true) ⊎ (list_of driver ≢ []))
 IsDue driver (Sleep report) = MaySleep driver × KeepsLimits (driver_limits driver) report × (report.squeezed ≡ false)
@@ -237,6 +291,7 @@ pub record AsksNext (before : Driver) (todo : Todo) (after : Driver) : Type 0 wh
   pub again : ¬ AwaitsNothing before → (after ≡ before) × (todo.number ≡ said_number_of before)
   pub devices : driver_devices after ≡ driver_devices before
   pub counts : after.counts ≡ before.counts
+  pub pacings : after.pacings ≡ before.pacings
   pub limits : driver_limits after ≡ driver_limits before
   pub begins : is_running before ≡ false → is_running after ≡ true → IsRunning (list_of before) [] after
   pub going : (start : List ℕ) (polls : List Poll) → IsRunning start polls before → is_running after ≡ true → IsRunning start polls after

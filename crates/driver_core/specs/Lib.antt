@@ -1,4 +1,5 @@
 pub mod Device
+pub mod Pacing
 pub mod Queue
 pub mod Counts
 pub mod Driver

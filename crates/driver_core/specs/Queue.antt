@@ -1,9 +1,9 @@
 -- What a driver stores about its devices. The poll list and the run over it have each listed device once, and no other one.
 -- There is a bit for each device whose card needs an action, and the action that was asked for last.
-use Rattle.std.specs.Prelude.{◌≡◌, ◌<◌, ◌==◌, ℕ, ◌+◌, Bool, false, List, length, slice_index_or, count_by, if◌then◌else◌}
-use Rattle.std.specs.{Prelude.{Option, Some, None, is_some}, Int.bit_at}
+use Rattle.std.specs.Prelude.{◌≡◌, ◌<◌, ◌≤◌, ◌==◌, ℕ, ◌+◌, Bool, false, List, length, slice_index_or, count_by, if◌then◌else◌}
+use Rattle.std.specs.{List.All, Prelude.{Option, Some, None, is_some}, Int.bit_at}
 use Rattle.poll_runs.specs.{Driven.held, Turn.asked_for, declared.polling_run.PollingRun.PollingRun}
-use Rattle.driver_core.specs.declared.limits.Limits.{Limits}
+use Rattle.driver_core.specs.declared.{limits.Limits.Limits, pacing.Pacing.Pacing}
 use Rattle.driver_core.specs.{Device.{in_stage, chore_at, stage_is_listed}}
 use Rattle.driver_core.specs.{declared.device.{Chore.Chore, DriverDevice.DriverDevice, Stage.TheVariants.Closed}}
 
@@ -35,6 +35,10 @@ pub record HasLimits (limits : Limits) (run : PollingRun) : Type 0 where
   pub budget : run.budget ≡ limits.budget
   pub weight : run.weight ≡ limits.weight
   pub window : run.window ≡ limits.window
+
+-- each device's weight is at least 1 and at most the driver's
+abbrev pub HasWeights : Limits → List Pacing → Type 0
+HasWeights limits pacings = All (λ p. (1 ≤ p.settings.weight) × (p.settings.weight ≤ limits.weight)) pacings
 
 -- the action at a card that was asked for last is still due, and no device is being polled then
 pub record IsStillDue (devices : List DriverDevice) (polled : Option ℕ) (said : Option (ℕ × Chore)) : Type 0 where

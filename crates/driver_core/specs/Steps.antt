@@ -1,5 +1,5 @@
 -- A device of a driver as a NAPI instance. Its calls are legal steps of that instance (`LegalStep` of `napi_model`).
-use Rattle.std.specs.Prelude.{◌≡◌, ℕ, Bool, true, false, List, [], ◌∷◌}
+use Rattle.std.specs.Prelude.{◌≡◌, ◌&&◌, not, ℕ, Bool, true, false, List, [], ◌∷◌}
 use Rattle.napi_model.specs.declared.{state.{Place.Place, Place.TheVariants.{Nobody, Granted, Control}, State.State}, event.{Event.Event}}
 use Rattle.napi_model.specs.declared.event.Operation.TheVariants.{Schedule, Hand, Take, Complete, MarkDisable, TakeDisable}
 use Rattle.napi_model.specs.declared.event.Operation.TheVariants.{Unmark, Enable}
@@ -9,10 +9,11 @@ use Rattle.napi_model.specs.declared.state.Place.TheVariants as place
 use Rattle.napi_model.specs.declared.state.Kind.TheVariants as kind
 use Rattle.napi_model.specs.declared.event.Prep.TheVariants as prep
 use Rattle.driver_core.specs.Device.{after_interrupt, stage_is_listed, is_stopping, after_look, masked, after_open, after_driver_poll}
-use Rattle.driver_core.specs.Device.{after_stop, unmasked}
+use Rattle.driver_core.specs.Device.{after_stop, after_timer, timer_set, unmasked}
 use Rattle.driver_core.specs.Device.{IsMasking, MayStop}
 use Rattle.driver_core.specs.declared.device.{DriverDevice.DriverDevice, Rearm.{Rearm, TheVariants.{No, Empty, More}}}
-use Rattle.driver_core.specs.declared.device.{Stage.{Stage, TheVariants.{Closed, Masking, Closing, Listed, Looking}}}
+use Rattle.driver_core.specs.declared.device.{Stage.{Stage, TheVariants.{Closed, Masking, Closing, Listed, Unmasking, Looking, Armed}}}
+use Rattle.driver_core.specs.declared.device.Stage.TheVariants.{Deferring, Deferred}
 
 -- the callers of the instance: the one that opens and stops the device, and the one that requests and makes its polls
 abbrev pub CONTROLLER : ℕ
@@ -32,6 +33,10 @@ stage_is_scheduled Closed = true
 stage_is_scheduled (Masking stopping) = true
 stage_is_scheduled (Listed stopping) = true
 stage_is_scheduled stage = false
+
+-- the instance is neither scheduled nor disabled nor being disabled, so that its timer requests a poll
+abbrev pub is_unscheduled : Stage → Bool
+is_unscheduled stage = not (stage_is_scheduled stage) && not (is_stopping stage)
 
 abbrev pub is_closed : Stage → Bool
 is_closed Closed = true
@@ -63,6 +68,15 @@ abbrev pub mask_events : Stage → List Event
 mask_events Closing = disables
 mask_events stage = event POLLER (Hand kind.List) ∷ []
 
+-- The events when the timer expired: the instance is requested if it is idle, and queued at once if its card is masked.
+abbrev pub timer_events : Stage → List Event
+timer_events Unmasking = event POLLER (Schedule prep.Granted) ∷ []
+timer_events Looking = event POLLER (Schedule prep.Granted) ∷ []
+timer_events Armed = event POLLER (Schedule prep.Granted) ∷ []
+timer_events Deferring = event POLLER (Schedule prep.Granted) ∷ event POLLER (Hand kind.List) ∷ []
+timer_events Deferred = event POLLER (Schedule prep.Granted) ∷ event POLLER (Hand kind.List) ∷ []
+timer_events stage = []
+
 abbrev pub look_events : Bool → List Event
 look_events true = event POLLER (Schedule prep.Granted) ∷ []
 look_events false = []
@@ -85,13 +99,13 @@ rearm_events false false false = event POLLER (Complete Released) ∷ []
 rearm_events has_more true false = event POLLER (Complete Released) ∷ []
 
 abbrev pub rest_events : Bool → Rearm → Bool → Bool → List Event
-rest_events full No stopping missed = end_events full stopping missed
-rest_events full Empty stopping missed = rearm_events false stopping missed
-rest_events full More stopping missed = rearm_events true stopping missed
+rest_events stays No stopping missed = end_events stays stopping missed
+rest_events stays Empty stopping missed = rearm_events false stopping missed
+rest_events stays More stopping missed = rearm_events true stopping missed
 
 -- the events of a poll: the instance is taken from the list, and the poll ends by its rule
 abbrev pub poll_events : Bool → Rearm → DriverDevice → List Event
-poll_events full rearm d = event POLLER (Take kind.List true) ∷ rest_events full rearm (is_stopping d.stage) d.missed
+poll_events stays rearm d = event POLLER (Take kind.List true) ∷ rest_events stays rearm (is_stopping d.stage) d.missed
 
 -- law: each call on a device makes legal steps of its instance, with the replies of that object
 pub record CallsAreLegal : Type 0 where
@@ -99,7 +113,9 @@ pub record CallsAreLegal : Type 0 where
   pub masked : (d : DriverDevice) → IsMasking d.stage → Leads d (mask_events d.stage) (masked d)
   pub unmasked : (d : DriverDevice) → Leads d [] (unmasked d)
   pub looked : (d : DriverDevice) (has_more : Bool) → d.stage ≡ Looking → Leads d (look_events has_more) (after_look has_more d)
-  pub polled : (d : DriverDevice) (full : Bool) (rearm : Rearm) → stage_is_listed d.stage ≡ true
-      → Leads d (poll_events full rearm d) (after_driver_poll full rearm d).0
+  pub timed_out : (d : DriverDevice) → Leads d (timer_events d.stage) (after_timer d)
+  pub timer_set : (d : DriverDevice) → Leads d [] (timer_set d)
+  pub polled : (d : DriverDevice) (stays defers : Bool) (rearm : Rearm) → stage_is_listed d.stage ≡ true
+      → Leads d (poll_events stays rearm d) (after_driver_poll stays defers rearm d).0
   pub opened : (d : DriverDevice) → d.stage ≡ Closed → Leads d (event CONTROLLER (Enable false) ∷ []) (after_open d)
   pub stopped : (d : DriverDevice) → MayStop d.stage → Leads d (event CONTROLLER MarkDisable ∷ []) (after_stop d)

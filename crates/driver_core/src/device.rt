@@ -23,9 +23,13 @@ pub enum Stage {
     Looking,
     /// The card was unmasked and then looked at, and had no packets: the next packet raises an interrupt.
     Armed,
+    /// No poll is pending, and the interrupt is deferred: the card is masked, and the device's timer has to be set.
+    Deferring,
+    /// The interrupt is deferred, and the timer was set: its expiry leads to the next poll.
+    Deferred,
 }
 
-/// An action that has to be done at the card of a device.
+/// An action that has to be done at the card of a device, or with its timer.
 #[derive(Clone, Copy, PartialEq, Eq, PartialOrd, Ord, Debug)]
 pub enum Chore {
     /// Mask the card's interrupt.
@@ -34,6 +38,8 @@ pub enum Chore {
     Unmask,
     /// Look whether the card has packets.
     Look,
+    /// Set the device's timer.
+    Timer,
 }
 
 /// Whether a fetch also unmasked the card and then looked at it.
@@ -58,7 +64,7 @@ pub struct DriverDevice {
 
 impl DriverDevice {
     ghost use Rattle.std.specs.Prelude.{◌≡◌, ◌↔◌, IsTrue, true};
-    ghost use Rattle.driver_core.specs.Device.{in_stage, chore_at, completed_at, did, after_interrupt, stage_is_listed, after_look, masked, after_open, after_driver_poll, after_stop, rearmed_at, unmasked, is_stopping, MayStop};
+    ghost use Rattle.driver_core.specs.Device.{in_stage, chore_at, completed_at, completes, did, after_interrupt, after_timer, stage_is_listed, after_look, masked, timer_set, after_open, after_driver_poll, after_stop, rearmed_at, unmasked, is_stopping, MayStop};
     ghost use Rattle.driver_core.specs.Steps.{stage_is_scheduled, napi_of};
     ghost use Rattle.napi_model.specs.Step.{schedule_reply};
 
@@ -85,7 +91,8 @@ impl DriverDevice {
             Stage::Masking(_) | Stage::Closing => Some(Chore::Mask),
             Stage::Unmasking => Some(Chore::Unmask),
             Stage::Looking => Some(Chore::Look),
-            Stage::Closed | Stage::Listed(_) | Stage::Armed => None,
+            Stage::Deferring => Some(Chore::Timer),
+            Stage::Closed | Stage::Listed(_) | Stage::Armed | Stage::Deferred => None,
         }
     }
 
@@ -104,7 +111,8 @@ impl DriverDevice {
         match self.stage {
             Stage::Masking(stopping) | Stage::Listed(stopping) => !stopping,
             Stage::Closed | Stage::Closing => false,
-            Stage::Unmasking | Stage::Looking | Stage::Armed => true,
+            Stage::Unmasking | Stage::Looking | Stage::Armed | Stage::Deferring | Stage::Deferred =>
+                true,
         }
     }
 
@@ -143,10 +151,31 @@ impl DriverDevice {
                 (missed, Prep::Missed)
             }
             Stage::Masking(true) | Stage::Listed(true) | Stage::Closing => (self, Prep::Disabled),
-            Stage::Unmasking | Stage::Looking | Stage::Armed => {
-                (self.to(Stage::Masking(false)), Prep::Granted)
-            }
+            Stage::Unmasking | Stage::Looking | Stage::Armed | Stage::Deferring | Stage::Deferred =>
+                (self.to(Stage::Masking(false)), Prep::Granted),
         }
+    }
+
+    // Returns the device after its timer expired.
+    pub(crate) fn timed_out(self) -> DriverDevice
+        ensures { result ≡ after_timer self }
+    {
+        match self.stage {
+            Stage::Deferring | Stage::Deferred => self.to(Stage::Listed(false)),
+            Stage::Unmasking | Stage::Looking | Stage::Armed => self.to(Stage::Masking(false)),
+            _ => self,
+        }
+    }
+
+    // Returns the device after its timer was set.
+    #[inline(always)]
+    fn timer_set(self) -> DriverDevice
+        ensures { result ≡ timer_set self }
+    {
+        if self.stage == Stage::Deferring {
+            return self.to(Stage::Deferred);
+        }
+        self
     }
 
     // Returns the device after its card was masked.
@@ -187,7 +216,7 @@ impl DriverDevice {
         })
     }
 
-    // Returns the device after the action at its card was done; for a look, `has_more` says whether the card had packets.
+    // Returns the device after the action was done; for a look, `has_more` says whether the card had packets.
     #[inline(always)]
     pub(crate) fn did(self, chore: Chore, has_more: bool) -> DriverDevice
         ensures { result ≡ did chore has_more self }
@@ -196,13 +225,14 @@ impl DriverDevice {
             Chore::Mask => self.masked(),
             Chore::Unmask => self.unmasked(),
             Chore::Look => self.looked(has_more),
+            Chore::Timer => self.timer_set(),
         }
     }
 
     // Returns the device after its instance was completed, and how that ends the poll.
     #[inline(always)]
-    fn completed(self, stopping: bool) -> (DriverDevice, Next)
-        ensures { result ≡ completed_at stopping self.missed }
+    fn completed(self, stopping: bool, defers: bool) -> (DriverDevice, Next)
+        ensures { result ≡ completed_at defers stopping self.missed }
     {
         if self.missed {
             let listed = DriverDevice {
@@ -213,6 +243,8 @@ impl DriverDevice {
         }
         let stage = if stopping {
             Stage::Closed
+        } else if defers {
+            Stage::Deferring
         } else {
             Stage::Unmasking
         };
@@ -237,23 +269,32 @@ impl DriverDevice {
         }
     }
 
-    // Returns the device after a poll, and how the poll ends; `full` says whether it used its whole weight.
+    // Returns the device after a poll, and how the poll ends. `stays` says whether the instance stays scheduled, `defers` whether the
+    // interrupt is deferred if it doesn't.
     #[inline(always)]
-    pub(crate) fn polled(self, full: bool, rearm: Rearm) -> (DriverDevice, Next)
+    pub(crate) fn polled(self, stays: bool, defers: bool, rearm: Rearm) -> (DriverDevice, Next)
         requires { stage_is_listed self.stage ≡ true }
-        ensures { result ≡ after_driver_poll full rearm self }
+        ensures { result ≡ after_driver_poll stays defers rearm self }
     {
         let stopping = self.stage == Stage::Listed(true);
         match rearm {
             Rearm::No => {
-                if full && !stopping {
+                if stays && !stopping {
                     return (self, Next::Repoll);
                 }
-                self.completed(stopping)
+                self.completed(stopping, defers)
             }
             Rearm::Empty => (self.rearmed(stopping, false), Next::Gone),
             Rearm::More => (self.rearmed(stopping, true), Next::Gone),
         }
+    }
+
+    // Returns whether such a poll completes the instance.
+    #[inline(always)]
+    pub(crate) fn completes(self, stays: bool, rearm: Rearm) -> bool
+        ensures { result ≡ completes stays rearm self }
+    {
+        !stays || rearm != Rearm::No || self.is_stopping()
     }
 
     // Returns the device after it was opened.
@@ -273,7 +314,8 @@ impl DriverDevice {
         match self.stage {
             Stage::Masking(_) => self.to(Stage::Masking(true)),
             Stage::Listed(_) => self.to(Stage::Listed(true)),
-            Stage::Unmasking | Stage::Looking | Stage::Armed => self.to(Stage::Closing),
+            Stage::Unmasking | Stage::Looking | Stage::Armed | Stage::Deferring | Stage::Deferred =>
+                self.to(Stage::Closing),
             Stage::Closed | Stage::Closing => self,
         }
     }

@@ -3,13 +3,15 @@
 ghost use Rattle.std.specs.Prelude.{◌≡◌, ◌≤◌, ◌<◌, ◌+◌, ◌*◌, false, true, length, IfOk, replicate};
 ghost use Rattle.poll_runs.specs.Steps.{HoldsNothing};
 ghost use Rattle.driver_core.specs.Counts.{no_counts};
-ghost use Rattle.driver_core.specs.Queue.{HasLimits, IsStillDue, IsQueue};
+ghost use Rattle.driver_core.specs.Pacing.{new_pacing};
+ghost use Rattle.driver_core.specs.Queue.{HasLimits, HasWeights, IsStillDue, IsQueue};
 
 use crate::counts::PollCounts;
 use crate::device::{Chore, DriverDevice, Rearm, Stage};
 use crate::devices::Devices;
 use crate::limits::Limits;
 use crate::list::DriverList;
+use crate::pacing::{DeviceSettings, Pacing};
 use crate::place::{Nowhere, TodoPlace};
 use crate::said::{following, still_due};
 use crate::todo::{NotDue, Refused, Todo, What, what_of};
@@ -24,17 +26,20 @@ use std::alloc::{AllocError, Global};
 pub struct Driver {
     devices: Devices,
     counts: Vec<PollCounts>,
+    pacings: Vec<Pacing>,
     list: DriverList,
     run: PollingRun,
     runs: bool,
     // The caller has ended the run in progress: it makes no further poll.
     ending: bool,
     limits: Limits,
-    // The action at a card that `next` returned last, if it isn't reported yet. A fetch is stored in the run.
+    // The action at a card, or with a timer, that `next` returned last, if it isn't reported yet. A fetch is stored in the run.
     said: Option<(u32, Chore)>,
     // The number of the action that `next` returned last.
     number: u64,
     ghost counted: { length counts.items ≡ length devices.all.items },
+    ghost paced: { length pacings.items ≡ length devices.all.items },
+    ghost weights: { HasWeights limits pacings.items },
     ghost queue: { IsQueue devices.all.items list run },
     ghost idle: { runs ≡ false → HoldsNothing run },
     ghost ends: { runs ≡ false → ending ≡ false },
@@ -60,6 +65,17 @@ fn new_counts(alloc: Global, devices: usize) -> Result<Vec<PollCounts>, AllocErr
     Ok(vec![in alloc; PollCounts::NONE; devices]?)
 }
 
+// Returns the counts of this many devices with these settings.
+fn new_pacings(
+    alloc: Global,
+    devices: usize,
+    settings: DeviceSettings,
+) -> Result<Vec<Pacing>, AllocError>
+    ensures { IfOk result (λ pacings. pacings.items ≡ replicate devices (new_pacing settings)) }
+{
+    Ok(vec![in alloc; Pacing::new(settings); devices]?)
+}
+
 impl Driver {
     ghost use Rattle.std.specs.List.{All};
     ghost use Rattle.std.specs.Prelude.{◌↔◌, ◌≢◌, ◌∷◌, ◌++◌, None, Some, Err, List, [], IsOk, IsSome, IfErr, IfNone, IfSome, OnOk, OnErr};
@@ -69,26 +85,31 @@ impl Driver {
     ghost use Rattle.driver_core.specs.declared.device.Stage.TheVariants.{Closed};
     ghost use Rattle.driver_core.specs.Counts.{count_one_poll};
     ghost use Rattle.driver_core.specs.Todo.{ended_in};
-    ghost use Rattle.driver_core.specs.Device.{chore_at, after_interrupt, stage_is_listed, after_open, after_stop, MayStop};
-    ghost use Rattle.driver_core.specs.Steps.{napi_of};
-    ghost use Rattle.driver_core.specs.Driver.{poll_counts_of, device_of, driver_devices, said_number_of, polled_device, poll_of, said_of, stage_of, is_running, driver_limits, list_of, is_ending, line_of, AddsToLine, AreClosed, AsksNext, Ends, EndsRun, DoesChore, IsDue, IsDriverReport, IsEndedEarly, EndsSqueezed, AwaitsNothing, IsIdle, IsNumberedTodo, IsNumberedWhat, IsReport, IsRunning, IsStep, IsUncounted, KeepsLimits, PutsDevice, Reports};
+    ghost use Rattle.driver_core.specs.Device.{chore_at, after_interrupt, after_timer, stage_is_listed, after_open, after_stop, MayStop};
+    ghost use Rattle.driver_core.specs.Steps.{is_unscheduled, napi_of};
+    ghost use Rattle.driver_core.specs.Driver.{poll_counts_of, pacing_of, weight_of, timeout_of, device_of, driver_devices, said_number_of, polled_device, poll_of, said_of, stage_of, is_running, driver_limits, list_of, is_ending, line_of, AddsToLine, AreClosed, ArePlain, AsksNext, Ends, EndsRun, DoesChore, IsDue, IsDriverReport, IsEndedEarly, EndsSqueezed, AwaitsNothing, IsIdle, IsNumberedTodo, IsNumberedWhat, IsReport, IsRunning, IsStep, IsUncounted, KeepsLimits, PutsDevice, Reports, SetsDevice};
 
-    /// Creates a driver of this many devices, at most 64, all closed. Drivers with different salts number their actions
+    /// Creates a driver of this many devices, at most 64, all closed, each with the weight of `limits`. Drivers with different salts number their actions
     /// differently, for 2^48 actions, so that none takes another one's report.
+    #[tactic(auto, using(crate::proofs::QueueFacts::new_weights))]
     pub fn new(alloc: Global, devices: u32, limits: Limits, salt: u16) -> Result<Driver, AllocError>
         requires { devices ≤ 64 }
         ensures devices { IfOk result (AreClosed devices) }
         ensures idle { IfOk result (λ driver. IsIdle driver) }
         ensures limits { IfOk result (λ driver. driver_limits driver ≡ limits) }
         ensures counts { IfOk result (λ driver. IsUncounted driver) }
+        ensures pacings { IfOk result (ArePlain devices) }
         ensures number { IfOk result (λ driver. said_number_of driver
             ≡ salt * 281474976710656 + 1) }
     {
         let closed = Devices::new(alloc, devices)?;
         let counts = new_counts(alloc, devices as usize)?;
+        let plain = DeviceSettings::of_weight(limits.weight);
+        let pacings = new_pacings(alloc, devices as usize, plain)?;
         Ok(Driver {
             devices: closed,
             counts,
+            pacings,
             list: DriverList::new(),
             run: PollingRun::idle(),
             runs: false,
@@ -105,6 +126,13 @@ impl Driver {
         ensures few { result ≤ 64 }
     {
         self.devices.all.len()
+    }
+
+    /// Returns the limits of its runs.
+    pub fn limits(&self) -> Limits
+        ensures { result ≡ driver_limits self.now }
+    {
+        self.limits
     }
 
     /// Returns the device with this number.
@@ -124,6 +152,32 @@ impl Driver {
         self.counts[device as usize]
     }
 
+    /// Returns the settings of a device, and what is counted for them.
+    #[inline(always)]
+    pub fn pacing(&self, device: u32) -> Pacing
+        requires { device < length (driver_devices self.now) }
+        ensures { result ≡ pacing_of self.now device }
+    {
+        self.pacings[device as usize]
+    }
+
+    /// Sets the settings of a device that is closed. Its weight is at most the driver's.
+    #[tactic(auto, using(crate::proofs::QueueFacts::put_weights))]
+    pub fn set(&mut self, device: u32, settings: DeviceSettings) -> Result<(), NotDue>
+        requires device { device < length (driver_devices self.old) }
+        requires weight { (1 ≤ settings.weight)
+            × (settings.weight ≤ (driver_limits self.old).weight) }
+        ensures when { IsOk result ↔ (stage_of self.old device ≡ Closed) }
+        ensures ok { OnOk result (SetsDevice device settings self.old self.new) }
+        ensures err { OnErr result (self.new ≡ self.old) }
+    {
+        if self.devices.get(device).stage != Stage::Closed {
+            return Err(NotDue);
+        }
+        self.pacings[device as usize] = Pacing::new(settings);
+        Ok(())
+    }
+
     // Replaces the device with this number. If the action that was returned last isn't due any more, it is forgotten.
     #[inline(always)]
     fn put(&mut self, device: u32, to: DriverDevice)
@@ -133,6 +187,37 @@ impl Driver {
     {
         self.devices.put(device, to);
         self.said = still_due(self.said, device, to);
+    }
+
+    // Replaces the device with this number by one that is listed only now, and puts it on the list.
+    #[tactic(auto, using(crate::proofs::QueueFacts::put_new, crate::proofs::QueueFacts::put_asked, crate::proofs::QueueFacts::room))]
+    fn put_listed(&mut self, device: u32, to: DriverDevice)
+        requires range { device < length (driver_devices self.old) }
+        requires before { stage_is_listed (stage_of self.old device) ≡ false }
+        requires after { stage_is_listed to.stage ≡ true }
+        ensures { PutsDevice device to self.old self.new }
+    {
+        self.devices.put(device, to);
+        self.said = still_due(self.said, device, to);
+        self.list.push(device);
+    }
+
+    /// Reports that the timer of a device expired (`napi_watchdog`), at any time. Returns whether that requested a poll: not if the
+    /// instance is scheduled, disabled or being disabled, and then nothing is changed or missed.
+    pub fn timer(&mut self, device: u32) -> bool
+        requires { device < length (driver_devices self.old) }
+        ensures reply { result ≡ is_unscheduled (stage_of self.old device) }
+        ensures puts { PutsDevice device (after_timer (device_of self.old device)) self.old
+            self.new }
+    {
+        let before = self.devices.get(device);
+        let after = before.timed_out();
+        if before.is_listed() == after.is_listed() {
+            self.put(device, after);
+        } else {
+            self.put_listed(device, after);
+        }
+        !before.is_scheduled() && !before.is_stopping()
     }
 
     /// Reports an interrupt of a card (`napi_schedule_prep`), at any time. If the request for a poll is granted,
@@ -222,16 +307,20 @@ impl Driver {
         requires range { device < length (driver_devices self.old) }
         requires listed { stage_is_listed (stage_of self.old device) ≡ true }
         requires polled { polled_device self.old ≡ Some device }
-        requires most { packets ≤ (driver_limits self.old).weight }
+        requires most { packets ≤ weight_of self.old device }
         ensures ends { Ends device packets rearm self.old self.new }
         ensures going { (start : List _) (polls : List Poll) → IsRunning start polls self.old
             → IsRunning start (polls ++ poll_of device packets rearm self.old ∷ []) self.new }
     {
         let so_far = self.counts(device);
         let before = self.devices.get(device);
-        let (after, next) = before.polled(packets == self.limits.weight, rearm);
+        let pacing = self.pacing(device);
+        let stays = pacing.keeps_polling(packets);
+        let (after, next) = before.polled(stays, pacing.defers(packets), rearm);
         self.devices.put(device, after);
         self.counts[device as usize] = so_far.and(packets);
+        let completes = before.completes(stays, rearm);
+        self.pacings[device as usize].count(completes, packets);
         let once = Once {
             work: packets,
             next,
@@ -263,7 +352,7 @@ impl Driver {
             return Err(Refused::NotDue);
         }
         if let Some(device) = self.run.asked() {
-            if packets > self.limits.weight {
+            if packets > self.pacing(device).settings.weight {
                 return Err(Refused::TooMany);
             }
             self.fetched(device, packets, rearm);
@@ -284,6 +373,7 @@ impl Driver {
         requires free { AwaitsNothing self.old }
         ensures devices { self.new.devices ≡ self.old.devices }
         ensures counts { self.new.counts ≡ self.old.counts }
+        ensures pacings { self.new.pacings ≡ self.old.pacings }
         ensures free { AwaitsNothing self.new }
         ensures limits { self.new.limits ≡ self.old.limits }
         ensures number { said_number_of self.new ≡ said_number_of self.old }
@@ -315,6 +405,7 @@ impl Driver {
         requires runs { is_running self.old ≡ true }
         ensures devices { self.new.devices ≡ self.old.devices }
         ensures counts { self.new.counts ≡ self.old.counts }
+        ensures pacings { self.new.pacings ≡ self.old.pacings }
         ensures limits { self.new.limits ≡ self.old.limits }
         ensures number { said_number_of self.new ≡ said_number_of self.old }
         ensures said { said_of self.new ≡ None }
@@ -345,6 +436,7 @@ impl Driver {
         ensures within { KeepsLimits (driver_limits self.old) result }
         ensures devices { self.new.devices ≡ self.old.devices }
         ensures counts { self.new.counts ≡ self.old.counts }
+        ensures pacings { self.new.pacings ≡ self.old.pacings }
         ensures limits { self.new.limits ≡ self.old.limits }
         ensures number { said_number_of self.new ≡ said_number_of self.old }
         ensures runs { is_running self.new ≡ false }
@@ -397,6 +489,7 @@ impl Driver {
         ensures number { IsNumberedTodo (said_number_of self.old) (said_number_of self.new) result }
         ensures devices { self.new.devices ≡ self.old.devices }
         ensures counts { self.new.counts ≡ self.old.counts }
+        ensures pacings { self.new.pacings ≡ self.old.pacings }
         ensures limits { self.new.limits ≡ self.old.limits }
         ensures going { (start : List _) (polls : List Poll) → IsRunning start polls self.old
             → is_running self.new ≡ true → IsRunning start polls self.new }
@@ -415,7 +508,7 @@ impl Driver {
         match self.next_device() {
             Some(device) => {
                 self.number = following(self.number);
-                let fetch = self.todo(What::Fetch(device, self.limits.weight));
+                let fetch = self.todo(What::Fetch(device, self.pacing(device).settings.weight));
                 place.put(fetch);
                 fetch
             }
@@ -429,6 +522,15 @@ impl Driver {
                 over
             }
         }
+    }
+
+    // Returns the time of a device's timer.
+    #[inline(always)]
+    fn timeout(&self, device: u32) -> u64
+        requires { device < length (driver_devices self.now) }
+        ensures { result ≡ timeout_of self.now device }
+    {
+        self.pacings[device as usize].settings.gro_flush_timeout
     }
 
     // Returns this action, under the number of the action returned last.
@@ -454,10 +556,10 @@ impl Driver {
         ensures more { IfSome result (λ todo. ended_in todo.what ≡ None) }
     {
         if let Some(device) = self.run.asked() {
-            return Some(self.todo(What::Fetch(device, self.limits.weight)));
+            return Some(self.todo(What::Fetch(device, self.pacing(device).settings.weight)));
         }
         let (device, chore) = self.said?;
-        Some(self.todo(what_of(device, chore)))
+        Some(self.todo(what_of(device, self.timeout(device), chore)))
     }
 
     // Writes what the caller has to do next to the place, and returns it, if no report is awaited.
@@ -471,7 +573,7 @@ impl Driver {
         if let Some((device, chore)) = self.devices.first_chore() {
             self.said = Some((device, chore));
             self.number = following(self.number);
-            let act = self.todo(what_of(device, chore));
+            let act = self.todo(what_of(device, self.timeout(device), chore));
             place.put(act);
             return act;
         }

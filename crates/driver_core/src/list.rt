@@ -73,6 +73,19 @@ impl DriverList {
     }
 }
 
+// Moves all numbers of a list to the end of another one, where there is room for them. Returns how many that one then has.
+#[inline(never)]
+fn move_all(from: &mut SoftList, to: &mut SoftList) -> usize
+    requires { length to.old + length from.old ≤ 64 }
+    ensures to { to.new ≡ to.old ++ from.old }
+    ensures from { from.new ≡ [] }
+    ensures count { result ≡ length to.new }
+{
+    to.append_all(from);
+    *from = SoftList::new();
+    to.ids().len()
+}
+
 impl PollList for DriverList {
     ghost entries = { all_held };
 
@@ -93,7 +106,7 @@ impl PollList for DriverList {
         self.first = Some(id);
     }
 
-    #[inline(never)]
+    #[inline(always)]
     fn splice(&mut self, to: &mut SoftList) -> usize {
         let Some(id) = self.first else {
             return 0;
@@ -103,9 +116,7 @@ impl PollList for DriverList {
         if self.more.is_empty() {
             return 1;
         }
-        to.append_all(&self.more);
-        self.more = SoftList::new();
-        to.ids().len()
+        move_all(&mut self.more, to)
     }
 
     #[inline(always)]

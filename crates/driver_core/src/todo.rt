@@ -15,6 +15,9 @@ pub enum What {
     Unmask(u32),
     /// Look whether the device's card has packets.
     Look(u32),
+    /// Set the device's timer, so that it expires after this many nanoseconds, once; a timer that is still set is replaced. Its card stays
+    /// masked. Report the expiry by [`Driver::timer`](crate::Driver::timer).
+    Timer(u32, u64),
     /// Take packets from the device's card, at most as many as the second number says, and deliver them. If no packets are left,
     /// the caller may also unmask the card and then look at it, and report both together ([`Rearm`](crate::Rearm)).
     Fetch(u32, u32),
@@ -49,15 +52,16 @@ pub enum Refused {
     TooMany,
 }
 
-// Returns the action at the card of a device, as the driver asks for it.
+// Returns the action at the card of a device, or with its timer, as the driver asks for it.
 #[inline(always)]
-pub(crate) fn what_of(device: u32, chore: Chore) -> What
-    ensures what { result ≡ what_of device chore }
+pub(crate) fn what_of(device: u32, nanoseconds: u64, chore: Chore) -> What
+    ensures what { result ≡ what_of device nanoseconds chore }
     ensures more { ended_in result ≡ None }
 {
     match chore {
         Chore::Mask => What::Mask(device),
         Chore::Unmask => What::Unmask(device),
         Chore::Look => What::Look(device),
+        Chore::Timer => What::Timer(device, nanoseconds),
     }
 }

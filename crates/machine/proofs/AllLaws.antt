@@ -1,13 +1,7 @@
 -- The laws that `laws.rt` names for its proofs; the last two have answers of their own.
-use Rattle.machine.proofs.BoundFacts.{deferral-is-bounded}
-use Rattle.machine.proofs.FateFacts.{delivers-in-order}
-use Rattle.machine.proofs.TimeFacts.{no-wait-is-less}
-use Rattle.machine.proofs.LeftFacts.{nothing-is-left}
-use Rattle.machine.proofs.LifeFacts.{arrives-as-one, each-lives, runs-as-one}
-use Rattle.machine.proofs.WorkFacts.{every-run-ends}
-use Rattle.machine.proofs.SocketFacts.{tells-of-use, uses-in-order}
-use Rattle.machine.proofs.TimeFacts.{clocks-never-fall, timers-are-near}
-use Rattle.machine.proofs.WorkFacts.{works-within}
+use Rattle.machine.proofs.{BoundFacts.deferral-is-bounded, FateFacts.delivers-in-order, LeftFacts.nothing-is-left, LifeFacts.arrives-as-one}
+use Rattle.machine.proofs.{LifeFacts.{each-lives, runs-as-one}, SocketFacts.{tells-of-use, uses-in-order}, TimeFacts.no-wait-is-less}
+use Rattle.machine.proofs.{TimeFacts.{clocks-never-fall, timers-are-near}, WorkFacts.{every-run-ends, works-within}}
 
 pub ruleset laws = (
   arrives-as-one,

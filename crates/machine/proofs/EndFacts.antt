@@ -1,31 +1,34 @@
 -- A processor after its work ends, case by case: its queues, its application and its tasks.
-use Rattle.std.proofs.Common.{arith}
-use Rattle.std.proofs.lemmas.Grind.{common_steps}
-use Rattle.std.proofs.Common.{◌≡◌, ◌∙◌, ℕ, ◌+◌, ◌-◌, Bool, true, false, Option, Some, None, List, [], ◌∷◌, refl, ap}
-use Rattle.std.proofs.lemmas.Bool.{and_left, and_right}
-use Rattle.std.specs.{Prelude.{◌==◌, ◌&&◌, ◌||◌, if◌then◌else◌, nat_lt, not, option_map}}
-use Rattle.machine_model.specs.declared.settings.MachineSettings.{MachineSettings}
+use Rattle.std.proofs.{Common.{arith, ◌≡◌, ◌∙◌, ℕ, ◌+◌, ◌-◌, Bool, true, false, Option, Some, None, List, [], ◌∷◌, refl, ap, ◌⊎◌, inl, inr}}
+use Rattle.std.{proofs.lemmas.{Bool.and_right, Grind.common_steps}, specs.{Prelude.{◌==◌, ◌&&◌, ◌||◌, if◌then◌else◌, nat_lt, not}}}
+use Rattle.std.specs.Prelude.{option_map}
+use Rattle.machine_model.{proofs.{TableFacts.{at-keeps, map_at}, WalkFacts.{looks-by, polled-by, stops}}, specs.Application.ApplicationView}
+use Rattle.machine_model.specs.{Application.{fed, has_place, use_ended}, Device.{QueueView, holding, queue_delivered, queue_polled}}
+use Rattle.machine_model.specs.{Device.{raised_again, without_held, without_next}, Devices.{QueueViews, is_rescheduled_at, next_held_at}}
+use Rattle.machine_model.specs.{Devices.{next_packet_at, pulls_at}, Kept.polled_by, Processor.{ProcessorView, delivers, delivers_oldest}}
+use Rattle.machine_model.specs.Processor.{ends_by, ends_current, ends_interrupt, ends_poll, is_batching, is_busy, is_polling, poll_looks}
+use Rattle.machine_model.specs.{Processor.{spent, begins}, Tasks.with_application, Waits.saturated, declared.processor.InHand.InHand}
+use Rattle.machine_model.specs.declared.processor.{Looking.Looking, ProcessorCounts.ProcessorCounts, Work.{Work, TheVariants.Nothing}}
+use Rattle.machine_model.specs.declared.processor.Work.TheVariants.{Interrupt, Poll, Packet, Use}
+use Rattle.machine_model.specs.declared.{settings.MachineSettings.MachineSettings, tasks.RunnableTask.{RunnableTask, TheVariants.Thread}}
 use Rattle.device_places.specs.Places.{at, changed}
-use Rattle.{machine.specs.Fates.{delivery_of, used_by}}
-use Rattle.machine_model.specs.declared.{processor.ProcessorCounts.ProcessorCounts, tasks.RunnableTask.{RunnableTask, TheVariants.Thread}}
-use Rattle.machine_model.specs.{Application.{ApplicationView, fed, has_place, use_ended}, Kept.polled_by, Tasks.with_application}
-use Rattle.machine_model.specs.{Waits.saturated}
-use Rattle.machine_model.specs.declared.processor.{InHand.InHand, Work.{Work, TheVariants.{Nothing, Interrupt, Poll, Packet, Use}}}
-use Rattle.machine_model.specs.{Device.{QueueView, queue_delivered, queue_polled, raised_again, without_next}}
-use Rattle.machine_model.specs.{Devices.{QueueViews, is_missed_at, next_packet_at}}
-use Rattle.machine_model.specs.Processor.{ProcessorView, delivers, delivers_oldest, ends_by, ends_current, ends_interrupt, ends_poll}
-use Rattle.machine_model.specs.Processor.{is_busy, is_polling, poll_looks, spent}
-use Rattle.machine.proofs.{TableFacts.{at-keeps, map_at}, WalkFacts.{looks-by, polled-by}}
+use Rattle.machine.specs.Fates.{delivery_of, used_by}
 
 -- ---- the queues
 
 -- what has to be shown if a poll that processed `given` packets takes its next one, or ends
 pub record Looks (Q : QueueViews → Work → Type 0) (s : MachineSettings) (now m given : ℕ) (devices : QueueViews) : Type 0 where
-  pub some : (came : ℕ) → next_packet_at s.backlog (at m devices) ≡ Some came
+  pub some : is_batching s ≡ false → (came : ℕ) → next_packet_at s.backlog (at m devices) ≡ Some came
       → Q (changed (without_next s.backlog) m devices) (Packet (record { device = m; came = came; given = given }))
-  pub none : next_packet_at s.backlog (at m devices) ≡ None
+  pub none : is_batching s ≡ false → next_packet_at s.backlog (at m devices) ≡ None
       → Q (changed (queue_polled now given s) m (changed (without_next s.backlog) m devices)) Nothing
-  pub full : nat_lt given s.weight ≡ false → Q (changed (queue_polled now given s) m devices) Nothing
+  pub full : is_batching s ≡ false → nat_lt given s.weight ≡ false → Q (changed (queue_polled now given s) m devices) Nothing
+  pub takes : is_batching s ≡ true → pulls_at s.gro_batch given (at m devices) ≡ true
+      → Q (changed holding m devices) (Poll (record { device = m; given = given + 1 }))
+  pub hands : is_batching s ≡ true → stops given s (at m devices) ≡ true → (came : ℕ) → next_held_at (at m devices) ≡ Some came
+      → Q (changed without_held m devices) (Packet (record { device = m; came = came; given = given - 1 }))
+  pub over : is_batching s ≡ true → stops given s (at m devices) ≡ true → next_held_at (at m devices) ≡ None
+      → Q (changed (queue_polled now given s) m devices) Nothing
 
 -- what has to be shown when the work in progress ends: about the packet delivered, the queues, and the work after it
 pub record Ends (Q : Option (ℕ × ℕ) → QueueViews → Work → Type 0) (p : ProcessorView) : Type 0 where
@@ -35,7 +38,7 @@ pub record Ends (Q : Option (ℕ × ℕ) → QueueViews → Work → Type 0) (p 
   pub lone : (m came : ℕ) → p.work ≡ Interrupt m → is_polling p.settings ≡ false → next_packet_at false (at m p.devices) ≡ Some came
       → Q (Some (m, came)) (changed raised_again m (changed (queue_delivered p.ends came) m (changed (without_next false) m p.devices)))
       Nothing
-  pub poll : (m : ℕ) → p.work ≡ Poll m → Looks (Q None) p.settings p.ends m 0 p.devices
+  pub poll : (look : Looking) → p.work ≡ Poll look → Looks (Q None) p.settings p.ends look.device look.given p.devices
   pub packet : (hand : InHand) → p.work ≡ Packet hand
       → Looks (Q (Some (hand.device, hand.came))) p.settings p.ends hand.device (hand.given + 1)
       (changed (queue_delivered p.ends hand.came) hand.device p.devices)
@@ -49,8 +52,14 @@ ends-looks : (Q : QueueViews → Work → Type 0) (n given : ℕ) (p : Processor
     → Looks Q p.settings p.clock n given p.devices → Q (poll_looks n given p).devices (poll_looks n given p).work
 ends-looks Q n given p nothing l =
     let q : ProcessorView = record p { devices = changed (without_next p.settings.backlog) n p.devices } in
-    looks-by (λ r. Q r.devices r.work) n given p (λ came is less. l.some came is) (λ none. ends-polled Q n given q nothing (l.none none))
-    (λ full. ends-polled Q n given p nothing (l.full full))
+    looks-by (λ r. Q r.devices r.work) n given p (record {
+      some = λ plain came is less. l.some plain came is;
+      none = λ plain none. ends-polled Q n given q nothing (l.none plain none);
+      full = λ plain full. ends-polled Q n given p nothing (l.full plain full);
+      takes = λ batch less pulls. l.takes batch pulls;
+      hands = λ batch stops came is. l.hands batch stops came is;
+      over = λ batch stops none. ends-polled Q n given p nothing (l.over batch stops none);
+    })
 
 ends-packet : (Q : QueueViews → Work → Type 0) (n came given : ℕ) (p : ProcessorView) → p.work ≡ Nothing
     → Looks Q p.settings p.clock n given (changed (queue_delivered p.clock came) n p.devices)
@@ -87,8 +96,8 @@ ends-work Q (Interrupt m) p counts is e = by (is_polling p.settings) refl
         (if b then q else ends_interrupt m q).work
     by true polling = e.rest (ap polled_by is) (λ k same. polling)
     by false lone = ends-lone Q m q o refl (λ none. e.silent m is lone none) (λ came some. e.lone m came is lone some)
-ends-work Q (Poll m) p counts is e =
-    ends-looks (Q None) m 0 (record p { clock = p.ends; work = Nothing; counts = counts }) refl (e.poll m is)
+ends-work Q (Poll look) p counts is e =
+    ends-looks (Q None) look.device look.given (record p { clock = p.ends; work = Nothing; counts = counts }) refl (e.poll look is)
 ends-work Q (Packet hand) p counts is e =
     ends-packet (Q (Some (hand.device, hand.came))) hand.device hand.came (hand.given + 1)
     (record p { clock = p.ends; work = Nothing; counts = counts }) refl (e.packet hand is)
@@ -100,13 +109,23 @@ pub ends : (Q : Option (ℕ × ℕ) → QueueViews → Work → Type 0) (p : Pro
 unfolding ends_current
 ends Q p e = ends-work Q p.work p (spent p.work (p.ends - p.clock) p.counts) refl e
 
+-- packets leave the ring before they are processed: with a backlog or with batches
+abbrev pub takes_out : MachineSettings → Bool
+takes_out s = (s.backlog || is_batching s) && is_polling s
+
 -- a property of one queue that each change of a queue keeps when work ends
 pub record Keeps (K : Option QueueView → Type 0) (p : ProcessorView) : Type 0 where
   pub raised : is_polling p.settings ≡ false → (o : Option QueueView) → K o → K (map_at raised_again o)
-  pub next : (backlog : Bool) (o : Option QueueView) → (backlog ≡ false → (p.settings.backlog && is_polling p.settings) ≡ false)
+  pub next : (backlog : Bool) (o : Option QueueView) → (backlog ≡ false → takes_out p.settings ≡ false)
       → (backlog ≡ true → (m : ℕ) × (polled_by p.work ≡ Some m) × (p.settings.backlog ≡ true)) → K o → K (map_at (without_next backlog) o)
+  pub holds : (o : Option QueueView) → is_batching p.settings ≡ true → (m : ℕ) → polled_by p.work ≡ Some m → K o → K (map_at holding o)
+  pub hands : (o : Option QueueView) → is_batching p.settings ≡ true → K o → K (map_at without_held o)
   pub delivered : (came : ℕ) (o : Option QueueView) → K o → K (map_at (queue_delivered p.ends came) o)
   pub polled : (given : ℕ) (o : Option QueueView) → K o → K (map_at (queue_polled p.ends given p.settings) o)
+
+-- without a backlog and without batches packets stay in the ring
+pub keeps-in : (s : MachineSettings) → s.backlog ≡ false → is_batching s ≡ false → takes_out s ≡ false
+keeps-in s single plain = grind (arith, common_steps)
 
 ends-kept : (K : Option QueueView → Type 0) (n : ℕ) (p : ProcessorView) → Keeps K p → K (at n p.devices) → Ends (λ o ds w. K (at n ds)) p
 ends-kept K n p k held = record {
@@ -116,8 +135,9 @@ ends-kept K n p k held = record {
       let one = changed (without_next false) m p.devices in
       raise lone m (changed (queue_delivered p.ends came) m one)
       (deliver came m one (at-keeps K (without_next false) m n p.devices
-      (λ here. k.next false (at n p.devices) (λ no. and_right p.settings.backlog (is_polling p.settings) lone) (λ no. cc no)) held));
-  poll = λ m is. looks m 0 p.devices (ap polled_by is) held;
+      (λ here. k.next false (at n p.devices)
+      (λ no. and_right (p.settings.backlog || is_batching p.settings) (is_polling p.settings) lone) (λ no. cc no)) held));
+  poll = λ look is. looks look.device look.given p.devices (ap polled_by is) held;
   packet = λ hand is.
       looks hand.device (hand.given + 1) (changed (queue_delivered p.ends hand.came) hand.device p.devices) (ap polled_by is)
       (deliver hand.came hand.device p.devices held);
@@ -133,14 +153,19 @@ ends-kept K n p k held = record {
         → Looks (λ es w. K (at n es)) p.settings p.ends m given ds
     looks m given ds polls held =
         let es = changed (without_next p.settings.backlog) m ds in
-        let next : K (at n es) =
-        at-keeps K (without_next p.settings.backlog) m n ds
-        (λ here. k.next p.settings.backlog (at n ds) (λ no. and_left p.settings.backlog (is_polling p.settings) no) (λ is. (m, polls, is)))
-        held in
+        let next : is_batching p.settings ≡ false → K (at n es) =
+        λ plain. at-keeps K (without_next p.settings.backlog) m n ds
+        (λ here. k.next p.settings.backlog (at n ds) (λ no. keeps-in p.settings no plain) (λ is. (m, polls, is))) held in
+        let ends : K (at n (changed (queue_polled p.ends given p.settings) m ds)) =
+        at-keeps K (queue_polled p.ends given p.settings) m n ds (λ here. k.polled given (at n ds)) held in
         record {
-          some = λ came is. next;
-          none = λ none. at-keeps K (queue_polled p.ends given p.settings) m n es (λ here. k.polled given (at n es)) next;
-          full = λ most. at-keeps K (queue_polled p.ends given p.settings) m n ds (λ here. k.polled given (at n ds)) held;
+          some = λ plain came is. next plain;
+          none = λ plain none.
+              at-keeps K (queue_polled p.ends given p.settings) m n es (λ here. k.polled given (at n es)) (next plain);
+          full = λ plain most. ends;
+          takes = λ batch pulls. at-keeps K holding m n ds (λ here. k.holds (at n ds) batch m polls) held;
+          hands = λ batch stops came is. at-keeps K without_held m n ds (λ here. k.hands (at n ds) batch) held;
+          over = λ batch stops none. ends;
         }
 
 pub ends-at : (K : Option QueueView → Type 0) (n : ℕ) (p : ProcessorView) → Keeps K p → K (at n p.devices)
@@ -160,14 +185,23 @@ tasks_after None p = p.tasks
 tasks_after (Some x) p =
     if p.settings.threaded && not p.settings.apart && has_place p.application then with_application p.tasks else p.tasks
 
--- p's poll has ended, or has taken its next packet; or no work follows
+-- the time of a packet after a poll took it
+abbrev pub packet_time : MachineSettings → ℕ
+packet_time s = if is_batching s then s.packet - s.take else s.packet
+
+-- the poll has taken a packet, or takes one
+abbrev pub IsTaken : Work → Type 0
+IsTaken work = ((hand : InHand) × (work ≡ Packet hand)) ⊎ ((look : Looking) × (work ≡ Poll look))
+
+-- p's poll has ended, takes its next packet, or has taken it; or no work follows
 pub record Over (p q : ProcessorView) : Type 0 where
   pub settings : q.settings ≡ p.settings
   pub clock : q.clock ≡ p.clock
   pub application : q.application ≡ p.application
   pub rest : q.rest ≡ p.rest
-  pub kind : is_busy q.work ≡ true → (hand : InHand) × (q.work ≡ Packet hand)
-  pub ends : (hand : InHand) → q.work ≡ Packet hand → q.ends ≡ saturated (p.clock + p.settings.packet)
+  pub kind : is_busy q.work ≡ true → IsTaken q.work
+  pub ends : (hand : InHand) → q.work ≡ Packet hand → q.ends ≡ saturated (p.clock + packet_time p.settings)
+  pub looks : (look : Looking) → q.work ≡ Poll look → q.ends ≡ saturated (p.clock + p.settings.take)
   pub tasks : (again : Option ℕ) × (q.tasks ≡ put_first again p.tasks)
 
 over-none : (p q : ProcessorView) → q.settings ≡ p.settings → q.clock ≡ p.clock → q.application ≡ p.application → q.rest ≡ p.rest
@@ -180,7 +214,7 @@ over-polled n given p nothing =
     (λ counts t. over-none p _ refl refl refl refl nothing None refl)
   where
     full : Bool
-    full = given == p.settings.weight || is_missed_at (at n p.devices)
+    full = given == p.settings.weight || is_rescheduled_at given p.settings (at n p.devices)
 
     again : Bool → Option ℕ
     again b = if b then Some n else None
@@ -189,30 +223,40 @@ over-polled n given p nothing =
     by true = refl
     by false = refl
 
+over-busy : (work : Work) (time : ℕ) (devices : QueueViews) (p : ProcessorView) → IsTaken work
+    → ((hand : InHand) → work ≡ Packet hand → time ≡ packet_time p.settings)
+    → ((look : Looking) → work ≡ Poll look → time ≡ p.settings.take) → Over p (begins work time (record p { devices = devices }))
+over-busy work time devices p h1 h2 h3 = grind (arith, common_steps)
+
 over-looks : (n given : ℕ) (p : ProcessorView) → p.work ≡ Nothing → Over p (poll_looks n given p)
 over-looks n given p nothing =
-    looks-by (Over p) n given p
-    (λ came is less. record {
-      settings = refl;
-      clock = refl;
-      application = refl;
-      rest = refl;
-      kind = λ busy. (record { device = n; came = came; given = given }, refl);
-      ends = λ hand same. refl;
-      tasks = (None, refl);
+    looks-by (Over p) n given p (record {
+      some = λ plain came is less.
+          over-busy _ _ _ p (inl (record { device = n; came = came; given = given }, refl)) (λ hand same. rw plain refl)
+          (λ look same. cc same);
+      none = λ plain none. over-devices (changed (without_next p.settings.backlog) n p.devices);
+      full = λ plain full. over-polled n given p nothing;
+      takes = λ batch less pulls.
+          over-busy _ _ _ p (inr (record { device = n; given = given + 1 }, refl)) (λ hand same. cc same) (λ look same. refl);
+      hands = λ batch stops came is.
+          over-busy _ _ _ p (inl (record { device = n; came = came; given = given - 1 }, refl)) (λ hand same. rw batch refl)
+          (λ look same. cc same);
+      over = λ batch stops none. over-polled n given p nothing;
     })
-    (λ none.
-    let o = over-polled n given (record p { devices = changed (without_next p.settings.backlog) n p.devices }) nothing in
-    record {
-      settings = o.settings;
-      clock = o.clock;
-      application = o.application;
-      rest = o.rest;
-      kind = o.kind;
-      ends = o.ends;
-      tasks = o.tasks;
-    })
-    (λ full. over-polled n given p nothing)
+  where
+    over-devices : (devices : QueueViews) → Over p (ends_poll n given (record p { devices = devices }))
+    over-devices devices =
+        let o = over-polled n given (record p { devices = devices }) nothing in
+        record {
+          settings = o.settings;
+          clock = o.clock;
+          application = o.application;
+          rest = o.rest;
+          kind = o.kind;
+          ends = o.ends;
+          looks = o.looks;
+          tasks = o.tasks;
+        }
 
 -- what has to be shown when the work in progress ends: about the packet delivered, the packets used, and the application
 pub record Feeds (Q : Option (ℕ × ℕ) → List ℕ → ApplicationView → Type 0) (p : ProcessorView) : Type 0 where
@@ -227,8 +271,9 @@ pub record Fed (Q : Option (ℕ × ℕ) → List ℕ → ApplicationView → Typ
   pub clock : q.clock ≡ p.ends
   pub rest : q.rest ≡ p.rest
   pub unused : used_by q.work ≡ []
-  pub kind : is_busy q.work ≡ true → (hand : InHand) × (q.work ≡ Packet hand)
-  pub ends : (hand : InHand) → q.work ≡ Packet hand → q.ends ≡ saturated (p.ends + p.settings.packet)
+  pub kind : is_busy q.work ≡ true → IsTaken q.work
+  pub ends : (hand : InHand) → q.work ≡ Packet hand → q.ends ≡ saturated (p.ends + packet_time p.settings)
+  pub looks : (look : Looking) → q.work ≡ Poll look → q.ends ≡ saturated (p.ends + p.settings.take)
   pub tasks : (again : Option ℕ) × (q.tasks ≡ put_first again (tasks_after (delivery_of w p) p))
 
 feeds-over : (Q : Option (ℕ × ℕ) → List ℕ → ApplicationView → Type 0) (w : Work) (p q r : ProcessorView) → q.settings ≡ p.settings
@@ -262,9 +307,9 @@ feeds-work Q (Interrupt m) p counts is f = by (is_polling p.settings) (next_pack
         feeds-over Q (Interrupt m) p r _ refl refl refl (rw (polling, found) refl)
         (rw (polling, found) (f.gives m came (ap (λ (w : Work). delivery_of w p) is ∙ rw (polling, found) refl)))
         (over-none r (record r { devices = changed raised_again m r.devices }) refl refl refl refl refl None refl)
-feeds-work Q (Poll m) p counts is f =
+feeds-work Q (Poll look) p counts is f =
     let q : ProcessorView = record p { clock = p.ends; work = Nothing; counts = counts } in
-    feeds-over Q (Poll m) p q (poll_looks m 0 q) refl refl refl refl f.none (over-looks m 0 q refl)
+    feeds-over Q (Poll look) p q (poll_looks look.device look.given q) refl refl refl refl f.none (over-looks look.device look.given q refl)
 feeds-work Q (Packet hand) p counts is f =
     let q = delivers hand.device hand.came (record p { clock = p.ends; work = Nothing; counts = counts }) in
     feeds-over Q (Packet hand) p q (poll_looks hand.device (hand.given + 1) q) refl refl refl refl

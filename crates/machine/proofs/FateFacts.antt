@@ -1,34 +1,27 @@
 -- The fate of packets: each is delivered, in order.
-use Rattle.std.proofs.Common.{◌≡◌, ◌∙◌, ℕ, ◌+◌, ◌<◌, Bool, true, false, Option, Some, None, List, [], ◌∷◌, ◌++◌, append_assoc, length}
-use Rattle.std.proofs.{Common.{refl, sym, ap, subst, arith}}
-use Rattle.std.proofs.{lemmas.{List.append-nil, Bool.{and_left, and_right}, Grind.common_steps}}
-use Rattle.std.specs.{List.AllByRecursion, Prelude.{◌==◌, ◌&&◌, if◌then◌else◌, not, slice_get}}
-use Rattle.{machine_model.specs.declared.settings.MachineSettings.MachineSettings}
-use Rattle.device_places.specs.Places.{added_at, at, changed}
-use Rattle.machine.specs.Lives.{MachineEvent, behind, next, packet}
-use Rattle.machine.specs.Fates.{DeliversInOrder, came, delivered_packets, next_delivery, delivery_by, delivery_of, finds_room}
-use Rattle.machine.specs.Fates.{hand_of, packet_for, queue_ring, taken_in}
-use Rattle.machine_model.specs.declared.processor.{Work.{Work}}
-use Rattle.machine_model.specs.declared.{processor.Upcoming.{Upcoming, TheVariants.{Never, Expires}}}
-use Rattle.machine_model.specs.Device.{QueueView, after_packet, asks, expired, has_room, interrupted, is_masked, new_queue}
-use Rattle.machine_model.specs.Device.{notified, queue_completed, queue_polled, raised_again, without_next}
-use Rattle.machine_model.specs.Devices.{QueueViews, asks_at, has_room_at, next_packet_at, with_device}
-use Rattle.machine_model.specs.{Waits.saturated}
-use Rattle.machine_model.specs.Processor.{ProcessorView, ends_current, happens, is_polling, step}
-use Rattle.machine_model.specs.Processor.{upcoming}
-use Rattle.machine.proofs.TableFacts.{at-either, at-keeps, at-kept, at-same, map-kept, map_at}
-use Rattle.machine.proofs.EndFacts.{Ends, Keeps, Looks, ends, ends-at}
-use Rattle.machine.proofs.WorkFacts.{Goes, Life, devices_arrived, expired_at, goes-on, life-arrives, life-happens, life-takes}
-use Rattle.machine.proofs.WorkFacts.{work-ended}
-use Rattle.machine_model.specs.{Kept.polled_by}
+use Rattle.std.proofs.{Common.{◌≡◌, ◌∙◌, ℕ, ◌+◌, ◌<◌, Bool, true, false, Option, Some, None, List, [], ◌∷◌, ◌++◌, append_assoc, length}}
+use Rattle.std.proofs.{Common.{refl, sym, ap, subst, arith}, lemmas.{Bool.and_right, Grind.common_steps, List.append-nil}}
+use Rattle.std.specs.{List.AllByRecursion, Option.option_map_or, Prelude.{◌==◌, ◌&&◌, ◌||◌, drop, if◌then◌else◌, slice_get}}
+use Rattle.machine_model.proofs.{QueueFacts.{armed-by, packet-by}, TableFacts.{at-either, at-keeps, at-kept, at-same, map-kept, map_at}}
+use Rattle.machine_model.{proofs.TableFacts.{IfThere, map-there}, specs.Device.{QueueView, after_packet, armed, asks, expired, has_room}}
+use Rattle.machine_model.specs.Device.{holding, interrupted, new_queue, notified, queue_completed, queue_polled, raised_again, without_held}
+use Rattle.machine_model.specs.{Device.without_next, Devices.{QueueViews, asks_at, has_room_at, next_held_at, next_packet_at, with_device}}
+use Rattle.machine_model.specs.{Kept.polled_by, Processor.{ProcessorView, ends_current, happens, is_batching, is_polling, step, upcoming}}
+use Rattle.machine_model.specs.{Waits.saturated, declared.processor.{Upcoming.{Upcoming, TheVariants.{Never, Expires}}, Work.Work}}
+use Rattle.machine_model.specs.declared.settings.MachineSettings.{MachineSettings}
 use Rattle.machine_model.specs.declared.processor.Upcoming.TheVariants as upcomings
 use Rattle.machine_model.specs.Device as device
+use Rattle.device_places.specs.Places.{added_at, at, changed}
+use Rattle.machine.proofs.{EndFacts.{Ends, Keeps, Looks, ends, ends-at, keeps-in, takes_out}, WorkFacts.{Goes, Life, devices_arrived}}
+use Rattle.machine.{proofs.WorkFacts.{expired_at, goes-on, life-arrives, life-happens, life-takes, work-ended}, specs.Fates.DeliversInOrder}
+use Rattle.machine.specs.Fates.{came, delivered_packets, next_delivery, delivery_by, delivery_of, finds_room, hand_of, packet_for}
+use Rattle.machine.specs.{Fates.{queue_ring, taken_in}, Lives.{MachineEvent, behind, next, packet}}
 
 -- ---- a property of one queue
 
 -- no work that begins and no timer that expires changes it
 pub record Steady (K : Option QueueView → Type 0) : Type 0 where
-  pub interrupted : (polling : Bool) (o : Option QueueView) → asks_at o ≡ true → K o → K (map_at (interrupted polling) o)
+  pub interrupted : (until : ℕ) (polling : Bool) (o : Option QueueView) → asks_at o ≡ true → K o → K (map_at (interrupted until polling) o)
   pub expired : (o : Option QueueView) → K o → K (map_at expired o)
 
 pub steady-life : (s : MachineSettings) (K : Option QueueView → Type 0) → Steady K → (n : ℕ)
@@ -36,8 +29,9 @@ pub steady-life : (s : MachineSettings) (K : Option QueueView → Type 0) → St
 steady-life s K k n = record {
   walk = record {
     interrupt = λ m time counts p free h asks.
-        at-keeps K (interrupted (is_polling p.settings)) m n p.devices
-        (λ here. k.interrupted (is_polling p.settings) (at n p.devices) (at-same (λ o. asks_at o ≡ true) m n p.devices here asks)) h;
+        let until = saturated (p.clock + time) in
+        at-keeps K (interrupted until (is_polling p.settings)) m n p.devices
+        (λ here. k.interrupted until (is_polling p.settings) (at n p.devices) (at-same (λ o. asks_at o ≡ true) m n p.devices here asks)) h;
     next = λ p free h. h;
     asks = λ m p h asked. h;
     over = λ counts p free h. h;
@@ -58,12 +52,27 @@ steady-life s K k n = record {
     expired-at None p h = h
     expired-at (Some m) p h = at-keeps K expired m n p.devices (λ here. k.expired (at n p.devices)) h
 
+-- a property of each queue that these keep
+pub steady-there : (P : QueueView → Type 0)
+    → ((until : ℕ) (polling : Bool) (d : QueueView) → asks d.phase ≡ true → P d → P (interrupted until polling d))
+    → ((d : QueueView) → P d → P (expired d)) → Steady (λ o. IfThere P o)
+unfolding map_at
+steady-there P interrupts expires = record {
+  interrupted = λ until polling o asked held. by until polling o asked held;
+  expired = λ o held. map-there P P expired o expires held;
+}
+  where
+    by : (until : ℕ) (polling : Bool) (o : Option QueueView) → asks_at o ≡ true → IfThere P o
+        → IfThere P (map_at (interrupted until polling) o)
+    by until polling None asked held = tt
+    by until polling (Some d) asked held = interrupts until polling d asked held
+
 -- a part of a queue that these don't change
 pub steady-part : {A : Type 0} (g : Option QueueView → A) (x : A)
-    → ((polling : Bool) (d : QueueView) → g (Some (interrupted polling d)) ≡ g (Some d))
+    → ((until : ℕ) (polling : Bool) (d : QueueView) → g (Some (interrupted until polling d)) ≡ g (Some d))
     → ((d : QueueView) → g (Some (expired d)) ≡ g (Some d)) → Steady (λ o. g o ≡ x)
 steady-part g x interrupts expires = record {
-  interrupted = λ polling o asks is. map-kept g (interrupted polling) o (interrupts polling) ∙ is;
+  interrupted = λ until polling o asks is. map-kept g (interrupted until polling) o (interrupts until polling) ∙ is;
   expired = λ o is. map-kept g expired o expires ∙ is;
 }
 
@@ -72,9 +81,9 @@ steady-part g x interrupts expires = record {
 unfoldable pub queued : Option QueueView → List ℕ
 queued o = taken_in o ++ queue_ring o
 
-pub queued-interrupted : (polling : Bool) (d : QueueView) → queued (Some (interrupted polling d)) ≡ queued (Some d)
+pub queued-interrupted : (until : ℕ) (polling : Bool) (d : QueueView) → queued (Some (interrupted until polling d)) ≡ queued (Some d)
 unfolding queued interrupted
-queued-interrupted polling d = grind (arith, common_steps)
+queued-interrupted until polling d = grind (arith, common_steps)
 
 pub queued-expired : (d : QueueView) → queued (Some (expired d)) ≡ queued (Some d)
 unfolding queued
@@ -88,17 +97,26 @@ pub queued-delivered : (now came : ℕ) (d : QueueView) → queued (Some (device
 unfolding queued
 queued-delivered now came d = refl
 
-pub queued-polled : (now given : ℕ) (s : MachineSettings) (d : QueueView) → queued (Some (queue_polled now given s d)) ≡ queued (Some d)
-unfolding queued queue_polled queue_completed
-queued-polled now given s d = grind (arith, common_steps)
+-- the card is unmasked_queue, and keeps its packets
+kept-armed : (now : ℕ) (s : MachineSettings) (d : QueueView) → ((armed now s d).taken ≡ d.taken) × ((armed now s d).ring ≡ d.ring)
+unfolding notified
+kept-armed now s d = armed-by (λ e. (e.taken ≡ d.taken) × (e.ring ≡ d.ring)) now s d (λ owed. (refl, refl)) (λ free. (refl, refl))
 
-taken-interrupted : (polling : Bool) (d : QueueView) → (interrupted polling d).taken ≡ d.taken
-unfolding interrupted
-taken-interrupted polling d = grind (arith, common_steps)
-
-taken-polled : (now given : ℕ) (s : MachineSettings) (d : QueueView) → (queue_polled now given s d).taken ≡ d.taken
+kept-polled : (now given : ℕ) (s : MachineSettings) (d : QueueView)
+    → ((queue_polled now given s d).taken ≡ d.taken) × ((queue_polled now given s d).ring ≡ d.ring)
 unfolding queue_polled queue_completed
-taken-polled now given s d = grind (arith, common_steps)
+kept-polled now given s d = grind (arith, common_steps, kept-armed)
+
+pub queued-polled : (now given : ℕ) (s : MachineSettings) (d : QueueView) → queued (Some (queue_polled now given s d)) ≡ queued (Some d)
+unfolding queued
+queued-polled now given s d = let k = kept-polled now given s d in rw (k.0, k.1) refl
+
+pub taken-interrupted : (until : ℕ) (polling : Bool) (d : QueueView) → (interrupted until polling d).taken ≡ d.taken
+unfolding interrupted
+taken-interrupted until polling d = grind (arith, common_steps)
+
+pub taken-polled : (now given : ℕ) (s : MachineSettings) (d : QueueView) → (queue_polled now given s d).taken ≡ d.taken
+taken-polled now given s d = (kept-polled now given s d).0
 
 front-none : (xs : List ℕ) → slice_get xs 0 ≡ None → xs ≡ []
 front-none [] is = refl
@@ -128,6 +146,33 @@ look-some backlog m n c ds plain is =
     at-either (λ b o. (if b then c ∷ [] else []) ++ queued o ≡ queued (at n ds)) (without_next backlog) m n ds
     (λ here. next-some-at backlog (at n ds) c plain (at-same (λ o. next_packet_at backlog o ≡ Some c) m n ds here is)) (λ other. refl)
 
+-- a packet leaves the ring and GRO holds it, or it is handed over
+held-queued : (ring taken : List ℕ) (first : Option ℕ) → slice_get ring 0 ≡ first
+    → (option_map_or (λ (came : ℕ). taken ++ came ∷ []) first taken) ++ (option_map_or (λ (came : ℕ). drop 1 ring) first ring)
+    ≡ taken ++ ring
+held-queued ring taken first h1 = grind (arith, common_steps)
+
+pub queued-holding : (d : QueueView) → queued (Some (holding d)) ≡ queued (Some d)
+unfolding queued
+queued-holding d = grind (arith, common_steps, held-queued)
+
+pub held-some-at : (o : Option QueueView) (c : ℕ) → next_held_at o ≡ Some c → c ∷ queued (map_at without_held o) ≡ queued o
+unfolding map_at queued
+held-some-at o c is = grind (arith, common_steps)
+
+pub held-keeps : (P : ℕ → Type 0) (o : Option QueueView) → AllByRecursion P (queued o) → AllByRecursion P (queued (map_at without_held o))
+unfolding map_at queued
+held-keeps P o h1 = grind (arith, common_steps)
+
+pub held-none-at : (o : Option QueueView) → next_held_at o ≡ None → taken_in o ≡ []
+held-none-at o is = grind (arith, common_steps, front-none)
+
+hand-some : (m n c : ℕ) (ds : QueueViews) → next_held_at (at m ds) ≡ Some c
+    → (if m == n then c ∷ [] else []) ++ queued (at n (changed without_held m ds)) ≡ queued (at n ds)
+hand-some m n c ds is =
+    at-either (λ b o. (if b then c ∷ [] else []) ++ queued o ≡ queued (at n ds)) without_held m n ds
+    (λ here. held-some-at (at n ds) c (at-same (λ o. next_held_at o ≡ Some c) m n ds here is)) (λ other. refl)
+
 pub look-none : (backlog : Bool) (m n : ℕ) (ds : QueueViews) → (backlog ≡ false → taken_in (at n ds) ≡ [])
     → next_packet_at backlog (at m ds) ≡ None → queued (at n (changed (without_next backlog) m ds)) ≡ queued (at n ds)
 look-none backlog m n ds h1 h2 = grind (arith, common_steps)
@@ -138,13 +183,31 @@ look-none backlog m n ds h1 h2 = grind (arith, common_steps)
 abbrev pub holds : ℕ → QueueViews → Work → List ℕ
 holds n ds w = hand_of n w ++ queued (at n ds)
 
-looks-hold : (s : MachineSettings) (n m given now : ℕ) (more : List ℕ) (ds : QueueViews) → (s.backlog ≡ false → taken_in (at n ds) ≡ [])
+looks-hold : (s : MachineSettings) (n m given now : ℕ) (more : List ℕ) (ds : QueueViews)
+    → (is_batching s ≡ false → s.backlog ≡ false → taken_in (at n ds) ≡ [])
     → Looks (λ es w. more ++ holds n es w ≡ more ++ queued (at n ds)) s now m given ds
-looks-hold s n m given now more ds h1 = grind (arith, common_steps, look-some, queued-polled, look-none)
+looks-hold s n m given now more ds plain = record {
+  some = λ single came is. all (look-some s.backlog m n came ds (plain single) is);
+  none = λ single none.
+      let next = changed (without_next s.backlog) m ds in
+      all (at-kept queued (queue_polled now given s) m n next (queued-polled now given s)
+      ∙ look-none s.backlog m n ds (plain single) none);
+  full = λ single full. all (at-kept queued (queue_polled now given s) m n ds (queued-polled now given s));
+  takes = λ batch pulls. all (at-kept queued holding m n ds queued-holding);
+  hands = λ batch stops came is. all (hand-some m n came ds is);
+  over = λ batch stops none. all (at-kept queued (queue_polled now given s) m n ds (queued-polled now given s));
+}
+  where
+    all : {xs : List ℕ} → xs ≡ queued (at n ds) → more ++ xs ≡ more ++ queued (at n ds)
+    all same = ap (λ (ys : List ℕ). more ++ ys) same
 
--- without a backlog or without polling, no packets are moved out of the ring
+-- no packets leave the ring before they are processed: without a backlog and without batches, or without polling
 abbrev pub IsPlain : MachineSettings → ℕ → QueueViews → Type 0
-IsPlain s n ds = (s.backlog && is_polling s) ≡ false → taken_in (at n ds) ≡ []
+IsPlain s n ds = takes_out s ≡ false → taken_in (at n ds) ≡ []
+
+pub plain-in : (s : MachineSettings) (n : ℕ) (ds : QueueViews) → IsPlain s n ds → is_batching s ≡ false → s.backlog ≡ false
+    → taken_in (at n ds) ≡ []
+plain-in s n ds plain single none = plain (keeps-in s none single)
 
 no-hand : (n : ℕ) (w : Work) → polled_by w ≡ None → hand_of n w ≡ []
 no-hand n w h1 = grind (arith, common_steps)
@@ -159,16 +222,15 @@ ends-hold n p plain = record {
       let two = changed (device.queue_delivered p.ends came) m one in
       rw is (ap (λ (xs : List ℕ). packet_for n (Some (m, came)) ++ xs) (at-kept queued raised_again m n two queued-raised
       ∙ at-kept queued (device.queue_delivered p.ends came) m n one (queued-delivered p.ends came))
-      ∙ look-some false m n came p.devices (λ no. plain (and_right p.settings.backlog (is_polling p.settings) lone)) next);
-  poll = λ m is. rw is (looks-hold p.settings n m 0 p.ends [] p.devices
-      (λ no. plain (and_left p.settings.backlog (is_polling p.settings) no)));
+      ∙ look-some false m n came p.devices
+      (λ no. plain (and_right (p.settings.backlog || is_batching p.settings) (is_polling p.settings) lone)) next);
+  poll = λ look is. rw is (looks-hold p.settings n look.device look.given p.ends [] p.devices (plain-in p.settings n p.devices plain));
   packet = λ hand is.
       let deliver = device.queue_delivered p.ends hand.came in
       let ds = changed deliver hand.device p.devices in
       let more : List ℕ = packet_for n (Some (hand.device, hand.came)) in
       let l = looks-hold p.settings n hand.device (hand.given + 1) p.ends more ds
-      (λ no. at-kept taken_in deliver hand.device n p.devices (λ d. refl)
-      ∙ plain (and_left p.settings.backlog (is_polling p.settings) no)) in
+      (λ single none. at-kept taken_in deliver hand.device n p.devices (λ d. refl) ∙ plain-in p.settings n p.devices plain single none) in
       rw is (subst (λ (xs : List ℕ). Looks (λ es w. more ++ holds n es w ≡ more ++ xs) p.settings p.ends hand.device (hand.given + 1) ds)
       (at-kept queued deliver hand.device n p.devices (queued-delivered p.ends hand.came)) l);
 }
@@ -207,42 +269,19 @@ pub at-arrives : (K : Option QueueView → Type 0) (moment m n : ℕ) (p : Proce
 at-arrives K moment m n p here held =
     at-arrived (λ b o. K o) moment m n p (λ same. here (made_at p.settings.ring (at n p.devices)) refl) (λ other. held)
 
--- what has to be shown about a queue for which a packet arrives, both if the ring has room and if it is full
-pub packet-by : (Q : Bool → QueueView → Type 0) (moment : ℕ) (s : MachineSettings) (d : QueueView)
-    → (let e : QueueView = record d { counts = record d.counts { arrived = saturated (d.counts.arrived + 1) } } in
-    let f : QueueView = record e { ring = d.ring ++ moment ∷ [] } in
-    Q false (record e { counts = record e.counts { dropped = saturated (d.counts.dropped + 1) } }) × Q true f
-    × Q true (notified moment s f))
-    → Q (has_room d) (after_packet moment s d)
-unfolding after_packet
-packet-by Q moment s d each = by (has_room d) (is_masked d.phase)
-  where
-    e : QueueView
-    e = record d { counts = record d.counts { arrived = saturated (d.counts.arrived + 1) } }
-
-    f : QueueView
-    f = record e { ring = d.ring ++ moment ∷ [] }
-
-    by : (room masked : Bool)
-        → Q room (if not room then record e { counts = record e.counts { dropped = saturated (d.counts.dropped + 1) } }
-        else (if masked then f else notified moment s f))
-    by false masked = each.0
-    by true true = each.1
-    by true false = each.2
-
 pub packet-queued : (moment : ℕ) (s : MachineSettings) (d : QueueView)
     → queued (Some (after_packet moment s d)) ≡ queued (Some d) ++ (if has_room d then moment ∷ [] else [])
 unfolding queued notified
 packet-queued moment s d =
     packet-by (λ room e. queued (Some e) ≡ queued (Some d) ++ (if room then moment ∷ [] else [])) moment s d (
       sym (append-nil (d.taken ++ d.ring)),
-      sym (append_assoc d.taken d.ring (moment ∷ [])),
-      sym (append_assoc d.taken d.ring (moment ∷ [])),
+      λ silent. sym (append_assoc d.taken d.ring (moment ∷ [])),
+      λ clear. sym (append_assoc d.taken d.ring (moment ∷ [])),
     )
 
-packet-taken : (moment : ℕ) (s : MachineSettings) (d : QueueView) → (after_packet moment s d).taken ≡ d.taken
+pub packet-taken : (moment : ℕ) (s : MachineSettings) (d : QueueView) → (after_packet moment s d).taken ≡ d.taken
 unfolding notified
-packet-taken moment s d = packet-by (λ room e. e.taken ≡ d.taken) moment s d (refl, refl, refl)
+packet-taken moment s d = packet-by (λ room e. e.taken ≡ d.taken) moment s d (refl, λ silent. refl, λ clear. refl)
 
 -- a part of a queue that is the same in a new queue as where there is none
 pub made-part : {A : Type 0} (g : Option QueueView → A) (capacity : ℕ) (o : Option QueueView) → g (Some (new_queue capacity)) ≡ g None
@@ -266,30 +305,81 @@ arrived-queued moment m n p =
 
 -- ---- over a processor's life
 
-pub ends-plain : (s : MachineSettings) (p : ProcessorView) → Goes s p → (s.backlog && is_polling s) ≡ false
-    → Keeps (λ o. taken_in o ≡ []) p
+-- a property of each queue that no event changes
+pub record Lasts (s : MachineSettings) (K : Option QueueView → Type 0) : Type 0 where
+  pub none : K None
+  pub new : K (Some (new_queue s.ring))
+  pub steady : Steady K
+  pub packet : (moment : ℕ) (d : QueueView) → K (Some d) → K (Some (after_packet moment s d))
+  pub ends : (p : ProcessorView) → Goes s p → Keeps K p
+
+pub lasts-on : (s : MachineSettings) (n : ℕ) (K : Option QueueView → Type 0) → Lasts s K → (events : List MachineEvent)
+    → K (at n (behind s events).devices)
+unfolding behind step made_at
+lasts-on s n K l [] = l.none
+lasts-on s n K l (packet moment m ∷ earlier) =
+    let p = behind s earlier in
+    let goes = goes-on s earlier in
+    let before = lasts-on s n K l earlier in
+    let now = at-arrives K moment m n p
+    (λ d is. rw goes.rests.settings (l.packet moment d (rw is (made (at n p.devices) before)))) before in
+    life-arrives (steady-life s K l.steady n) moment m p goes now (λ full. now)
+  where
+    made : (o : Option QueueView) → K o → K (Some (made_at (behind s earlier).settings.ring o))
+    made None held = rw (goes-on s earlier).rests.settings l.new
+    made (Some d) held = held
+lasts-on s n K l (next ∷ earlier) =
+    let p = behind s earlier in
+    let goes = goes-on s earlier in
+    let before = lasts-on s n K l earlier in
+    life-happens (steady-life s K l.steady n) (upcoming p) p goes before before (λ is. ends-at K n p (l.ends p goes) before)
+
+takes-not : (s : MachineSettings) (polled : Option ℕ) (m : ℕ) → takes_out s ≡ false → (is_polling s ≡ false → polled ≡ None)
+    → is_batching s ≡ true → polled ≡ Some m → ⊥
+takes-not s polled m plain none batch some = grind (arith, common_steps)
+
+backlog-not : (s : MachineSettings) (polled : Option ℕ) (m : ℕ) → takes_out s ≡ false → (is_polling s ≡ false → polled ≡ None)
+    → s.backlog ≡ true → polled ≡ Some m → ⊥
+backlog-not s polled m plain none backlog some = grind (arith, common_steps)
+
+pub ends-plain : (s : MachineSettings) (p : ProcessorView) → Goes s p → takes_out s ≡ false → Keeps (λ o. taken_in o ≡ []) p
 unfolding map_at
-ends-plain s p h1 h2 = grind (arith, common_steps, taken-polled)
+ends-plain s p goes plain = record {
+  raised = λ lone o is. map-kept taken_in raised_again o (λ d. refl) ∙ is;
+  next = λ backlog o no polls is. next backlog o polls is;
+  holds = λ o batch m polled is.
+      absurd (takes-not s (polled_by p.work) m plain goes.polled
+      (sym (ap (λ (x : MachineSettings). is_batching x) goes.rests.settings) ∙ batch) polled);
+  hands = λ o batch is. handed o is;
+  delivered = λ came o is. map-kept taken_in (device.queue_delivered p.ends came) o (λ d. refl) ∙ is;
+  polled = λ given o is.
+      map-kept taken_in (queue_polled p.ends given p.settings) o (taken-polled p.ends given p.settings) ∙ is;
+}
+  where
+    next : (backlog : Bool) (o : Option QueueView)
+        → (backlog ≡ true → (m : ℕ) × (polled_by p.work ≡ Some m) × (p.settings.backlog ≡ true)) → taken_in o ≡ []
+        → taken_in (map_at (without_next backlog) o) ≡ []
+    next false o polls is = map-kept taken_in (without_next false) o (λ d. refl) ∙ is
+    next true o polls is =
+        let polled = polls refl in
+        absurd (backlog-not s (polled_by p.work) polled.0 plain goes.polled
+        (sym (ap (λ (x : MachineSettings). x.backlog) goes.rests.settings) ∙ polled.2) polled.1)
+
+    handed : (o : Option QueueView) → taken_in o ≡ [] → taken_in (map_at without_held o) ≡ []
+    handed None is = refl
+    handed (Some d) is = rw is refl
 
 steady-plain : Steady (λ o. taken_in o ≡ [])
 steady-plain = steady-part taken_in [] taken-interrupted (λ d. refl)
 
 pub plain-on : (s : MachineSettings) (n : ℕ) (events : List MachineEvent) → IsPlain s n (behind s events).devices
-unfolding behind step
-plain-on s n [] plain = refl
-plain-on s n (packet moment m ∷ earlier) plain =
-    let p = behind s earlier in
-    let before = plain-on s n earlier plain in
-    let now = at-arrives (λ o. taken_in o ≡ []) moment m n p
-    (λ d is. packet-taken moment p.settings d
-    ∙ (ap (λ (e : QueueView). e.taken) is ∙ made-part taken_in p.settings.ring (at n p.devices) refl ∙ before)) before in
-    life-arrives (steady-life s (λ o. taken_in o ≡ []) steady-plain n) moment m p (goes-on s earlier) now (λ full. now)
-plain-on s n (next ∷ earlier) plain =
-    let p = behind s earlier in
-    let goes = goes-on s earlier in
-    let before = plain-on s n earlier plain in
-    life-happens (steady-life s (λ o. taken_in o ≡ []) steady-plain n) (upcoming p) p goes before before
-    (λ is. ends-at (λ o. taken_in o ≡ []) n p (ends-plain s p goes plain) before)
+plain-on s n events plain = lasts-on s n (λ o. taken_in o ≡ []) (record {
+  none = refl;
+  new = refl;
+  steady = steady-plain;
+  packet = λ moment d is. packet-taken moment s d ∙ is;
+  ends = λ p goes. ends-plain s p goes plain;
+}) events
 
 pub plain-of : (s : MachineSettings) (n : ℕ) (events : List MachineEvent) → IsPlain (behind s events).settings n (behind s events).devices
 plain-of s n events plain = plain-on s n events (rw (goes-on s events).rests.settings at plain)

@@ -1,19 +1,12 @@
 -- A failed output is never an error of the input's bytes.
-use Rattle.std.proofs.Common.{◌≡◌, ℕ, Bool, true, false, List, [], ◌∷◌, ◌++◌, length}
-use Rattle.std.specs.Prelude.{Option, Some, None, Result, Ok, Err, if◌then◌else◌, nat_le, nat_lt, ◌&&◌, ◌^◌, ◌*◌, ◌+◌}
-use Rattle.device_rows.specs.{Record.{is_numeral, numeral}, Row.is_within}
-use Rattle.machine.specs.Arrivals.{ArrivalFields, arrival_of, arrivals_after, arrivals_of, arrival_fields, is_arrivals_title}
-use Rattle.machine.specs.Arrivals.{last_moment, arrival_of_fields, queue_of, arrival_in_range}
-use Rattle.machine.specs.Arrivals.{◌>>=◌}
-use Rattle.std.proofs.Common.{◌⊎◌, inl, inr}
-use Rattle.device_rows.specs.Trace.{records_of}
+use Rattle.std.{proofs.{Common.{◌≡◌, ℕ, Bool, true, false, List, [], ◌∷◌, ◌++◌, length, ◌⊎◌, inl, inr}}, specs.Prelude.{Option, Some, None}}
+use Rattle.std.specs.{Prelude.{Result, Ok, Err, if◌then◌else◌, nat_le, nat_lt, ◌&&◌, ◌^◌, ◌*◌, ◌+◌}}
+use Rattle.device_rows.specs.{Record.{is_numeral, numeral}, Row.is_within, Trace.records_of}
+use Rattle.machine.specs.{Answer.IsArrivalsFault, Arrivals.{ArrivalFields, arrival_of, arrivals_after, arrivals_of, arrival_fields}}
+use Rattle.machine.specs.{Arrivals.{is_arrivals_title, last_moment, arrival_of_fields, queue_of, arrival_in_range, ◌>>=◌}}
+use Rattle.machine.specs.{Fault.IsArrivalReadFailure, declared.arrival.{Arrival.Arrival, Numbers.Numbers}}
+use Rattle.machine.specs.declared.fault.MachineFault.{MachineFault, TheVariants.{BadHeader, BadNumber, Falls, OutOfRange, OutputFailed}}
 use Rattle.machine_model.specs.declared.settings.MachineSettings.{MachineSettings}
-use Rattle.machine.specs.Answer.{IsArrivalsFault}
-use Rattle.machine.specs.Fault.{IsArrivalReadFailure}
-use Rattle.machine.specs.declared.arrival.Arrival.{Arrival}
-use Rattle.machine.specs.declared.arrival.Numbers.{Numbers}
-use Rattle.machine.specs.declared.fault.MachineFault.{MachineFault}
-use Rattle.machine.specs.declared.fault.MachineFault.TheVariants.{BadHeader, BadNumber, Falls, OutOfRange, OutputFailed}
 
 ranged-never : (s : MachineSettings) (n last : ℕ) (row : Numbers) → arrival_in_range s n last row ≡ Err OutputFailed → ⊥
 unfolding arrival_in_range

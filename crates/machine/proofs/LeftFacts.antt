@@ -1,32 +1,25 @@
 -- Law: when nothing is left to happen, no packet is left.
-use Rattle.std.proofs.Common.{◌≡◌, ◌∙◌, ℕ, ◌+◌, ◌-◌, ◌<◌, ◌≤◌, ◌^◌, Bool, true, false, Option, Some, None, List, [], ◌∷◌, ◌++◌}
-use Rattle.std.proofs.Common.{length, refl, sym}
-use Rattle.std.proofs.Common.{ap, subst, arith}
-use Rattle.std.proofs.lemmas.{Bool.{and_left, and_right, eqb-true, false_from_ne_true, leb-false}, Grind.common_steps}
-use Rattle.std.proofs.lemmas.List.Sums.{fails_before_first, sum_by-cons}
-use Rattle.std.specs.{Prelude.{◌==◌, ◌&&◌, if◌then◌else◌, min, not, position}}
-use Rattle.machine_model.specs.declared.settings.MachineSettings.{MachineSettings}
-use Rattle.device_places.specs.Places.{at}
-use Rattle.machine.specs.{Lives.{MachineEvent, behind, next, packet}, Fates.{NothingIsLeft, delivery_of, queue_ring, taken_in}}
-use Rattle.machine_model.specs.declared.{device.Phase.Phase, devices.Timer.Timer}
-use Rattle.machine_model.specs.declared.{processor.ProcessorCounts.ProcessorCounts}
-use Rattle.machine_model.specs.declared.processor.{Upcoming.{Upcoming, TheVariants.{Never, Expires}}, Work.{Work, TheVariants.{Nothing}}}
+use Rattle.std.proofs.{Common.{◌≡◌, ◌∙◌, ℕ, ◌+◌, ◌-◌, ◌<◌, ◌≤◌, ◌^◌, Bool, true, false, Option, Some, None, List, [], ◌∷◌, ◌++◌, length}}
+use Rattle.std.proofs.{Common.{refl, sym, ap, subst, arith}, lemmas.Bool.{and_left, and_right, eqb-true, false_from_ne_true, leb-false}}
+use Rattle.std.{proofs.lemmas.{Grind.common_steps, List.Sums.{fails_before_first, sum_by-cons}}, specs.{Prelude.{◌==◌, ◌&&◌}}}
+use Rattle.std.specs.{Prelude.{if◌then◌else◌, min, not, position}}
+use Rattle.machine_model.{proofs.WalkFacts.{IsSettled, NoTask, Still, Walk, idle-is, is_scheduling, nexted}, specs.Application.fed}
+use Rattle.machine_model.specs.{Application.has_place, Device.{QueueView, asks, has_room, timer_of}, Devices.{QueueViews, asks_at}}
+use Rattle.machine_model.specs.{Devices.{has_room_at, with_device}, Kept.{is_scheduled, scheduled_at}, Processor.ProcessorView}
+use Rattle.machine_model.specs.{Processor.{ends_current, is_busy, is_by, is_polling, step, upcoming}, Softirq.RunView, Tasks.applications}
+use Rattle.machine_model.specs.{Tasks.{is_application, runnable, with_application}, declared.{device.Phase.Phase, devices.Timer.Timer}}
+use Rattle.machine_model.specs.declared.processor.{ProcessorCounts.ProcessorCounts, Upcoming.{Upcoming, TheVariants.{Never, Expires}}}
+use Rattle.machine_model.specs.declared.{processor.Work.{Work, TheVariants.Nothing}, settings.MachineSettings.MachineSettings}
 use Rattle.machine_model.specs.declared.tasks.RunnableTask.{RunnableTask, TheVariants.{Application, Thread}}
-use Rattle.machine_model.specs.Tasks.{applications, is_application, runnable, with_application}
-use Rattle.machine_model.specs.Application.{fed, has_place, put, refuses}
-use Rattle.machine_model.specs.Device.{QueueView, asks, has_room, timer_of}
-use Rattle.machine_model.specs.Devices.{QueueViews, asks_at, has_room_at, with_device}
-use Rattle.machine_model.specs.{Kept.{is_scheduled, scheduled_at}, Softirq.{RunView}}
-use Rattle.machine_model.specs.Processor.{ProcessorView, ends_current, is_busy, is_by, is_polling, step, upcoming}
-use Rattle.machine.proofs.{WalkFacts.{IsSettled, NoTask, Still, Walk, idle-is, is_scheduling, nexted}, SocketFacts.fed-here}
-use Rattle.machine.proofs.EndFacts.{feeds, put_first, tasks_after}
-use Rattle.machine.proofs.WorkFacts.{Goes, Life, Rests, all_applications, devices_arrived, goes-on, life-arrives}
-use Rattle.machine.proofs.WorkFacts.{life-happens, same-apart, same-polling, same-threaded}
-use Rattle.machine.proofs.FateFacts.{at-arrived, made-part, made_at, queued, room-made}
-use Rattle.machine.proofs.StandFacts.{Stands, by_thread, count, count_in, listed_at, no-thread, places, polled_at, stands-on, threads}
-use Rattle.machine.proofs.TendFacts.{Unstuck, Tend, unstuck-on, full-phase, is_quiet, is_stuck, tended-on}
-use Rattle.machine.proofs.{TimeFacts.{now, since}, TimerFacts.{Late, NextBy, NotBefore, Set, SetAt, next-is, set-first, timer_in}}
 use Rattle.machine_model.specs.declared.processor.Upcoming.TheVariants as upcomings
+use Rattle.device_places.specs.Places.{at}
+use Rattle.machine.proofs.{EndFacts.{feeds, put_first, tasks_after}, FateFacts.{at-arrived, made-part, made_at, queued, room-made}}
+use Rattle.machine.proofs.{SocketFacts.fed-here, StandFacts.{Stands, by_thread, count, count_in, listed_at, no-thread, places, polled_at}}
+use Rattle.machine.proofs.{StandFacts.{stands-on, threads}, TendFacts.{Unstuck, Tend, unstuck-on, full-phase, is_quiet, is_stuck}}
+use Rattle.machine.proofs.{TendFacts.tended-on, TimeFacts.{now, since}, TimerFacts.{Late, NextBy, NotBefore, Set, SetAt, next-is}}
+use Rattle.machine.proofs.{TimerFacts.{set-first, timer_in}, WorkFacts.{Goes, Life, all_applications, devices_arrived, goes-on}}
+use Rattle.machine.{proofs.WorkFacts.{life-arrives, life-happens, same-apart, same-polling, same-threaded}, specs.Fates.NothingIsLeft}
+use Rattle.machine.specs.{Fates.{delivery_of, queue_ring, taken_in}, Lives.{MachineEvent, behind, next, packet}}
 
 -- ---- runnable tasks
 
@@ -151,21 +144,7 @@ woken-apps b tasks h1 = grind (arith, common_steps, apps-with)
 -- a packet that is delivered wakes the application
 tasked-fed : (s : MachineSettings) (m came : ℕ) (p : ProcessorView) → Tasked s p → s.threaded ≡ true → s.apart ≡ false
     → min 1 (length (fed p.ends came p.settings p.application).socket.items) ≤ applications (tasks_after (Some (m, came)) p)
-tasked-fed s m came p h threaded here =
-    let own = same-threaded s p h.settings ∙ threaded in
-    let apart = same-apart s p h.settings ∙ here in
-    let w = woken-apps (p.settings.threaded && not p.settings.apart && has_place p.application) p.tasks h.single in
-    rw (fed-here p.settings p.ends came p.application apart) (by (has_place p.application) refl own apart (h.wakes threaded here) w.1 w.2)
-  where
-    by : (room : Bool) → has_place p.application ≡ room → p.settings.threaded ≡ true → p.settings.apart ≡ false
-        → min 1 (length p.application.socket.items) ≤ applications p.tasks
-        → applications p.tasks ≤ applications (tasks_after (Some (m, came)) p)
-        → ((p.settings.threaded && not p.settings.apart && has_place p.application) ≡ true
-        → applications (tasks_after (Some (m, came)) p) ≡ 1)
-        → min 1 (length (if room then put came p.application else refuses p.application).socket.items)
-        ≤ applications (tasks_after (Some (m, came)) p)
-    by true room threaded here before more one = let full = one (rw (threaded, here, room) refl) in omega (arith, full)
-    by false room threaded here before more one = omega (arith, before, more)
+tasked-fed s m came p h1 h2 h3 = grind (arith, common_steps, fed-here, same-apart, same-threaded, woken-apps)
 
 tasked-ended : (s : MachineSettings) (p : ProcessorView) → Tasked s p → Tasked s (ends_current p)
 tasked-ended s p h =
@@ -261,21 +240,7 @@ no-run n run is = rw is refl
 -- a queue that isn't scheduled has its number neither on the list, nor in the run, nor among the tasks
 placeless : (s : MachineSettings) (n : ℕ) (p : ProcessorView) → Goes s p → Resting p → places n p ≡ 0
 unfolding listed_at count
-placeless s n p goes r =
-    let rests = goes.rests in
-    let list : p.softirq.list ≡ [] =
-    list-empty (is_polling p.settings) p.softirq.list r.list
-    (λ single. (rests.soft (and_left (is_polling s) (not s.threaded) (sym (same-polling s p rests.settings) ∙ single))).0) in
-    let first : count n p.softirq.list ≡ 0 = ap (count n) list in
-    let second : count_in n p.softirq.run ≡ 0 = no-run n p.softirq.run r.idle in
-    let third : threads n p.tasks ≡ 0 = by p.settings.threaded refl rests in
-    omega (arith, first, second, third)
-  where
-    by : (b : Bool) → p.settings.threaded ≡ b → Rests s p → threads n p.tasks ≡ 0
-    by true is rests = no-threads n p.tasks (rw (r.tasks is) tt)
-    by false is rests =
-        no-threads n p.tasks
-        (rests.threads (and_right (is_polling s) s.threaded (sym (same-threaded s p rests.settings) ∙ is)))
+placeless s n p h1 h2 = grind (arith, common_steps, and_left, and_right, list-empty, no-run, no-threads, same-polling, same-threaded)
 
 both-empty : (xs ys : List ℕ) → xs ++ ys ≡ [] → (xs ≡ []) × (ys ≡ [])
 both-empty [] ys is = (refl, is)
@@ -306,7 +271,8 @@ nothing-is-left s events turns none =
     let r = (rested-on s events).resting nothing in
     let goes = goes-on s events in (
       nothing,
-      λ n. left-device (now s events) s.gro_flush_timeout (at n p.devices) (tended-on s n events (rw nothing refl))
+      λ n. left-device (now s events) s.gro_flush_timeout (at n p.devices)
+          (tended-on s n (2 ^ 64 - 1) events (omega arith) turns (rw nothing refl))
           (unstuck-on s n events) (r.quiet n)
           (free.timers n) (cells n).timer
           (by n p goes r (stands-on s n events) nothing),

@@ -1,25 +1,15 @@
 -- Each processor of a machine has a life (a list of events), and its events are determined.
-use Rattle.std.proofs.Common.{◌≡◌, ◌∙◌, ℕ, zero, suc, ◌-◌, ◌/◌, ◌%◌, ◌<◌, ◌≤◌, ◌^◌, Bool, true, false, Some, List, [], ◌∷◌, length}
-use Rattle.std.proofs.Common.{length-set, replicate, refl, sym, ap, arith}
-use Rattle.std.proofs.lemmas.Option.{slice_get_within}
-use Rattle.std.proofs.lemmas.Bool.{eq-eqb, eqb-false}
-use Rattle.std.specs.Prelude.{◌==◌, slice_get}
+use Rattle.std.proofs.{Common.{◌≡◌, ◌∙◌, ℕ, zero, suc, ◌-◌, ◌/◌, ◌%◌, ◌<◌, ◌≤◌, ◌^◌, Bool, true, false, Some, List, [], ◌∷◌, length}}
+use Rattle.std.proofs.{Common.{length-set, replicate, refl, sym, ap, arith}, lemmas.Bool.{eq-eqb, eqb-false, eqb-true}}
+use Rattle.std.{proofs.lemmas.{Grind.common_steps, Option.slice_get_within}, specs.{Prelude.{◌==◌, slice_get}}}
 use Rattle.circular_buffer.proofs.Places.{slice_get-set_other, slice_get-set_same, slice_get-some}
-use Rattle.{std.proofs.lemmas.{Bool.{eqb-true}, Grind.common_steps}, machine_model.specs.declared.settings.MachineSettings.MachineSettings}
-use Rattle.machine.specs.Lives.{ArrivesAsOne, EachLives, Ended, MachineEvent, InTurn, Lived, RunsAsOne, Took, behind, next}
-use Rattle.machine.specs.Lives.{own_packets, packet}
-use Rattle.machine.specs.Lives.{packets_in}
-use Rattle.machine_model.specs.Machine.{PacketArrives, Finishes, Machine, opened_machine}
-use Rattle.machine_model.specs.Processor.{Advances, ProcessorView, processor_after, arrives, is_by, is_due, opened_processor, step}
-use Rattle.machine_model.specs.Processor.{upcoming}
-use Rattle.machine_model.specs.declared.processor.Upcoming.{Upcoming}
-use Rattle.std.proofs.{Common.{ℕ, ◌<◌, ◌≤◌, ◌^◌, List, [], ◌∷◌, refl, arith}, lemmas.Grind.common_steps}
-use Rattle.{machine_model.specs.Machine.{PacketArrives, Machine, opened_machine}, machine.specs.Lives.{EachLives, Took}}
-use Rattle.{device_rows.specs.Trace.records_of, machine_model.specs.declared.settings.MachineSettings.MachineSettings}
-use Rattle.machine.specs.Answer.{TakesArrivals}
-use Rattle.machine.specs.declared.arrival.Arrival.{Arrival}
-use Rattle.machine.proofs.RisingFacts.{Rises, rises-of}
-use Rattle.machine.specs.Reports.{ReportsLives, arrived_packets}
+use Rattle.machine_model.specs.{Machine.{PacketArrives, Finishes, Machine, opened_machine}, Processor.{Advances, ProcessorView}}
+use Rattle.machine_model.specs.Processor.{processor_after, arrives, is_by, is_due, opened_processor, step, upcoming}
+use Rattle.machine_model.specs.declared.{processor.Upcoming.Upcoming, settings.MachineSettings.MachineSettings}
+use Rattle.machine.{proofs.RisingFacts.{Rises, rises-of}, specs.{Answer.TakesArrivals, Lives.{ArrivesAsOne, EachLives, Ended}}}
+use Rattle.machine.specs.Lives.{MachineEvent, InTurn, Lived, RunsAsOne, Took, behind, next, own_packets, packet, packets_in}
+use Rattle.machine.specs.{Reports.{ReportsLives, arrived_packets}, declared.arrival.Arrival.Arrival}
+use Rattle.device_rows.specs.Trace.{records_of}
 
 pub runs-as-one : RunsAsOne
 runs-as-one = grind (arith, common_steps)

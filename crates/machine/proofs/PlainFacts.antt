@@ -1,11 +1,9 @@
 -- How csv reads plain rows of arrivals (numbers, commas, a line feed).
-use Rattle.std.proofs.Common.{◌≡◌, ℕ, true, false, List, [], ◌∷◌, ◌++◌, Some, refl}
-use Rattle.std.specs.Prelude.{◌==◌}
+use Rattle.std.{proofs.{Common.{◌≡◌, ℕ, true, false, List, [], ◌∷◌, ◌++◌, Some, refl}}, specs.{Prelude.{◌==◌}}}
 use Rattle.csv.specs.{Machine.next_record, Reading.strip_bom, Records.field_at}
-use Rattle.device_rows.specs.Plain.{StartsWithNumber}
 use Rattle.device_rows.proofs.PlainFacts.{begins-first, begins-next, numeral-plain, record-ends, title-starts}
-use Rattle.machine.specs.Arrivals.{arrival_fields, is_arrivals_title, arrival_of_fields}
-use Rattle.machine.specs.Plain.{StartsWithHeader, StartsWithNumbers}
+use Rattle.device_rows.specs.Plain.{StartsWithNumber}
+use Rattle.machine.specs.{Arrivals.{arrival_fields, is_arrivals_title, arrival_of_fields}, Plain.{StartsWithHeader, StartsWithNumbers}}
 
 module _ (queues : ℕ) (text behind-m behind-d behind-b rest : List ℕ) (moment device bytes flow : ℕ)
     (m : StartsWithNumber text 44 moment behind-m) (d : StartsWithNumber behind-m 44 device behind-d) where

@@ -1,22 +1,17 @@
 -- The arrivals of the remaining records, from those after the next record.
-use Rattle.std.proofs.lemmas.Grind.{common_steps}
-use Rattle.std.proofs.Common.{◌≡◌, ◌∙◌, ℕ, ◌+◌, ◌-◌, ◌<◌, ◌≤◌, Bool, true, false, List, [], ◌∷◌, ◌++◌, drop, length, refl, sym, ap}
-use Rattle.std.{proofs.Common.{Vec, arith, length-append, Some, None, Option}, specs.Prelude.{Result, Ok, Err, fold}}
-use Rattle.csv.specs.Machine.{Read, ends_at_end}
-use Rattle.csv.specs.{Machine.next_record, Reading.{default_config, reader_state, records_from, records_next, strip_bom}}
-use Rattle.{csv.specs.declared.{reader.Reader.Reader, parser.State.State}, device_rows.specs.Source.{StandsAt, ReadsNext}}
-use Rattle.std.specs.{Global.Global, declared.io.{impls.Cursor.Cursor, traits.Chain.Chain}}
-use Rattle.device_rows.{specs.Trace.records_of, proofs.{RecordsFacts.{next-end, next-short, records-all}, RowsFacts.records-next}}
-use Rattle.device_rows.specs.{Block.{Holds, left_remaining, unread}, declared.{block.Block.Block, fused.Fused.Fused}}
-use Rattle.device_rows.proofs.{BlockFacts.used-up, RowsFacts.records-none}
+use Rattle.std.proofs.{Common.{◌≡◌, ◌∙◌, ℕ, ◌+◌, ◌-◌, ◌<◌, ◌≤◌, Bool, true, false, List, [], ◌∷◌, ◌++◌, drop, length, refl, sym, ap, Vec}}
+use Rattle.std.{proofs.{Common.{arith, length-append, Some, None, Option}, lemmas.Grind.common_steps}, specs.Global.Global}
+use Rattle.std.specs.{Prelude.{Result, Ok, Err, fold}, declared.io.{impls.Cursor.Cursor, traits.Chain.Chain}}
+use Rattle.csv.specs.{Machine.{Read, ends_at_end, next_record}, Reading.{default_config, reader_state, records_from, records_next}}
+use Rattle.csv.specs.{Reading.strip_bom, declared.{parser.State.State, reader.Reader.Reader}}
+use Rattle.device_rows.proofs.{BlockFacts.used-up, RecordsFacts.{next-end, next-short, records-all}, RowsFacts.{records-next, records-none}}
+use Rattle.device_rows.specs.{Block.{Holds, left_remaining, unread}, Source.{StandsAt, ReadsNext}, Trace.records_of}
+use Rattle.device_rows.specs.declared.{block.Block.Block, fused.Fused.Fused}
 use Rattle.machine.specs.Arrivals.{arrival_of, arrivals_after, arrivals_of, arrival_fields, is_arrivals_title, arrival_of_fields}
-use Rattle.machine_model.specs.declared.settings.MachineSettings.{MachineSettings}
-use Rattle.machine.specs.Plain.{StartsWithArrival, StartsWithHeader}
-use Rattle.machine.specs.declared.arrival.Arrival.{Arrival}
-use Rattle.machine.specs.Reading.{HasGiven, IsTitled, LeavesSame, LeftAt, TakesPlain, records_in}
-use Rattle.machine.specs.declared.arrivals.Arrivals.{Arrivals}
-use Rattle.machine.specs.declared.arrivals.ArrivalRows.{ArrivalRows}
+use Rattle.machine.specs.{Plain.{StartsWithArrival, StartsWithHeader}, Reading.{HasGiven, IsTitled, LeavesSame, LeftAt, TakesPlain}}
+use Rattle.machine.specs.{Reading.records_in, declared.{arrival.Arrival.Arrival, arrivals.{ArrivalRows.ArrivalRows, Arrivals.Arrivals}}}
 use Rattle.machine.specs.declared.fault.MachineFault.{MachineFault}
+use Rattle.machine_model.specs.declared.settings.MachineSettings.{MachineSettings}
 
 abbrev RecordsLeft : Type 0 → Type 0
 RecordsLeft R = Reader (Chain (Cursor (Vec ℕ Global)) (Fused R))

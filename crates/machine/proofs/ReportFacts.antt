@@ -1,10 +1,10 @@
 -- One more queue or processor in the report.
 use Rattle.std.proofs.{Common.{arith, ◌≡◌, ◌∙◌, ℕ, ◌+◌, [], ◌++◌, Option, List, refl, add-one, append-nil, sym}, lemmas.Grind.common_steps}
 use Rattle.machine_model.specs.declared.{device.QueueReport.QueueReport, processor.ProcessorReport.ProcessorReport}
-use Rattle.machine.specs.declared.report.MachineTotals.{MachineTotals}
-use Rattle.machine.specs.Report.{machine_device_lines, lines_of_devices, lines_of_processors, none_counted}
 use Rattle.machine_model.specs.declared.settings.MachineSettings.{MachineSettings}
-use Rattle.machine.specs.Report.{processor_lines, sums_of_devices, sums_of_processors, plus_device, with_processor}
+use Rattle.machine.specs.Report.{machine_device_lines, lines_of_devices, lines_of_processors, none_counted, processor_lines}
+use Rattle.machine.specs.Report.{sums_of_devices, sums_of_processors, plus_device, with_processor}
+use Rattle.machine.specs.declared.report.MachineTotals.{MachineTotals}
 
 pub more-devices : (device : ℕ → Option QueueReport) (n : ℕ)
     → lines_of_devices device (n + 1) ≡ lines_of_devices device n ++ machine_device_lines (n + 1) (device (n + 1))

@@ -1,14 +1,10 @@
 -- The times of arrivals are below 2^62 and don't decrease.
-use Rattle.std.proofs.Common.{◌≡◌, ◌∙◌, ℕ, ◌+◌, ◌<◌, ◌≤◌, ◌^◌, List, [], ◌∷◌, ◌++◌, append_assoc, length, refl, sym, arith, Option}
-use Rattle.machine.specs.Arrivals.{◌>>=◌}
+use Rattle.std.proofs.{Common.{◌≡◌, ◌∙◌, ℕ, ◌+◌, ◌<◌, ◌≤◌, ◌^◌, List, [], ◌∷◌, ◌++◌, append_assoc, length, refl, sym, arith, Option}}
+use Rattle.std.{proofs.lemmas.{Grind.common_steps, List.append-nil}, specs.Prelude.{Result, Ok, Err}}
+use Rattle.machine.{proofs.ReadingFacts.last-push, specs.{Arrivals.{◌>>=◌, ArrivalFields, arrival_of, arrivals_after, arrivals_of}}}
+use Rattle.machine.specs.{Arrivals.{arrival_fields, last_moment, arrival_of_fields, arrival_in_range}, declared.arrival.Arrival.Arrival}
+use Rattle.machine.specs.declared.{arrival.Numbers.Numbers, fault.MachineFault.MachineFault}
 use Rattle.machine_model.specs.declared.settings.MachineSettings.{MachineSettings}
-use Rattle.std.{specs.Prelude.{Result, Ok, Err}, proofs.lemmas.{Grind.common_steps, List.append-nil}}
-use Rattle.machine.specs.Arrivals.{ArrivalFields, arrival_of, arrivals_after, arrivals_of, arrival_fields, last_moment}
-use Rattle.machine.specs.Arrivals.{arrival_of_fields, arrival_in_range}
-use Rattle.machine.specs.declared.fault.MachineFault.{MachineFault}
-use Rattle.machine.specs.declared.arrival.Arrival.{Arrival}
-use Rattle.machine.specs.declared.arrival.Numbers.{Numbers}
-use Rattle.machine.proofs.ReadingFacts.{last-push}
 
 -- the times of these arrivals are below 2^62, and don't decrease from this one on
 abbrev pub Rises : ℕ → List Arrival → Type 0

@@ -1,23 +1,18 @@
 -- The fate of packets after their delivery to an application on the same processor: each is used in order, or dropped.
-use Rattle.std.proofs.lemmas.Grind.{common_steps}
-use Rattle.std.proofs.Common.{◌≡◌, ◌∙◌, ℕ, ◌+◌, ◌-◌, false, Option, Some, None, List, [], ◌∷◌, ◌++◌, append_assoc, length}
-use Rattle.std.proofs.Common.{length-append, map}
-use Rattle.std.proofs.{Common.{refl, sym, ap, arith}, lemmas.{List.append-nil}}
-use Rattle.std.specs.Prelude.{if◌then◌else◌, not}
-use Rattle.{machine_model.specs.declared.settings.MachineSettings.MachineSettings}
-use Rattle.machine.specs.Lives.{MachineEvent, behind, next, packet}
-use Rattle.machine.specs.Fates.{TellsOfUse, UsesInOrder, counting, next_delivery, delivery_by, delivery_of, kept, placed, refused}
-use Rattle.machine.specs.Fates.{resting, use_by, use_waits, used_by}
-use Rattle.machine.specs.Fates as fate
-use Rattle.machine_model.specs.declared.processor.{Work.{TheVariants.{Use}}, Rest.Rest}
-use Rattle.machine_model.specs.declared.processor.{Upcoming.{Upcoming, TheVariants.{Never, Expires}}, ProcessorCounts.ProcessorCounts}
-use Rattle.machine_model.specs.{Devices.QueueViews, Waits.{WaitsView, counted, saturated, no_waits}}
-use Rattle.machine_model.specs.Application.{ApplicationView, fed, has_place, put, refuses, use_ended}
-use Rattle.machine_model.specs.Processor.{ProcessorView, ends_current, happens, is_busy, step, upcoming}
-use Rattle.machine.proofs.{EndFacts.{Fed, feeds}}
-use Rattle.machine.proofs.WorkFacts.{Goes, Life, devices_arrived, expired_at, goes-on, life-arrives, life-happens, life-takes}
-use Rattle.machine.proofs.WorkFacts.{work-ended}
+use Rattle.std.proofs.{Common.{◌≡◌, ◌∙◌, ℕ, ◌+◌, ◌-◌, false, Option, Some, None, List, [], ◌∷◌, ◌++◌, append_assoc, length, length-append}}
+use Rattle.std.{proofs.{Common.{map, refl, sym, ap, arith}, lemmas.{Grind.common_steps, List.append-nil}}, specs.{Prelude.{if◌then◌else◌}}}
+use Rattle.std.specs.Prelude.{not}
+use Rattle.machine_model.specs.{Application.{ApplicationView, fed, has_place, put, refuses, use_ended}, Devices.QueueViews}
+use Rattle.machine_model.specs.{Processor.{ProcessorView, ends_current, happens, is_busy, step, upcoming}, Waits.{WaitsView, counted}}
+use Rattle.machine_model.specs.{Waits.{saturated, no_waits}, declared.processor.{ProcessorCounts.ProcessorCounts, Rest.Rest}}
+use Rattle.machine_model.specs.declared.processor.{Upcoming.{Upcoming, TheVariants.{Never, Expires}}, Work.TheVariants.Use}
+use Rattle.machine_model.specs.declared.settings.MachineSettings.{MachineSettings}
 use Rattle.machine_model.specs.declared.processor.Upcoming.TheVariants as upcomings
+use Rattle.machine.proofs.{EndFacts.{Fed, feeds}, WorkFacts.{Goes, Life, devices_arrived, expired_at, goes-on, life-arrives, life-happens}}
+use Rattle.machine.{proofs.WorkFacts.{life-takes, work-ended}, specs.Fates.{TellsOfUse, UsesInOrder, counting, next_delivery, delivery_by}}
+use Rattle.machine.specs.{Fates.{delivery_of, kept, placed, refused, resting, use_by, use_waits, used_by}, Lives.{MachineEvent, behind}}
+use Rattle.machine.specs.Lives.{next, packet}
+use Rattle.machine.specs.Fates as fate
 
 -- ---- what holds when work begins
 

@@ -1,34 +1,24 @@
 -- Law: a queue is scheduled if and only if its number is on the poll list, in the run, among the tasks, or being polled; and it
 -- is in only one of these places.
-use Rattle.std.proofs.Common.{◌≡◌, ◌∙◌, ℕ, ◌+◌, ◌≤◌, Bool, true, false, Option, Some, None, List, [], ◌∷◌, ◌++◌, drop, length, refl}
-use Rattle.std.proofs.Common.{sym, ap, arith}
-use Rattle.std.proofs.lemmas.Grind.{common_steps}
-use Rattle.std.specs.{Prelude.{◌==◌, ◌&&◌, ◌||◌, if◌then◌else◌, not, slice_get}}
-use Rattle.machine_model.specs.declared.settings.MachineSettings.{MachineSettings}
-use Rattle.device_places.specs.Places.{at, changed}
-use Rattle.machine.specs.Lives.{MachineEvent, behind, next, packet}
-use Rattle.poll_runs.specs.{Turn.asked_for, declared.bench.{Next.TheVariants.{Gone, Repoll}}}
-use Rattle.machine_model.specs.declared.device.{NapiState.{NapiState, TheVariants.{Idle, Scheduled, Missed}}, Phase.Phase}
-use Rattle.machine_model.specs.declared.device.{Line.TheVariants.Raised}
-use Rattle.machine_model.specs.declared.{processor.ProcessorCounts.ProcessorCounts}
-use Rattle.machine_model.specs.declared.processor.{Work.{Work, TheVariants.{Nothing, Interrupt, Poll, Packet}}}
-use Rattle.machine_model.specs.declared.tasks.RunnableTask.{RunnableTask, TheVariants.{Application, Thread}}
-use Rattle.machine_model.specs.Device.{QueueView, completed_state, expired, expired_phase, interrupted, is_napi_idle, is_missed}
-use Rattle.machine_model.specs.{Device.{is_missed_state}, Waits.saturated}
-use Rattle.machine_model.specs.Device.{queue_completed, queue_delivered, queue_polled, raised_again, without_next}
-use Rattle.machine_model.specs.Devices.{QueueViews, asks_at, is_missed_at, next_packet_at, schedules_at}
-use Rattle.machine_model.specs.Kept.{is_scheduled, polled_by, scheduled_at}
-use Rattle.machine_model.specs.Softirq.{RunView, SoftirqView, asked_in, begun, filled, poll_ended, pushed, run_ended, run_next}
-use Rattle.machine_model.specs.Softirq.{softirq_polled}
-use Rattle.machine_model.specs.{Tasks.{runnable, with_application}, Application.{has_place}}
+use Rattle.std.proofs.{Common.{◌≡◌, ◌∙◌, ℕ, ◌+◌, ◌≤◌, Bool, true, false, Option, Some, None, List, [], ◌∷◌, ◌++◌, drop, length, refl, sym}}
+use Rattle.std.{proofs.{Common.{ap, arith}, lemmas.Grind.common_steps}, specs.{Prelude.{◌==◌, ◌&&◌, ◌||◌, if◌then◌else◌, not, slice_get}}}
+use Rattle.machine_model.proofs.{PendingFacts.phase-next, PlacesFacts.{interrupted-one, same-held, same-holding, same-packet}}
+use Rattle.machine_model.proofs.{PlacesFacts.completed-same, TableFacts.{at-either, at-kept, at-same, map_at}, WalkFacts.{Walk, either}}
+use Rattle.machine_model.{proofs.WalkFacts.{is_scheduling, looks-by, nexted, polled-by}, specs.Device.{QueueView, expired, holding}}
+use Rattle.machine_model.specs.{Device.{interrupted, queue_polled, raised_again, without_held, without_next}, Devices.{QueueViews, asks_at}}
+use Rattle.machine_model.specs.{Devices.{is_rescheduled_at, next_packet_at, schedules_at}, Kept.{is_scheduled, polled_by, scheduled_at}}
 use Rattle.machine_model.specs.Processor.{ProcessorView, delivers, delivers_oldest, ends_by, ends_current, ends_interrupt, ends_poll}
-use Rattle.machine_model.specs.Processor.{is_busy, is_polling, poll_looks, polls, step, upcoming}
-use Rattle.machine_model.proofs.{PendingFacts.phase-next, PlacesFacts.{interrupted-one, same-packet}}
-use Rattle.machine.proofs.TableFacts.{at-either, at-kept, at-same, map_at}
-use Rattle.machine.proofs.{FateFacts.{at-arrives, made-part}}
-use Rattle.machine.proofs.WalkFacts.{Walk, either, is_scheduling, looks-by, nexted, polled-by}
-use Rattle.machine.proofs.WorkFacts.{Asks, Goes, Life, Polls, Rests, devices_arrived, expired_at, goes-on, life-arrives, life-happens}
-use Rattle.machine.proofs.WorkFacts.{polls-delivers, polls-devices, polls-of, same-threaded, work-walk}
+use Rattle.machine_model.specs.{Processor.{is_busy, is_polling, poll_looks, polls, step, upcoming}, Softirq.{RunView, SoftirqView}}
+use Rattle.machine_model.specs.{Softirq.{asked_in, begun, filled, poll_ended, pushed, run_ended, run_next, softirq_polled}, Tasks.runnable}
+use Rattle.machine_model.specs.{Tasks.with_application, Waits.saturated, declared.processor.{ProcessorCounts.ProcessorCounts, Work.Work}}
+use Rattle.machine_model.specs.declared.processor.Work.TheVariants.{Nothing, Interrupt, Poll, Packet}
+use Rattle.machine_model.specs.declared.{settings.MachineSettings.MachineSettings, tasks.RunnableTask.RunnableTask}
+use Rattle.machine_model.specs.declared.tasks.RunnableTask.TheVariants.{Application, Thread}
+use Rattle.device_places.specs.Places.{at, changed}
+use Rattle.machine.proofs.{FateFacts.{at-arrives, made-part}, WorkFacts.{Asks, Goes, Life, Polls, Rests, devices_arrived, expired_at}}
+use Rattle.machine.proofs.WorkFacts.{goes-on, life-arrives, life-happens, polls-delivers, polls-devices, polls-of, same-threaded, work-walk}
+use Rattle.machine.specs.Lives.{MachineEvent, behind, next, packet}
+use Rattle.poll_runs.specs.{Turn.asked_for, declared.bench.Next.TheVariants.{Gone, Repoll}}
 
 abbrev pub one : ℕ → ℕ → ℕ
 one m n = if m == n then 1 else 0
@@ -124,11 +114,11 @@ threads-woken n b tasks = grind (arith, common_steps, threads-append)
 
 -- ---- one queue
 
-bit-interrupted : (polling : Bool) (o : Option QueueView) → asks_at o ≡ true
-    → scheduled_at (map_at (interrupted polling) o) ≡ scheduled_at o + (if polling && schedules_at o then 1 else 0)
+bit-interrupted : (until : ℕ) (polling : Bool) (o : Option QueueView) → asks_at o ≡ true
+    → scheduled_at (map_at (interrupted until polling) o) ≡ scheduled_at o + (if polling && schedules_at o then 1 else 0)
 unfolding map_at
-bit-interrupted polling None asks = cc asks
-bit-interrupted polling (Some d) asks = interrupted-one polling d
+bit-interrupted until polling None asks = cc asks
+bit-interrupted until polling (Some d) asks = interrupted-one until polling d
 
 kept-changed : (f : QueueView → QueueView) (m n : ℕ) (ds : QueueViews) → ((d : QueueView) → is_scheduled (f d).phase ≡ is_scheduled d.phase)
     → scheduled_at (at n (changed f m ds)) ≡ scheduled_at (at n ds)
@@ -138,55 +128,40 @@ next-scheduled : (backlog : Bool) (d : QueueView) → is_scheduled (without_next
 next-scheduled backlog d = ap is_scheduled (phase-next backlog d)
 
 expired-scheduled : (d : QueueView) → is_scheduled (expired d).phase ≡ is_scheduled d.phase
-expired-scheduled d = by d.phase
-  where
-    by : (phase : Phase) → is_scheduled (expired_phase phase) ≡ is_scheduled phase
-    by phase = grind (arith, common_steps)
+expired-scheduled d = grind (arith, common_steps)
 
 raised-scheduled : (d : QueueView) → is_scheduled (raised_again d).phase ≡ is_scheduled d.phase
-raised-scheduled d = by (length d.ring == 0)
-  where
-    by : (b : Bool) → is_scheduled (if b then d.phase else record d.phase { line = Raised }) ≡ is_scheduled d.phase
-    by true = refl
-    by false = refl
+raised-scheduled d = grind (arith, common_steps)
 
-completed-bit : (i : NapiState) (m n : ℕ) → (m == n) ≡ true → ◌≡◌ {A = ℕ} (if not (is_napi_idle i) then 1 else 0) 1
-    → (if not (is_napi_idle (completed_state i)) then 1 else 0) + (if is_missed_state i then 0 else one m n)
-    ≡ (if not (is_napi_idle i) then 1 else 0)
-completed-bit Idle m n here is = cc is
-completed-bit Scheduled m n here is = rw here refl
-completed-bit Missed m n here is = refl
+completed-bit : (was now again : Bool) (m n : ℕ) → (m == n) ≡ true → now ≡ again → ◌≡◌ {A = ℕ} (if was then 1 else 0) 1
+    → (if now then 1 else 0) + (if again then 0 else one m n) ≡ (if was then 1 else 0)
+completed-bit was now true m n here same is = rw same (sym is)
+completed-bit was now false m n here same is = rw (same, here) (sym is)
 
--- after a poll that used its whole weight, or that missed an interrupt, the queue stays scheduled; after any other one it isn't
+-- after a poll that used its whole weight, or if it is scheduled again, the queue stays scheduled; after any other one it isn't
 -- scheduled any more
 bit-polled : (now given : ℕ) (s : MachineSettings) (o : Option QueueView) (m n : ℕ) → (m == n) ≡ true → scheduled_at o ≡ 1
-    → scheduled_at (map_at (queue_polled now given s) o) + (if given == s.weight || is_missed_at o then 0 else one m n) ≡ scheduled_at o
-unfolding map_at queue_polled queue_completed
-bit-polled now given s None m n here is = cc is
-bit-polled now given s (Some d) m n here is =
-    by (record d { counts = record d.counts { polls = saturated (d.counts.polls + 1) } }) (given == s.weight) is
-  where
-    by : (e : QueueView) (full : Bool) → scheduled_at (Some e) ≡ 1
-        → scheduled_at (Some (if full then e else queue_completed now given s e)) + (if full || is_missed e.phase then 0 else one m n)
-        ≡ scheduled_at (Some e)
-    by e true is = omega arith
-    by e false is = completed-bit e.phase.state m n here is
+    → scheduled_at (map_at (queue_polled now given s) o) + (if given == s.weight || is_rescheduled_at given s o then 0 else one m n)
+    ≡ scheduled_at o
+unfolding map_at queue_polled
+bit-polled now given s o m n h1 h2 = grind (arith, common_steps, completed-bit, completed-same)
 
-missed-same : (m n : ℕ) (ds : QueueViews) → (m == n) ≡ true → is_missed_at (at m ds) ≡ is_missed_at (at n ds)
-missed-same m n ds here = at-same (λ o. is_missed_at (at m ds) ≡ is_missed_at o) m n ds here refl
+again-same : (given : ℕ) (s : MachineSettings) (m n : ℕ) (ds : QueueViews) → (m == n) ≡ true
+    → is_rescheduled_at given s (at m ds) ≡ is_rescheduled_at given s (at n ds)
+again-same given s m n ds here = at-same (λ o. is_rescheduled_at given s (at m ds) ≡ is_rescheduled_at given s o) m n ds here refl
 
 schedules-same : (m n : ℕ) (ds : QueueViews) → (m == n) ≡ true → schedules_at (at m ds) ≡ schedules_at (at n ds)
 schedules-same m n ds here = at-same (λ o. schedules_at (at m ds) ≡ schedules_at o) m n ds here refl
 
 bits-polled : (now given : ℕ) (s : MachineSettings) (m n : ℕ) (ds : QueueViews) → ((m == n) ≡ true → scheduled_at (at n ds) ≡ 1)
     → scheduled_at (at n (changed (queue_polled now given s) m ds))
-    + (if given == s.weight || is_missed_at (at m ds) then 0 else one m n) ≡ scheduled_at (at n ds)
+    + (if given == s.weight || is_rescheduled_at given s (at m ds) then 0 else one m n) ≡ scheduled_at (at n ds)
 bits-polled now given s m n ds is =
-    at-either (λ b o. scheduled_at o + (if given == s.weight || is_missed_at (at m ds) then 0 else (if b then 1 else 0))
+    at-either (λ b o. scheduled_at o + (if given == s.weight || is_rescheduled_at given s (at m ds) then 0 else (if b then 1 else 0))
     ≡ scheduled_at (at n ds))
     (queue_polled now given s) m n ds
-    (λ here. rw (missed-same m n ds here) (rw here at (bit-polled now given s (at n ds) m n here (is here))))
-    (λ other. by (given == s.weight || is_missed_at (at m ds)))
+    (λ here. rw (again-same given s m n ds here) (rw here at (bit-polled now given s (at n ds) m n here (is here))))
+    (λ other. by (given == s.weight || is_rescheduled_at given s (at m ds)))
   where
     by : (b : Bool) → scheduled_at (at n ds) + (if b then 0 else 0) ≡ scheduled_at (at n ds)
     by true = omega arith
@@ -195,7 +170,7 @@ bits-polled now given s m n ds is =
 -- ---- the processor
 
 abbrev pub polled_at : ℕ → Work → ℕ
-polled_at n (Poll m) = one m n
+polled_at n (Poll look) = one look.device n
 polled_at n (Packet hand) = one hand.device n
 polled_at n _ = 0
 
@@ -232,14 +207,14 @@ places-put : (n m : ℕ) (b t : Bool) (q : SoftirqView) (tasks : List RunnableTa
 unfolding threads
 places-put n m b t q tasks = grind (arith, common_steps, threads-append, listed-pushed)
 
-bits-interrupted : (polling : Bool) (m n : ℕ) (ds : QueueViews) → asks_at (at m ds) ≡ true
-    → scheduled_at (at n (changed (interrupted polling) m ds))
+bits-interrupted : (until : ℕ) (polling : Bool) (m n : ℕ) (ds : QueueViews) → asks_at (at m ds) ≡ true
+    → scheduled_at (at n (changed (interrupted until polling) m ds))
     ≡ scheduled_at (at n ds) + (if polling && schedules_at (at m ds) then one m n else 0)
-bits-interrupted polling m n ds asks =
+bits-interrupted until polling m n ds asks =
     at-either (λ b o. scheduled_at o ≡ scheduled_at (at n ds) + (if polling && schedules_at (at m ds) then (if b then 1 else 0) else 0))
-    (interrupted polling) m n ds
+    (interrupted until polling) m n ds
     (λ here. rw (schedules-same m n ds here)
-    (bit-interrupted polling (at n ds) (at-same (λ o. asks_at o ≡ true) m n ds here asks)))
+    (bit-interrupted until polling (at n ds) (at-same (λ o. asks_at o ≡ true) m n ds here asks)))
     (λ other. by (polling && schedules_at (at m ds)))
   where
     by : (b : Bool) → scheduled_at (at n ds) ≡ scheduled_at (at n ds) + (if b then 0 else 0)
@@ -256,7 +231,7 @@ stand-walk s n =
     let w = work-walk s in
     record {
       interrupt = λ m time counts p free h asks.
-          let bits = bits-interrupted (is_polling p.settings) m n p.devices asks in
+          let bits = bits-interrupted (saturated (p.clock + time)) (is_polling p.settings) m n p.devices asks in
           record {
             even = record {
               same = omega (
@@ -360,7 +335,7 @@ unfolding threads
 stand-polled s n m given p g e =
     let ds = changed (queue_polled p.clock given p.settings) m p.devices in
     let full = given == p.settings.weight in
-    let again = is_missed_at (at m p.devices) in
+    let again = is_rescheduled_at given p.settings (at m p.devices) in
     let bits : scheduled_at (at n ds) + (if full || again then 0 else one m n) ≡ scheduled_at (at n p.devices) =
     bits-polled p.clock given p.settings m n p.devices (λ here. polled-scheduled s n m p e g.asks here) in
     polled-by (Stands s n) m given p
@@ -381,11 +356,23 @@ stand-polled s n m given p g e =
 stand-looks : (s : MachineSettings) (n m given : ℕ) (p : ProcessorView) → Polls s m p → Even s n (by_thread s (one m n)) p
     → Stands s n (poll_looks m given p)
 stand-looks s n m given p g e =
-    let q : ProcessorView = record p { devices = changed (without_next p.settings.backlog) m p.devices } in
-    let k = kept-changed (without_next p.settings.backlog) m n p.devices (next-scheduled p.settings.backlog) in
-    let first : Even s n (by_thread s (one m n)) q = record { same = e.same ∙ sym k } in
-    looks-by (Stands s n) m given p (λ came is less. record { even = record { same = first.same } })
-    (λ none. stand-polled s n m given q (polls-devices s m q.devices p g) first) (λ full. stand-polled s n m given p g e)
+    let next = changed (without_next p.settings.backlog) m p.devices in
+    let first = by next (kept-changed (without_next p.settings.backlog) m n p.devices (next-scheduled p.settings.backlog)) in
+    looks-by (Stands s n) m given p (record {
+      some = λ plain came is less. record { even = record { same = first.same } };
+      none = λ plain none. stand-polled s n m given (record p { devices = next }) (polls-devices s m next p g) first;
+      full = λ plain full. stand-polled s n m given p g e;
+      takes = λ batch less pulls.
+          record { even = record { same = (by (changed holding m p.devices) (kept-changed holding m n p.devices same-holding)).same } };
+      hands = λ batch stops came is.
+          let same = (by (changed without_held m p.devices) (kept-changed without_held m n p.devices same-held)).same in
+          record { even = record { same = same } };
+      over = λ batch stops none. stand-polled s n m given p g e;
+    })
+  where
+    by : (devices : QueueViews) → scheduled_at (at n devices) ≡ scheduled_at (at n p.devices)
+        → Even s n (by_thread s (one m n)) (record p { devices = devices })
+    by devices kept = record { same = e.same ∙ sym kept }
 
 even-kept : (s : MachineSettings) (n k : ℕ) (p q : ProcessorView) → Even s n k p → places n q ≡ places n p
     → scheduled_at (at n q.devices) ≡ scheduled_at (at n p.devices) → Even s n k q
@@ -393,10 +380,7 @@ even-kept s n k p q e same kept = record { same = omega (arith, e.same, same, ke
 
 delivers-even : (s : MachineSettings) (n k m came : ℕ) (p : ProcessorView) → Even s n k p → Even s n k (delivers m came p)
 unfolding delivers
-delivers-even s n k m came p e =
-    even-kept s n k p (delivers m came p) e
-    (omega (arith, threads-woken n (p.settings.threaded && not p.settings.apart && has_place p.application) p.tasks))
-    (kept-changed (queue_delivered p.clock came) m n p.devices (λ d. refl))
+delivers-even s n k m came p h1 = grind (arith, common_steps, even-kept, kept-changed, threads-woken)
 
 even-next : (s : MachineSettings) (n k m : ℕ) (p : ProcessorView) → Even s n k p
     → Even s n k (record p { devices = changed (without_next false) m p.devices })
@@ -423,7 +407,8 @@ stand-work s n (Interrupt m) p h nothing asks polled e =
     let e0 = even-of s n (by_thread s 0) 0 p p e refl refl refl (sym (no-thread s)) in
     either (Stands s n) (is_polling p.settings) p (ends_interrupt m p) (λ polling. idle-stands s n p nothing e0)
     (λ lone. stand-lone s n m (next_packet_at false (at m p.devices)) p nothing e0)
-stand-work s n (Poll m) p h nothing asks polled e = stand-looks s n m 0 p (polls-of s m (Poll m) p h nothing asks polled refl) e
+stand-work s n (Poll look) p h nothing asks polled e =
+    stand-looks s n look.device look.given p (polls-of s look.device (Poll look) p h nothing asks polled refl) e
 stand-work s n (Packet hand) p h nothing asks polled e =
     let g = polls-of s hand.device (Packet hand) p h nothing asks polled refl in
     stand-looks s n hand.device (hand.given + 1) (delivers hand.device hand.came p) (polls-delivers s hand.device hand.came p g)

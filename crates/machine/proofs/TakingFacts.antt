@@ -1,9 +1,7 @@
 -- The machine takes one more arrival.
-use Rattle.std.proofs.Common.{rules}
-use Rattle.std.proofs.Common.{List, [], ◌∷◌, ◌++◌, refl}
+use Rattle.std.proofs.{Common.{rules, List, [], ◌∷◌, ◌++◌, refl}}
 use Rattle.machine_model.specs.Machine.{PacketArrives, Machine}
-use Rattle.machine.specs.Answer.{TakesArrivals}
-use Rattle.machine.specs.declared.arrival.Arrival.{Arrival}
+use Rattle.machine.specs.{Answer.TakesArrivals, declared.arrival.Arrival.Arrival}
 
 pub takes-push : (earlier : List Arrival) (arrival : Arrival) (before middle after : Machine) → TakesArrivals earlier before middle
     → PacketArrives arrival.moment arrival.device middle after → TakesArrivals (earlier ++ arrival ∷ []) before after

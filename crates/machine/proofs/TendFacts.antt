@@ -1,37 +1,43 @@
 -- Law: a queue has no packets unless its interrupt is raised, deferred or in progress.
-use Rattle.std.proofs.Common.{◌≡◌, ◌∙◌, ℕ, ◌+◌, ◌<◌, ◌≤◌, Bool, true, false, Option, Some, None, List, [], ◌∷◌, ◌++◌, refl, sym, ap}
-use Rattle.std.proofs.Common.{arith, length}
-use Rattle.std.proofs.lemmas.{Bool.{and_left, and_right, eq-eqb, ltb-false}, Grind.common_steps}
-use Rattle.std.specs.Prelude.{◌==◌, ◌&&◌, ◌||◌, if◌then◌else◌, is_some, nat_lt, not}
+use Rattle.std.proofs.{Common.{◌≡◌, ◌∙◌, ℕ, ◌+◌, ◌-◌, ◌<◌, ◌≤◌, Bool, true, false, Option, Some, None, List, [], ◌∷◌, ◌++◌, refl, sym, ap}}
+use Rattle.std.proofs.{Common.{◌^◌, arith, length, subst}, lemmas.Bool.{and_right, eq-eqb, eqb-true, ltb-false, or_parts}}
+use Rattle.std.{proofs.lemmas.Grind.common_steps, specs.{Prelude.{◌==◌, ◌&&◌, ◌||◌, if◌then◌else◌, is_some, nat_lt, not}}}
+use Rattle.machine_model.proofs.{PendingFacts.{phase-holding, phase-next}, QueueFacts.{armed-by, completed-by, interrupted-by, packet-by}}
+use Rattle.machine_model.proofs.{QueueFacts.poll-by, TableFacts.{IfThere, at-apart, at-either, at-keeps, at-kept, at-same, map-there}}
+use Rattle.machine_model.{proofs.{TableFacts.map_at, WalkFacts.stops}, specs.Device.{QueueView, after_packet, armed, asks_later, coalesced}}
+use Rattle.machine_model.specs.Device.{expired, expired_phase, handled, has_room, holding, interrupted, is_at_once, is_napi_idle, is_masked}
+use Rattle.machine_model.specs.Device.{notified, queue_completed, queue_polled, raised_again, without_held, without_next, is_deferred}
+use Rattle.machine_model.specs.Device.{finds_packets, is_masked_line, is_missed, is_owed, is_silent, napi_completed, unmasked_queue}
+use Rattle.machine_model.specs.{Device.unmasked_line, Devices.{QueueViews, next_held_at, next_packet_at}, Kept.{is_scheduled, polled_by}}
+use Rattle.machine_model.specs.{Kept.scheduled_at, Processor.{ProcessorView, is_batching, is_polling, step, upcoming}, Waits.saturated}
+use Rattle.machine_model.specs.declared.device.{Expiry.{Expiry, TheVariants.Expired}, Line.{Line, TheVariants.{Quiet, Raised}}}
+use Rattle.machine_model.specs.declared.{device.{NapiState.TheVariants.{Idle, Scheduled}, Phase.Phase}, processor.InHand.InHand}
+use Rattle.machine_model.specs.declared.processor.{Looking.Looking, Work.{Work, TheVariants.{Interrupt, Poll, Packet}}}
 use Rattle.machine_model.specs.declared.settings.MachineSettings.{MachineSettings}
-use Rattle.device_places.specs.Places.{at, changed}
-use Rattle.machine.specs.{Lives.{MachineEvent, behind, next, packet}, Fates.{taken_in}}
-use Rattle.machine_model.specs.declared.device.{Phase.Phase, Line.{Line, TheVariants.{Quiet, Raised}}}
-use Rattle.machine_model.specs.declared.device.Expiry.{Expiry, TheVariants.Expired}
-use Rattle.machine_model.specs.declared.processor.{Work.{Work, TheVariants.{Interrupt, Packet}}, InHand.InHand}
-use Rattle.machine_model.specs.Device.{QueueView, after_packet, asks_later, coalesced, completed_state, expired, expired_phase, handled}
-use Rattle.machine_model.specs.Device.{has_room, interrupted, is_at_once, is_fired, is_napi_idle, is_masked, is_missed, notified}
-use Rattle.machine_model.specs.Device.{queue_completed}
-use Rattle.machine_model.specs.Device.{queue_polled, raised_again, unmasked_line, without_next}
-use Rattle.machine_model.specs.{Devices.{QueueViews, next_packet_at}, Waits.saturated}
-use Rattle.machine_model.specs.Kept.{is_scheduled, polled_by, scheduled_at}
-use Rattle.machine_model.specs.Processor.{ProcessorView, is_polling, step, upcoming}
-use Rattle.machine_model.proofs.PendingFacts.{phase-next}
-use Rattle.machine.proofs.TableFacts.{IfThere, at-apart, at-either, at-keeps, at-kept, at-same, map-there, map_at}
-use Rattle.machine.proofs.{EndFacts.{Ends, Keeps, Looks, ends, ends-at}}
-use Rattle.machine.proofs.WorkFacts.{Goes, Life, devices_arrived, expired_at, goes-on, life-arrives, life-happens, same-polling}
-use Rattle.machine.proofs.FateFacts.{IsPlain, at-arrives, look-none, made_at, next-none-at, packet-queued, plain-of, queued}
-use Rattle.machine.proofs.FateFacts.{Steady, queued-delivered, queued-expired, queued-interrupted, queued-polled, steady-life}
-use Rattle.machine.proofs.StandFacts.{Stands, polled_at, scheduled-of, stands-on}
 use Rattle.machine_model.specs.Device as device
+use Rattle.device_places.specs.Places.{at, changed}
+use Rattle.machine.proofs.{CoverFacts.{Seen, Shows, covered, covered-over, is_called, seen, shows-on}, EndFacts.{Ends, Keeps, Looks, ends}}
+use Rattle.machine.proofs.FateFacts.{IsPlain, at-arrives, held-none-at, look-none, made_at, next-none-at, packet-queued, plain-in, plain-of}
+use Rattle.machine.proofs.FateFacts.{queued, queued-holding, queued-delivered, queued-expired, queued-interrupted, queued-polled, lasts-on}
+use Rattle.machine.proofs.{FateFacts.steady-there, StandFacts.{Stands, polled_at, scheduled-of, stands-on}, WorkFacts.{Goes, Life}}
+use Rattle.machine.{proofs.WorkFacts.{devices_arrived, expired_at, goes-on, life-arrives, life-happens, same-polling}, specs.Fates.taken_in}
+use Rattle.machine.specs.Lives.{InTurn, MachineEvent, behind, next, packet}
 
 abbrev pub is_quiet_line : Line → Bool
 is_quiet_line Quiet = true
 is_quiet_line _ = false
 
+-- the NAPI timer is set, or its interrupt will schedule the instance
+abbrev pub is_unmet : Expiry → Bool
+is_unmet Expired = true
+is_unmet _ = false
+
+abbrev pub is_timed : Phase → Bool
+is_timed phase = is_some phase.timer || is_unmet phase.expiry
+
 -- no interrupt is to come, and no poll
 abbrev pub is_quiet : Phase → Bool
-is_quiet phase = is_quiet_line phase.line && is_napi_idle phase.state
+is_quiet phase = is_quiet_line phase.line && is_napi_idle phase.state && not (is_timed phase)
 
 abbrev pub Held : QueueView → Type 0
 Held d = is_quiet d.phase ≡ true → queued (Some d) ≡ []
@@ -59,16 +65,9 @@ tend-kept f m n ds h1 h2 h3 =
 quiet-handled : (phase : Phase) → is_quiet (handled true phase) ≡ true → is_quiet phase ≡ true
 quiet-handled phase is = grind (arith, common_steps)
 
-pub handled-phase : (polling : Bool) (d : QueueView) → (interrupted polling d).phase ≡ handled polling d.phase
-unfolding interrupted
-handled-phase polling d = by (is_fired d.phase)
-  where
-    by : (b : Bool)
-        → (let e = record d { phase = handled polling d.phase } in
-        let counts = record d.counts { interrupts = saturated (d.counts.interrupts + 1) } in
-        (if b then e else record e { frames = 0; counts = counts }).phase ≡ handled polling d.phase)
-    by true = refl
-    by false = refl
+pub handled-phase : (until : ℕ) (polling : Bool) (d : QueueView) → (interrupted until polling d).phase ≡ handled polling d.phase
+handled-phase until polling d =
+    interrupted-by (λ e. e.phase ≡ handled polling d.phase) until polling d (λ fired. refl) (λ calm. refl)
 
 quiet-expired : (phase : Phase) → is_quiet (expired_phase phase) ≡ true → is_quiet phase ≡ true
 quiet-expired phase is = grind (arith, common_steps)
@@ -78,8 +77,9 @@ unfolding map_at
 tend-life s n = record {
   walk = record {
     interrupt = λ m time counts p free h asks none.
-        at-either (λ b o. (not (is_polling p.settings) && b) ≡ false → Tend o) (interrupted (is_polling p.settings)) m n p.devices
-        (λ here. by (is_polling p.settings) (at n p.devices) h.1) (λ other no. h.1) (rw h.0 none);
+        let until = saturated (p.clock + time) in
+        at-either (λ b o. (not (is_polling p.settings) && b) ≡ false → Tend o) (interrupted until (is_polling p.settings)) m n p.devices
+        (λ here. by until (is_polling p.settings) (at n p.devices) h.1) (λ other no. h.1) (rw h.0 none);
     next = λ p free h. h;
     asks = λ m p h asked none. h.1;
     over = λ counts p free h. h;
@@ -96,11 +96,12 @@ tend-life s n = record {
   moved = λ e clock counts p h none. also e p.devices (h none);
 }
   where
-    by : (polling : Bool) (o : Option QueueView) → Tend o → (not polling && true) ≡ false → Tend (map_at (interrupted polling) o)
-    by polling None t none = tt
-    by true (Some d) t none = λ quiet.
-        queued-interrupted true d ∙ t (quiet-handled d.phase (sym (ap is_quiet (handled-phase true d)) ∙ quiet))
-    by false (Some d) t none = cc none
+    by : (until : ℕ) (polling : Bool) (o : Option QueueView) → Tend o → (not polling && true) ≡ false
+        → Tend (map_at (interrupted until polling) o)
+    by until polling None t none = tt
+    by until true (Some d) t none = λ quiet.
+        queued-interrupted until true d ∙ t (quiet-handled d.phase (sym (ap is_quiet (handled-phase until true d)) ∙ quiet))
+    by until false (Some d) t none = cc none
 
     also : (e : Option ℕ) (ds : QueueViews) → Tend (at n ds) → Tend (at n (expired_at e ds))
     also None ds t = t
@@ -129,22 +130,83 @@ full-polled : (s : MachineSettings) (now given : ℕ) (d : QueueView) → (given
 unfolding queue_polled
 full-polled s now given d h1 = grind (arith, common_steps)
 
+notified-busy : (moment : ℕ) (s : MachineSettings) (d : QueueView) → is_quiet (notified moment s d).phase ≡ true → ⊥
+unfolding notified
+notified-busy moment s d h1 = grind (arith, common_steps)
+
+-- a queue that completes and stays masked has a timer, or is scheduled again
+quiet-masked : (phase : Phase) (waits heedless found missed : Bool) (until : ℕ) → (waits && not heedless || found) ≡ true
+    → is_quiet (record phase {
+      state = if missed || found then Scheduled else Idle;
+      timer = if waits && not missed then Some until else phase.timer;
+    }) ≡ true
+    → ⊥
+quiet-masked phase waits heedless found missed until masked quiet = grind (arith, common_steps)
+
+-- a card that knows of the packets in its ring isn't quiet when it is unmasked
+quiet-armed : (now : ℕ) (s : MachineSettings) (d : QueueView) → covered s d ≡ true → is_quiet (armed now s d).phase ≡ true
+    → (length d.ring == 0) ≡ true
+quiet-armed now s d knows =
+    armed-by (λ e. is_quiet e.phase ≡ true → (length d.ring == 0) ≡ true) now s d
+    (λ owed quiet. absurd (notified-busy now s (unmasked_queue d) quiet))
+    (λ free. clear d.phase (length d.ring == 0) (is_owed s d) free knows)
+  where
+    clear : (phase : Phase) (empty owed : Bool) → owed ≡ false → (empty || is_called phase.line || owed) ≡ true
+        → is_quiet (record phase { line = unmasked_line phase.line }) ≡ true → empty ≡ true
+    clear phase empty owed free knows quiet = grind (arith, common_steps)
+
+-- after a poll of less than its weight, a queue that is quiet has no packet in its ring
+quiet-completed : (now given : ℕ) (s : MachineSettings) (d : QueueView) → covered s d ≡ true
+    → is_quiet (queue_completed now given s d).phase ≡ true
+    → d.ring ≡ []
+quiet-completed now given s d knows quiet =
+    empty d.ring (eqb-true (length d.ring) 0 (completed-by (λ e. is_quiet e.phase ≡ true → (length d.ring == 0) ≡ true) now given s d
+    (λ masked quiet. absurd (quiet-masked d.phase (is_deferred given s d) s.heedless (finds_packets given s d) (is_missed d.phase)
+    (saturated (now + s.gro_flush_timeout)) masked quiet))
+    (λ free quiet. quiet-armed now s (napi_completed now given s d) knows quiet) quiet))
+  where
+    empty : (xs : List ℕ) → length xs ≡ 0 → xs ≡ []
+    empty [] is = refl
+    empty (x ∷ xs) is = absurd (omega (arith, is))
+
+-- a poll that ends has handed over all packets that GRO holds
+quiet-polled : (now given : ℕ) (s : MachineSettings) (d : QueueView) → Held d → d.taken ≡ []
+    → ((given == s.weight) ≡ false → covered s d ≡ true) → Held (queue_polled now given s d)
+unfolding queue_polled queued
+quiet-polled now given s d h1 h2 h3 = grind (arith, common_steps, queued-polled, quiet-completed)
+
 looks-tend : (s : MachineSettings) (n m given now : ℕ) (ds : QueueViews) → given ≤ s.weight
-    → ((k : ℕ) → s.backlog ≡ false → taken_in (at k ds) ≡ [])
-    → ((m == n) ≡ true → scheduled_at (at n ds) ≡ 1) → Tend (at n ds) → Looks (λ es w. Tend (at n es)) s now m given ds
+    → (is_batching s ≡ false → s.backlog ≡ false → taken_in (at n ds) ≡ [])
+    → ((m == n) ≡ true → scheduled_at (at n ds) ≡ 1) → (is_batching s ≡ true → (m == n) ≡ true → Seen s given (at n ds)) → Tend (at n ds)
+    → Looks (λ es w. Tend (at n es)) s now m given ds
 unfolding map_at
-looks-tend s n m given now ds most plain scheduled t = record {
-  some = λ came is. next;
-  none = λ none.
+looks-tend s n m given now ds most plain scheduled sees t = record {
+  some = λ single came is. next;
+  none = λ single none.
       at-keeps Tend (queue_polled now given s) m n es
-      (λ here held. also (at n es) (look-none s.backlog m n ds (plain n) none
-      ∙ (next-none-at s.backlog (at n ds) (plain n) (at-same (λ o. next_packet_at s.backlog o ≡ None) m n ds here none)).0)) next;
-  full = λ not-less.
+      (λ here held. also (at n es) (look-none s.backlog m n ds (plain single) none
+      ∙ (next-none-at s.backlog (at n ds) (plain single) (at-same (λ o. next_packet_at s.backlog o ≡ None) m n ds here none)).0)) next;
+  full = λ single not-less.
       tend-kept (queue_polled now given s) m n ds
       (λ d quiet. sym (ap is_quiet (full-polled s now given d (full-is given s.weight most not-less))) ∙ quiet)
       (queued-polled now given s) t;
+  takes = λ batch pulls. tend-kept holding m n ds (λ d quiet. sym (ap is_quiet (phase-holding d)) ∙ quiet) queued-holding t;
+  hands = λ batch stops came is. at-keeps Tend without_held m n ds (λ here held. busy (at n ds) (scheduled here)) t;
+  over = λ batch stop none.
+      at-keeps Tend (queue_polled now given s) m n ds
+      (λ here. ended (at n ds) (held-none-at (at n ds) (at-same (λ o. next_held_at o ≡ None) m n ds here none)) (sees batch here)
+      (at-same (λ o. stops given s o ≡ true) m n ds here stop)) t;
 }
   where
+    busy : (o : Option QueueView) → scheduled_at o ≡ 1 → Tend (map_at without_held o)
+    busy None is = tt
+    busy (Some d) is = λ quiet. absurd (sched-quiet d.phase is quiet)
+
+    ended : (o : Option QueueView) → taken_in o ≡ [] → Seen s given o → stops given s o ≡ true → Tend o
+        → Tend (map_at (queue_polled now given s) o)
+    ended None none is stop held = tt
+    ended (Some d) none is stop held = quiet-polled now given s d held none (λ part. covered-over s given d is stop none most part)
+
     es : QueueViews
     es = changed (without_next s.backlog) m ds
 
@@ -160,9 +222,8 @@ looks-tend s n m given now ds most plain scheduled t = record {
     also (Some d) none = λ quiet. queued-polled now given s d ∙ none
 
 ends-tend : (s : MachineSettings) (n : ℕ) (p : ProcessorView) → Goes s p → Stands s n p → ((k : ℕ) → IsPlain p.settings k p.devices)
-    → Tended s n p
-    → Ends (λ o ds w. Tend (at n ds)) p
-ends-tend s n p goes stands plain h = record {
+    → (is_batching p.settings ≡ true → Shows p.settings n p.work (at n p.devices)) → Tended s n p → Ends (λ o ds w. Tend (at n ds)) p
+ends-tend s n p goes stands plain shows h = record {
   rest = λ none polls. h (lone-polling s n p.work (λ m is. sym same ∙ polls m is));
   silent = λ m is single none. tend-again m n p.devices (untaken single) (other m is);
   lone = λ m came is single found.
@@ -172,16 +233,23 @@ ends-tend s n p goes stands plain h = record {
       (at-kept taken_in deliver m n first (λ d. refl)
       ∙ (at-kept taken_in (without_next false) m n p.devices (λ d. refl) ∙ untaken single))
       (λ apart. rw (at-apart deliver m n first apart, at-apart (without_next false) m n p.devices apart) (other m is apart));
-  poll = λ m is.
-      looks-tend p.settings n m 0 p.ends p.devices (omega arith) backed
-      (scheduled-of s n m p goes stands (ap polled_by is) (ap (polled_at n) is))
+  poll = λ look is.
+      looks-tend p.settings n look.device look.given p.ends p.devices (looked look is) (plain-in p.settings n p.devices (plain n))
+      (scheduled-of s n look.device p goes stands (ap polled_by is) (ap (polled_at n) is))
+      (λ batch here. let known : Shows p.settings n (Poll look) (at n p.devices) = rw is at (shows batch) in known.0 here)
       (h (ap (lone s n) is));
   packet = λ hand is.
       let deliver = device.queue_delivered p.ends hand.came in
       looks-tend p.settings n hand.device (hand.given + 1) p.ends (changed deliver hand.device p.devices) (given hand is)
-      (λ k single. at-kept taken_in deliver hand.device k p.devices (λ d. refl) ∙ backed k single)
+      (λ single none. at-kept taken_in deliver hand.device n p.devices (λ d. refl)
+      ∙ plain-in p.settings n p.devices (plain n) single none)
       (λ here. at-kept scheduled_at deliver hand.device n p.devices (λ d. refl)
       ∙ scheduled-of s n hand.device p goes stands (ap polled_by is) (ap (polled_at n) is) here)
+      (λ batch here.
+      let known : Shows p.settings n (Packet hand) (at n p.devices) = rw is at (shows batch) in
+      at-keeps (λ o. Seen p.settings (hand.given + 1) o) deliver hand.device n p.devices
+      (λ same. map-there (λ d. seen p.settings (hand.given + 1) d ≡ true) (λ d. seen p.settings (hand.given + 1) d ≡ true) deliver
+      (at n p.devices) (λ d is. is)) (known.0 here))
       (tend-kept deliver hand.device n p.devices (λ d quiet. quiet) (queued-delivered p.ends hand.came) (h (ap (lone s n) is)));
 }
   where
@@ -192,10 +260,12 @@ ends-tend s n p goes stands plain h = record {
     other m is apart = h (rw is (and_right (not (is_polling s)) (m == n) apart))
 
     untaken : is_polling p.settings ≡ false → taken_in (at n p.devices) ≡ []
-    untaken single = plain n (and_right p.settings.backlog (is_polling p.settings) single)
+    untaken single = plain n (and_right (p.settings.backlog || is_batching p.settings) (is_polling p.settings) single)
 
-    backed : (k : ℕ) → p.settings.backlog ≡ false → taken_in (at k p.devices) ≡ []
-    backed k single = plain k (and_left p.settings.backlog (is_polling p.settings) single)
+    looked : (look : Looking) → p.work ≡ Poll look → look.given ≤ p.settings.weight
+    looked look is =
+        let below : look.given - 1 < s.weight = rw is at goes.given in
+        omega (arith, below, s.weight_in.0, ap (λ (x : MachineSettings). x.weight) goes.rests.settings)
 
     given : (hand : InHand) → p.work ≡ Packet hand → hand.given + 1 ≤ p.settings.weight
     given hand is =
@@ -204,28 +274,12 @@ ends-tend s n p goes stands plain h = record {
 
 -- ---- a packet arrives
 
-notified-busy : (moment : ℕ) (s : MachineSettings) (d : QueueView) → is_quiet (notified moment s d).phase ≡ true → ⊥
-unfolding notified
-notified-busy moment s d quiet =
-    by d.phase (is_at_once moment s d) (asks_later moment s d) quiet
-  where
-    by : (phase : Phase) (at_once : Bool) (until : ℕ)
-        → is_quiet (record phase { line = if at_once then Raised else coalesced until phase.line }) ≡ true → ⊥
-    by phase at_once until quiet = grind (arith, common_steps)
-
-masked-busy : (phase : Phase) → is_masked phase ≡ true → is_quiet phase ≡ true → ⊥
-masked-busy phase masked quiet = grind (arith, common_steps)
+silent-busy : (s : MachineSettings) (phase : Phase) → is_silent s phase ≡ true → is_quiet phase ≡ true → ⊥
+silent-busy s phase h1 h2 = grind (arith, common_steps)
 
 packet-busy : (moment : ℕ) (s : MachineSettings) (d : QueueView) → has_room d ≡ true → is_quiet (after_packet moment s d).phase ≡ true → ⊥
 unfolding after_packet
-packet-busy moment s d room quiet = by (is_masked d.phase) refl (rw room at quiet)
-  where
-    e : QueueView
-    e = record d { counts = record d.counts { arrived = saturated (d.counts.arrived + 1) }; ring = d.ring ++ moment ∷ [] }
-
-    by : (b : Bool) → is_masked d.phase ≡ b → is_quiet (if b then e else notified moment s e).phase ≡ true → ⊥
-    by true masked quiet = masked-busy d.phase masked quiet
-    by false clear quiet = notified-busy moment s e quiet
+packet-busy moment s d h1 h2 = grind (arith, common_steps, notified-busy, silent-busy)
 
 -- a packet that finds no room doesn't change the phase of its queue
 pub full-phase : (moment : ℕ) (s : MachineSettings) (d : QueueView) → has_room d ≡ false → (after_packet moment s d).phase ≡ d.phase
@@ -249,29 +303,31 @@ tend-arrives moment m n p t =
 
 -- ---- over a processor's life
 
-pub tended-on : (s : MachineSettings) (n : ℕ) (events : List MachineEvent) → Tended s n (behind s events)
-unfolding behind step
-tended-on s n [] = λ none. tt
-tended-on s n (packet moment m ∷ earlier) =
+pub tended-on : (s : MachineSettings) (n until : ℕ) (events : List MachineEvent) → until < 2 ^ 64 → InTurn s until events
+    → Tended s n (behind s events)
+unfolding behind InTurn step
+tended-on s n until [] fits turns = λ none. tt
+tended-on s n until (packet moment m ∷ earlier) fits turns =
     let p = behind s earlier in
-    life-arrives (tend-life s n) moment m p (goes-on s earlier) (λ none. tend-arrives moment m n p (tended-on s n earlier none))
-    (λ full none. tend-arrives moment m n p (tended-on s n earlier none))
-tended-on s n (next ∷ earlier) =
+    let h = tended-on s n moment earlier (omega (arith, turns.0, fits)) turns.2 in
+    life-arrives (tend-life s n) moment m p (goes-on s earlier) (λ none. tend-arrives moment m n p (h none))
+    (λ full none. tend-arrives moment m n p (h none))
+tended-on s n until (next ∷ earlier) fits turns =
     let p = behind s earlier in
-    let h = tended-on s n earlier in
-    life-happens (tend-life s n) (upcoming p) p (goes-on s earlier) h h
+    let goes = goes-on s earlier in
+    let h = tended-on s n until earlier fits turns.1 in
+    let shows : is_batching p.settings ≡ true → Shows p.settings n p.work (at n p.devices) =
+    λ batch. subst (λ (x : MachineSettings). Shows x n p.work (at n p.devices)) (sym goes.rests.settings)
+    (shows-on s n until earlier fits turns.1 (sym (ap (λ (x : MachineSettings). is_batching x) goes.rests.settings) ∙ batch)) in
+    life-happens (tend-life s n) (upcoming p) p goes h h
     (λ is none. ends (λ o ds w. Tend (at n ds)) p
-    (ends-tend s n p (goes-on s earlier) (stands-on s n earlier) (λ k. plain-of s k earlier) h))
+    (ends-tend s n p goes (stands-on s n earlier) (λ k. plain-of s k earlier) shows h))
 
 -- ---- a masked card
 
-abbrev pub is_unmet : Expiry → Bool
-is_unmet Expired = true
-is_unmet _ = false
-
 -- the card doesn't report packets, and nothing will unmask it
 abbrev pub is_stuck : Phase → Bool
-is_stuck phase = is_masked phase && is_napi_idle phase.state && not (is_some phase.timer || is_unmet phase.expiry)
+is_stuck phase = is_masked phase && is_napi_idle phase.state && not (is_timed phase)
 
 abbrev pub Unstuck : Option QueueView → Type 0
 Unstuck o = IfThere (λ d. is_stuck d.phase ≡ false) o
@@ -282,45 +338,41 @@ unstuck-handled polling phase free = grind (arith, common_steps)
 unstuck-expired : (phase : Phase) → is_stuck phase ≡ false → is_stuck (expired_phase phase) ≡ false
 unstuck-expired phase free = grind (arith, common_steps)
 
-unstuck-steady : Steady Unstuck
-unfolding map_at
-unstuck-steady = record {
-  interrupted = λ polling o asks t. first polling o t;
-  expired = λ o t. second o t;
-}
-  where
-    first : (polling : Bool) (o : Option QueueView) → Unstuck o → Unstuck (map_at (interrupted polling) o)
-    first polling None t = tt
-    first polling (Some d) t = ap is_stuck (handled-phase polling d) ∙ unstuck-handled polling d.phase t
+-- the card asks for an interrupt, or is unmasked
+notified-unstuck : (phase : Phase) (at_once : Bool) (until : ℕ) → is_masked phase ≡ false
+    → is_stuck (record phase { line = if at_once then Raised else coalesced until phase.line }) ≡ false
+notified-unstuck phase at_once until clear = grind (arith, common_steps)
 
-    second : (o : Option QueueView) → Unstuck o → Unstuck (map_at expired o)
-    second None t = tt
-    second (Some d) t = unstuck-expired d.phase t
+unmasked-clear : (line : Line) → is_masked_line (unmasked_line line) ≡ false
+unmasked-clear line = grind (arith, common_steps)
+
+unstuck-armed : (now : ℕ) (s : MachineSettings) (d : QueueView) → is_stuck (armed now s d).phase ≡ false
+unfolding notified
+unstuck-armed now s d =
+    let e = unmasked_queue d in
+    armed-by (λ r. is_stuck r.phase ≡ false) now s d
+    (λ owed. notified-unstuck e.phase (is_at_once now s e) (asks_later now s e) (unmasked-clear d.phase.line))
+    (λ free. rw (unmasked-clear d.phase.line) refl)
 
 -- a queue that completes and stays masked has a timer, or is scheduled again
-unstuck-completed : (now : ℕ) (defers heedless : Bool) (gro : ℕ) (phase : Phase)
-    → is_stuck (record {
-      line = if defers && not heedless then phase.line else unmasked_line phase.line;
-      state = completed_state phase.state;
-      timer = if defers && not (is_missed phase) then Some (saturated (now + gro)) else phase.timer;
-      expiry = phase.expiry;
+unstuck-masked : (phase : Phase) (waits heedless found missed : Bool) (until : ℕ) → (waits && not heedless || found) ≡ true
+    → is_stuck (record phase {
+      state = if missed || found then Scheduled else Idle;
+      timer = if waits && not missed then Some until else phase.timer;
     })
     ≡ false
-unstuck-completed now defers heedless gro phase = grind (arith, common_steps)
+unstuck-masked phase waits heedless found missed until masked = grind (arith, common_steps)
 
 unstuck-polled : (now given : ℕ) (s : MachineSettings) (d : QueueView) → is_stuck d.phase ≡ false
     → is_stuck (queue_polled now given s d).phase ≡ false
-unfolding queue_polled queue_completed
-unstuck-polled now given s d free = by (given == s.weight)
-  where
-    e : QueueView
-    e = record d { counts = record d.counts { polls = saturated (d.counts.polls + 1) } }
-
-    by : (full : Bool) → is_stuck (if full then e else queue_completed now given s e).phase ≡ false
-    by true = free
-    by false =
-        let k = if given == 0 then d.deferrals else s.defer_hard_irqs in
-        unstuck-completed now (not (k == 0) && not (s.gro_flush_timeout == 0)) s.heedless s.gro_flush_timeout d.phase
+unstuck-polled now given s d free =
+    let e : QueueView = record d { counts = record d.counts { polls = saturated (d.counts.polls + 1) } } in
+    poll-by (λ r. is_stuck r.phase ≡ false) now given s d (
+      λ full. free,
+      λ masked. unstuck-masked d.phase (is_deferred given s d) s.heedless (finds_packets given s d) (is_missed d.phase)
+          (saturated (now + s.gro_flush_timeout)) masked,
+      λ clear. unstuck-armed now s (napi_completed now given s e),
+    )
 
 unstuck-raised : (phase : Phase) (b : Bool) → is_stuck phase ≡ false
     → is_stuck (if b then phase else record phase { line = Raised }) ≡ false
@@ -328,68 +380,37 @@ unstuck-raised phase true free = free
 unstuck-raised phase false free = refl
 
 unstuck-ends : (p : ProcessorView) → Keeps Unstuck p
-unfolding map_at
 unstuck-ends p = record {
-  raised = λ lone o t. first o t;
-  next = λ backlog o plain polls t. second backlog o t;
-  delivered = third;
-  polled = fourth;
+  raised = λ lone o. there raised_again o (λ d. unstuck-raised d.phase (length d.ring == 0));
+  next = λ backlog o plain polls. there (without_next backlog) o (λ d t. ap is_stuck (phase-next backlog d) ∙ t);
+  holds = λ o batch m polls. there holding o (λ d t. ap is_stuck (phase-holding d) ∙ t);
+  hands = λ o batch. there without_held o (λ d t. t);
+  delivered = λ came o. there (device.queue_delivered p.ends came) o (λ d t. t);
+  polled = λ given o. there (queue_polled p.ends given p.settings) o (unstuck-polled p.ends given p.settings);
 }
   where
-    first : (o : Option QueueView) → Unstuck o → Unstuck (map_at raised_again o)
-    first None t = tt
-    first (Some d) t = unstuck-raised d.phase (length d.ring == 0) t
-
-    second : (backlog : Bool) (o : Option QueueView) → Unstuck o → Unstuck (map_at (without_next backlog) o)
-    second backlog None t = tt
-    second backlog (Some d) t = ap is_stuck (phase-next backlog d) ∙ t
-
-    third : (came : ℕ) (o : Option QueueView) → Unstuck o → Unstuck (map_at (device.queue_delivered p.ends came) o)
-    third came None t = tt
-    third came (Some d) t = t
-
-    fourth : (given : ℕ) (o : Option QueueView) → Unstuck o → Unstuck (map_at (queue_polled p.ends given p.settings) o)
-    fourth given None t = tt
-    fourth given (Some d) t = unstuck-polled p.ends given p.settings d t
-
-notified-unstuck : (phase : Phase) (at_once : Bool) (until : ℕ) → is_masked phase ≡ false
-    → is_stuck (record phase { line = if at_once then Raised else coalesced until phase.line }) ≡ false
-notified-unstuck phase at_once until clear = grind (arith, common_steps)
+    there : (f : QueueView → QueueView) (o : Option QueueView)
+        → ((d : QueueView) → is_stuck d.phase ≡ false → is_stuck (f d).phase ≡ false) → Unstuck o → Unstuck (map_at f o)
+    there f o keeps held = map-there (λ d. is_stuck d.phase ≡ false) (λ d. is_stuck d.phase ≡ false) f o keeps held
 
 unstuck-packet : (moment : ℕ) (s : MachineSettings) (d : QueueView) → is_stuck d.phase ≡ false
     → is_stuck (after_packet moment s d).phase ≡ false
-unfolding after_packet notified
-unstuck-packet moment s d free = by (has_room d) (is_masked d.phase) refl
-  where
-    e : QueueView
-    e = record d { counts = record d.counts { arrived = saturated (d.counts.arrived + 1) } }
-
-    f : QueueView
-    f = record e { ring = d.ring ++ moment ∷ [] }
-
-    by : (room masked : Bool) → is_masked d.phase ≡ masked
-        → is_stuck (if not room then record e { counts = record e.counts { dropped = saturated (d.counts.dropped + 1) } }
-        else (if masked then f else notified moment s f)).phase ≡ false
-    by false masked is = free
-    by true true is = free
-    by true false is = notified-unstuck d.phase (is_at_once moment s d) (asks_later moment s d) is
+unfolding notified
+unstuck-packet moment s d free =
+    let e = record d { counts = record d.counts { arrived = saturated (d.counts.arrived + 1) }; ring = d.ring ++ moment ∷ [] } in
+    packet-by (λ room r. is_stuck r.phase ≡ false) moment s d (
+      free,
+      λ silent. free,
+      λ clear. notified-unstuck d.phase (is_at_once moment s e) (asks_later moment s e) ((or_parts (is_masked d.phase) _ clear).0),
+    )
 
 pub unstuck-on : (s : MachineSettings) (n : ℕ) (events : List MachineEvent) → Unstuck (at n (behind s events).devices)
-unfolding behind step made_at
-unstuck-on s n [] = tt
-unstuck-on s n (packet moment m ∷ earlier) =
-    let p = behind s earlier in
-    let before = unstuck-on s n earlier in
-    let now = at-arrives Unstuck moment m n p
-    (λ d is. unstuck-packet moment p.settings d (rw is (made (at n p.devices) before))) before in
-    life-arrives (steady-life s Unstuck unstuck-steady n) moment m p (goes-on s earlier) now (λ full. now)
-  where
-    made : (o : Option QueueView) → Unstuck o → is_stuck (made_at (behind s earlier).settings.ring o).phase ≡ false
-    made None t = refl
-    made (Some d) t = t
-unstuck-on s n (next ∷ earlier) =
-    let p = behind s earlier in
-    let goes = goes-on s earlier in
-    let before = unstuck-on s n earlier in
-    life-happens (steady-life s Unstuck unstuck-steady n) (upcoming p) p goes before before
-    (λ is. ends-at Unstuck n p (unstuck-ends p) before)
+unstuck-on s n events = lasts-on s n Unstuck (record {
+  none = tt;
+  new = refl;
+  steady = steady-there (λ d. is_stuck d.phase ≡ false)
+      (λ until polling d asked t. ap is_stuck (handled-phase until polling d) ∙ unstuck-handled polling d.phase t)
+      (λ d. unstuck-expired d.phase);
+  packet = λ moment d free. unstuck-packet moment s d free;
+  ends = λ p goes. unstuck-ends p;
+}) events

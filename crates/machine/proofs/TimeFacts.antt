@@ -1,57 +1,39 @@
 -- Laws: time never decreases, and deferred timers are near; arrivals, waiting packets and the work in progress are in the order of
 -- their times.
-use Rattle.std.proofs.lemmas.Grind.{common_steps}
-use Rattle.std.proofs.Common.{◌≡◌, ◌∙◌, ℕ, ◌+◌, ◌-◌, ◌<◌, ◌≤◌, ◌^◌, Bool, true, false, Option, Some, None, List, [], ◌∷◌, ◌++◌, refl}
-use Rattle.std.proofs.Common.{ap}
-use Rattle.std.proofs.{Common.{arith}, lemmas.{Bool.{and_left, and_parts, leb-true}}}
+use Rattle.std.proofs.{Common.{◌≡◌, ◌∙◌, ℕ, ◌+◌, ◌-◌, ◌<◌, ◌≤◌, ◌^◌, Bool, true, false, Option, Some, None, List, [], ◌∷◌, ◌++◌, refl, ap}}
+use Rattle.std.proofs.{Common.{subst, sym, arith, map}, lemmas.{Bool.{and_parts, leb-true, and_from, not_from_false}, Grind.common_steps}}
 use Rattle.std.specs.{List.AllByRecursion, Prelude.{◌==◌, ◌&&◌, if◌then◌else◌, max, not, position, unwrap_or}}
-use Rattle.machine_model.specs.declared.settings.MachineSettings.{MachineSettings}
-use Rattle.device_places.specs.Places.{at, changed}
-use Rattle.machine.specs.{Deferrals.TimersAreNear, Lives.{MachineEvent, InTurn, behind, next, packet}, Times.{ClocksNeverFall}}
-use Rattle.machine.specs.Fates.{delivery_of, finds_room, taken_in}
-use Rattle.machine_model.specs.declared.processor.Work.{Work}
-use Rattle.machine_model.specs.declared.processor.Work.TheVariants.{Interrupt, Poll, Packet, Use}
-use Rattle.machine_model.specs.declared.processor.{InHand.{InHand}, ProcessorCounts.ProcessorCounts, Rest.{Rest}}
-use Rattle.machine_model.specs.declared.{processor.{Upcoming.{Upcoming, TheVariants.{Never, Expires}}}}
-use Rattle.machine_model.specs.{Softirq.{SoftirqView, run_ended, run_next}, Waits.{saturated}}
+use Rattle.machine_model.proofs.{TableFacts.{at-kept, map-kept, map-there, map_at}, WalkFacts.{Walk, either, enqueued, is_scheduling}}
+use Rattle.machine_model.proofs.WalkFacts.{nexted, started, stirred, stirred-by, walk-any, devices_interrupted}
+use Rattle.machine_model.specs.{Application.{ApplicationView, fed, takes_up_packet, use_length}, Device.{QueueView, expired, holding}}
+use Rattle.machine_model.specs.{Device.{interrupted, queue_polled, raised_again, without_held, without_next}, Devices.asks_at}
+use Rattle.machine_model.specs.{Devices.{has_room_at, with_device}, Processor.{ProcessorView, arrives, begins, disturbed, ends_current}}
+use Rattle.machine_model.specs.Processor.{happens, is_busy, is_by, is_due, is_polling, polls, step, takes_up, upcoming, wake_cost}
+use Rattle.machine_model.specs.{Softirq.{SoftirqView, run_ended, run_next}, Waits.saturated, declared.processor.InHand.InHand}
+use Rattle.machine_model.specs.declared.processor.{Looking.Looking, ProcessorCounts.ProcessorCounts, Rest.Rest, Upcoming.Upcoming}
+use Rattle.machine_model.specs.declared.processor.{Upcoming.TheVariants.{Never, Expires}, Work.{Work, TheVariants.{Interrupt, Poll}}}
+use Rattle.machine_model.specs.declared.{processor.Work.TheVariants.{Packet, Use}, settings.MachineSettings.MachineSettings}
 use Rattle.machine_model.specs.declared.tasks.RunnableTask.{RunnableTask}
-use Rattle.machine_model.specs.Device.{QueueView, expired, interrupted, queue_polled, raised_again, without_next}
-use Rattle.machine_model.specs.Devices.{QueueViews, asks_at, has_room_at, is_fired_at, with_device}
-use Rattle.machine_model.specs.Application.{ApplicationView, fed, takes_up_packet, use_length}
-use Rattle.machine_model.specs.Processor.{ProcessorView, arrives, begins, disturbed, ends_current, happens, is_busy, is_by, is_due}
-use Rattle.machine_model.specs.Processor.{is_polling, step, takes_up, upcoming, wake_cost}
-use Rattle.machine.proofs.TableFacts.{at-kept, map-kept, map-there, map_at}
-use Rattle.machine.proofs.WalkFacts.{Walk, either, enqueued, is_scheduling, nexted, started, stirred, stirred-by, walk-any}
-use Rattle.machine.proofs.EndFacts.{Keeps, Looks, ends, ends-at, feeds}
-use Rattle.machine.proofs.WorkFacts.{Goes, devices_arrived, goes-on, goes-unasked, same-polling}
-use Rattle.machine.proofs.WorkFacts.{work-ended, work-moved, work-stirred}
-use Rattle.machine.proofs.FateFacts.{IsPlain, Steady, arrived-queued, at-arrived, ends-plain, made_at, next-keeps}
-use Rattle.machine.proofs.FateFacts.{next-some-at, plain-on, queued, queued-delivered, queued-expired, queued-interrupted}
-use Rattle.machine.proofs.FateFacts.{queued-polled, queued-raised, steady-life}
-use Rattle.machine.proofs.TimerFacts.{NextBy, NotBefore, SetAt, SetTimer, next-is, not-due, set-expired, set-first, set-interrupted}
-use Rattle.machine.proofs.TimerFacts.{set-later}
-use Rattle.machine.proofs.TimerFacts.{set-next, set-packet, set-polled, set-raised}
-use Rattle.machine.proofs.SocketFacts.{fed-here}
 use Rattle.machine_model.specs.declared.processor.Upcoming.TheVariants as upcomings
 use Rattle.machine_model.specs.Device as device
-use Rattle.std.proofs.Common.{◌≡◌, ◌∙◌, ℕ, ◌+◌, ◌-◌, ◌<◌, ◌≤◌, ◌^◌, Bool, true, false, Option, Some, None, [], ◌∷◌, map, refl}
-use Rattle.std.proofs.{Common.{arith}, lemmas.Bool.{and_from, not_from_false}}
-use Rattle.std.{specs.{List.AllByRecursion, Prelude.{◌==◌, if◌then◌else◌, not}}}
-use Rattle.machine.specs.{Lives.{InTurn, behind, next, packet}, Times.NoWaitIsLess}
-use Rattle.machine.specs.Fates.{next_delivery, delivery_by, delivery_of, packet_for, use_by, use_waits, used_by, packet_waits}
-use Rattle.machine_model.specs.declared.processor.{Work.{Work, TheVariants.{Packet, Use}}, InHand.InHand}
-use Rattle.machine_model.specs.declared.processor.Upcoming.{Upcoming, TheVariants.{Never, Expires}}
-use Rattle.machine_model.specs.{Waits.saturated, Processor.{ProcessorView, happens, is_polling, step, upcoming}}
-use Rattle.machine.proofs.WorkFacts.{Goes, goes-on, same-polling}
+use Rattle.device_places.specs.Places.{at, changed}
+use Rattle.machine.proofs.{EndFacts.{IsTaken, Keeps, ends-at, feeds, packet_time, takes_out}, FateFacts.{IsPlain, Steady, arrived-queued}}
+use Rattle.machine.proofs.FateFacts.{at-arrived, ends-plain, held-keeps, made_at, next-keeps, packet-taken, plain-on, queued}
+use Rattle.machine.proofs.FateFacts.{queued-delivered, queued-expired, queued-holding, queued-interrupted, queued-polled, queued-raised}
+use Rattle.machine.proofs.{FateFacts.steady-life, HeldFacts.{Cells, Comes, Lasted, ends-hand, ends-lasted, held-idle, held-later}}
+use Rattle.machine.proofs.HeldFacts.{held-least, held-most, held_by, ends-read, lasted-later, lasted-steady, read-arrived, read-idle}
+use Rattle.machine.proofs.{HeldFacts.{read-interrupts, read-later, read-most, read_at, read_by, weaker}, SocketFacts.fed-here}
+use Rattle.machine.proofs.TimerFacts.{NextBy, NotBefore, SetAt, SetTimer, next-is, not-due, set-expired, set-first, set-interrupted}
+use Rattle.machine.proofs.{TimerFacts.{set-later, set-holding, set-next, set-packet, set-polled, set-raised}, WorkFacts.Goes}
+use Rattle.machine.proofs.WorkFacts.{devices_arrived, goes-on, goes-unasked, same-polling, work-ended, work-moved, work-stirred}
+use Rattle.machine.specs.{Deferrals.TimersAreNear, Fates.{delivery_of, finds_room, taken_in, next_delivery, delivery_by, packet_for}}
+use Rattle.machine.specs.{Fates.{use_by, use_waits, used_by, packet_waits}, Lives.{MachineEvent, InTurn, behind, next, packet}}
+use Rattle.machine.specs.Times.{ClocksNeverFall, NoWaitIsLess}
 
 -- ---- lists
 
 pub both : (P : ℕ → Type 0) (xs ys : List ℕ) → AllByRecursion P xs → AllByRecursion P ys → AllByRecursion P (xs ++ ys)
 both P xs ys h1 h2 = grind (arith, common_steps)
-
-weaker : (P Q : ℕ → Type 0) (xs : List ℕ) → ((x : ℕ) → P x → Q x) → AllByRecursion P xs → AllByRecursion Q xs
-weaker P Q [] so all = tt
-weaker P Q (x ∷ xs) so all = (so x all.0, weaker P Q xs so all.1)
 
 -- ---- the invariant at a time
 
@@ -93,6 +75,8 @@ pub record Base (s : MachineSettings) (t : ℕ) (p : ProcessorView) : Type 0 whe
   pub fits : p.clock < 2 ^ 64
   pub clock : p.clock ≤ t + longest s
   pub up : t ≤ p.clock
+  pub held : (n : ℕ) → Lasted s t (at n p.devices)
+  pub read : (n : ℕ) → read_at (at n p.devices) ≤ t
   -- if no queue asks for an interrupt, no time was spent on waking up
   pub low : position asks_at p.devices ≡ None → p.clock ≡ t
 
@@ -104,6 +88,8 @@ pub record Timed (s : MachineSettings) (t : ℕ) (p : ProcessorView) : Type 0 wh
   pub low : (came : ℕ) → p.work ≡ Use came → p.clock ≤ t
   pub using : IsFair s → (came : ℕ) → p.work ≡ Use came → saturated (came + use_cost s) ≤ p.ends
   pub hand : (hand : InHand) → p.work ≡ Packet hand → saturated (hand.came + s.packet) ≤ p.ends
+  pub held : (n : ℕ) → Lasted s (held_by p.work p.ends t) (at n p.devices)
+  pub read : (n : ℕ) → read_at (at n p.devices) ≤ read_by n p.work p.ends t
 
 -- ---- when work begins
 
@@ -116,8 +102,9 @@ timed-begins : (s : MachineSettings) (t : ℕ) (w : Work) (time : ℕ) (p : Proc
     → p.clock ≤ t + longest s
     → t ≤ p.clock → is_busy w ≡ true → ((hand : InHand) → w ≡ Packet hand → ⊥)
     → ((came : ℕ) → w ≡ Use came → (p.clock ≡ t) × (IsFair s → saturated (came + use_cost s) ≤ saturated (p.clock + time)))
+    → ((n : ℕ) → Lasted s t (at n p.devices)) → ((n : ℕ) → read_at (at n p.devices) ≤ read_by n w (saturated (p.clock + time)) t)
     → Timed s t (begins w time p)
-timed-begins s t w time p h fits clock up busy unpacked used-up = record {
+timed-begins s t w time p h fits clock up busy unpacked used-up held read = record {
   waits = record { settings = h.settings; cells = h.cells; socket = h.socket; rest = h.rest };
   clock = clock;
   idle = λ idle. absurd (cc (busy, idle));
@@ -125,6 +112,10 @@ timed-begins s t w time p h fits clock up busy unpacked used-up = record {
   low = λ came is. omega (arith, (used-up came is).0);
   using = λ fair came is. (used-up came is).1 fair;
   hand = λ hand is. absurd (unpacked hand is);
+  held = λ n.
+      lasted-later s t (held_by w (saturated (p.clock + time)) t) (at n p.devices)
+      (held-least w (saturated (p.clock + time)) t (omega (arith, fits, up))) (held n);
+  read = read;
 }
 
 cell-map : (s : MachineSettings) (t : ℕ) (f : QueueView → QueueView) (o : Option QueueView)
@@ -137,8 +128,9 @@ cell-map s t f o timer same c = record {
 
 cell-steady : (s : MachineSettings) (t : ℕ) → Steady (Cell s t)
 cell-steady s t = record {
-  interrupted = λ polling o asks c.
-      cell-map s t (interrupted polling) o (λ d. set-interrupted t s.gro_flush_timeout polling d) (queued-interrupted polling) c;
+  interrupted = λ until polling o asks c.
+      cell-map s t (interrupted until polling) o (λ d. set-interrupted t s.gro_flush_timeout until polling d)
+      (queued-interrupted until polling) c;
   expired = λ o c. cell-map s t expired o (λ d. set-expired t s.gro_flush_timeout d) queued-expired c;
 }
 
@@ -146,42 +138,31 @@ timed-uses : (s : MachineSettings) (t came : ℕ) (more : List ℕ) (p : Process
     → position asks_at p.devices ≡ None
     → Timed s t (begins (Use came) (use_length p.settings p.application)
     (record p { application = takes_up_packet more p.application }))
-timed-uses s t came more p b is quiet =
-    let h = b.waits in
-    let items : IsFair s → AllByRecursion (λ x. saturated (x + s.packet) ≤ t) (came ∷ more) = rw is at h.socket in
-    timed-begins s t (Use came) (use_length p.settings p.application)
-    (record p { application = takes_up_packet more p.application })
-    (record { settings = h.settings; cells = h.cells; socket = λ fair. (items fair).1; rest = h.rest }) b.fits b.clock b.up refl
-    (λ hand same. cc same)
-    (λ other same. (
-      b.low quiet,
-      λ fair. by other (cc same) (items fair).0 (b.low quiet)
-          (ap (λ (x : MachineSettings). x.use_time) h.settings) b.fits,
-    ))
-  where
-    by : (other : ℕ) → other ≡ came → saturated (came + s.packet) ≤ t → p.clock ≡ t → p.settings.use_time ≡ s.use_time → p.clock < 2 ^ 64
-        → saturated (other + use_cost s) ≤ saturated (p.clock + use_length p.settings p.application)
-    by other same first clock time fits = omega (arith, same, first, clock, time, fits)
+timed-uses s t came more p h1 h2 h3 = grind (arith, common_steps, timed-begins)
 
 timed-resume : (s : MachineSettings) (t : ℕ) (rest : Rest) (p : ProcessorView) → Base s t p → p.rest ≡ Some rest
     → position asks_at p.devices ≡ None → Timed s t (begins (Use rest.came) rest.left (record p { rest = None }))
-timed-resume s t rest p h1 h2 h3 = grind (arith, common_steps)
+timed-resume s t rest p h1 h2 h3 = grind (arith, common_steps, timed-begins)
 
-timed-poll : (s : MachineSettings) (t n : ℕ) (p : ProcessorView) → Base s t p → Timed s t (begins (Poll n) p.settings.poll p)
-timed-poll s t n p h1 = grind (arith, common_steps)
+timed-poll : (s : MachineSettings) (t n : ℕ) (p : ProcessorView) → Base s t p → Timed s t (polls n p)
+timed-poll s t n p b =
+    timed-begins s t (Poll (record { device = n; given = 0 })) p.settings.poll p b.waits b.fits b.clock b.up refl (λ hand same. cc same)
+    (λ came same. cc same) b.held b.read
 
 timed-walk : (s : MachineSettings) (t : ℕ) → Walk (Base s t) (Timed s t)
 timed-walk s t = record {
   interrupt = λ n time counts p free b asks.
       let h = b.waits in
       timed-begins s t (Interrupt n) time
-      (enqueued (is_scheduling n p) n (record p { devices = changed (interrupted (is_polling p.settings)) n p.devices; counts = counts }))
+      (enqueued (is_scheduling n p) n (record p { devices = devices_interrupted n time p; counts = counts }))
       (record {
         settings = h.settings;
         cells = λ m. (steady-life s (Cell s t) (cell-steady s t) m).walk.interrupt n time counts p free (h.cells m) asks;
         socket = h.socket;
         rest = h.rest;
-      }) b.fits b.clock b.up refl (λ hand is. cc is) (λ came is. cc is);
+      }) b.fits b.clock b.up refl (λ hand is. cc is) (λ came is. cc is)
+      (λ m. (steady-life s (Lasted s t) (lasted-steady s t) m).walk.interrupt n time counts p free (b.held m) asks)
+      (λ m. read-interrupts n m time t p b.fits b.up (b.read m));
   next = λ p free b. base-of s t (run_next p.softirq) p.tasks p.counts p b;
   asks = λ n p b asked. timed-poll s t n (nexted p) b;
   over = λ counts p free b. base-of s t (run_ended p.softirq) p.tasks counts p b;
@@ -198,6 +179,8 @@ timed-walk s t = record {
     low = λ came is. absurd (cc (free.nothing, is));
     using = λ fair came is. absurd (cc (free.nothing, is));
     hand = λ hand is. absurd (cc (free.nothing, is));
+    held = rw free.nothing b.held;
+    read = rw free.nothing b.read;
   };
 }
 
@@ -210,35 +193,11 @@ timed-takes s t p goes r = walk-any (timed-walk s t) p (goes-unasked s p goes) r
 
 -- ---- when work ends
 
--- the packet that a poll takes next has arrived
-looks-hand : (s : MachineSettings) (t now m given : ℕ) (ds : QueueViews) → (s.backlog ≡ false → taken_in (at m ds) ≡ [])
-    → AllByRecursion (λ came. came ≤ t) (queued (at m ds))
-    → Looks (λ es w. (hand : InHand) → w ≡ Packet hand → hand.came ≤ t) s now m given ds
-looks-hand s t now m given ds h1 h2 = grind (arith, common_steps, next-some-at)
-
-ends-hand : (t : ℕ) (p : ProcessorView) → ((n : ℕ) → IsPlain p.settings n p.devices)
-    → ((n : ℕ) → AllByRecursion (λ came. came ≤ t) (queued (at n p.devices)))
-    → (hand : InHand) → (ends_current p).work ≡ Packet hand → hand.came ≤ t
-ends-hand t p plain came = ends (λ o ds w. (hand : InHand) → w ≡ Packet hand → hand.came ≤ t) p (record {
-  rest = λ none polls hand same. cc same;
-  silent = λ m is lone none hand same. cc same;
-  lone = λ m oldest is lone found hand same. cc same;
-  poll = λ m is. looks-hand p.settings t p.ends m 0 p.devices (untaken m) (came m);
-  packet = λ hand is.
-      let deliver = device.queue_delivered p.ends hand.came in
-      looks-hand p.settings t p.ends hand.device (hand.given + 1) (changed deliver hand.device p.devices)
-      (λ single. at-kept taken_in deliver hand.device hand.device p.devices (λ d. refl) ∙ untaken hand.device single)
-      (rw (at-kept queued deliver hand.device hand.device p.devices (queued-delivered p.ends hand.came)) (came hand.device));
-})
-  where
-    untaken : (n : ℕ) → p.settings.backlog ≡ false → taken_in (at n p.devices) ≡ []
-    untaken n single = plain n (and_left p.settings.backlog (is_polling p.settings) single)
-
 -- a queue without a backlog, or without polling, has no packets that were moved
 cells-end : (s : MachineSettings) (p : ProcessorView) → Goes s p → p.ends < 2 ^ 64 → ((n : ℕ) → Cell s p.ends (at n p.devices))
     → ((n : ℕ) → IsPlain s n p.devices) → (n : ℕ) → Cell s p.ends (at n (ends_current p).devices)
 cells-end s p goes fits cells plain n =
-    (ends-at (λ o. Cell s t o × ((s.backlog && is_polling s) ≡ false → taken_in o ≡ [])) n p (record {
+    (ends-at (λ o. Cell s t o × (takes_out s ≡ false → taken_in o ≡ [])) n p (record {
       raised = λ lone o c. (
         cell-map s t raised_again o (λ d. set-raised t s.gro_flush_timeout d) queued-raised c.0,
         λ is. (k is).raised lone o (c.1 is),
@@ -250,6 +209,18 @@ cells-end s p goes fits cells plain n =
           came = next-keeps (λ came. came ≤ t) backlog o (λ no. c.1 (rw goes.rests.settings at (lone no))) c.0.came;
         },
         λ is. (k is).next backlog o lone polls (c.1 is),
+      );
+      holds = λ o batch m polls c. (
+        cell-map s t holding o (λ d. set-holding t s.gro_flush_timeout d) queued-holding c.0,
+        λ is. (k is).holds o batch m polls (c.1 is),
+      );
+      hands = λ o batch c. (
+        record {
+          timer = map-there (λ d. SetAt t s.gro_flush_timeout (Some d)) (λ d. SetAt t s.gro_flush_timeout (Some d)) without_held o
+              (λ d set. set) c.0.timer;
+          came = held-keeps (λ came. came ≤ t) o c.0.came;
+        },
+        λ is. (k is).hands o batch (c.1 is),
       );
       delivered = λ came o c. (
         cell-map s t (device.queue_delivered t came) o (λ d set. set) (queued-delivered t came) c.0,
@@ -264,7 +235,7 @@ cells-end s p goes fits cells plain n =
     t : ℕ
     t = p.ends
 
-    k : (s.backlog && is_polling s) ≡ false → Keeps (λ o. taken_in o ≡ []) p
+    k : takes_out s ≡ false → Keeps (λ o. taken_in o ≡ []) p
     k is = ends-plain s p goes is
 
 -- a packet that is delivered at this time may be put into the socket
@@ -295,6 +266,15 @@ waits-later s t u p less before h = record {
       let first : saturated (rest.came + use_cost s) ≤ saturated (t + rest.left) = h.rest fair rest is in omega (arith, first, less);
 }
 
+-- a poll takes its next packet, or has taken it
+taken : {s : MachineSettings} {u : ℕ} {q : ProcessorView} → Waiting s u q → q.clock ≡ u → u < 2 ^ 64 → is_busy q.work ≡ true
+    → ((hand : InHand) → q.work ≡ Packet hand → Comes s u hand)
+    → ((n : ℕ) → Lasted s (held_by q.work (saturated (u + s.take)) u) (at n q.devices)) → ((n : ℕ) → read_at (at n q.devices) ≤ u)
+    → IsTaken q.work
+    → ((hand : InHand) → q.work ≡ Packet hand → q.ends ≡ saturated (u + packet_time s))
+    → ((look : Looking) → q.work ≡ Poll look → q.ends ≡ saturated (u + s.take)) → Timed s u q
+taken h1 h2 h3 h4 h5 h6 h7 h8 h9 h10 = grind (arith, common_steps)
+
 ready-ended : (s : MachineSettings) (t : ℕ) (p : ProcessorView) → Goes s p → Timed s t p → is_busy p.work ≡ true → NotBefore p.ends p
     → ((n : ℕ) → IsPlain s n p.devices) → Ready s p.ends (ends_current p)
 ready-ended s t p goes h busy before plain =
@@ -311,7 +291,19 @@ ready-ended s t p goes h busy before plain =
           w.socket);
       uses = λ came used. w.socket;
     }) in
-    let hand = ends-hand u p (λ n. rw is (plain n)) (λ n. (w.cells n).came) in
+    let cells : Cells s u p.devices = record {
+      came = λ n. (w.cells n).came;
+      held = λ n. lasted-later s (held_by p.work u t) u (at n p.devices) (held-most p.work u t e.1) (h.held n);
+    } in
+    let own : Cells p.settings u p.devices = subst (λ (x : MachineSettings). Cells x u p.devices) (sym is) cells in
+    let hand : (hand : InHand) → (ends_current p).work ≡ Packet hand → Comes s u hand =
+    subst (λ (x : MachineSettings). (hand : InHand) → (ends_current p).work ≡ Packet hand → Comes x u hand) is
+    (ends-hand p (λ n. rw is (plain n)) own) in
+    let held : (n : ℕ) → Lasted s (held_by (ends_current p).work (saturated (u + s.take)) u) (at n (ends_current p).devices) =
+    λ n. subst (λ (x : MachineSettings).
+    Lasted x (held_by (ends_current p).work (saturated (u + x.take)) u) (at n (ends_current p).devices)) is (ends-lasted n p e.2 own) in
+    let read : (n : ℕ) → read_at (at n (ends_current p).devices) ≤ u =
+    λ n. ends-read n u p (omega (arith, h.read n, read-most n p.work u t e.1)) in
     let waits : Waiting s u (ends_current p) = record {
       settings = f.settings ∙ is;
       cells = cells-end s p goes e.2 w.cells plain;
@@ -319,24 +311,18 @@ ready-ended s t p goes h busy before plain =
       rest = rw f.rest w.rest;
     } in
     record {
-      busy = λ yes.
-          let kind = f.kind yes in
-          let ends : (ends_current p).ends ≡ saturated (u + s.packet) =
-          f.ends kind.0 kind.1 ∙ ap (λ (x : MachineSettings). saturated (u + x.packet)) is in
-          record {
-            waits = waits;
-            clock = omega (arith, f.clock);
-            idle = λ idle. absurd (cc (yes, idle));
-            ends = λ y. (omega (arith, f.clock, ends, e.2), omega (arith, ends, e.2), omega (arith, ends));
-            low = λ came is. omega (arith, f.clock);
-            using = λ fair came is. absurd (cc (kind.1, is));
-            hand = λ other is. let below : other.came ≤ u = hand other is in omega (arith, below, ends);
-          };
+      busy = λ yes. taken waits f.clock e.2 yes hand held read (f.kind yes)
+          (λ other same. f.ends other same ∙ ap (λ (x : MachineSettings). saturated (u + packet_time x)) is)
+          (λ look same. f.looks look same ∙ ap (λ (x : MachineSettings). saturated (u + x.take)) is);
       idle = λ idle. record {
         waits = waits;
         fits = omega (arith, f.clock, e.2);
         clock = omega (arith, f.clock);
         up = omega (arith, f.clock);
+        held = λ n.
+            subst (λ (x : ℕ). Lasted s x (at n (ends_current p).devices))
+            (held-idle (ends_current p).work (saturated (u + s.take)) u idle) (held n);
+        read = read;
         low = λ quiet. f.clock;
       };
     }
@@ -352,50 +338,16 @@ timed-later s t u p h less before = record {
   low = λ came is. omega (arith, h.low came is, less);
   using = h.using;
   hand = h.hand;
+  held = λ n.
+      lasted-later s (held_by p.work p.ends t) (held_by p.work p.ends u) (at n p.devices) (held-later p.work p.ends t u less) (h.held n);
+  read = λ n. omega (arith, h.read n, read-later n p.work p.ends t u less);
 }
 
 ready-base : (s : MachineSettings) (t : ℕ) (p : ProcessorView) → is_busy p.work ≡ false → Base s t p → Ready s t p
 ready-base s t p idle b = record { busy = λ busy. absurd (cc (idle, busy)); idle = λ same. b }
 
 ready-stirred : (s : MachineSettings) (t : ℕ) (p : ProcessorView) → t < 2 ^ 64 → Timed s t p → Ready s t (stirred t p)
-ready-stirred s t p fits h =
-    let w = h.waits in
-    let most : longest p.settings ≡ longest s = ap longest w.settings in
-    stirred-by (Ready s t) t p (λ busy. record { busy = λ yes. h; idle = λ idle. absurd (cc (busy, idle)) })
-    (λ came counts is. ready-base s t _ refl (record {
-      waits = record {
-        settings = w.settings;
-        cells = w.cells;
-        socket = w.socket;
-        rest = λ fair rest same. by rest came (cc same) (h.using fair came is) (h.ends (rw is refl)).1;
-      };
-      fits = fits;
-      clock = omega arith;
-      up = omega arith;
-      low = λ quiet. refl;
-    }))
-    (λ n counts idle asks. ready-base s t _ idle (record {
-      waits = record { settings = w.settings; cells = w.cells; socket = w.socket; rest = w.rest };
-      fits = omega arith;
-      clock = omega (arith, most, waking-within (is_fired_at (at n p.devices)) p.settings);
-      up = omega (arith, fits);
-      low = λ quiet. absurd (cc (quiet, asks));
-    }))
-    (λ idle. ready-base s t _ idle (record {
-      waits = record { settings = w.settings; cells = w.cells; socket = w.socket; rest = w.rest };
-      fits = fits;
-      clock = omega arith;
-      up = omega arith;
-      low = λ quiet. refl;
-    }))
-  where
-    by : (rest : Rest) (came : ℕ) → ◌≡◌ {A = Rest} (record { came = came; left = p.ends - t }) rest → saturated (came + use_cost s) ≤ p.ends
-        → t ≤ p.ends
-        → saturated (rest.came + use_cost s) ≤ saturated (t + rest.left)
-    by rest came same using less =
-        let first : came ≡ rest.came = ap (λ (x : Rest). x.came) same in
-        let left : p.ends - t ≡ rest.left = ap (λ (x : Rest). x.left) same in
-        omega (arith, first, left, using, less)
+ready-stirred s t p h1 h2 = grind (arith, common_steps, held-idle, read-idle, ready-base, stirred-by, waking-within)
 
 timed-disturbed : (s : MachineSettings) (t : ℕ) (p : ProcessorView) → t < 2 ^ 64 → Goes s p → Timed s t p → Timed s t (disturbed t p)
 unfolding disturbed
@@ -476,6 +428,10 @@ rises-happens s t until (Expires timer) p fits goes plain h same by due =
       low = k.low;
       using = k.using;
       hand = k.hand;
+      held = λ n.
+          let bound = held_by p.work p.ends u in
+          (steady-life s (Lasted s bound) (lasted-steady s bound) n).moved (Some timer.device) p.clock p.counts p (k.held n);
+      read = λ n. rw (at-kept read_at expired timer.device n p.devices (λ d. refl)) (k.read n);
     } in (
       record { time = less; timed = timed-disturbed s u q small g r; clock = clock-disturbed s u q small g r },
       below,
@@ -503,6 +459,21 @@ cell-arrived s moment n m p fits c = record {
     one true = (omega arith, tt)
     one false = tt
 
+held-arrived : (s : MachineSettings) (moment t n m : ℕ) (p : ProcessorView) → Lasted s t (at m p.devices)
+    → Lasted s t (at m (devices_arrived moment n p))
+unfolding made_at
+held-arrived s moment t n m p all =
+    at-arrived (λ b o. Lasted s t o) moment n m p
+    (λ here batch. rw (packet-taken moment p.settings made) (new (at m p.devices) (all batch))) (λ other. all)
+  where
+    made : QueueView
+    made = made_at p.settings.ring (at m p.devices)
+
+    new : (o : Option QueueView) → AllByRecursion (λ came. saturated (came + s.take) ≤ t) (taken_in o)
+        → AllByRecursion (λ came. saturated (came + s.take) ≤ t) (made_at p.settings.ring o).taken
+    new None all = tt
+    new (Some d) all = all
+
 rises-arrives : (s : MachineSettings) (t moment n : ℕ) (p : ProcessorView) → moment < 2 ^ 64 → Goes s p → Timed s t p → t ≤ moment
     → is_due moment p ≡ false → Rises s t moment p (arrives moment n p)
 unfolding arrives
@@ -528,6 +499,8 @@ rises-arrives s t moment n p fits goes h less none =
       low = λ came is. omega (arith, at-busy (ap is_busy is), k.low came is);
       using = k.using;
       hand = k.hand;
+      held = λ m. held-arrived s moment (held_by p.work p.ends moment) n m p (k.held m);
+      read = λ m. read-arrived moment (read_by m p.work p.ends moment) n m p (k.read m);
     } in
     either (λ x. Rises s t moment p x) (has_room_at (at n (with_device p.settings.ring n p.devices))) (disturbed moment q) q
     (λ room. record {

@@ -1,40 +1,24 @@
 -- A run's work is always less than budget plus weight; which queues a run or a thread polls; and how a property that each case
 -- preserves goes through the events of a processor.
-use Rattle.std.proofs.lemmas.{Bool.{and_left, and_right, ltb-true}, Grind.{common_steps}}
-use Rattle.std.specs.List.{AllByRecursion}
-use Rattle.std.specs.Prelude.{◌==◌, ◌&&◌, if◌then◌else◌, is_some, not, option_map}
-use Rattle.std.proofs.Common.{◌≡◌, ◌∙◌, ℕ, ◌+◌, ◌-◌, ◌<◌, ◌≤◌, Bool, true, false, Option, Some, None, List, [], ◌∷◌, ◌++◌, length, refl}
-use Rattle.std.proofs.Common.{sym, ap, arith}
-use Rattle.poll_runs.specs.declared.bench.Next.TheVariants.{Gone, Repoll}
-use Rattle.poll_runs.specs.declared.bench.Once.{Once}
-use Rattle.machine_model.specs.declared.settings.MachineSettings.{MachineSettings}
+use Rattle.std.proofs.{Common.{◌≡◌, ◌∙◌, ℕ, ◌+◌, ◌-◌, ◌<◌, ◌≤◌, Bool, true, false, Option, Some, None, List, [], ◌∷◌, ◌++◌, length, refl}}
+use Rattle.std.proofs.{Common.{sym, ap, arith, zero, suc}, lemmas.{Bool.{and_left, and_right, ltb-true}, Grind.common_steps}}
+use Rattle.std.specs.{List.AllByRecursion, Prelude.{◌==◌, ◌&&◌, if◌then◌else◌, is_some, not, option_map}}
+use Rattle.poll_runs.specs.declared.bench.{Next.TheVariants.{Gone, Repoll}, Once.Once}
+use Rattle.machine_model.proofs.{LeftFacts.{left, load, step-asked}, ListedFacts.pushed-run, WalkFacts.{Walk, either, idle-is}}
+use Rattle.machine_model.proofs.WalkFacts.{is_scheduling, looks-by, nexted, polled-by, stirred, stirred-by, walk-any, waking}
+use Rattle.machine_model.specs.{Application.{takes_up_packet, use_length}, Device.{after_packet, expired, holding, raised_again}}
+use Rattle.machine_model.specs.{Device.{without_held, without_next}, Devices.{QueueViews, has_room_at, is_rescheduled_at, next_packet_at}}
+use Rattle.machine_model.specs.{Devices.{schedules_at, with_device}, Kept.{work_given, polled_by}, Processor.{ProcessorView, arrives}}
+use Rattle.machine_model.specs.Processor.{begins, delivers, delivers_oldest, disturbed, ends_by, ends_current, ends_interrupt, ends_poll}
+use Rattle.machine_model.specs.Processor.{happens, is_busy, is_polling, poll_looks, spent, step, takes_up, upcoming, Advances}
+use Rattle.machine_model.specs.{Processor.{processor_after, is_due}, Softirq.{RunView, SoftirqView, asked_in, polled_run, pushed}}
+use Rattle.machine_model.specs.{Softirq.{run_ended, run_next, softirq_polled}, Tasks.{is_application, runnable, with_application}}
+use Rattle.machine_model.specs.{Waits.saturated, declared.processor.{ProcessorCounts.ProcessorCounts, Upcoming.Upcoming}}
+use Rattle.machine_model.specs.declared.processor.{Upcoming.TheVariants.{Never, Ends, Expires}, Work.{Work, TheVariants.Nothing}}
+use Rattle.machine_model.specs.declared.processor.Work.TheVariants.{Interrupt, Poll, Packet, Use}
+use Rattle.machine_model.specs.declared.{settings.MachineSettings.MachineSettings, tasks.RunnableTask.{RunnableTask, TheVariants.Thread}}
 use Rattle.device_places.specs.Places.{at, changed}
-use Rattle.machine.specs.Lives.{MachineEvent, behind, next, packet}
-use Rattle.machine.specs.Times.{WorksWithin}
-use Rattle.machine_model.specs.declared.processor.{ProcessorCounts.ProcessorCounts, Work.{Work}}
-use Rattle.machine_model.specs.declared.processor.Work.TheVariants.{Nothing, Interrupt, Poll, Packet, Use}
-use Rattle.machine_model.specs.declared.tasks.RunnableTask.{RunnableTask}
-use Rattle.machine_model.specs.declared.tasks.RunnableTask.TheVariants.{Thread}
-use Rattle.machine_model.specs.declared.processor.{Upcoming.{Upcoming, TheVariants.{Never, Ends, Expires}}}
-use Rattle.machine_model.specs.Kept.{work_given, polled_by}
-use Rattle.machine_model.specs.Softirq.{RunView, SoftirqView, asked_in, polled_run, pushed, run_ended, run_next, softirq_polled}
-use Rattle.machine_model.specs.{Application.{takes_up_packet, use_length}, Device.{after_packet, expired, raised_again, without_next}}
-use Rattle.machine_model.specs.Devices.{QueueViews, has_room_at, is_missed_at, next_packet_at, schedules_at, with_device}
-use Rattle.machine_model.specs.{Waits.saturated}
-use Rattle.machine_model.specs.Tasks.{is_application, runnable, with_application}
-use Rattle.machine_model.specs.Processor.{ProcessorView, arrives, begins, delivers, delivers_oldest, disturbed, ends_by, ends_current}
-use Rattle.machine_model.specs.Processor.{ends_interrupt, ends_poll, happens, is_busy, is_polling, poll_looks, spent, step, takes_up}
-use Rattle.machine_model.specs.Processor.{upcoming}
-use Rattle.machine.proofs.WalkFacts.{Walk, either, idle-is, is_scheduling, looks-by, nexted, polled-by, stirred, stirred-by, walk-any}
-use Rattle.machine.proofs.WalkFacts.{waking}
-use Rattle.machine_model.proofs.ListedFacts.{pushed-run}
-use Rattle.std.proofs.Common.{◌≡◌, ◌∙◌, ℕ, zero, suc, ◌<◌, Bool, true, false, None, refl, sym, ap, arith}
-use Rattle.std.specs.Prelude.{if◌then◌else◌}
-use Rattle.{machine_model.specs.declared.settings.MachineSettings.MachineSettings}
-use Rattle.{machine.specs.{Deferrals.EveryRunEnds, Lives.behind}}
-use Rattle.machine_model.specs.Processor.{Advances, ProcessorView, processor_after, is_due, step, upcoming}
-use Rattle.machine_model.proofs.LeftFacts.{left, load, step-asked}
-use Rattle.machine_model.specs.{Kept.polled_by, Softirq.asked_in}
+use Rattle.machine.specs.{Deferrals.EveryRunEnds, Lives.{MachineEvent, behind, next, packet}, Times.WorksWithin}
 
 -- the invariant of a run with these settings
 pub record Runs (s : MachineSettings) (r : RunView) : Type 0 where
@@ -171,7 +155,7 @@ work-walk s = record {
   };
   asks = λ n p h asked.
       let unasked : (is_polling s && not s.threaded) ≡ false → ⊥ = λ no. cc (ap asked_in (h.soft no).1, asked) in
-      goes-begins s (Poll n) p.settings.poll (nexted p) h
+      goes-begins s (Poll (record { device = n; given = 0 })) p.settings.poll (nexted p) h
       (record { list = λ t. asked; none = λ t. absurd (unasked (and_right (is_polling s) (not s.threaded) (rw t refl))) })
       (λ no. absurd (unasked (and_left (is_polling s) (not s.threaded) no))) (fits s);
   over = λ counts p free h. record {
@@ -203,7 +187,7 @@ work-walk s = record {
   thread = λ n more p free h threaded is.
       let t : s.threaded ≡ true = sym (same-threaded s p h.settings) ∙ threaded in
       let both : (is_polling s && s.threaded) ≡ false → all_applications (Thread n ∷ more) = λ no. rw is at (h.threads no) in
-      goes-begins s (Poll n) p.settings.poll (record p { tasks = more })
+      goes-begins s (Poll (record { device = n; given = 0 })) p.settings.poll (record p { tasks = more })
       (record { settings = h.settings; run = h.run; soft = h.soft; threads = λ no. (both no).1 })
       (record { list = λ single. cc (single, t); none = λ t. free.unasked })
       (λ no. cc ((both (and_left (is_polling s) s.threaded no)).0)) (fits s);
@@ -246,7 +230,8 @@ work-polled s n given p g few =
     }) (g.asks.none (sym (same-threaded s p h.settings) ∙ t)))
     (λ counts t.
     let single : s.threaded ≡ false = sym (same-threaded s p h.settings) ∙ t in
-    let same = pushed-run (not (given == p.settings.weight) && is_missed_at (at n p.devices)) n (softirq_polled once p.softirq) in
+    let again = is_rescheduled_at given p.settings (at n p.devices) in
+    let same = pushed-run (not (given == p.settings.weight) && again) n (softirq_polled once p.softirq) in
     goes-free s _ g.nothing (record {
       settings = h.settings;
       run = rw same (runs-told s p.softirq.run once n (g.asks.list single) few h.run);
@@ -256,13 +241,29 @@ work-polled s n given p g few =
 
 work-looks : (s : MachineSettings) (n given : ℕ) (p : ProcessorView) → Polls s n p → given ≤ s.weight → Goes s (poll_looks n given p)
 work-looks s n given p g few =
-    let e : ProcessorView = record p { devices = changed (without_next p.settings.backlog) n p.devices } in
-    let q = polls-devices s n e.devices p g in
+    let next : QueueViews = changed (without_next p.settings.backlog) n p.devices in
     let weight : p.settings.weight ≡ s.weight = ap (λ (x : MachineSettings). x.weight) g.rests.settings in
-    looks-by (Goes s) n given p
-    (λ came is less. goes-begins s (Packet (record { device = n; came = came; given = given })) p.settings.packet e q.rests q.asks
-    (λ no. cc (no, g.polling)) (omega (arith, ltb-true given p.settings.weight less, weight)))
-    (λ none. work-polled s n given e q few) (λ full. work-polled s n given p g few)
+    looks-by (Goes s) n given p (record {
+      some = λ plain came is less.
+          takes (Packet (record { device = n; came = came; given = given })) p.settings.packet next refl
+          (omega (arith, ltb-true given p.settings.weight less, weight));
+      none = λ plain none. work-polled s n given (record p { devices = next }) (polls-devices s n next p g) few;
+      full = λ plain full. work-polled s n given p g few;
+      takes = λ batch less pulls.
+          takes (Poll (record { device = n; given = given + 1 })) p.settings.take (changed holding n p.devices) refl
+          (omega (arith, ltb-true given p.settings.weight less, weight));
+      hands = λ batch stops came is.
+          takes (Packet (record { device = n; came = came; given = given - 1 })) (p.settings.packet - p.settings.take)
+          (changed without_held n p.devices) refl
+          (omega (arith, few, fits s));
+      over = λ batch stops none. work-polled s n given p g few;
+    })
+  where
+    takes : (work : Work) (time : ℕ) (devices : QueueViews) → polled_by work ≡ Some n → work_given work < s.weight
+        → Goes s (begins work time (record p { devices = devices }))
+    takes work time devices polled below =
+        let q = polls-devices s n devices p g in
+        goes-begins s work time (record p { devices = devices }) q.rests (rw polled q.asks) (λ no. cc (no, g.polling)) below
 
 pub polls-of : (s : MachineSettings) (n : ℕ) (work : Work) (p : ProcessorView) → Rests s p → p.work ≡ Nothing
     → Asks s (polled_by work) p.softirq
@@ -292,8 +293,9 @@ work-ends s (Interrupt n) p h nothing asks polled given =
     let none = asks-none s p.softirq asks in
     either (Goes s) (is_polling p.settings) p (ends_interrupt n p) (λ polling. goes-free s p nothing h none)
     (λ lone. work-lone s n (next_packet_at false (at n p.devices)) p h nothing none)
-work-ends s (Poll n) p h nothing asks polled given =
-    work-looks s n 0 p (polls-of s n (Poll n) p h nothing asks polled refl) (omega arith)
+work-ends s (Poll look) p h nothing asks polled given =
+    work-looks s look.device look.given p (polls-of s look.device (Poll look) p h nothing asks polled refl)
+    (omega (arith, given, fits s))
 work-ends s (Packet hand) p h nothing asks polled given =
     work-looks s hand.device (hand.given + 1) (delivers hand.device hand.came p)
     (polls-delivers s hand.device hand.came p (polls-of s hand.device (Packet hand) p h nothing asks polled refl)) (omega (arith, given))
@@ -416,11 +418,7 @@ unfolding step
 step-goes s p goes = work-happens s (upcoming p) p goes
 
 step-left : (s : MachineSettings) (until : ℕ) (p : ProcessorView) → Goes s p → is_due until p ≡ true → left load (step p) < left load p
-step-left s until p goes due = step-asked until p (rw goes.rests.settings (by s.threaded refl)) due
-  where
-    by : (b : Bool) → s.threaded ≡ b → asked_in p.softirq.run ≡ (if b then None else polled_by p.work)
-    by true is = goes.asks.none is
-    by false is = goes.asks.list is
+step-left s until p h1 h2 = grind (arith, common_steps, step-asked)
 
 one-more : (until : ℕ) (p q : ProcessorView) → is_due until p ≡ true → Advances until (step p) q → Advances until p q
 unfolding processor_after

@@ -1,14 +1,12 @@
 -- Laws about deferred interrupts (`napi_defer_hard_irqs`).
-use Rattle.std.specs.Prelude.{◌≡◌, ◌≤◌, ◌<◌, ℕ, ◌+◌, ◌^◌, true, false, Some, List}
-use Rattle.std.specs.Prelude.{unwrap_or}
-use Rattle.machine_model.specs.declared.settings.MachineSettings.{MachineSettings}
+use Rattle.std.specs.{Prelude.{◌≡◌, ◌≤◌, ◌<◌, ℕ, ◌+◌, ◌^◌, true, false, Some, List, unwrap_or, ◌-◌, ◌*◌, ◌==◌, ◌&&◌, ◌||◌, length, min}}
+use Rattle.std.specs.{Prelude.{if◌then◌else◌}}
+use Rattle.machine_model.specs.{Device.{QueueView, next_packet}, Processor.{Advances, ProcessorView, is_batching, is_polling, step}}
+use Rattle.machine_model.specs.{Processor.{upcoming, processor_after}, declared.device.Line.TheVariants.Masked}
+use Rattle.machine_model.specs.declared.{device.{NapiState.TheVariants.Idle, Phase.Phase}, processor.Upcoming.TheVariants.{Ends, Expires}}
+use Rattle.machine_model.specs.declared.{processor.Work.TheVariants.{Nothing, Packet}, settings.MachineSettings.MachineSettings}
 use Rattle.device_places.specs.Places.{at}
-use Rattle.machine.specs.{Lives.{MachineEvent, InTurn, behind}}
-use Rattle.machine_model.specs.{Device.{QueueView, next_packet}, declared.device.Phase.Phase}
-use Rattle.machine_model.specs.declared.device.{NapiState.TheVariants.Idle, Line.TheVariants.Masked}
-use Rattle.machine_model.specs.{Processor.{Advances, ProcessorView, is_polling, step, upcoming}}
-use Rattle.machine_model.specs.declared.processor.{Upcoming.{TheVariants.{Ends, Expires}}}
-use Rattle.machine_model.specs.declared.processor.Work.TheVariants.{Nothing, Packet}
+use Rattle.machine.specs.Lives.{MachineEvent, InTurn, behind}
 
 -- Law: with no further packets, the events on a processor end.
 abbrev pub EveryRunEnds : Type 0
@@ -26,15 +24,23 @@ pub record IsDeferred (until : ℕ) (phase : Phase) : Type 0 where
   pub state : phase.state ≡ Idle
   pub timer : phase.timer ≡ Some until
 
--- Law: on an idle processor with polling and without threads, let the next event be that a queue's NAPI timer expires. If
--- nothing else interferes, the queue's interrupt, its poll and its oldest packet follow at once, and the packet is delivered at
--- most `timer-wake` + `timer` + `poll` + `packet` later. By the previous law, its whole wait is at most this sum plus
--- `gro-flush-timeout`.
+-- how many packets the queue's poll takes before it hands over the first one: none without batches, or if GRO holds packets already;
+-- otherwise a whole batch, or less if the weight or the ring allows less
+abbrev pub packets_first : MachineSettings → QueueView → ℕ
+packets_first s d = if is_batching s && length d.taken == 0 then min s.gro_batch (min s.weight (length d.ring)) else 0
+
+-- Law: on an idle processor with polling and without threads, let the next event be that a queue's NAPI timer expires. If nothing
+-- else interferes, the queue's interrupt, its poll and its oldest packet follow at once, and the packet is delivered at most
+-- `timer-wake` + `timer` + `poll` + `packet` later; with batches, the poll takes the other packets of the first batch before, each for
+-- `take`. By the previous law, its whole wait is at most this sum plus `gro-flush-timeout`.
 abbrev pub DeferralIsBounded : Type 0
 DeferralIsBounded = (s : MachineSettings) (events : List MachineEvent) (n until came : ℕ) (d : QueueView) → let p = behind s events in
+    let first = packets_first s d in
     is_polling s ≡ true → s.threaded ≡ false → p.work ≡ Nothing → at n p.devices ≡ Some d → IsDeferred until d.phase
-    → upcoming p ≡ Expires (record { at = until; device = n }) → next_packet s.backlog d ≡ Some came
+    → upcoming p ≡ Expires (record { at = until; device = n }) → next_packet (s.backlog || is_batching s) d ≡ Some came
     → upcoming (step p) ≡ Ends
-    → upcoming (step (step p)) ≡ Ends
-    → ((step (step (step p))).work ≡ Packet (record { device = n; came = came; given = 0 }))
-    × ((step (step (step p))).ends ≤ until + (unwrap_or s.timer_wake s.wake + (unwrap_or s.timer s.interrupt + (s.poll + s.packet))))
+    → ((k : ℕ) → k ≤ first → upcoming (processor_after k (step (step p))) ≡ Ends)
+    → let q = step (processor_after first (step (step p))) in
+    (q.work ≡ Packet (record { device = n; came = came; given = first - 1 }))
+    × (q.ends
+    ≤ until + (unwrap_or s.timer_wake s.wake + (unwrap_or s.timer s.interrupt + (s.poll + ((first - 1) * s.take + s.packet)))))

@@ -4,6 +4,7 @@
 ghost use Rattle.machine.specs.Deferrals.{DeferralIsBounded, EveryRunEnds, TimersAreNear};
 ghost use Rattle.machine.specs.Fates.{DeliversInOrder, NothingIsLeft, TellsOfUse, UsesInOrder};
 ghost use Rattle.machine.specs.Gaps.{InterruptsAreApart};
+ghost use Rattle.machine.specs.Interrupts.{InterruptsAreCaused};
 ghost use Rattle.machine.specs.Lives.{ArrivesAsOne, EachLives, RunsAsOne};
 ghost use Rattle.machine.specs.Reports.{ReportsLives};
 ghost use Rattle.machine.specs.Times.{ClocksNeverFall, NoWaitIsLess, WorksWithin};
@@ -69,7 +70,7 @@ pub fn timers_are_near()
 {}
 
 /// If a queue's NAPI timer expires on an idle processor, its oldest packet is delivered at most `timer-wake` + `timer` +
-/// `poll` + `packet` later.
+/// `poll` + `packet` later, and with batches after at most a `take` more for each other packet of its batch.
 pub fn deferral_is_bounded()
     ensures { DeferralIsBounded }
 {}
@@ -77,6 +78,11 @@ pub fn deferral_is_bounded()
 /// With polling, the interrupts of a queue are at most one more than `rx-gap` fits into the time until its card last asked for one.
 pub fn interrupts_are_apart()
     ensures { InterruptsAreApart }
+{}
+
+/// With polling, a queue has at most as many interrupts as packets that weren't dropped, and completions that cleared a cause.
+pub fn interrupts_are_caused()
+    ensures { InterruptsAreCaused }
 {}
 
 /// Each processor of a report lived as the laws say, with the packets of the bytes read, until nothing was left.

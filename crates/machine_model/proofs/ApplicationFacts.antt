@@ -1,11 +1,8 @@
 -- The application does its work over time, step by step.
 use Rattle.std.proofs.{Common.{◌≡◌, ◌∙◌, ℕ, ◌+◌, ◌≤◌, ◌<◌, Bool, true, false, List, [], ◌∷◌, length, refl, sym, arith}}
-use Rattle.std.proofs.{lemmas.Grind.common_steps}
-use Rattle.std.specs.Prelude.{if◌then◌else◌}
-use Rattle.machine_model.specs.declared.settings.MachineSettings.{MachineSettings}
-use Rattle.machine_model.specs.declared.application.Activity.{Activity, TheVariants.Asleep}
-use Rattle.machine_model.specs.Application.{ApplicationView, ended_by, fed, goes_on, is_awake, is_use_over, takes_next, went_on}
-use Rattle.machine_model.specs.Application.{went_on_with}
+use Rattle.std.{proofs.lemmas.Grind.common_steps, specs.{Prelude.{if◌then◌else◌}}}
+use Rattle.machine_model.specs.Application.{ApplicationView, ended_by, fed, goes_on, is_awake, is_use_over, went_on, went_on_with}
+use Rattle.machine_model.specs.declared.{application.Activity.{Activity, TheVariants.Asleep}, settings.MachineSettings.MachineSettings}
 
 same-socket : (activity : Activity) (a : ApplicationView) → (ended_by activity a).socket ≡ a.socket
 same-socket activity a = grind (arith, common_steps)
@@ -50,25 +47,13 @@ left_of a = length a.socket.items + (if is_awake a.activity then 1 else 0)
 
 pub goes-less : (moment use_time : ℕ) (a : ApplicationView) → is_use_over moment a ≡ true → left_of (goes_on use_time a) < left_of a
 unfolding left_of goes_on
-goes-less moment use_time a over = by a.socket.items refl
-  where
-    awake : is_awake a.activity ≡ true
-    awake = grind (arith, common_steps)
-
-    by : (xs : List ℕ) → a.socket.items ≡ xs → left_of (takes_next use_time xs (ended_by a.activity a)) < left_of a
-    by [] is = rw (same-socket a.activity a, is, awake) (omega arith)
-    by (came ∷ more) is = rw (is, awake) (omega arith)
+goes-less moment use_time a h1 = grind (arith, common_steps, same-socket)
 
 -- ---- how many packets are in the socket
 
 goes-few : (use_time : ℕ) (a : ApplicationView) → length (goes_on use_time a).socket.items ≤ length a.socket.items
 unfolding goes_on
-goes-few use_time a = by a.socket.items refl
-  where
-    by : (xs : List ℕ) → a.socket.items ≡ xs
-        → length (takes_next use_time xs (ended_by a.activity a)).socket.items ≤ length a.socket.items
-    by [] is = rw (same-socket a.activity a, is) (omega arith)
-    by (came ∷ more) is = rw is (omega arith)
+goes-few use_time a = grind (arith, common_steps, same-socket)
 
 went-few : (xs : List ℕ) (moment use_time : ℕ) (a : ApplicationView)
     → length (went_on_with xs moment use_time a).socket.items ≤ length a.socket.items

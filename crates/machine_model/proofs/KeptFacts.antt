@@ -1,17 +1,13 @@
 -- The invariant of each processor is preserved.
-use Rattle.std.proofs.Common.{◌≡◌, ◌∙◌, ℕ, ◌+◌, ◌<◌, ◌≤◌, Bool, true, false, Option, Some, None, length, refl, sym, arith}
-use Rattle.std.{proofs.{Common.ap, lemmas.Grind.common_steps}, specs.Prelude.{◌==◌, ◌&&◌, if◌then◌else◌, is_some, not}}
-use Rattle.machine_model.specs.declared.settings.MachineSettings.{MachineSettings}
-use Rattle.poll_runs.specs.declared.bench.Next.TheVariants.{Gone, Repoll}
-use Rattle.device_places.specs.Places.{at, changed}
-use Rattle.poll_runs.specs.declared.bench.Once.{Once}
-use Rattle.machine_model.specs.{Device.{queue_polled}, Devices.{QueueViews, is_missed_at}, Processor.is_polling}
-use Rattle.machine_model.specs.{Shown.{held_in, listed, weight_in}}
-use Rattle.machine_model.specs.Kept.{ProcessorKept, all_scheduled, work_given, has_list, polled_by}
-use Rattle.machine_model.specs.Softirq.{RunView, SoftirqView, asked_in, begun, poll_ended, run_ended, run_next, softirq_polled, pushed}
-use Rattle.machine_model.specs.declared.processor.Work.{Work, TheVariants.{Nothing}}
+use Rattle.std.proofs.{Common.{◌≡◌, ◌∙◌, ℕ, ◌<◌, ◌≤◌, Bool, true, false, Option, Some, None, length, refl, sym, arith}}
+use Rattle.std.{proofs.lemmas.Grind.common_steps, specs.{Prelude.{◌==◌, if◌then◌else◌}}}
 use Rattle.machine_model.proofs.ListedFacts.{asked-polled, listed-again, listed-begun, listed-ended, listed-pushed, next-keeps, pushed-run}
-use Rattle.machine_model.proofs.{ListedFacts.weight-polled, PlacesFacts.{scheduled-polled}}
+use Rattle.machine_model.{proofs.{ListedFacts.weight-polled, PlacesFacts.scheduled-polled}, specs.{Device.queue_polled, Devices.QueueViews}}
+use Rattle.machine_model.specs.{Devices.is_rescheduled_at, Kept.{ProcessorKept, all_scheduled, work_given, has_list, polled_by}}
+use Rattle.machine_model.specs.{Processor.is_polling, Shown.listed, Softirq.{SoftirqView, asked_in, begun, poll_ended, run_ended, run_next}}
+use Rattle.machine_model.specs.{Softirq.pushed, declared.processor.Work.{Work, TheVariants.Nothing}}
+use Rattle.machine_model.specs.declared.settings.MachineSettings.{MachineSettings}
+use Rattle.device_places.specs.Places.{at, changed}
 
 pub if-none : (b : Bool) (o : Option ℕ) → o ≡ None → (if b then None else o) ≡ None
 if-none true o none = refl
@@ -45,35 +41,17 @@ no-list s polling = grind (arith, common_steps)
 -- without polling, any change of the queues preserves it
 pub kept-lone : (s : MachineSettings) (w : Work) (ds es : QueueViews) (q : SoftirqView) → ProcessorKept s w ds q → is_polling s ≡ false
     → ProcessorKept s w es q
-kept-lone s w ds es q k lone =
-    let none : listed q ≡ 0 = k.unused (no-list s lone) in
-    record { few = omega (arith, none); unused = k.unused; asked = k.asked; weight = k.weight; within = k.within }
+kept-lone s w ds es q h1 h2 = grind (arith, common_steps, no-list)
 
 pub kept-pushed : (s : MachineSettings) (w : Work) (ds : QueueViews) (q : SoftirqView) (n : ℕ) → ProcessorKept s w ds q
     → is_polling s ≡ true
     → s.threaded ≡ false → listed q < all_scheduled ds → ProcessorKept s w ds (pushed n q)
-kept-pushed s w ds q n k polling threaded few =
-    let list = list-is s polling threaded in
-    record {
-      few = omega (arith, few, listed-pushed n q);
-      unused = λ none. cc (list, none);
-      asked = k.asked;
-      weight = k.weight;
-      within = k.within;
-    }
+kept-pushed s w ds q n h1 h2 h3 h4 = grind (arith, common_steps, list-is, listed-pushed)
 
 -- a run begins
 pub kept-begun : (s : MachineSettings) (w : Work) (ds : QueueViews) (q : SoftirqView) (moment : ℕ) → ProcessorKept s w ds q → q.run ≡ None
     → polled_by w ≡ None → is_polling s ≡ true → s.threaded ≡ false → ProcessorKept s w ds (begun moment s.budget s.weight s.window q)
-kept-begun s w ds q moment k none idle polling threaded =
-    let list = list-is s polling threaded in
-    record {
-      few = omega (arith, k.few, listed-begun moment s.budget s.weight s.window q none);
-      unused = λ not. cc (list, not);
-      asked = rw (threaded, idle) refl;
-      weight = λ some. refl;
-      within = k.within;
-    }
+kept-begun s w ds q moment h1 h2 h3 h4 h5 = grind (arith, common_steps, list-is, listed-begun)
 
 -- the run asks for the poll of a queue, or is over
 pub kept-next : (s : MachineSettings) (w v : Work) (ds : QueueViews) (q : SoftirqView) → ProcessorKept s w ds q → asked_in q.run ≡ None
@@ -94,65 +72,27 @@ run-ended q = refl
 
 pub kept-ended : (s : MachineSettings) (w : Work) (ds : QueueViews) (q : SoftirqView) → ProcessorKept s w ds q → asked_in q.run ≡ None
     → polled_by w ≡ None → ProcessorKept s w ds (run_ended q)
-kept-ended s w ds q k none idle =
-    let same = listed-ended q none in
-    record {
-      few = omega (arith, k.few, same);
-      unused = λ not. same ∙ k.unused not;
-      asked = rw (run-ended q) (sym (if-none s.threaded (polled_by w) idle));
-      weight = λ some. absurd (cc (run-ended q, some));
-      within = k.within;
-    }
+kept-ended s w ds q h1 h2 h3 = grind (arith, common_steps, if-none, listed-ended, run-ended)
 
 -- a poll of the run ends
 pub kept-polled : (s : MachineSettings) (w : Work) (ds : QueueViews) (q : SoftirqView) (now given n : ℕ) → ProcessorKept s w ds q
     → s.threaded ≡ false
     → asked_in q.run ≡ Some n → 1 ≤ s.weight
-    → ProcessorKept s Nothing (changed (queue_polled now given s) n ds) (poll_ended n given (given == s.weight) (is_missed_at (at n ds)) q)
-kept-polled s w ds q now given n k threaded asked least =
-    let full = given == s.weight in
-    let again = is_missed_at (at n ds) in
-    let once : Once = record { work = given; next = if full then Repoll else Gone } in
-    let r = softirq_polled once q in
-    let count = listed-again full again given n q asked in
-    let run = pushed-run (not full && again) n r in
-    let same = weight-polled once q in
-    record {
-      few = omega (arith, k.few, count, scheduled-polled now given s n ds);
-      unused = λ not. omega (arith, count, k.unused not);
-      asked = ap asked_in run ∙ (asked-polled once q ∙ (rw threaded refl));
-      weight = λ some. ap weight_in run ∙ (same.0 ∙ k.weight (sym same.1 ∙ (sym (ap (λ (o : Option RunView). is_some o) run) ∙ some)));
-      within = least;
-    }
+    → ProcessorKept s Nothing (changed (queue_polled now given s) n ds)
+    (poll_ended n given (given == s.weight) (is_rescheduled_at given s (at n ds)) q)
+kept-polled s w ds q now given n h1 h2 h3 h4 =
+    grind (arith, common_steps, asked-polled, listed-again, pushed-run, scheduled-polled, weight-polled)
 
 -- a poll of a thread ends
 pub kept-alone : (s : MachineSettings) (w : Work) (ds es : QueueViews) (q : SoftirqView) → ProcessorKept s w ds q → s.threaded ≡ true
     → 1 ≤ s.weight
     → ProcessorKept s Nothing es q
-kept-alone s w ds es q k threaded least =
-    let none : listed q ≡ 0 = k.unused (threads s threaded) in
-    record {
-      few = omega (arith, none);
-      unused = k.unused;
-      asked = rw threaded (rw threaded at k.asked);
-      weight = k.weight;
-      within = least;
-    }
-  where
-    threads : (s : MachineSettings) → s.threaded ≡ true → has_list s ≡ false
-    threads s threaded = grind (arith, common_steps)
+kept-alone s w ds es q h1 h2 h3 = grind (arith, common_steps)
 
 -- if the list isn't empty, the machine has no threads
 pub list-unthreaded : (s : MachineSettings) (w : Work) (ds : QueueViews) (q : SoftirqView) → ProcessorKept s w ds q → 0 < length q.list
     → s.threaded ≡ false
-list-unthreaded s w ds q k some = by s.threaded refl
-  where
-    threads : s.threaded ≡ true → has_list s ≡ false
-    threads threaded = grind (arith, common_steps)
-
-    by : (b : Bool) → s.threaded ≡ b → b ≡ false
-    by true threaded = absurd (omega (arith, some, k.unused (threads threaded)))
-    by false threaded = refl
+list-unthreaded s w ds q h1 h2 = grind (arith, common_steps)
 
 -- while no queue is polled, the run doesn't ask for a poll
 pub kept-idle : (s : MachineSettings) (w : Work) (ds : QueueViews) (q : SoftirqView) → ProcessorKept s w ds q → polled_by w ≡ None
@@ -165,21 +105,10 @@ pub kept-asks : (s : MachineSettings) (w : Work) (ds : QueueViews) (q : SoftirqV
 kept-asks s w ds q n k threaded polled = k.asked ∙ rw (threaded, polled) refl
 
 asked-listed : (q : SoftirqView) (n : ℕ) → asked_in q.run ≡ Some n → 1 ≤ listed q
-asked-listed q n asked = by q.run asked
-  where
-    by : (run : Option RunView) → asked_in run ≡ Some n → 1 ≤ length q.list + held_in run
-    by None asked = cc asked
-    by (Some r) asked = rw asked (omega arith)
+asked-listed q n h1 = grind (arith, common_steps)
 
 -- if a run asks for a poll, the machine has no threads
 pub asks-unthreaded : (s : MachineSettings) (w : Work) (ds : QueueViews) (q : SoftirqView) (n : ℕ) → ProcessorKept s w ds q
     → asked_in q.run ≡ None
     → asked_in (run_next q).run ≡ Some n → s.threaded ≡ false
-asks-unthreaded s w ds q n k none asked = by s.threaded refl
-  where
-    threads : s.threaded ≡ true → has_list s ≡ false
-    threads threaded = grind (arith, common_steps)
-
-    by : (b : Bool) → s.threaded ≡ b → b ≡ false
-    by true threaded = absurd (omega (arith, asked-listed (run_next q) n asked, (next-keeps q none).listed, k.unused (threads threaded)))
-    by false threaded = refl
+asks-unthreaded s w ds q n h1 h2 h3 = grind (arith, common_steps, asked-listed, next-keeps)

@@ -1,43 +1,32 @@
 -- A measure of the work that remains on a processor. Every event decreases it.
-use Rattle.std.proofs.Common.{◌≡◌, ◌∙◌, ℕ, ◌+◌, ◌-◌, ◌*◌, ◌<◌, ◌≤◌, Bool, true, false, Option, Some, None, List, [], ◌∷◌, ◌++◌}
-use Rattle.std.proofs.Common.{length, ap, refl, sym, arith}
-use Rattle.std.proofs.lemmas.{List.Quantifiers.position-Some, Bool.eqb-true, Grind.common_steps}
-use Rattle.std.specs.Prelude.{◌==◌, ◌&&◌, ◌||◌, if◌then◌else◌, is_some, nat_le, nat_lt, not, position, slice_get}
-use Rattle.std.specs.Option.{option_map_or}
+use Rattle.std.proofs.{Common.{◌≡◌, ◌∙◌, ℕ, ◌+◌, ◌-◌, ◌*◌, ◌<◌, ◌≤◌, Bool, true, false, Option, Some, None, List, [], ◌∷◌, drop, length}}
+use Rattle.std.proofs.{Common.{ap, refl, sym, arith}, Math.Nat.zero-mod, lemmas.{Bool.eqb-true, Grind.common_steps}}
+use Rattle.std.specs.{Option.option_map_or, Prelude.{◌==◌, ◌&&◌, ◌||◌, if◌then◌else◌, nat_le, nat_lt, not, slice_get}}
 use Rattle.poll_runs.specs.Turn.{asked_for}
-use Rattle.poll_runs.specs.declared.bench.Once.{Once}
 use Rattle.device_places.specs.Places.{at, changed}
-use Rattle.machine_model.specs.declared.settings.MachineSettings.{MachineSettings}
-use Rattle.machine_model.specs.declared.{device.Line.{TheVariants.{Raised}}, devices.Timer.Timer}
-use Rattle.machine_model.specs.declared.processor.{InHand.InHand, Rest.Rest, Upcoming.Upcoming}
-use Rattle.machine_model.specs.declared.processor.{Work.{Work, TheVariants.{Nothing, Interrupt, Poll, Packet, Use}}}
-use Rattle.machine_model.specs.declared.{processor.Upcoming.TheVariants.{Ends, Expires, Never}}
-use Rattle.machine_model.specs.declared.{tasks.RunnableTask.{RunnableTask, TheVariants.{Application, Thread}}}
-use Rattle.machine_model.specs.Device.{QueueView, queue_delivered, expired, interrupted, queue_polled, raised_again}
-use Rattle.machine_model.specs.Device.{without_next}
-use Rattle.machine_model.specs.Devices.{asks_at, is_fired_at, is_missed_at, next_packet_at, schedules_at, soonest_from}
-use Rattle.machine_model.specs.Softirq.{RunView, SoftirqView, asked_in, begun, poll_ended, run_next, softirq_polled, pushed}
-use Rattle.machine_model.specs.Waits.{saturated}
-use Rattle.machine_model.specs.Tasks.{after_first, runnable}
-use Rattle.machine_model.specs.{Application.{has_place, use_ended}, Kept.{IsProcessorKept, polled_by}, Processor.ProcessorView}
-use Rattle.machine_model.specs.Processor.{begins, begins_run, delivers, delivers_oldest, disturbed, ends_by, ends_current}
-use Rattle.machine_model.specs.Processor.{ends_interrupt, ends_poll}
-use Rattle.machine_model.specs.Processor.{ends_run, goes_on, happens, interrupt_cost, interrupts, is_busy, is_by, is_due, is_polling}
-use Rattle.machine_model.specs.Processor.{leaves_softirq, poll_looks, polls, rests}
-use Rattle.machine_model.specs.Processor.{runs, runs_first, scheduled, set_aside, spent, step, takes_up, upcoming, uses, woken}
-use Rattle.poll_runs.specs.declared.bench.Next.TheVariants.{Gone, Repoll}
-use Rattle.machine_model.proofs.{ApplicationFacts.fed-few, KeptFacts.if-none, ListedFacts.{asked-polled, pushed-run}, PlacesFacts.{map_at}}
-use Rattle.machine_model.proofs.WeightFacts.{changed-weights, phase_weight, weight_of, weight_at, weights, weights-most, weights-less}
-use Rattle.machine_model.proofs.WeightFacts.{weight-interrupted, weight-raised, weight-delivered, taken-less, looked-most}
-use Rattle.machine_model.proofs.WeightFacts.{weight-polled, expired-less, soonest-is, entries, entries-pushed, entries-next}
-use Rattle.machine_model.proofs.WeightFacts.{entries-begun, entries-ended, entries-polled, threads, threads-thread, if-application}
-use Rattle.machine_model.proofs.WeightFacts.{same-runnable, is_thread, after-first}
+use Rattle.machine_model.proofs.{ApplicationFacts.fed-few, KeptFacts.if-none, ListedFacts.{listed-begun, listed-ended, next-keeps}}
+use Rattle.machine_model.proofs.{TableFacts.{at-changed, map_at}, WalkFacts.{Walk, either, idle-is, is_scheduling, looks-by, polled-by}}
+use Rattle.machine_model.proofs.{WalkFacts.{stirred, stirred-by, stops, walk-any}, WeightFacts.{EmptyIfNone, held-less, held-more}}
+use Rattle.machine_model.proofs.WeightFacts.{cause_weight, changed-weights, phase_weight, weight_of, weight_at, weights, weights-most}
+use Rattle.machine_model.proofs.WeightFacts.{weights-less, weight-interrupted, weight-raised, weight-delivered, taken-less, looked-most}
+use Rattle.machine_model.proofs.WeightFacts.{weight-polled, expired-less, soonest-is, entries, threads, if-application, same-runnable}
+use Rattle.machine_model.proofs.WeightFacts.{asks_for, entries-listed, entries-over, entries-put, over-asks, threads-again}
+use Rattle.machine_model.specs.{Application.has_place, Device.{QueueView, queue_delivered, expired, holding, interrupted, next_packet}}
+use Rattle.machine_model.specs.{Device.{queue_polled, raised_again, without_held, without_next}, Devices.{QueueViews, is_rescheduled_at}}
+use Rattle.machine_model.specs.{Devices.{next_held_at, next_packet_at, soonest_from}, Kept.{IsProcessorKept, polled_by}}
+use Rattle.machine_model.specs.Processor.{ProcessorView, delivers, delivers_oldest, disturbed, ends_by, ends_current, ends_interrupt}
+use Rattle.machine_model.specs.Processor.{ends_poll, happens, is_busy, is_by, is_due, is_polling, poll_looks, spent, step, takes_up}
+use Rattle.machine_model.specs.{Processor.upcoming, Shown.listed, Softirq.{SoftirqView, asked_in, begun, run_next, run_ended}}
+use Rattle.machine_model.specs.{Waits.saturated, declared.{device.Line.TheVariants.Raised, devices.Timer.Timer}}
+use Rattle.machine_model.specs.declared.processor.{ProcessorCounts.ProcessorCounts, Rest.Rest, Upcoming.{Upcoming, TheVariants.Ends}}
+use Rattle.machine_model.specs.declared.processor.{Upcoming.TheVariants.{Expires, Never}, Work.{Work, TheVariants.{Nothing, Interrupt}}}
+use Rattle.machine_model.specs.declared.{processor.Work.TheVariants.{Poll, Packet, Use}, settings.MachineSettings.MachineSettings}
 
 -- ---- all remaining work, if a packet counts this much
 
--- what a packet counts: more than all that its poll can cause
+-- what a packet that left the ring counts: more than all that its poll can cause
 abbrev pub load : ℕ
-load = 327679
+load = 327683
 
 abbrev pub rest_weight : Option Rest → ℕ
 rest_weight None = 0
@@ -48,16 +37,12 @@ base w p = weights w p.devices + length p.application.socket.items + 2 * entries
 
 unfoldable pub left_by : ℕ → Work → ℕ
 left_by w Nothing = 0
-left_by w (Poll number) = 2
+left_by w (Poll look) = if look.given == 0 then 2 else w
 left_by w (Packet packet) = w
 left_by w _ = 1
 
 unfoldable pub left : ℕ → ProcessorView → ℕ
 left w p = base w p + left_by w p.work
-
-by-if : (P : ProcessorView → Type 0) (b : Bool) (x y : ProcessorView) → (b ≡ true → P x) → (b ≡ false → P y) → P (if b then x else y)
-by-if P true x y first second = first refl
-by-if P false x y first second = second refl
 
 idle-left : (w : ℕ) (p : ProcessorView) → p.work ≡ Nothing → left w p ≡ base w p
 unfolding left left_by
@@ -65,154 +50,59 @@ idle-left w p nothing = rw nothing (omega arith)
 
 -- ---- when work begins
 
-schedules-less : (w n time : ℕ) (again : Bool) (q : ProcessorView)
-    → left w (begins (Interrupt n) time (if again then scheduled n q else q)) ≤ base w q + (if again then 3 else 1)
-unfolding left left_by base
-schedules-less w n time true q =
-    by-if (λ r. left w (begins (Interrupt n) time r) ≤ base w q + 3) q.settings.threaded (record q { tasks = q.tasks ++ Thread n ∷ [] })
-    (record q { softirq = pushed n q.softirq }) (λ e. omega (arith, threads-thread q.tasks n)) (λ e. omega
-    (arith, entries-pushed n q.softirq))
-schedules-less w n time false q = omega arith
+-- with the poll for which the run asks, at most so much is left
+abbrev Within : ℕ → ℕ → ProcessorView → Type 0
+Within w most p = base w p + 2 * asks_for p.softirq ≤ most
 
-interrupts-less : (w n : ℕ) (p : ProcessorView) → asks_at (at n p.devices) ≡ true → left w (interrupts n p) ≤ base w p
-unfolding base interrupts
-interrupts-less w n p up =
-    let polling = is_polling p.settings in
-    let again = polling && schedules_at (at n p.devices) in
-    let time = interrupt_cost (is_fired_at (at n p.devices)) p.settings in
-    let counts = if is_fired_at (at n p.devices) then record p.counts { timers = saturated (p.counts.timers + 1) }
-    else record p.counts { interrupts = saturated (p.counts.interrupts + 1) } in
-    let q = record p { devices = changed (interrupted polling) n p.devices; counts = counts } in
-    omega (
-      arith,
-      schedules-less w n time again q,
-      weights-less w (if again then 3 else 1) (interrupted polling) n p.devices (weight-interrupted w polling (at n p.devices) up),
-    )
-
-uses-less : (w : ℕ) (items : List ℕ) (p : ProcessorView) → p.application.socket.items ≡ items → p.work ≡ Nothing
-    → left w (uses items p) ≤ base w p
-unfolding left left_by base
-uses-less w [] p is nothing = rw nothing (omega arith)
-uses-less w (came ∷ more) p is nothing = rw is (omega arith)
-
-polls-left : (w n : ℕ) (p : ProcessorView) → left w (polls n p) ≡ base w p + 2
-unfolding left left_by base
-polls-left w n p = refl
-
-runs-less : (w : ℕ) (first : Option RunnableTask) (p : ProcessorView) → p.work ≡ Nothing
-    → left w (runs first p) ≤ base w p + 2 * is_thread first
-runs-less w None p nothing = omega (arith, idle-left w p nothing)
-runs-less w (Some Application) p nothing = omega (arith, uses-less w p.application.socket.items p refl nothing)
-runs-less w (Some (Thread number)) p nothing = omega (arith, polls-left w number p)
-
-first-less : (w : ℕ) (p : ProcessorView) → p.work ≡ Nothing → left w (runs_first p) ≤ base w p
-unfolding runs_first base
-first-less w p nothing =
-    let tasks = runnable (length p.application.socket.items == 0) p.tasks in
-    omega (
-      arith,
-      runs-less w (slice_get tasks 0) (record p { tasks = after_first tasks }) nothing,
-      fewer tasks
-          (same-runnable (length p.application.socket.items == 0) p.tasks),
-    )
-  where
-    fewer : (tasks : List RunnableTask) → threads tasks ≡ threads p.tasks
-        → base w (record p { tasks = after_first tasks }) + 2 * is_thread (slice_get tasks 0) ≡ base w p
-    fewer tasks same = omega (arith, same, after-first tasks)
-
-leaves-less : (w : ℕ) (rest : Option Rest) (p : ProcessorView) → p.rest ≡ rest → p.work ≡ Nothing
-    → left w (leaves_softirq rest p) ≤ base w p
-unfolding left left_by base
-leaves-less w (Some rest) p is nothing = rw is (omega arith)
-leaves-less w None p is nothing = by p.settings.threaded p.settings.apart
-  where
-    by : (threaded apart : Bool) → left w (if threaded then runs_first p else
-        (if apart then p else uses p.application.socket.items p)) ≤ base w p
-    by true apart = first-less w p nothing
-    by false true = omega (arith, idle-left w p nothing)
-    by false false = uses-less w p.application.socket.items p refl nothing
-
--- the poll of the queue for which the run asks, or other work
-asks-less : (w most : ℕ) (asked : Option ℕ) (p other : ProcessorView) → base w p + 2 * length (asked_for asked) ≤ most
-    → left w other ≤ most
-    → left w (option_map_or (λ number. polls number p) asked other) ≤ most
-asks-less w most None p other few rest = rest
-asks-less w most (Some number) p other few rest = omega (arith, few, polls-left w number p)
-
-softirq-base : (w : ℕ) (p : ProcessorView) (q : SoftirqView)
-    → base w (record p { softirq = q }) + 2 * entries p.softirq ≡ base w p + 2 * entries q
+-- the run moves the numbers that it has
+within-moved : (w most : ℕ) (q : SoftirqView) (counts : ProcessorCounts) (p : ProcessorView) → listed q ≡ listed p.softirq → Within w most p
+    → Within w most (record p { softirq = q; counts = counts })
 unfolding base
-softirq-base w p q = omega arith
+within-moved w most q counts p same few = omega (arith, few, same, entries-listed q, entries-listed p.softirq)
 
-unasked : (run : Option RunView) → run ≡ None → asked_in run ≡ None
-unasked run none = rw none refl
+left-walk : (w most : ℕ) → Walk (Within w most) (λ p. left w p ≤ most)
+unfolding left left_by base
+left-walk w most = record {
+  interrupt = λ n time counts p free few asks.
+      let change = interrupted (saturated (p.clock + time)) (is_polling p.settings) in
+      omega (
+        arith,
+        few,
+        entries-put n (is_scheduling n p) p.settings.threaded p.softirq p.tasks,
+        weights-less w (if is_scheduling n p then 3 else 1) change n p.devices
+            (weight-interrupted w (saturated (p.clock + time)) (is_polling p.settings) (at n p.devices) asks),
+      );
+  next = λ p free few. within-moved w most (run_next p.softirq) p.counts p (next-keeps p.softirq free.unasked).listed few;
+  asks = λ n p few asked. omega (arith, few, ap (λ (o : Option ℕ). length (asked_for o)) asked);
+  over = λ counts p free few. within-moved w most (run_ended p.softirq) counts p (listed-ended p.softirq free.unasked) few;
+  start = λ p few none polling some.
+      let s = p.settings in
+      within-moved w most (begun p.clock s.budget s.weight s.window p.softirq) p.counts p
+      (listed-begun p.clock s.budget s.weight s.window p.softirq none) few;
+  resume = λ rest p free few is quiet. omega (arith, few, ap rest_weight is);
+  settle = λ tasks p few is. omega (arith, few, ap threads is, same-runnable (length p.application.socket.items == 0) p.tasks);
+  thread = λ n more p free few threaded is. omega (arith, few, ap threads is);
+  uses = λ came more p free few none is quiet first. omega (arith, few, ap (λ (xs : List ℕ). length xs) is);
+  stays = λ p free few still settled. omega (arith, few, idle-left w p free.nothing);
+}
 
-begun-unasked : (moment budget weight window : ℕ) (q : SoftirqView) → asked_in (begun moment budget weight window q).run ≡ None
-begun-unasked moment budget weight window q = refl
+-- less than this is left, and while no work is in progress, the run asks for nothing
+pub record After (w most : ℕ) (p : ProcessorView) : Type 0 where
+  pub less : left w p < most
+  pub unasked : p.work ≡ Nothing → asked_in p.softirq.run ≡ None
 
-begins-less : (w : ℕ) (p : ProcessorView) → p.work ≡ Nothing → left w (begins_run p) ≤ base w p
-unfolding begins_run
-begins-less w p nothing =
-    let s = p.settings in
-    let begun_list = begun p.clock s.budget s.weight s.window p.softirq in
-    let q = record p { softirq = run_next begun_list } in
-    let few = entries-next begun_list (begun-unasked p.clock s.budget s.weight s.window p.softirq) in
-    let less = entries-begun p.clock s.budget s.weight s.window p.softirq in
-    let same = softirq-base w p (run_next begun_list) in
-    asks-less w (base w p) (asked_in q.softirq.run) q q (omega (arith, few, less, same)) (omega
-    (arith, few, less, same, idle-left w q nothing))
+after-idle : (w most : ℕ) (p : ProcessorView) → p.work ≡ Nothing → asked_in p.softirq.run ≡ None → base w p < most → After w most p
+after-idle w most p nothing none few = record { less = omega (arith, few, idle-left w p nothing); unasked = λ idle. none }
 
-rests-less : (w : ℕ) (p : ProcessorView) → p.work ≡ Nothing → left w (rests p) ≤ base w p
-unfolding rests
-rests-less w p nothing =
-    by-if (λ q. left w q ≤ base w p) (is_polling p.settings && not (length p.softirq.list == 0)) (begins_run p) (leaves_softirq p.rest p)
-    (λ e. begins-less w p nothing) (λ e. leaves-less w p.rest p refl nothing)
-
-over-base : (w : ℕ) (late : Bool) (p : ProcessorView) → base w (ends_run late p) ≤ base w p
-unfolding base ends_run
-over-base w late p = omega (arith, entries-ended p.softirq)
-
-over-work : (late : Bool) (p : ProcessorView) → (ends_run late p).work ≡ p.work
-unfolding ends_run
-over-work late p = refl
-
-over-less : (w : ℕ) (late : Bool) (p : ProcessorView) → p.work ≡ Nothing → left w (rests (ends_run late p)) ≤ base w p
-over-less w late p nothing =
-    omega (arith, rests-less w (ends_run late p) (over-work late p ∙ nothing), over-base w late p)
-
-goes-less : (w : ℕ) (p : ProcessorView) → p.work ≡ Nothing → asked_in p.softirq.run ≡ None → left w (goes_on p) ≤ base w p
-unfolding goes_on
-goes-less w p nothing none =
-    let q = record p { softirq = run_next p.softirq } in
-    let few = entries-next p.softirq none in
-    let same = softirq-base w p (run_next p.softirq) in
-    by-if (λ r. left w r ≤ base w p) (nat_le p.settings.time_limit (p.clock - p.softirq.began)) (rests (ends_run true p))
-    (option_map_or (λ number. polls number q) (asked_in q.softirq.run) (rests (ends_run false q)))
-    (λ e. over-less w true p nothing)
-    (λ e. asks-less w (base w p) (asked_in q.softirq.run) q (rests (ends_run false q)) (omega (arith, few, same))
-    (omega (arith, few, same, over-less w false q nothing)))
-
-idle-less : (w : ℕ) (p : ProcessorView) → p.work ≡ Nothing → asked_in p.softirq.run ≡ None → (lowest : Option ℕ)
-    → position asks_at p.devices ≡ lowest
-    → left w (option_map_or (λ number. interrupts number p) lowest (if is_some p.softirq.run then goes_on p else rests p)) ≤ base w p
-idle-less w p nothing none (Some n) lowest = interrupts-less w n p (position-Some asks_at p.devices n None lowest).1
-idle-less w p nothing none None lowest =
-    by-if (λ q. left w q ≤ base w p) (is_some p.softirq.run) (goes_on p) (rests p) (λ e. goes-less w p nothing none)
-    (λ e. rests-less w p nothing)
-
-idle-is : (work : Work) → is_busy work ≡ false → work ≡ Nothing
-idle-is work idle = grind (arith, common_steps)
-
--- the run asks for nothing while no work is in progress
-takes-less : (w : ℕ) (p : ProcessorView) → (p.work ≡ Nothing → asked_in p.softirq.run ≡ None) → left w (takes_up p) ≤ left w p
-unfolding takes_up
-takes-less w p none =
-    by-if (λ q. left w q ≤ left w p) (is_busy p.work) p
-    (option_map_or (λ number. interrupts number p) (position asks_at p.devices) (if is_some p.softirq.run then goes_on p else rests p))
-    (λ busy. omega arith)
-    (λ idle.
-    let nothing = idle-is p.work idle in
-    omega (arith, idle-less w p nothing (none nothing) (position asks_at p.devices) refl, idle-left w p nothing))
+after-takes : (w most : ℕ) (p : ProcessorView) → After w most p → left w (takes_up p) < most
+after-takes w most p a = omega (arith, a.less, taken)
+  where
+    taken : left w (takes_up p) ≤ left w p
+    taken =
+        walk-any (left-walk w (left w p)) p (λ idle. a.unasked (idle-is p.work idle)) (λ busy. omega arith)
+        (λ idle.
+        let nothing = idle-is p.work idle in
+        omega (arith, idle-left w p nothing, ap (λ (o : Option ℕ). length (asked_for o)) (a.unasked nothing)))
 
 -- ---- when work ends
 
@@ -224,302 +114,174 @@ delivers-most w n came p =
     let wakes = p.settings.threaded && not p.settings.apart && has_place p.application in
     omega (arith, same, fed-few p.clock came p.settings p.application, if-application wakes p.tasks)
 
-oldest-less : (w n : ℕ) (next : Option ℕ) (p : ProcessorView) → 4 ≤ w → next_packet_at false (at n p.devices) ≡ next
-    → base w (delivers_oldest n next p) + (if is_some next then 3 else 0) ≤ base w p
-unfolding base
-oldest-less w n None p least is = omega arith
-oldest-less w n (Some came) p least is =
-    let q = record p { devices = changed (without_next false) n p.devices } in
-    omega (arith, least, delivers-most w n came q, taken)
-  where
-    taken : base w (record p { devices = changed (without_next false) n p.devices }) + w ≤ base w p
-    taken = omega (arith, weights-less w w (without_next false) n p.devices (taken-less w false (at n p.devices) came is))
-
 raised-none : (w : ℕ) (o : Option QueueView) → next_packet_at false o ≡ None → weight_at w (map_at raised_again o) ≤ weight_at w o + 0
 unfolding map_at weight_at weight_of
 raised-none w None none = omega arith
 raised-none w (Some d) none = by d.ring none
   where
     by : (ring : List ℕ) → slice_get ring 0 ≡ None
-        → w * (length ring + length d.taken) + 5 * d.deferrals
-        + phase_weight (if length ring == 0 then d.phase else record d.phase { line = Raised })
-        ≤ w * (length ring + length d.taken) + 5 * d.deferrals + phase_weight d.phase + 0
+        → w * (2 * length ring + length d.taken) + 5 * d.deferrals
+        + phase_weight (if length ring == 0 then d.phase else record d.phase { line = Raised }) + cause_weight d.caused
+        ≤ w * (2 * length ring + length d.taken) + 5 * d.deferrals + phase_weight d.phase + cause_weight d.caused + 0
     by [] none = omega arith
     by (x ∷ xs) none = cc none
 
-raised-base : (w more n : ℕ) (p : ProcessorView)
-    → weight_at w (map_at raised_again (at n p.devices)) ≤ weight_at w (at n p.devices) + more
-    → base w (record p { devices = changed raised_again n p.devices }) ≤ base w p + more
-unfolding base
-raised-base w more n p most = omega (arith, weights-most w more raised_again n p.devices most)
-
-lone-less : (w n : ℕ) (p : ProcessorView) → load ≤ w → base w (ends_interrupt n p) ≤ base w p
-unfolding ends_interrupt
-lone-less w n p least = by (next_packet_at false (at n p.devices)) refl
+-- an interrupt without polling ends
+after-lone : (w most n : ℕ) (p : ProcessorView) → load ≤ w → p.work ≡ Nothing → asked_in p.softirq.run ≡ None → base w p < most
+    → After w most (ends_interrupt n p)
+unfolding ends_interrupt delivers base
+after-lone w most n p least nothing none few = by (next_packet_at false (at n p.devices)) refl
   where
+    raised : (more : ℕ) (q : ProcessorView) → weight_at w (map_at raised_again (at n q.devices)) ≤ weight_at w (at n q.devices) + more
+        → base w (record q { devices = changed raised_again n q.devices }) ≤ base w q + more
+    raised more q small = omega (arith, weights-most w more raised_again n q.devices small)
+
+    taken : (came : ℕ) → next_packet_at false (at n p.devices) ≡ Some came
+        → base w (record p { devices = changed (without_next false) n p.devices }) + w ≤ base w p
+    taken came is = omega (arith, weights-less w w (without_next false) n p.devices (taken-less w false (at n p.devices) came is))
+
     by : (next : Option ℕ) → next_packet_at false (at n p.devices) ≡ next
-        → (let q = delivers_oldest n next p in base w (record q { devices = changed raised_again n q.devices }) ≤ base w p)
-    by None is = omega (arith, raised-base w 0 n p (raised-none w (at n p.devices) is))
+        → let q = delivers_oldest n next p in After w most (record q { devices = changed raised_again n q.devices })
+    by None is = after-idle w most _ nothing none (omega (arith, few, raised 0 p (raised-none w (at n p.devices) is)))
     by (Some came) is =
         let q = delivers_oldest n (Some came) p in
-        omega (arith, raised-base w 3 n q (weight-raised w (at n q.devices)), oldest-less w n (Some came) p (omega (arith, least)) is)
+        after-idle w most _ nothing none (omega (
+          arith,
+          few,
+          least,
+          taken came is,
+          delivers-most w n came (record p { devices = changed (without_next false) n p.devices }),
+          raised 3 q (weight-raised w (at n q.devices)),
+        ))
 
 -- the end of a poll: what its queue may still do, and its next poll
-abbrev pub extra : ℕ → ℕ
-extra given = if given == 0 then 0 else 327677
-
-after-poll : (w n given : ℕ) (full missed : Bool) (p q : ProcessorView) → q.softirq ≡ p.softirq → q.tasks ≡ p.tasks
-    → base w (if p.settings.threaded then record q { tasks = if full || missed then Thread n ∷ p.tasks else p.tasks }
-    else record q { softirq = poll_ended n given full missed p.softirq })
-    ≤ base w q + (if full || missed then 2 else 0)
-unfolding base
-after-poll w n given full missed p q soft tasks =
-    by-if (λ r. base w r ≤ base w q + (if full || missed then 2 else 0)) p.settings.threaded
-    (record q { tasks = if full || missed then Thread n ∷ p.tasks else p.tasks })
-    (record q { softirq = poll_ended n given full missed p.softirq }) (λ e. first full missed)
-    (λ e. second full missed)
-  where
-    first : (full missed : Bool)
-        → base w (record q { tasks = if full || missed then Thread n ∷ p.tasks else p.tasks })
-        ≤ base w q + (if full || missed then 2 else 0)
-    first true missed = omega (arith, ap threads tasks)
-    first false true = omega (arith, ap threads tasks)
-    first false false = omega (arith, ap threads tasks)
-
-    second : (full missed : Bool)
-        → base w (record q { softirq = poll_ended n given full missed p.softirq }) ≤ base w q + (if full || missed then 2 else 0)
-    second true missed =
-        omega (arith, entries-polled (record { work = given; next = Repoll }) p.softirq, ap entries soft)
-    second false true =
-        let once : Once = record { work = given; next = Gone } in
-        omega (arith, entries-polled once p.softirq, ap entries soft, entries-pushed n (softirq_polled once p.softirq))
-    second false false = omega (arith, entries-polled (record { work = given; next = Gone }) p.softirq, ap entries soft)
+abbrev extra : ℕ → ℕ
+extra given = if given == 0 then 0 else 327681
 
 bound : (defer : ℕ) (full again none : Bool) → defer ≤ 65535 → (full ≡ true → none ≡ true → ⊥)
-    → (if full || again then 2 else 0) + (if full then 0 else (if none then 0 else 5 * defer))
-    ≤ (if none then 0 else 327677) + (if not full && again then 2 else 0)
-bound defer true again true most not = absurd (not refl refl)
-bound defer true again false most not = omega arith
-bound defer false true true most not = omega arith
-bound defer false true false most not = omega (arith, most)
-bound defer false false true most not = omega arith
-bound defer false false false most not = omega (arith, most)
+    → (if full || again then 2 else 0) + (if full then 0 else (if none then 0 else 5 * defer + 4))
+    ≤ (if none then 0 else 327681) + (if not full && again then 2 else 0)
+bound defer full again none h1 h2 = grind (arith, common_steps)
 
-poll-less : (w n given : ℕ) (p : ProcessorView) → base w (ends_poll n given p) ≤ base w p + extra given
-unfolding base ends_poll
-poll-less w n given p =
+after-poll : (w most n given : ℕ) (p : ProcessorView) → p.work ≡ Nothing → (p.settings.threaded ≡ true → asked_in p.softirq.run ≡ None)
+    → EmptyIfNone given (at n p.devices) → base w p + extra given < most → After w most (ends_poll n given p)
+unfolding base
+after-poll w most n given p nothing none empty few =
     let s = p.settings in
     let full = given == s.weight in
-    let again = is_missed_at (at n p.devices) in
-    let counts = record p.counts { polls = saturated (p.counts.polls + 1); work = saturated (p.counts.work + given) } in
-    let q = record p { devices = changed (queue_polled p.clock given s) n p.devices; counts = counts } in
-    omega (
-      arith,
-      after-poll w n given full again p q refl refl,
-      changed-weights w (queue_polled p.clock given s) n p.devices,
-      weight-polled w p.clock given s (at n p.devices),
-      bound s.defer_hard_irqs full again (given == 0) s.defer_hard_irqs_in
-          (λ full none. omega (arith, eqb-true given s.weight full, eqb-true given 0 none, s.weight_in.0)),
-    )
-
-poll-work : (n given : ℕ) (p : ProcessorView) → (ends_poll n given p).work ≡ p.work
-unfolding ends_poll
-poll-work n given p = by-if (λ q. q.work ≡ p.work) p.settings.threaded _ _ (λ e. refl) (λ e. refl)
-
-poll-left : (w n given : ℕ) (p : ProcessorView) → p.work ≡ Nothing → left w (ends_poll n given p) ≤ base w p + extra given
-poll-left w n given p nothing =
-    omega (arith, idle-left w (ends_poll n given p) (poll-work n given p ∙ nothing), poll-less w n given p)
-
-looked-base : (w n : ℕ) (backlog : Bool) (p : ProcessorView)
-    → base w (record p { devices = changed (without_next backlog) n p.devices }) ≤ base w p
-unfolding base
-looked-base w n backlog p =
-    omega (arith, weights-most w 0 (without_next backlog) n p.devices (looked-most w backlog (at n p.devices)))
-
-taken-left : (w n : ℕ) (packet : InHand) (backlog : Bool) (time : ℕ) (p : ProcessorView)
-    → next_packet_at backlog (at n p.devices) ≡ Some packet.came
-    → left w (begins (Packet packet) time (record p { devices = changed (without_next backlog) n p.devices })) ≤ base w p
-unfolding left left_by base
-taken-left w n packet backlog time p is =
-    omega (arith, weights-less w w (without_next backlog) n p.devices (taken-less w backlog (at n p.devices) packet.came is))
-
-looks-less : (w n given : ℕ) (p : ProcessorView) → p.work ≡ Nothing → left w (poll_looks n given p) ≤ base w p + extra given
-unfolding poll_looks
-looks-less w n given p nothing =
-    by-if (λ r. left w r ≤ base w p + extra given) (nat_lt given p.settings.weight)
-    (option_map_or (λ came. begins (Packet (record { device = n; came = came; given = given })) p.settings.packet q)
-    (next_packet_at backlog (at n p.devices)) (ends_poll n given q))
-    (ends_poll n given p) (λ e. by (next_packet_at backlog (at n p.devices)) refl) (λ e. poll-left w n given p nothing)
-  where
-    backlog : Bool
-    backlog = p.settings.backlog
-
-    q : ProcessorView
-    q = record p { devices = changed (without_next p.settings.backlog) n p.devices }
-
-    by : (next : Option ℕ) → next_packet_at p.settings.backlog (at n p.devices) ≡ next
-        → left w (option_map_or (λ came. begins (Packet (record { device = n; came = came; given = given })) p.settings.packet q) next
-        (ends_poll n given q))
-        ≤ base w p + extra given
-    by None is = omega (arith, poll-left w n given q nothing, looked-base w n p.settings.backlog p)
-    by (Some came) is =
-        omega (arith, taken-left w n (record { device = n; came = came; given = given }) p.settings.backlog p.settings.packet p is)
-
-lone-work : (n : ℕ) (p : ProcessorView) → (ends_interrupt n p).work ≡ p.work
-unfolding ends_interrupt delivers
-lone-work n p = by (next_packet_at false (at n p.devices))
-  where
-    by : (next : Option ℕ) → (delivers_oldest n next p).work ≡ p.work
-    by None = refl
-    by (Some came) = refl
-
-delivers-work : (n came : ℕ) (p : ProcessorView) → (delivers n came p).work ≡ p.work
-unfolding delivers
-delivers-work n came p = refl
+    let again = is_rescheduled_at given s (at n p.devices) in
+    let all = changed-weights w (queue_polled p.clock given s) n p.devices in
+    let own = weight-polled w p.clock given s (at n p.devices) empty in
+    let small = bound s.defer_hard_irqs full again (given == 0) s.defer_hard_irqs_in
+    (λ full none. omega (arith, eqb-true given s.weight full, eqb-true given 0 none, s.weight_in.0)) in
+    polled-by (After w most) n given p
+    (λ counts threaded. after-idle w most _ nothing (none threaded) (omega
+    (arith, few, all, own, small, threads-again (full || again) n p.tasks)))
+    (λ counts single. after-idle w most _ nothing (over-asks n given full again p.softirq) (omega
+    (arith, few, all, own, small, entries-over n given full again p.softirq)))
 
 next-some : (n : ℕ) → (n + 1 == 0) ≡ false
 next-some n = grind (arith, common_steps)
 
-ends-less : (w : ℕ) (work : Work) (p : ProcessorView) → load ≤ w → p.work ≡ Nothing → is_busy work ≡ true
-    → left w (ends_by work p) < base w p + left_by w work
-unfolding left_by base
-ends-less w Nothing p least nothing busy = cc busy
-ends-less w (Interrupt n) p least nothing busy =
-    by-if (λ q. left w q < base w p + 1) (is_polling p.settings) p (ends_interrupt n p) (λ e. omega (arith, idle-left w p nothing))
-    (λ e. omega (arith, idle-left w (ends_interrupt n p) (lone-work n p ∙ nothing), lone-less w n p least))
-ends-less w (Poll n) p least nothing busy = omega (arith, looks-less w n 0 p nothing)
-ends-less w (Packet packet) p least nothing busy =
-    let q = delivers packet.device packet.came p in
-    let extra_is : extra (packet.given + 1) ≡ 327677 = rw (next-some packet.given) refl in
-    omega (
-      arith,
-      least,
-      looks-less w packet.device (packet.given + 1) q (delivers-work packet.device packet.came p ∙ nothing),
-      delivers-most w packet.device packet.came p,
-      extra_is,
-    )
-ends-less w (Use came) p least nothing busy = omega (
-  arith,
-  idle-left w
-      (record p { application = use_ended p.clock came p.application }) nothing,
-  same,
-)
+-- a poll that ends before it took a packet finds none
+zero-less : (weight given : ℕ) → 1 ≤ weight → given ≡ 0 → nat_lt given weight ≡ true
+zero-less weight given least none = grind (arith, common_steps)
+
+batch-empty : (s : MachineSettings) (given : ℕ) (o : Option QueueView) → stops given s o ≡ true → next_held_at o ≡ None
+    → EmptyIfNone given o
+batch-empty s given o stop held d is none = by d.taken (rw is at held) (rw (is, none, zero-mod s.gro_batch) at stop)
   where
-    same : base w (record p { application = use_ended p.clock came p.application }) ≡ base w p
-    same = refl
+    by : (taken : List ℕ) → slice_get taken 0 ≡ None → not (nat_lt 0 s.weight && (length taken == 0 && not (length d.ring == 0))) ≡ true
+        → length d.ring ≡ 0
+    by [] held stop = empty (nat_lt 0 s.weight) (length d.ring) (zero-less s.weight 0 s.weight_in.0 refl) stop
+      where
+        empty : (less : Bool) (size : ℕ) → less ≡ true → not (less && (true && not (size == 0))) ≡ true → size ≡ 0
+        empty less size is stop = grind (arith, common_steps)
+    by (x ∷ taken) held stop = cc held
 
-current-less : (w : ℕ) (p : ProcessorView) → load ≤ w → is_busy p.work ≡ true → left w (ends_current p) < left w p
-unfolding left ends_current base
-current-less w p least busy =
-    ends-less w p.work (record p { clock = p.ends; work = Nothing; counts = spent p.work (p.ends - p.clock) p.counts }) least refl busy
+ring-empty : (xs : List ℕ) → slice_get xs 0 ≡ None → length (drop 1 xs) ≡ 0
+ring-empty [] none = refl
+ring-empty (x ∷ xs) none = cc none
 
--- ---- what the run asks for after work ended
+next-empty : (backlog : Bool) (d : QueueView) → next_packet backlog d ≡ None → length (without_next backlog d).ring ≡ 0
+next-empty backlog d none = grind (arith, common_steps, ring-empty)
 
-poll-unasked : (n given : ℕ) (p : ProcessorView) → (p.settings.threaded ≡ true → asked_in p.softirq.run ≡ None)
-    → asked_in (ends_poll n given p).softirq.run ≡ None
-unfolding ends_poll
-poll-unasked n given p none =
-    let full = given == p.settings.weight in
-    let once : Once = record { work = given; next = if full then Repoll else Gone } in
-    let same = pushed-run (not full && is_missed_at (at n p.devices)) n (softirq_polled once p.softirq) in
-    by-if (λ q. asked_in q.softirq.run ≡ None) p.settings.threaded _ _ (λ threaded. none threaded)
-    (λ e. ap asked_in same ∙ asked-polled once p.softirq)
+plain-empty : (backlog : Bool) (n given : ℕ) (ds : QueueViews) → next_packet_at backlog (at n ds) ≡ None
+    → EmptyIfNone given (at n (changed (without_next backlog) n ds))
+unfolding map_at
+plain-empty backlog n given ds h1 = grind (arith, common_steps, at-changed, next-empty)
 
-looks-unasked : (n given : ℕ) (p : ProcessorView) → (p.settings.threaded ≡ true → asked_in p.softirq.run ≡ None)
-    → (poll_looks n given p).work ≡ Nothing → asked_in (poll_looks n given p).softirq.run ≡ None
-unfolding poll_looks
-looks-unasked n given p none =
-    by-if (λ r. r.work ≡ Nothing → asked_in r.softirq.run ≡ None) (nat_lt given p.settings.weight)
-    (option_map_or (λ came. begins (Packet (record { device = n; came = came; given = given })) p.settings.packet q)
-    (next_packet_at p.settings.backlog (at n p.devices)) (ends_poll n given q))
-    (ends_poll n given p) (λ e. by (next_packet_at p.settings.backlog (at n p.devices))) (λ e idle. poll-unasked n given p none)
-  where
-    q : ProcessorView
-    q = record p { devices = changed (without_next p.settings.backlog) n p.devices }
+after-looks : (w most n given : ℕ) (p : ProcessorView) → p.work ≡ Nothing → (p.settings.threaded ≡ true → asked_in p.softirq.run ≡ None)
+    → base w p + extra given < most → After w most (poll_looks n given p)
+unfolding left left_by base
+after-looks w most n given p nothing none few =
+    let s = p.settings in
+    let next = changed (without_next s.backlog) n p.devices in
+    looks-by (After w most) n given p (record {
+      some = λ plain came is less. record {
+        less = omega (arith, few, weights-less w w (without_next s.backlog) n p.devices (taken-less w s.backlog (at n p.devices) came is));
+        unasked = λ idle. cc idle;
+      };
+      none = λ plain out.
+          after-poll w most n given (record p { devices = next }) nothing none (plain-empty s.backlog n given p.devices out)
+          (omega (arith, few, weights-most w 0 (without_next s.backlog) n p.devices (looked-most w s.backlog (at n p.devices))));
+      full = λ plain full.
+          after-poll w most n given p nothing none (λ d is zero. absurd (cc (zero-less s.weight given s.weight_in.0 zero, full))) few;
+      takes = λ batch less pulls. record {
+        less = rw (next-some given) (omega
+            (arith, few, weights-less w w holding n p.devices (held-more w s.gro_batch given (at n p.devices) pulls)));
+        unasked = λ idle. cc idle;
+      };
+      hands = λ batch stop came is. record {
+        less = omega (arith, few, weights-less w w without_held n p.devices (held-less w came (at n p.devices) is));
+        unasked = λ idle. cc idle;
+      };
+      over = λ batch stop out. after-poll w most n given p nothing none (batch-empty s given (at n p.devices) stop out) few;
+    })
 
-    by : (next : Option ℕ)
-        → (let r = option_map_or (λ came. begins (Packet (record { device = n; came = came; given = given })) p.settings.packet q) next
-        (ends_poll n given q) in
-        r.work ≡ Nothing → asked_in r.softirq.run ≡ None)
-    by None idle = poll-unasked n given q none
-    by (Some came) idle = cc idle
-
-lone-softirq : (n : ℕ) (p : ProcessorView) → (ends_interrupt n p).softirq ≡ p.softirq
-unfolding ends_interrupt delivers
-lone-softirq n p = by (next_packet_at false (at n p.devices))
-  where
-    by : (next : Option ℕ) → (delivers_oldest n next p).softirq ≡ p.softirq
-    by None = refl
-    by (Some came) = refl
-
-delivers-same : (n came : ℕ) (p : ProcessorView) → ((delivers n came p).softirq ≡ p.softirq) × ((delivers n came p).settings ≡ p.settings)
-unfolding delivers
-delivers-same n came p = (refl, refl)
-
-by-unasked : (work : Work) (p : ProcessorView) → asked_in p.softirq.run ≡ (if p.settings.threaded then None else polled_by work)
-    → (ends_by work p).work ≡ Nothing → asked_in (ends_by work p).softirq.run ≡ None
-by-unasked Nothing p asked idle = asked ∙ if-none p.settings.threaded None refl
-by-unasked (Interrupt n) p asked idle =
+after-work : (w most : ℕ) (work : Work) (p : ProcessorView) → load ≤ w → p.work ≡ Nothing
+    → asked_in p.softirq.run ≡ (if p.settings.threaded then None else polled_by work) → is_busy work ≡ true
+    → base w p + left_by w work ≤ most → After w most (ends_by work p)
+unfolding left_by base delivers
+after-work w most Nothing p least nothing asked busy few = cc busy
+after-work w most (Interrupt n) p least nothing asked busy few =
     let none : asked_in p.softirq.run ≡ None = asked ∙ if-none p.settings.threaded None refl in
-    by-if (λ q. asked_in q.softirq.run ≡ None) (is_polling p.settings) p (ends_interrupt n p) (λ e. none)
-    (λ e. rw (lone-softirq n p) none)
-by-unasked (Poll n) p asked idle = looks-unasked n 0 p (λ threaded. rw threaded at asked) idle
-by-unasked (Packet packet) p asked idle =
-    let same = delivers-same packet.device packet.came p in
-    looks-unasked packet.device (packet.given + 1) (delivers packet.device packet.came p)
-    (λ threaded. rw same.0 (rw (sym (ap (λ (s : MachineSettings). s.threaded) same.1) ∙ threaded) at asked)) idle
-by-unasked (Use came) p asked idle = asked ∙ if-none p.settings.threaded None refl
-
-current-unasked : (p : ProcessorView) → asked_in p.softirq.run ≡ (if p.settings.threaded then None else polled_by p.work)
-    → (ends_current p).work ≡ Nothing → asked_in (ends_current p).softirq.run ≡ None
-unfolding ends_current
-current-unasked p asked idle =
-    by-unasked p.work (record p { clock = p.ends; work = Nothing; counts = spent p.work (p.ends - p.clock) p.counts }) asked idle
+    either (After w most) (is_polling p.settings) p (ends_interrupt n p) (λ e. after-idle w most p nothing none (omega (arith, few)))
+    (λ e. after-lone w most n p least nothing none (omega (arith, few)))
+after-work w most (Poll look) p least nothing asked busy few =
+    after-looks w most look.device look.given p nothing (λ threaded. rw threaded at asked) (omega (arith, few, polled (look.given == 0)))
+  where
+    polled : (none : Bool) → (if none then 0 else 327681) < (if none then 2 else w)
+    polled true = omega arith
+    polled false = omega (arith, least)
+after-work w most (Packet packet) p least nothing asked busy few =
+    given (delivers packet.device packet.came p) refl refl refl (delivers-most w packet.device packet.came p)
+  where
+    given : (q : ProcessorView) → q.work ≡ p.work → q.softirq ≡ p.softirq → q.settings ≡ p.settings → base w q ≤ base w p + 1
+        → After w most (poll_looks packet.device (packet.given + 1) q)
+    given q work soft settings more =
+        let one : extra (packet.given + 1) ≡ 327681 = rw (next-some packet.given) refl in
+        after-looks w most packet.device (packet.given + 1) q (work ∙ nothing)
+        (λ threaded. rw soft (rw (sym (ap (λ (s : MachineSettings). s.threaded) settings) ∙ threaded) at asked))
+        (omega (arith, few, least, more, one))
+after-work w most (Use came) p least nothing asked busy few =
+    after-idle w most _ nothing (asked ∙ if-none p.settings.threaded None refl) (omega (arith, few))
 
 -- ---- a timer expires
 
-disturbs-less : (w moment : ℕ) (work : Work) (p : ProcessorView) → p.work ≡ work → (asking : Option ℕ)
-    → left w (if is_busy work then (if is_some asking then set_aside moment work p else p) else woken moment asking p) ≤ left w p
-unfolding left left_by base
-disturbs-less w moment Nothing p is (Some n) = omega arith
-disturbs-less w moment Nothing p is None = omega arith
-disturbs-less w moment (Use came) p is (Some n) = rw is (set p.rest)
+disturbed-less : (w most moment : ℕ) (p : ProcessorView)
+    → asked_in p.softirq.run ≡ (if p.settings.threaded then None else polled_by p.work) → left w p < most
+    → left w (disturbed moment p) < most
+unfolding disturbed left left_by base
+disturbed-less w most moment p asked few =
+    after-takes w most (stirred moment p) (stirred-by (After w most) moment p
+    (λ busy. record { less = few; unasked = λ idle. cc (rw idle at busy) })
+    (λ came counts is. after-idle w most _ refl (none (ap polled_by is)) (omega (arith, few, ap (left_by w) is)))
+    (λ n counts idle asking. record { less = few; unasked = λ nothing. none (ap polled_by nothing) })
+    (λ idle. record { less = few; unasked = λ nothing. none (ap polled_by nothing) }))
   where
-    set : (rest : Option Rest)
-        → weights w p.devices + length p.application.socket.items + 2 * entries p.softirq + 2 * threads p.tasks + 1 + 0
-        ≤ weights w p.devices + length p.application.socket.items + 2 * entries p.softirq + 2 * threads p.tasks + rest_weight rest + 1
-    set None = omega arith
-    set (Some rest) = omega arith
-disturbs-less w moment (Use came) p is None = omega arith
-disturbs-less w moment (Interrupt n) p is (Some m) = omega arith
-disturbs-less w moment (Interrupt n) p is None = omega arith
-disturbs-less w moment (Poll n) p is (Some m) = omega arith
-disturbs-less w moment (Poll n) p is None = omega arith
-disturbs-less w moment (Packet packet) p is (Some n) = omega arith
-disturbs-less w moment (Packet packet) p is None = omega arith
-
-disturbs-unasked : (moment : ℕ) (work : Work) (p : ProcessorView) → p.work ≡ work
-    → asked_in p.softirq.run ≡ (if p.settings.threaded then None else polled_by work) → (asking : Option ℕ)
-    → (let r = if is_busy work then (if is_some asking then set_aside moment work p else p) else woken moment asking p in
-    r.work ≡ Nothing → asked_in r.softirq.run ≡ None)
-disturbs-unasked moment Nothing p is asked (Some n) idle = asked ∙ if-none p.settings.threaded None refl
-disturbs-unasked moment Nothing p is asked None idle = asked ∙ if-none p.settings.threaded None refl
-disturbs-unasked moment (Use came) p is asked (Some n) idle = asked ∙ if-none p.settings.threaded None refl
-disturbs-unasked moment (Use came) p is asked None idle = asked ∙ if-none p.settings.threaded None refl
-disturbs-unasked moment (Interrupt n) p is asked (Some m) idle = cc (is, idle)
-disturbs-unasked moment (Interrupt n) p is asked None idle = cc (is, idle)
-disturbs-unasked moment (Poll n) p is asked (Some m) idle = cc (is, idle)
-disturbs-unasked moment (Poll n) p is asked None idle = cc (is, idle)
-disturbs-unasked moment (Packet packet) p is asked (Some n) idle = cc (is, idle)
-disturbs-unasked moment (Packet packet) p is asked None idle = cc (is, idle)
-
-disturbed-less : (w moment : ℕ) (p : ProcessorView)
-    → asked_in p.softirq.run ≡ (if p.settings.threaded then None else polled_by p.work) → left w (disturbed moment p) ≤ left w p
-unfolding disturbed
-disturbed-less w moment p asked =
-    let up = position asks_at p.devices in
-    let r = if is_busy p.work then (if is_some up then set_aside moment p.work p else p) else woken moment up p in
-    omega (arith, takes-less w r (disturbs-unasked moment p.work p refl asked up), disturbs-less w moment p.work p refl up)
+    none : polled_by p.work ≡ None → asked_in p.softirq.run ≡ None
+    none unpolled = asked ∙ if-none p.settings.threaded (polled_by p.work) unpolled
 
 expires-less : (w : ℕ) (timer : Timer) (p : ProcessorView) → soonest_from 0 p.devices ≡ Some timer
     → left w (record p { devices = changed expired timer.device p.devices }) < left w p
@@ -537,7 +299,7 @@ ends-busy : (soonest : Option Timer) (p : ProcessorView)
     → is_busy p.work ≡ true
 ends-busy soonest p is = grind (arith, common_steps)
 
-expires-soonest : (soonest : Option Timer) (timer : Timer) (p : ProcessorView)
+pub expires-soonest : (soonest : Option Timer) (timer : Timer) (p : ProcessorView)
     → option_map_or (λ timer. if is_busy p.work && nat_le p.ends timer.at then Ends else Expires timer) soonest
     (if is_busy p.work then Ends else Never) ≡ Expires timer
     → soonest ≡ Some timer
@@ -545,24 +307,18 @@ expires-soonest soonest timer p is = grind (arith, common_steps)
 
 pub step-asked : (moment : ℕ) (p : ProcessorView) → asked_in p.softirq.run ≡ (if p.settings.threaded then None else polled_by p.work)
     → is_due moment p ≡ true → left load (step p) < left load p
-unfolding step
+unfolding step ends_current left base
 step-asked moment p asked due = by (upcoming p) refl due
   where
     by : (next : Upcoming) → upcoming p ≡ next → is_by moment next p ≡ true → left load (happens next p) < left load p
     by Never is due = cc due
     by Ends is due =
-        omega (
-          arith,
-          takes-less load (ends_current p) (current-unasked p asked),
-          current-less load p (omega arith)
-              (ends-busy (soonest_from 0 p.devices) p is),
-        )
+        let q = record p { clock = p.ends; work = Nothing; counts = spent p.work (p.ends - p.clock) p.counts } in
+        after-takes load (left load p) (ends_by p.work q)
+        (after-work load (left load p) p.work q (omega arith) refl asked (ends-busy (soonest_from 0 p.devices) p is) (omega arith))
     by (Expires timer) is due =
-        omega (
-          arith,
-          disturbed-less load timer.at (record p { devices = changed expired timer.device p.devices }) asked,
-          expires-less load timer p (expires-soonest (soonest_from 0 p.devices) timer p is),
-        )
+        disturbed-less load (left load p) timer.at (record p { devices = changed expired timer.device p.devices }) asked
+        (expires-less load timer p (expires-soonest (soonest_from 0 p.devices) timer p is))
 
 pub step-less : (moment : ℕ) (p : ProcessorView) → IsProcessorKept p → is_due moment p ≡ true → left load (step p) < left load p
 step-less moment p kept due = step-asked moment p kept.asked due

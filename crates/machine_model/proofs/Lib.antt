@@ -1,4 +1,7 @@
 pub mod WaitFacts
+pub mod TableFacts
+pub mod WalkFacts
+pub mod QueueFacts
 pub mod PlacesFacts
 pub mod SoftirqFacts
 pub mod ListedFacts

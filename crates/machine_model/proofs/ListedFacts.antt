@@ -1,13 +1,9 @@
 -- How many numbers are on the poll list and in its run after each call, and the weight of the run.
-use Rattle.std.proofs.lemmas.Grind.{common_steps}
-use Rattle.std.proofs.Common.{◌≡◌, ℕ, ◌+◌, Bool, true, false, Option, Some, None, List, [], ◌∷◌, ◌++◌, drop, length, length-append, refl}
-use Rattle.std.{proofs.Common.arith, specs.Prelude.{◌||◌, is_some, slice_get, if◌then◌else◌, option_map}}
-use Rattle.poll_runs.specs.Turn.{asked_for}
-use Rattle.{poll_runs.specs.declared.bench.{Next.TheVariants.{Gone, Repoll}, Once.Once}}
-use Rattle.{machine_model.specs.Softirq.{RunView, SoftirqView}}
-use Rattle.machine_model.specs.Softirq.{asked_in, begun, run_ended, filled, is_run_spent, next_from, run_next, poll_ended}
-use Rattle.machine_model.specs.Softirq.{polled_run, pushed, softirq_polled}
-use Rattle.machine_model.specs.Shown.{weight_in, listed}
+use Rattle.std.proofs.{Common.{◌≡◌, ℕ, ◌+◌, Bool, true, false, Option, Some, None, List, [], ◌∷◌, ◌++◌, drop, length, length-append, refl}}
+use Rattle.std.{proofs.{Common.arith, lemmas.Grind.common_steps}, specs.{Prelude.{◌||◌, is_some, slice_get, if◌then◌else◌, option_map}}}
+use Rattle.poll_runs.specs.{Turn.asked_for, declared.bench.{Next.TheVariants.{Gone, Repoll}, Once.Once}}
+use Rattle.machine_model.specs.{Shown.{weight_in, listed}, Softirq.{RunView, SoftirqView, asked_in, begun, run_ended, filled, run_next}}
+use Rattle.machine_model.specs.Softirq.{poll_ended, polled_run, pushed, softirq_polled}
 
 pub listed-pushed : (n : ℕ) (q : SoftirqView) → listed (pushed n q) ≡ listed q + 1
 listed-pushed n q = omega (arith, length-append q.list (n ∷ []))
@@ -28,15 +24,7 @@ next-moves own repoll list = grind (arith, common_steps)
 next-same : (list : List ℕ) (run : Option RunView) (began : ℕ) → asked_in run ≡ None
     → let q : SoftirqView = record { list = list; run = run; began = began } in Same q (run_next q)
 unfolding run_next
-next-same list None began none = record { listed = refl; some = refl; weight = refl }
-next-same list (Some r) began none = by (is_run_spent r)
-  where
-    before : SoftirqView
-    before = record { list = list; run = Some r; began = began }
-
-    by : (b : Bool) → Same before (if b then before else next_from (filled r.own r.repoll list) r before)
-    by true = record { listed = refl; some = refl; weight = refl }
-    by false = record { listed = rw none (next-moves r.own r.repoll list); some = refl; weight = refl }
+next-same list run began h1 = grind (arith, common_steps, next-moves)
 
 pub next-keeps : (q : SoftirqView) → asked_in q.run ≡ None → Same q (run_next q)
 unfolding run_next
@@ -72,10 +60,7 @@ listed-polled full work n q asked = polled-moves full work n q.list q.run q.bega
 -- a queue that completes and missed an interrupt is put on the list again
 pub listed-again : (full missed : Bool) (work n : ℕ) (q : SoftirqView) → asked_in q.run ≡ Some n
     → listed (poll_ended n work full missed q) + (if full || missed then 0 else 1) ≡ listed q
-listed-again true missed work n q asked = listed-polled true work n q asked
-listed-again false true work n q asked =
-    omega (arith, listed-polled false work n q asked, listed-pushed n (softirq_polled (record { work = work; next = Gone }) q))
-listed-again false false work n q asked = listed-polled false work n q asked
+listed-again full missed work n q h1 = grind (arith, common_steps, listed-polled, listed-pushed)
 
 pub pushed-run : (b : Bool) (n : ℕ) (q : SoftirqView) → (if b then pushed n q else q).run ≡ q.run
 pushed-run true n q = refl

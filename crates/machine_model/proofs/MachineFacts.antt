@@ -1,5 +1,5 @@
 -- One processor of the machine changes.
-use Rattle.std.proofs.Common.{◌≡◌, ◌∙◌, ℕ, zero, suc, ◌+◌, ◌-◌, ◌*◌, ◌/◌, ◌%◌, ◌<◌, ◌≤◌, Some, List, [], ◌∷◌, length, length-set, get_or}
+use Rattle.std.proofs.{Common.{◌≡◌, ◌∙◌, ℕ, zero, suc, ◌+◌, ◌-◌, ◌*◌, ◌/◌, ◌%◌, ◌<◌, ◌≤◌, Some, List, [], ◌∷◌, length, length-set, get_or}}
 use Rattle.std.{proofs.{Common.{slice_set, ◌⊎◌, inl, inr, refl, sym, arith}, Math.Nat.{eq-or-lt_of_le, mod-lt}}, specs.Prelude.slice_get}
 use Rattle.circular_buffer.proofs.Places.{slice_get-set_other, slice_get-set_same}
 use Rattle.machine_model.specs.{Machine.{PacketArrives, ArrivesAt, Finishes, FinishesAt, Machine}, Processor.ProcessorView}

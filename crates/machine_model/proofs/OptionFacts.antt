@@ -1,18 +1,13 @@
 -- The values of options: in their ranges, and as arguments give them.
-use Rattle.std.proofs.Common.{◌≡◌, ◌≤◌, ◌<◌, ◌+◌, ◌-◌, ℕ, zero, suc, List, [], ◌∷◌, length, map, set, slice_index_or, nat_eq}
-use Rattle.std.proofs.Common.{◌⊎◌, inl, inr, Option, Some, None, Result, Ok, Err, IfOk, IfErr, option_map}
-use Rattle.std.specs.{Prelude.{Bool, true, false, ◌&&◌, nat_le, if◌then◌else◌}, Result.{result_ok}}
-use Rattle.std.proofs.lemmas.{Bool.cases_eq, Grind.common_steps}
-use Rattle.std.proofs.lemmas.List.{get_or-map, get_or-set_same, get_or-set_other, get_or_default}
-use Rattle.std.proofs.Common.{◌∙◌, ap, refl, subst, sym, arith}
-use Rattle.std.specs.List.{AllZip, range_with_len}
-use Rattle.std.proofs.lemmas.List.FromFn.{fill_by_all}
-use Rattle.std.specs.Option.{ForSome, option_and_then}
-use Rattle.text_io.specs.Given.{Text, number_within, or_usual}
-use Rattle.machine_model.specs.declared.settings.{MachineOption.MachineOption, MachineSettings.MachineSettings}
-use Rattle.machine_model.specs.declared.settings.TheConstants.{OPTION_COUNT}
-use Rattle.machine_model.specs.Options.{OptionRule, cost_number, machine_options, option_defaults, flag_number, own_cost, rule}
-use Rattle.machine_model.specs.Options.{AreInRange, IsOption, IsOptionInRange, IsRejected, excludes, number_with, values_of, values_with}
+use Rattle.std.proofs.{Common.{◌≡◌, ◌≤◌, ◌<◌, ◌+◌, ◌-◌, ℕ, zero, suc, List, [], ◌∷◌, length, map, set, slice_index_or, nat_eq, ◌⊎◌, inl}}
+use Rattle.std.proofs.{Common.{inr, Option, Some, None, Result, Ok, Err, IfOk, IfErr, option_map, ◌∙◌, ap, refl, subst, sym, arith}}
+use Rattle.std.proofs.lemmas.{Bool.cases_eq, Grind.common_steps, List.{get_or-map, get_or-set_same, get_or-set_other, get_or_default}}
+use Rattle.std.{proofs.lemmas.List.FromFn.fill_by_all, specs.{List.{AllZip, range_with_len}, Option.{ForSome, option_and_then}}}
+use Rattle.std.specs.{Prelude.{Bool, true, false, ◌&&◌, is_some, nat_le, nat_lt, if◌then◌else◌}, Result.result_ok}
+use Rattle.text_io.specs.Given.{Text, number_within, or_default}
+use Rattle.machine_model.specs.Options.{OptionRule, cost_number, machine_options, option_defaults, flag_number, own_cost, rule, AreInRange}
+use Rattle.machine_model.specs.Options.{IsOption, IsOptionInRange, IsRejected, exceeds, misfit, number_with, values_of, values_with}
+use Rattle.machine_model.specs.declared.settings.{MachineOption.MachineOption, MachineSettings.MachineSettings, TheConstants.OPTION_COUNT}
 
 -- ---- lists
 
@@ -49,6 +44,14 @@ all_defaults (o ∷ options) = (inr refl, all_defaults options)
 
 pub defaults_in_range : AreInRange option_defaults
 defaults_in_range = all_defaults machine_options
+
+pub defaults_fit : exceeds option_defaults ≡ false
+unfolding machine_options
+defaults_fit = refl
+
+-- a value that isn't above another
+pub below : (a b : ℕ) → nat_lt b a ≡ false → a ≤ b
+below a b fit = grind (arith, common_steps)
 
 pub at : {A B : Type 0} (R : A → B → Type 0) (xs : List A) (ys : List B) (k : ℕ) (d : A) (e : B)
     → AllZip R xs ys → k < length xs → R (slice_index_or xs k d) (slice_index_or ys k e)
@@ -89,7 +92,7 @@ is_plain o = nat_le o.least o.default && nat_le o.default o.most
 
 plain : (o : OptionRule) (value : ℕ) → is_plain o ≡ true → IsOptionInRange o value → (o.least ≤ value) × (value ≤ o.most)
 plain o value is (inl range) = range
-plain o value is (inr usual) = grind (arith, common_steps)
+plain o value is (inr default) = grind (arith, common_steps)
 
 pub plain_at : (values : List ℕ) (k : ℕ) → AreInRange values → k < OPTION_COUNT
     → is_plain (slice_index_or machine_options k no_option) ≡ true
@@ -137,18 +140,18 @@ within digits low high n text is = grind (arith, common_steps)
 
 -- a number that is given for an option, or its default
 pub range_is : (o : OptionRule) (m : MachineOption) (n : ℕ) (value : Option Text) → IsOption m o
-    → Some n ≡ or_usual m.default (number_within 10 m.least m.most) value → IsOptionInRange o n
+    → Some n ≡ or_default m.default (number_within 10 m.least m.most) value → IsOptionInRange o n
 range_is o m n None is e = let same : n ≡ m.default = cc e in inr (omega (arith, is.default, same))
 range_is o m n (Some text) is e =
     let range = within 10 m.least m.most n text e in inl (omega (arith, is.least, range.0), omega (arith, is.most, range.1))
 
 pub number_is : (m : MachineOption) (o : OptionRule) (value : Text → Option Text) (n : Option ℕ) → IsOption m o
-    → n ≡ or_usual m.default (number_within 10 m.least m.most) (value m.name.now) → number_with value o ≡ n
+    → n ≡ or_default m.default (number_within 10 m.least m.most) (value m.name.now) → number_with value o ≡ n
 number_is m o value n is h = sym
-    (h ∙ ap (λ x. or_usual x (number_within 10 m.least m.most) (value m.name.now)) is.default
-    ∙ ap (λ x. or_usual o.default (number_within 10 x m.most) (value m.name.now)) is.least
-    ∙ ap (λ x. or_usual o.default (number_within 10 o.least x) (value m.name.now)) is.most
-    ∙ ap (λ x. or_usual o.default (number_within 10 o.least o.most) (value x)) is.name)
+    (h ∙ ap (λ x. or_default x (number_within 10 m.least m.most) (value m.name.now)) is.default
+    ∙ ap (λ x. or_default o.default (number_within 10 x m.most) (value m.name.now)) is.least
+    ∙ ap (λ x. or_default o.default (number_within 10 o.least x) (value m.name.now)) is.most
+    ∙ ap (λ x. or_default o.default (number_within 10 o.least o.most) (value x)) is.name)
 
 -- one more value, of the option at this position
 pub one_more : (P : OptionRule → ℕ → Type 0) (values : List ℕ) (i v : ℕ) → i < length values
@@ -164,21 +167,20 @@ one_more P values i v l before here k o d m = elim (cases_eq k i) [
 
 -- ---- arguments
 
-fit_is : (values : List ℕ) (b : Bool) (o : Option (List ℕ)) → b ≡ false → o ≡ Some values → o ≡ (if b then None else Some values)
-fit_is values true o fit is = cc fit
-fit_is values false o fit is = is
+fit_is : (values : List ℕ) (m : Option ℕ) (o : Option (List ℕ)) → m ≡ None → o ≡ Some values
+    → o ≡ (if is_some m then None else Some values)
+fit_is values m o fit is = rw fit is
 
-none_is : (values : List ℕ) (b : Bool) → b ≡ true → None ≡ (if b then None else Some values)
-none_is values true out = refl
-none_is values false out = cc out
+none_is : (values : List ℕ) (m : Option ℕ) (number : ℕ) → m ≡ Some number → None ≡ (if is_some m then None else Some values)
+none_is values m number out = rw out refl
 
 pub asked_is : (r : Result MachineSettings ℕ) (values : List ℕ) → IfOk r (λ s. values_of s ≡ values)
-    → IfOk r (λ s. excludes values ≡ false) → IfErr r (λ number. IsRejected values number) → AreInRange values
-    → option_map values_of (result_ok r) ≡ (if excludes values then None else Some values)
-asked_is (Ok s) values ok fit err h = fit_is values (excludes values) (Some (values_of s)) fit (ap Some ok)
+    → IfOk r (λ s. misfit values ≡ None) → IfErr r (λ number. IsRejected values number) → AreInRange values
+    → option_map values_of (result_ok r) ≡ (if is_some (misfit values) then None else Some values)
+asked_is (Ok s) values ok fit err h = fit_is values (misfit values) (Some (values_of s)) fit (ap Some ok)
 asked_is (Err n) values ok fit (inl out) h =
     absurd (out.out no_option 0 (in_range_at values (n - 1) no_option 0 h (omega (arith, out.numbered.0, out.numbered.1, length_options))))
-asked_is (Err n) values ok fit (inr both) h = none_is values (excludes values) both.1
+asked_is (Err n) values ok fit (inr both) h = none_is values (misfit values) n both.1
 
 abbrev nothing : Option (List ℕ)
 nothing = None

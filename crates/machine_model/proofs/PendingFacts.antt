@@ -1,36 +1,27 @@
 -- The cached values of a processor's queues, after one queue changed.
-use Rattle.std.proofs.Common.{◌≡◌, ◌∙◌, ◌⊎◌, inl, inr, ℕ, zero, suc, ◌+◌, ◌^◌, ◌<◌, ◌≤◌, Bool, true, false}
-use Rattle.std.proofs.Common.{Option, Some, None, List, [], ◌∷◌}
-use Rattle.std.proofs.Common.{◌++◌, length, replicate, slice_index_or, slice_set, refl, sym, ap, subst, arith, w64}
-use Rattle.std.specs.{Prelude.{◌==◌, drop, position, slice_get}, List.position_or_len, Option.option_map_or, Int.{bit_at, trailing_zeros}}
-use Rattle.std.proofs.lemmas.{Bool.cases_eq, Grind.{common_steps, get_or-set_at}}
-use Rattle.std.proofs.lemmas.List.{get_or-set_other, length-set, Sums.position_or_len_is}
-use Rattle.std.proofs.lemmas.Nat.Bits.{bit_at-trailing_zeros, bit_at-zero}
-use Rattle.device_places.proofs.PlaceFacts.{at-index, below-some}
-use Rattle.device_places.specs.Places.{at, changed, changed_from}
+use Rattle.std.proofs.{Common.{◌≡◌, ◌∙◌, ◌⊎◌, inl, inr, ℕ, zero, suc, ◌+◌, ◌^◌, ◌<◌, ◌≤◌, Bool, true, false, Option, Some, None, List, []}}
+use Rattle.std.proofs.{Common.{◌∷◌, ◌++◌, length, replicate, slice_index_or, slice_set, refl, sym, ap, subst, arith, w64}}
+use Rattle.std.proofs.lemmas.{Bool.cases_eq, Grind.{common_steps, get_or-set_at}, List.{get_or-set_other, length-set}}
+use Rattle.std.{proofs.lemmas.{List.Sums.position_or_len_is, Nat.Bits.{bit_at-trailing_zeros, bit_at-zero}}, specs.Int.bit_at}
+use Rattle.std.specs.{Int.trailing_zeros, List.position_or_len, Option.option_map_or, Prelude.{◌==◌, drop, position, slice_get}}
+use Rattle.device_places.{proofs.PlaceFacts.at-index, specs.Places.{at, changed, changed_from}}
+use Rattle.machine_model.{proofs.WeightFacts.{named, soonest-is}, specs.Device.{QueueView, after_packet, holding, is_masked, new_queue}}
+use Rattle.machine_model.specs.{Device.{next_packet, without_held, without_next}, Devices.{QueueViews, asks_at, next_held_at}}
+use Rattle.machine_model.specs.{Devices.{next_packet_at, soonest_from, sooner, timer_at}, Shown.{IsMask, IsPending, earlier, mask_bit}}
+use Rattle.machine_model.specs.{Shown.has_timer, declared.devices.{Pending.Pending, Timer.Timer}}
 use Rattle.machine_model.specs.declared.settings.MachineSettings.{MachineSettings}
-use Rattle.machine_model.specs.Device.{QueueView, after_packet, is_masked, new_queue, next_packet, without_next}
-use Rattle.machine_model.specs.Devices.{QueueViews, asks_at, next_packet_at, soonest_from, sooner, timer_at}
-use Rattle.machine_model.specs.Shown.{IsMask, IsPending, earlier, mask_bit, has_timer}
-use Rattle.machine_model.{specs.declared.devices.{Pending.Pending, Timer.Timer}, proofs.WeightFacts.{named, soonest-is}}
 
 -- ---- the entry that changed
 
 set-same : (xs : QueueViews) (n : ℕ) → slice_set xs n (at n xs) ≡ xs
-set-same [] n = grind (arith, common_steps)
-set-same (x ∷ xs) zero = refl
-set-same (x ∷ xs) (suc n) = ap (λ (ys : QueueViews). x ∷ ys) (set-same xs n)
+set-same xs n = grind (arith, common_steps)
 
 changed-length : (change : QueueView → QueueView) (n : ℕ) (xs : QueueViews) → length (changed change n xs) ≡ length xs
 changed-length change n xs = grind (arith, common_steps)
 
 changed-set : (change : QueueView → QueueView) (n : ℕ) (xs : QueueViews)
     → changed change n xs ≡ slice_set xs n (at n (changed change n xs))
-changed-set change n xs = by (at n xs) refl
-  where
-    by : (o : Option QueueView) → at n xs ≡ o → changed change n xs ≡ slice_set xs n (at n (changed change n xs))
-    by None none = rw none (sym (set-same xs n))
-    by (Some d) some = grind (arith, common_steps, below-some)
+changed-set change n xs = grind (arith, common_steps, set-same)
 
 placed : (change : QueueView → QueueView) (n : ℕ) (before after : QueueViews) → after ≡ changed change n before
     → after ≡ slice_set before n (at n after)
@@ -130,10 +121,7 @@ front-some a b lower = grind (arith, common_steps)
 
 front : (k : ℕ) (t s : Option Timer) → ((a : Timer) → t ≡ Some a → a.device ≡ k) → ((b : Timer) → s ≡ Some b → k + 1 ≤ b.device)
     → sooner t s ≡ earlier s t
-front k None None own later = refl
-front k None (Some b) own later = refl
-front k (Some a) None own later = refl
-front k (Some a) (Some b) own later = front-some a b (omega (arith, own a refl, later b refl))
+front k t s h1 h2 = grind (arith, common_steps, front-some)
 
 behind-some : (t r o : Timer) → t.device < o.device
     → sooner (Some t) (earlier (Some r) (Some o)) ≡ earlier (sooner (Some t) (Some r)) (Some o)
@@ -148,12 +136,7 @@ earlier-none (Some s) = refl
 
 behind : (k : ℕ) (t r o : Option Timer) → ((a : Timer) → t ≡ Some a → a.device ≡ k) → ((b : Timer) → o ≡ Some b → k + 1 ≤ b.device)
     → sooner t (earlier r o) ≡ earlier (sooner t r) o
-behind k None r o own later = refl
-behind k (Some t) None None own later = refl
-behind k (Some t) None (Some o) own later =
-    let lower : t.device < o.device = omega (arith, own t refl, later o refl) in front-some t o lower ∙ swap t o lower
-behind k (Some t) (Some r) None own later = earlier-none (sooner (Some t) (Some r))
-behind k (Some t) (Some r) (Some o) own later = behind-some t r o (omega (arith, own t refl, later o refl))
+behind k t r o h1 h2 = grind (arith, common_steps, behind-some, earlier-none, front-some)
 
 soonest-from : (k : ℕ) (xs : QueueViews) (n : ℕ) (y : Option QueueView) → n < length xs
     → soonest_from k (slice_set xs n y) ≡ earlier (soonest_from k (slice_set xs n None)) (timer_at (k + n) y)
@@ -173,9 +156,7 @@ soonest-from k (x ∷ xs) (suc n) y below =
 -- the first of all timers is the first of the others, or that of this queue
 soonest-set : (xs : QueueViews) (n : ℕ) (y : Option QueueView) → n < length xs
     → soonest_from 0 (slice_set xs n y) ≡ earlier (soonest_from 0 (slice_set xs n None)) (timer_at n y)
-soonest-set xs n y below =
-    let same : 0 + n ≡ n = omega arith in
-    soonest-from 0 xs n y below ∙ ap (λ (m : ℕ). earlier (soonest_from 0 (slice_set xs n None)) (timer_at m y)) same
+soonest-set xs n y h1 = grind (arith, common_steps, soonest-from)
 
 abbrev pub is_of : Option Timer → ℕ → Bool
 is_of timer n = option_map_or (λ t. t.device == n) timer false
@@ -185,19 +166,11 @@ is_of timer n = option_map_or (λ t. t.device == n) timer false
 renewed : (n : ℕ) (old rest was own : Option Timer) → old ≡ earlier rest was → ((a : Timer) → was ≡ Some a → a.device ≡ n)
     → is_of old n ≡ false
     → earlier rest own ≡ earlier old own
-renewed n old None None own is named other = rw is refl
-renewed n old None (Some a) own is named other =
-    absurd (let here = named a refl in let one = rw is at other in grind (arith, common_steps, here, one))
-renewed n old (Some r) None own is named other = rw is refl
-renewed n old (Some r) (Some a) own is named other =
-    let here = named a refl in let one = rw is at other in rw is (grind (arith, common_steps, here, one))
+renewed n old rest was own h1 h2 h3 = grind (arith, common_steps)
 
 -- if the queue's timer was the first of all timers and still is, the first timer stays the same
 stays-by : (rest was : Option Timer) → earlier rest (earlier rest was) ≡ earlier rest was
-stays-by None None = refl
-stays-by None (Some a) = refl
-stays-by (Some r) None = grind (arith, common_steps)
-stays-by (Some r) (Some a) = grind (arith, common_steps)
+stays-by rest was = grind (arith, common_steps)
 
 soonest-before : (xs : QueueViews) (n : ℕ) → n < length xs
     → soonest_from 0 xs ≡ earlier (soonest_from 0 (slice_set xs n None)) (timer_at n (at n xs))
@@ -290,6 +263,9 @@ phase-kept xs n x d e old below found some same kept =
       pending-same xs n (Some e) old below kept.0 (rw (here, same) refl) (rw (here, same) refl) (rw (here, same) refl) kept.1,
     )
 
+pub phase-holding : (d : QueueView) → (holding d).phase ≡ d.phase
+phase-holding d = grind (arith, common_steps)
+
 pub phase-next : (backlog : Bool) (d : QueueView) → (without_next backlog d).phase ≡ d.phase
 phase-next backlog d = grind (arith, common_steps)
 
@@ -302,13 +278,11 @@ taken-one : (d : QueueView) → next_packet false d ≡ None → without_next fa
 taken-one d none = ap (λ (ring : List ℕ). record d { ring = ring }) (front-none d.ring none)
 
 pub taken-none : (n : ℕ) (xs : QueueViews) → next_packet_at false (at n xs) ≡ None → changed (without_next false) n xs ≡ xs
-taken-none n xs none = by (at n xs) refl none
-  where
-    by : (o : Option QueueView) → at n xs ≡ o → next_packet_at false o ≡ None → changed_from (without_next false) n o xs ≡ xs
-    by None is none = refl
-    by (Some d) is none =
-        ap (λ (e : QueueView). slice_set xs n (Some e)) (taken-one d none)
-        ∙ (ap (λ (o : Option QueueView). slice_set xs n o) (sym is) ∙ set-same xs n)
+taken-none n xs h1 = grind (arith, common_steps, set-same, taken-one)
+
+-- a queue of which GRO holds no packet stays as it is when its next one is handed over
+pub held-none : (n : ℕ) (xs : QueueViews) → next_held_at (at n xs) ≡ None → changed without_held n xs ≡ xs
+held-none n xs h1 = grind (arith, common_steps, front-none, set-same)
 
 pub phase-masked : (moment : ℕ) (s : MachineSettings) (d : QueueView) → is_masked d.phase ≡ true → (after_packet moment s d).phase ≡ d.phase
 unfolding after_packet
@@ -339,23 +313,13 @@ soonest-more k [] count = no-timer k count
 soonest-more k (x ∷ xs) count = ap (λ (s : Option Timer). sooner (timer_at k x) s) (soonest-more (k + 1) xs count)
 
 at-none : (count m : ℕ) → let xs : QueueViews = replicate count None in at m xs ≡ None
-at-none zero m = refl
-at-none (suc count) zero = refl
-at-none (suc count) (suc m) = at-none count m
+at-none count m = grind (arith, common_steps)
 
 at-more : (xs : QueueViews) (count m : ℕ) → at m (xs ++ replicate count None) ≡ at m xs
-at-more [] count m = at-none count m
-at-more (x ∷ xs) count zero = refl
-at-more (x ∷ xs) count (suc m) = at-more xs count m
+at-more xs count m = grind (arith, common_steps, at-none)
 
 pub pending-more : (xs : QueueViews) (count : ℕ) (p : Pending) → IsPending xs p → IsPending (xs ++ replicate count None) p
-pending-more xs count p was =
-    let ys : QueueViews = xs ++ replicate count None in
-    record {
-      asking = mask-more asks_at xs ys p.asking (at-more xs count) was.asking;
-      timed = mask-more has_timer xs ys p.timed (at-more xs count) was.timed;
-      soonest = was.soonest ∙ sym (soonest-more 0 xs count);
-    }
+pending-more xs count p h1 = grind (arith, common_steps, at-more, soonest-more)
 
 pub pending-none : (p : Pending) → p.asking ≡ 0 → p.timed ≡ 0 → p.soonest ≡ None → IsPending [] p
 unfolding soonest_from

@@ -1,9 +1,9 @@
 -- What a poll reports to a run over a list of one thread.
-use Rattle.std.{proofs.Common.{◌≡◌, ℕ, ◌+◌, true, false, Option, Some, None, List, [], ◌∷◌, ◌++◌, refl}, specs.Prelude.is_some}
-use Rattle.std.specs.Prelude.{if◌then◌else◌}
-use Rattle.poll_runs.specs.{Plain.{HasListRoom, OwnPushes, all_held}, Polls.{is_arrival, is_repoll}}
-use Rattle.poll_runs.specs.{Turn.HandsOn, Driven.SameSettings, declared.{bench.Once.Once, polling_run.PollingRun.PollingRun}}
-use Rattle.machine_model.specs.{Softirq.{SoftirqView, softirq_polled}, Shown.run_view}
+use Rattle.std.{proofs.{Common.{◌≡◌, ℕ, ◌+◌, true, false, Option, Some, None, List, [], ◌∷◌, ◌++◌, refl}}, specs.Prelude.is_some}
+use Rattle.std.specs.{Prelude.{if◌then◌else◌}}
+use Rattle.poll_runs.specs.{Driven.SameSettings, Plain.{HasListRoom, OwnPushes, all_held}, Polls.{is_arrival, is_repoll}, Turn.HandsOn}
+use Rattle.poll_runs.specs.declared.{bench.Once.Once, polling_run.PollingRun.PollingRun}
+use Rattle.machine_model.specs.{Shown.run_view, Softirq.{SoftirqView, softirq_polled}}
 
 pub polled-exact : (run after : PollingRun) (list left : List ℕ) (began : ℕ) (once : Once) (asked : Option ℕ) → run.asked ≡ asked
     → is_some asked ≡ true

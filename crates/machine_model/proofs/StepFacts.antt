@@ -1,5 +1,5 @@
 -- Steps, one after the other.
-use Rattle.std.proofs.{lemmas.Grind.common_steps, Common.{◌≡◌, ℕ, suc, ◌<◌, true, arith}}
+use Rattle.std.proofs.{Common.{◌≡◌, ℕ, suc, ◌<◌, true, arith}, lemmas.Grind.common_steps}
 use Rattle.machine_model.specs.Processor.{ProcessorView, processor_after, is_due}
 
 -- all of the first `count` steps are due, and one more

@@ -1,26 +1,18 @@
 -- The timer that expires first, found entry by entry.
-use Rattle.std.proofs.Common.{◌≡◌, ◌∙◌, ◌⊎◌, inl, inr, ℕ, ◌+◌, ◌-◌, ◌*◌, ◌%◌, ◌^◌, ◌<◌, ◌≤◌, zero, suc, Bool, true, false}
-use Rattle.std.proofs.Common.{Option, Some, None, length, drop, get_or, refl, ap, sym, arith, w64}
-use Rattle.std.proofs.{lemmas.{Bool.cases_eq, Grind.common_steps, List.drop_all, Nat.and_le_l}, Math.Seq.drop-cons}
-use Rattle.std.proofs.lemmas.Nat.Bits.{bit_at-trailing_zeros, bit_at-zero, bit_at_clear_other, bit_at_clear_same}
-use Rattle.std.specs.{Prelude.{bit_and, is_some, nat_le, nat_lt, if◌then◌else◌}, Int.{bit_at, bit_not, trailing_zeros}, Option.option_map}
+use Rattle.std.proofs.{Common.{◌≡◌, ◌∙◌, ◌⊎◌, inl, inr, ℕ, ◌+◌, ◌-◌, ◌*◌, ◌%◌, ◌^◌, ◌<◌, ◌≤◌, zero, suc, Bool, true, false, Option, Some}}
+use Rattle.std.proofs.{Common.{None, length, drop, get_or, refl, ap, sym, arith, w64}, Math.Seq.drop-cons, lemmas.Bool.cases_eq}
+use Rattle.std.proofs.lemmas.{Grind.common_steps, List.drop_all, Nat.{and_le_l, Bits.{bit_at-trailing_zeros, bit_at-zero}}}
+use Rattle.std.{proofs.lemmas.Nat.Bits.{bit_at_clear_other, bit_at_clear_same}, specs.Int.{bit_at, bit_not, trailing_zeros}}
+use Rattle.std.specs.Prelude.{bit_and, nat_lt}
 use Rattle.device_places.specs.Places.{at}
-use Rattle.machine_model.specs.Device.{QueueView, timer_of}
-use Rattle.machine_model.specs.{Devices.{QueueViews, soonest_from, sooner, timer_at}, declared.devices.Timer.Timer}
-use Rattle.machine_model.{specs.Shown.{IsMask, has_timer}, proofs.PendingFacts.{clear-at, inside}}
+use Rattle.machine_model.{proofs.PendingFacts.{clear-at, inside}, specs.{Device.QueueView, Devices.{QueueViews, soonest_from, sooner}}}
+use Rattle.machine_model.specs.{Devices.timer_at, Shown.{IsMask, has_timer}, declared.devices.Timer.Timer}
 
 sooner-some : (x y z : Timer) → sooner (Some x) (sooner (Some y) (Some z)) ≡ sooner (sooner (Some x) (Some y)) (Some z)
 sooner-some x y z = grind (arith, common_steps)
 
 sooner-assoc : (a b c : Option Timer) → sooner a (sooner b c) ≡ sooner (sooner a b) c
-sooner-assoc None b c = refl
-sooner-assoc (Some x) None c = refl
-sooner-assoc (Some x) (Some y) None = by (nat_le x.at y.at)
-  where
-    by : (b : Bool) → (if b then Some x else Some y) ≡ sooner (if b then Some x else Some y) None
-    by true = refl
-    by false = refl
-sooner-assoc (Some x) (Some y) (Some z) = sooner-some x y z
+sooner-assoc a b c = grind (arith, common_steps, sooner-some)
 
 pub sooner-none : (a : Option Timer) → sooner a None ≡ a
 sooner-none None = refl
@@ -30,13 +22,7 @@ pub soonest-next : (places : QueueViews) (number : ℕ) (best : Option Timer) �
     → sooner best (soonest_from number (drop number places))
     ≡ sooner (sooner best (timer_at number (get_or places number None))) (soonest_from (number + 1) (drop (number + 1) places))
 unfolding soonest_from
-soonest-next places number best below =
-    let cut = drop-cons places number None below in
-    let next : suc number ≡ number + 1 = omega arith in
-    let timer = timer_at number (get_or places number None) in
-    ap (λ (xs : QueueViews). sooner best (soonest_from number xs)) cut
-    ∙ (sooner-assoc best timer (soonest_from (number + 1) (drop (suc number) places))
-    ∙ ap (λ (n : ℕ). sooner (sooner best timer) (soonest_from (number + 1) (drop n places))) next)
+soonest-next places number best h1 = grind (arith, common_steps, drop-cons, sooner-assoc)
 
 -- entries without a timer are skipped
 skip : (count : ℕ) (places : QueueViews) (k n : ℕ) → n ≡ k + count → n ≤ length places
@@ -51,12 +37,7 @@ skip (suc count) places k n is most none =
     ∙ skip count places (k + 1) n (omega (arith, is)) most (λ j least less. none j (omega (arith, least)) less))
 
 no-timer : (n : ℕ) (o : Option QueueView) → has_timer o ≡ false → timer_at n o ≡ None
-no-timer n None none = refl
-no-timer n (Some d) none = by (timer_of d.phase) none
-  where
-    by : (t : Option ℕ) → is_some t ≡ false → option_map {U = Timer} (λ moment. record { at = moment; device = n }) t ≡ None
-    by None e = refl
-    by (Some moment) e = cc e
+no-timer n o h1 = grind (arith, common_steps)
 
 less-than : (a b : ℕ) → nat_lt a b ≡ true → a < b
 less-than a b less = grind (arith, common_steps)

@@ -1,8 +1,7 @@
 -- Buckets of waits, and how a wait is counted in them.
-use Rattle.std.proofs.{Math.Nat.{div-lt_iff_lt-mul, mod-eq_of_lt, one-le-pow, pow-le-pow_right, mul-le-mul}}
-use Rattle.std.proofs.{Common.{◌≡◌, ℕ, ◌+◌, ◌-◌, ◌*◌}}
-use Rattle.std.{proofs.{Common.{◌/◌, ◌%◌, ◌^◌, ◌<◌, ◌≤◌, arith}, lemmas.Nat.{leading_length, pow-add}}}
-use Rattle.std.{specs.Int.Count.count_leading_zeros}
+use Rattle.std.proofs.{Common.{◌≡◌, ℕ, ◌+◌, ◌-◌, ◌*◌, ◌/◌, ◌%◌, ◌^◌, ◌<◌, ◌≤◌, arith}, Math.Nat.{div-lt_iff_lt-mul, mod-eq_of_lt}}
+use Rattle.std.proofs.{Math.Nat.{one-le-pow, pow-le-pow_right, mul-le-mul}, lemmas.Nat.{leading_length, pow-add}}
+use Rattle.std.specs.Int.Count.{count_leading_zeros}
 
 -- a wait is below 1024 times a power of two, with an exponent of at most 54: so the number of its bucket is in range
 pub bucket-below : (wait rest : ℕ) → wait < 2 ^ 64 → rest ≡ 54 - count_leading_zeros 64 wait → 512 * rest + wait / 2 ^ rest < 28672

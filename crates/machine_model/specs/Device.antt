@@ -1,5 +1,5 @@
 -- A receive queue of a card, with its NAPI instance (`struct napi_struct`).
-use Rattle.std.specs.Prelude.{ℕ, ◌+◌, ◌-◌, ◌==◌, ◌||◌, ◌&&◌, not, nat_le, nat_lt, Bool, true, false, List, [], ◌∷◌, ◌++◌, length, drop}
+use Rattle.std.specs.Prelude.{ℕ, ◌+◌, ◌-◌, ◌%◌, ◌==◌, ◌||◌, ◌&&◌, not, nat_le, nat_lt, Bool, true, false, List, [], ◌∷◌, ◌++◌, length, drop}
 use Rattle.std.specs.Prelude.{slice_get, Option, Some, None, is_some, if◌then◌else◌}
 use Rattle.std.specs.Option.{option_map_or}
 use Rattle.{machine_model.specs.declared.settings.MachineSettings.MachineSettings}
@@ -13,11 +13,15 @@ pub record QueueView : Type 0 where
   -- the arrival times of the packets in its ring, the oldest first; the next field is how many the ring may hold
   pub ring : List ℕ
   pub capacity : ℕ
-  -- with a backlog: the packets that `process_backlog` moved out of the ring
+  -- the packets that are no longer in the ring: with a backlog those that `process_backlog` moved, with `gro-batch` those that GRO holds
   pub taken : List ℕ
   pub phase : Phase
   -- when a packet, or the end of a gap, last made the card ask for an interrupt
   pub asserted : Option ℕ
+  -- with `latched`: when the last packet came for which the card set a cause, since the driver last unmasked the card
+  pub caused : Option ℕ
+  -- when the handler of the card's last interrupt reads the causes, at its end
+  pub read : ℕ
   -- the frames since the last interrupt; the next field is how often its interrupt may still be deferred
   pub frames : ℕ
   pub deferrals : ℕ
@@ -31,6 +35,8 @@ new_queue capacity = record {
   taken = [];
   phase = QUIET;
   asserted = None;
+  caused = None;
+  read = 0;
   frames = 0;
   deferrals = 0;
   counts = NONE;
@@ -137,12 +143,20 @@ notified moment s d =
 abbrev pub has_room : QueueView → Bool
 has_room d = nat_lt (length d.ring) d.capacity
 
+-- With `latched`, a packet that finds the interrupt raised or masked only sets a cause in the card: EICR of igb and ixgbe, ICR of e1000
+-- and e1000e. Such a cause makes the card ask for an interrupt when the driver unmasks it (`igb_ring_irq_enable`, `e1000_irq_enable`).
+abbrev pub is_silent : MachineSettings → Phase → Bool
+is_silent s phase = is_masked phase || not (s.latched == 0) && is_raised phase.line
+
+abbrev pub latched_cause : ℕ → MachineSettings → QueueView → Option ℕ
+latched_cause moment s d = if s.latched == 0 then d.caused else Some moment
+
 unfoldable pub after_packet : ℕ → MachineSettings → QueueView → QueueView
 after_packet moment s d =
     let e = record d { counts = record d.counts { arrived = saturated (d.counts.arrived + 1) } } in
     let f = record e { ring = d.ring ++ moment ∷ [] } in
     if not (has_room d) then record e { counts = record e.counts { dropped = saturated (d.counts.dropped + 1) } }
-    else (if is_masked d.phase then f else notified moment s f)
+    else (if is_silent s d.phase then record f { caused = latched_cause moment s d } else notified moment s f)
 
 -- ---- an interrupt is handled: that of the NAPI timer, or that of the card, which is then masked if there is polling
 
@@ -171,11 +185,12 @@ abbrev pub handled : Bool → Phase → Phase
 handled true phase = if is_fired phase then timer_handled phase else card_handled phase
 handled false phase = record phase { line = Quiet; expiry = NotExpired }
 
-unfoldable pub interrupted : Bool → QueueView → QueueView
-interrupted polling d =
+-- the interrupt's handler ends at this time
+unfoldable pub interrupted : ℕ → Bool → QueueView → QueueView
+interrupted until polling d =
     let e = record d { phase = handled polling d.phase } in
     let counts = record d.counts { interrupts = saturated (d.counts.interrupts + 1) } in
-    if is_fired d.phase then e else record e { frames = 0; counts = counts }
+    if is_fired d.phase then e else record e { frames = 0; counts = counts; read = until }
 
 -- an interrupt without polling ends: it is raised again unless the ring is empty
 abbrev pub raised_again : QueueView → QueueView
@@ -194,31 +209,77 @@ abbrev pub without_next : Bool → QueueView → QueueView
 without_next backlog d =
     let e = spliced backlog d in if backlog then record e { taken = drop 1 e.taken } else record e { ring = drop 1 e.ring }
 
+-- With `gro-batch`, a poll that took so many packets takes another one if the ring has one and GRO holds all packets since it last
+-- handed over a batch. It hands over each whole batch (`gro_normal_one`), and the rest at the end of the poll (`gro_normal_list`).
+abbrev pub pulls : ℕ → ℕ → QueueView → Bool
+pulls batch given d = length d.taken == given % batch && not (length d.ring == 0)
+
+-- the oldest packet leaves the ring, and GRO holds it
+abbrev pub holding : QueueView → QueueView
+holding d = option_map_or (λ came. record d { ring = drop 1 d.ring; taken = d.taken ++ came ∷ [] }) (slice_get d.ring 0) d
+
+-- the oldest packet that GRO holds, which is handed over
+abbrev pub next_held : QueueView → Option ℕ
+next_held d = slice_get d.taken 0
+
+abbrev pub without_held : QueueView → QueueView
+without_held d = record d { taken = drop 1 d.taken }
+
 -- a packet is delivered at the time `now`; it arrived at `came`
 abbrev pub queue_delivered : ℕ → ℕ → QueueView → QueueView
 queue_delivered now came d =
     record d { counts = record d.counts { polled = saturated (d.counts.polled + 1) }; waits = counted (now - came) d.waits }
 
--- the instance isn't scheduled any more, unless it missed an interrupt
-abbrev pub completed_state : NapiState → NapiState
-completed_state Missed = Scheduled
-completed_state _ = Idle
-
 abbrev pub unmasked_line : Line → Line
 unmasked_line Masked = Quiet
 unmasked_line line = line
 
--- `napi_complete_done`, and the driver that unmasks the card after it, unless the interrupt is deferred. A heedless driver unmasks
--- it in any case.
+-- how often the interrupt may still be deferred, after a poll that processed this many packets
+abbrev pub deferrals_after : ℕ → MachineSettings → QueueView → ℕ
+deferrals_after given s d = if given == 0 then d.deferrals else s.defer_hard_irqs
+
+-- the interrupt is deferred (`napi_complete_done`)
+abbrev pub is_deferred : ℕ → MachineSettings → QueueView → Bool
+is_deferred given s d = not (deferrals_after given s d == 0) && not (s.gro_flush_timeout == 0)
+
+-- the driver of a card without causes looks into the ring when it unmasks the card, and masks it again (`virtqueue_napi_complete`)
+abbrev pub finds_packets : ℕ → MachineSettings → QueueView → Bool
+finds_packets given s d = s.latched == 0 && not s.heedless && not (is_deferred given s d) && not (length d.ring == 0)
+
+-- the instance that completes is scheduled again: it missed an interrupt, or its driver finds packets
+abbrev pub is_rescheduled : ℕ → MachineSettings → QueueView → Bool
+is_rescheduled given s d = is_missed d.phase || finds_packets given s d
+
+-- The card has a cause. With `latched` 2 those before the end of its last interrupt were cleared, because the handler reads ICR
+-- (`e1000_intr`, `e1000_intr_msi`).
+abbrev pub has_cause : MachineSettings → QueueView → Bool
+has_cause s d = option_map_or (λ came. not (s.latched == 2) || nat_le d.read came) d.caused false
+
+-- the driver unmasks the card, which asks for an interrupt if it has a cause, or, without causes, if packets are left
+abbrev pub is_owed : MachineSettings → QueueView → Bool
+is_owed s d = if s.latched == 0 then not (length d.ring == 0) else has_cause s d
+
+abbrev pub unmasked_queue : QueueView → QueueView
+unmasked_queue d = record d { phase = record d.phase { line = unmasked_line d.phase.line }; caused = None }
+
+unfoldable pub armed : ℕ → MachineSettings → QueueView → QueueView
+armed now s d = if is_owed s d then notified now s (unmasked_queue d) else unmasked_queue d
+
+-- `napi_complete_done`: the instance isn't scheduled any more, unless it is scheduled again; if its interrupt is deferred, its timer starts
+abbrev pub napi_completed : ℕ → ℕ → MachineSettings → QueueView → QueueView
+napi_completed now given s d =
+    let starts = is_deferred given s d && not (is_missed d.phase) in
+    let timer = if starts then Some (saturated (now + s.gro_flush_timeout)) else d.phase.timer in
+    let phase = record d.phase { state = if is_rescheduled given s d then Scheduled else Idle; timer = timer } in
+    record d { deferrals = deferrals_after given s d - 1; phase = phase }
+
+-- then the driver unmasks the card, unless the interrupt is deferred, or it finds packets; a heedless driver unmasks it in any case
+abbrev pub stays_masked : ℕ → MachineSettings → QueueView → Bool
+stays_masked given s d = is_deferred given s d && not s.heedless || finds_packets given s d
+
 unfoldable pub queue_completed : ℕ → ℕ → MachineSettings → QueueView → QueueView
 queue_completed now given s d =
-    let deferrals = if given == 0 then d.deferrals else s.defer_hard_irqs in
-    let defers = not (deferrals == 0) && not (s.gro_flush_timeout == 0) in
-    let timer = if defers && not (is_missed d.phase) then Some (saturated (now + s.gro_flush_timeout)) else d.phase.timer in
-    let line = if defers && not s.heedless then d.phase.line else unmasked_line d.phase.line in
-    let phase : Phase =
-    record { line = line; state = completed_state d.phase.state; timer = timer; expiry = d.phase.expiry } in
-    record d { deferrals = deferrals - 1; phase = phase }
+    let e = napi_completed now given s d in if stays_masked given s d then e else armed now s e
 
 -- a poll ends: after one of the whole weight the queue is polled again, otherwise it completes
 unfoldable pub queue_polled : ℕ → ℕ → MachineSettings → QueueView → QueueView

@@ -3,7 +3,9 @@ use Rattle.std.specs.Prelude.{ℕ, ◌+◌, ◌-◌, nat_le, Bool, false, [], �
 use Rattle.std.specs.Option.{option_and_then, option_map, option_map_or}
 use Rattle.device_places.specs.Places.{DeviceTable, added}
 use Rattle.machine_model.specs.declared.devices.Timer.{Timer}
-use Rattle.machine_model.specs.Device.{QueueView, asks, is_fired, is_missed, schedules, has_room, next_packet, new_queue, timer_of}
+use Rattle.machine_model.specs.declared.settings.MachineSettings.{MachineSettings}
+use Rattle.machine_model.specs.Device.{QueueView, asks, is_rescheduled, is_fired, schedules, has_room, next_held, next_packet, new_queue}
+use Rattle.machine_model.specs.Device.{pulls, timer_of}
 
 abbrev pub QueueViews : Type 0
 QueueViews = DeviceTable QueueView
@@ -20,8 +22,8 @@ asks_at place = option_map_or (λ d. asks d.phase) place false
 abbrev pub is_fired_at : Option QueueView → Bool
 is_fired_at place = option_map_or (λ d. is_fired d.phase) place false
 
-abbrev pub is_missed_at : Option QueueView → Bool
-is_missed_at place = option_map_or (λ d. is_missed d.phase) place false
+abbrev pub is_rescheduled_at : ℕ → MachineSettings → Option QueueView → Bool
+is_rescheduled_at given s place = option_map_or (λ d. is_rescheduled given s d) place false
 
 abbrev pub schedules_at : Option QueueView → Bool
 schedules_at place = option_map_or (λ d. schedules d.phase) place false
@@ -31,6 +33,12 @@ has_room_at place = option_map_or has_room place false
 
 abbrev pub next_packet_at : Bool → Option QueueView → Option ℕ
 next_packet_at backlog place = option_and_then (next_packet backlog) place
+
+abbrev pub pulls_at : ℕ → ℕ → Option QueueView → Bool
+pulls_at batch given place = option_map_or (pulls batch given) place false
+
+abbrev pub next_held_at : Option QueueView → Option ℕ
+next_held_at place = option_and_then next_held place
 
 abbrev pub timer_at : ℕ → Option QueueView → Option Timer
 timer_at number place = option_and_then (λ d. option_map (λ at. record { at = at; device = number }) (timer_of d.phase)) place

@@ -1,5 +1,5 @@
 -- The invariant of each processor in the program. It isn't part of the machine's definition.
-use Rattle.std.specs.Prelude.{◌≡◌, ◌≤◌, ◌<◌, ◌&&◌, not, Bool, true, false, is_some, ℕ, sum_by, Option, Some, None, if◌then◌else◌}
+use Rattle.std.specs.Prelude.{◌≡◌, ◌≤◌, ◌<◌, ◌-◌, ◌&&◌, not, Bool, true, false, is_some, ℕ, sum_by, Option, Some, None, if◌then◌else◌}
 use Rattle.{std.specs.Option.option_map_or, machine_model.specs.declared.settings.MachineSettings.MachineSettings}
 use Rattle.machine_model.specs.Device.{QueueView, is_napi_idle}
 use Rattle.machine_model.specs.{Devices.QueueViews, Shown.{listed, weight_in}, Softirq.{SoftirqView, asked_in}}
@@ -16,13 +16,14 @@ scheduled_at place = option_map_or (λ d. if is_scheduled d.phase then 1 else 0)
 abbrev pub all_scheduled : QueueViews → ℕ
 all_scheduled devices = sum_by scheduled_at devices
 
--- the queue that is polled, and how many packets its poll processed so far
+-- the queue that is polled, and how many packets its poll took so far, without the last one
 abbrev pub polled_by : Work → Option ℕ
-polled_by (Poll number) = Some number
+polled_by (Poll look) = Some look.device
 polled_by (Packet packet) = Some packet.device
 polled_by _ = None
 
 abbrev pub work_given : Work → ℕ
+work_given (Poll look) = look.given - 1
 work_given (Packet packet) = packet.given
 work_given _ = 0
 

@@ -1,9 +1,9 @@
 -- The machine's options: the settings that arguments, or values for C, ask for.
-use Rattle.std.specs.Prelude.{◌≡◌, ◌≤◌, ◌<◌, ◌+◌, ◌-◌, ◌⊎◌, ◌==◌, ◌&&◌, ◌||◌, not, ℕ, [], ◌∷◌, Bool, true, List, Option, Some, None}
-use Rattle.std.specs.Prelude.{codes, if◌then◌else◌, unwrap_or}
+use Rattle.std.specs.Prelude.{◌≡◌, ◌≤◌, ◌<◌, ◌+◌, ◌-◌, ◌⊎◌, ◌==◌, ◌&&◌, ◌||◌, not, ℕ, [], ◌∷◌, Bool, List, Option, Some, None}
+use Rattle.std.specs.Prelude.{codes, if◌then◌else◌, is_some, nat_lt, unwrap_or}
 use Rattle.std.specs.Prelude.{length, map, slice_index_or}
 use Rattle.std.specs.List.{AllZip}
-use Rattle.text_io.specs.Given.{◌>>=◌, Text, given_by, number_within, or_usual, value_of}
+use Rattle.text_io.specs.Given.{◌>>=◌, Text, given_by, number_within, or_default, value_of}
 use Rattle.machine_model.specs.declared.settings.{MachineOption.MachineOption, MachineSettings.MachineSettings}
 
 -- an option: its name, the setting that it sets, the range of its value, and the value if it isn't given
@@ -56,6 +56,9 @@ machine_options =
     ∷ rule (codes "rx-gap") (λ s. s.rx_gap) 0 1000000000 0
     ∷ rule (codes "timer") (λ s. cost_number s.timer) 0 1000000000 4294967295
     ∷ rule (codes "timer-wake") (λ s. cost_number s.timer_wake) 0 1000000000 4294967295
+    ∷ rule (codes "latched") (λ s. s.latched) 0 2 0
+    ∷ rule (codes "gro-batch") (λ s. s.gro_batch) 0 64 0
+    ∷ rule (codes "take") (λ s. s.take) 0 1000000000 0
     ∷ []
 
 -- this is that option; its unit and its description are for readers only
@@ -108,15 +111,23 @@ abbrev pub excludes : List ℕ → Bool
 excludes values =
     not (slice_index_or values 22 0 == 0) && (not (slice_index_or values 9 0 == 0) || not (slice_index_or values 10 0 == 0))
 
--- the values are rejected for the one with this number: the first that is out of its range, or, if none is, that of `rx-gap`
+-- `take` is a part of `packet`, so it isn't above it
+abbrev pub exceeds : List ℕ → Bool
+exceeds values = nat_lt (slice_index_or values 18 0) (slice_index_or values 27 0)
+
+-- the number of the value that doesn't fit the others, if one doesn't: that of `rx-gap` or of `take`
+abbrev pub misfit : List ℕ → Option ℕ
+misfit values = if excludes values then Some 23 else (if exceeds values then Some 28 else None)
+
+-- the values are rejected for the one with this number: the first that is out of its range, or, if none is, the one that doesn't fit
 abbrev pub IsRejected : List ℕ → ℕ → Type 0
-IsRejected values number = IsFirstOut values number ⊎ (AreInRange values × (excludes values ≡ true) × (number ≡ 23))
+IsRejected values number = IsFirstOut values number ⊎ (AreInRange values × (misfit values ≡ Some number))
 
 -- ---- arguments
 
 -- the value of an option: the number in its range that one to ten digits denote, or its default; None if it isn't such a number
 abbrev pub number_with : (Text → Option Text) → OptionRule → Option ℕ
-number_with value o = or_usual o.default (number_within 10 o.least o.most) (value o.name)
+number_with value o = or_default o.default (number_within 10 o.least o.most) (value o.name)
 
 -- the value of each option; None if one has none
 abbrev pub values_with : List OptionRule → (Text → Option Text) → Option (List ℕ)
@@ -126,9 +137,9 @@ values_with (o ∷ more) value = do
   rest ← values_with more value
   Some (first ∷ rest)
 
--- the values of all options; None if one has none, or if they exclude each other
+-- the values of all options; None if one has none, or if they don't fit each other
 abbrev pub machine_with : (Text → Option Text) → Option (List ℕ)
-machine_with value = values_with machine_options value >>= (λ values. if excludes values then None else Some values)
+machine_with value = values_with machine_options value >>= (λ values. if is_some (misfit values) then None else Some values)
 
 -- the values that the arguments ask for, or None if they are an error
 abbrev pub machine_asked_for : List Text → Option (List ℕ)

@@ -4,9 +4,10 @@ use Rattle.std.specs.{Prelude.{◌++◌, length, position, slice_get, Option, So
 use Rattle.std.specs.Prelude.{unwrap_or}
 use Rattle.device_places.specs.Places.{at, changed}
 use Rattle.{machine_model.specs.declared.settings.MachineSettings.MachineSettings}
-use Rattle.machine_model.specs.Device.{after_packet, queue_delivered, expired, interrupted, queue_polled, raised_again, without_next}
-use Rattle.machine_model.specs.Devices.{QueueViews, asks_at, has_room_at, is_fired_at, is_missed_at, next_packet_at, schedules_at}
-use Rattle.machine_model.specs.Devices.{soonest_from, with_device}
+use Rattle.machine_model.specs.Device.{after_packet, queue_delivered, expired, holding, interrupted, queue_polled, raised_again}
+use Rattle.machine_model.specs.Device.{without_held, without_next}
+use Rattle.machine_model.specs.Devices.{QueueViews, asks_at, has_room_at, is_rescheduled_at, is_fired_at, next_held_at, next_packet_at}
+use Rattle.machine_model.specs.Devices.{schedules_at, soonest_from, pulls_at, with_device}
 use Rattle.machine_model.specs.Softirq.{SoftirqView, begun, asked_in, poll_ended, run_ended, is_run_spent, run_next, pushed}
 use Rattle.machine_model.specs.{Application.{ApplicationView, fed, has_place, opened_application}, Waits.saturated}
 use Rattle.machine_model.specs.Application.{takes_up_packet, use_ended, use_length}
@@ -61,11 +62,12 @@ interrupts number p =
     let time = interrupt_cost is_timer p.settings in
     let counts = if is_timer then record p.counts { timers = saturated (p.counts.timers + 1) }
     else record p.counts { interrupts = saturated (p.counts.interrupts + 1) } in
-    let q = record p { devices = changed (interrupted polling) number p.devices; counts = counts } in
+    let devices = changed (interrupted (saturated (p.clock + time)) polling) number p.devices in
+    let q = record p { devices = devices; counts = counts } in
     begins (Interrupt number) time (if polling && schedules_at (at number p.devices) then scheduled number q else q)
 
 abbrev pub polls : ℕ → ProcessorView → ProcessorView
-polls number p = begins (Poll number) p.settings.poll p
+polls number p = begins (Poll (record { device = number; given = 0 })) p.settings.poll p
 
 -- the application uses the oldest packet of its socket, if there is one; waking up is a part of the use
 abbrev pub uses : List ℕ → ProcessorView → ProcessorView
@@ -153,19 +155,35 @@ ends_interrupt number p =
     record q { devices = changed raised_again number q.devices }
 
 -- A poll that processed this many packets ends. If the queue is polled again, the run puts it on its repolls, or its thread is
--- the first task again. If it completes and missed an interrupt, it is scheduled again, and its thread is the first task too.
+-- the first task again. If it completes and is scheduled again at once, its thread is the first task too.
 unfoldable pub ends_poll : ℕ → ℕ → ProcessorView → ProcessorView
 ends_poll number given p =
     let full = given == p.settings.weight in
     let counts = record p.counts { polls = saturated (p.counts.polls + 1); work = saturated (p.counts.work + given) } in
     let q = record p { devices = changed (queue_polled p.clock given p.settings) number p.devices; counts = counts } in
-    let missed = is_missed_at (at number p.devices) in
-    if p.settings.threaded then record q { tasks = if full || missed then Thread number ∷ p.tasks else p.tasks }
-    else record q { softirq = poll_ended number given full missed p.softirq }
+    let again = is_rescheduled_at given p.settings (at number p.devices) in
+    if p.settings.threaded then record q { tasks = if full || again then Thread number ∷ p.tasks else p.tasks }
+    else record q { softirq = poll_ended number given full again p.softirq }
+
+-- with `gro-batch`, polls hold the packets that they take, except those of a backlog
+abbrev pub is_batching : MachineSettings → Bool
+is_batching s = not s.backlog && not (s.gro_batch == 0)
+
+-- A poll that took this many packets takes its next one, or hands over one that GRO holds (`napi_gro_receive`). If GRO holds none
+-- then, it ends.
+unfoldable pub batch_looks : ℕ → ℕ → ProcessorView → ProcessorView
+batch_looks number given p =
+    let s = p.settings in
+    let q = record p { devices = changed holding number p.devices } in
+    let r = record p { devices = changed without_held number p.devices } in
+    if nat_lt given s.weight && pulls_at s.gro_batch given (at number p.devices) then
+    begins (Poll (record { device = number; given = given + 1 })) s.take q
+    else option_map_or (λ came. begins (Packet (record { device = number; came = came; given = given - 1 })) (s.packet - s.take) r)
+    (next_held_at (at number p.devices)) (ends_poll number given p)
 
 -- a poll that processed this many packets takes its next one, or ends
-unfoldable pub poll_looks : ℕ → ℕ → ProcessorView → ProcessorView
-poll_looks number given p =
+unfoldable pub plain_looks : ℕ → ℕ → ProcessorView → ProcessorView
+plain_looks number given p =
     let backlog = p.settings.backlog in
     let q = record p { devices = changed (without_next backlog) number p.devices } in
     if nat_lt given p.settings.weight then
@@ -174,10 +192,13 @@ poll_looks number given p =
     (ends_poll number given q)
     else ends_poll number given p
 
+abbrev pub poll_looks : ℕ → ℕ → ProcessorView → ProcessorView
+poll_looks number given p = if is_batching p.settings then batch_looks number given p else plain_looks number given p
+
 abbrev pub ends_by : Work → ProcessorView → ProcessorView
 ends_by Nothing p = p
 ends_by (Interrupt number) p = if is_polling p.settings then p else ends_interrupt number p
-ends_by (Poll number) p = poll_looks number 0 p
+ends_by (Poll look) p = poll_looks look.device look.given p
 ends_by (Packet packet) p = poll_looks packet.device (packet.given + 1) (delivers packet.device packet.came p)
 ends_by (Use came) p = record p { application = use_ended p.clock came p.application }
 

@@ -63,11 +63,11 @@ unfoldable pub softirq_polled : Once → SoftirqView → SoftirqView
 softirq_polled once q = record q { run = option_map (polled_run once) q.run }
 
 -- A poll that processed this many packets ends: if it used its whole weight (`full`), its number goes to the repolls. A queue that
--- completes and missed an interrupt is on the list again.
+-- completes and is scheduled again at once is on the list again.
 abbrev pub poll_ended : ℕ → ℕ → Bool → Bool → SoftirqView → SoftirqView
-poll_ended number given full missed q =
+poll_ended number given full again q =
     let r = softirq_polled (record { work = given; next = if full then Repoll else Gone }) q in
-    if not full && missed then pushed number r else r
+    if not full && again then pushed number r else r
 
 -- the run ends: the list has what the run took and didn't poll, then what arrived meanwhile, then the repolls
 unfoldable pub run_ended : SoftirqView → SoftirqView

@@ -1,8 +1,8 @@
 //! A receive queue of a card, with its NAPI instance and its counts.
 
-ghost use Rattle.std.specs.Prelude.{◌≡◌, ◌≤◌, Some, IfOk, OnErr, OnOk};
+ghost use Rattle.std.specs.Prelude.{◌≡◌, ◌≤◌, ◌<◌, Some, IfOk, OnErr, OnOk, length};
 ghost use Rattle.machine_model.specs.Machine.{queue_report};
-ghost use Rattle.machine_model.specs.Device.{after_packet, asks, asks_later, completed_state, gap_end, queue_completed, queue_delivered, expired, has_room, interrupted, is_at_once, is_fired, is_masked, is_missed, next_packet, notified, new_queue, queue_polled, raised_again, schedules, timer_of, unmasked_line, without_next};
+ghost use Rattle.machine_model.specs.Device.{after_packet, armed, asks, asks_later, deferrals_after, is_deferred, expired, finds_packets, gap_end, has_cause, has_room, holding, interrupted, is_at_once, is_fired, is_masked, is_missed, is_owed, is_rescheduled, is_silent, new_queue, next_held, next_packet, notified, queue_completed, queue_delivered, queue_polled, raised_again, schedules, pulls, timer_of, unmasked_line, without_held, without_next};
 
 use crate::settings::MachineSettings;
 use crate::waits::{WaitCounts, Waits};
@@ -255,23 +255,16 @@ fn unmasked_line(line: Line) -> Line
     }
 }
 
-// Returns the state of an instance after it completed: one that missed an interrupt is scheduled again.
-fn completed(state: NapiState) -> NapiState
-    ensures { result ≡ completed_state state }
-{
-    match state {
-        NapiState::Missed => NapiState::Scheduled,
-        NapiState::Idle | NapiState::Scheduled => NapiState::Idle,
-    }
-}
-
 /// A receive queue with its NAPI instance.
 #[derive(Drop)]
 pub(crate) struct ReceiveQueue {
+    capacity: u32,
     ring: HeapCircularBuffer<u64>,
     taken: HeapCircularBuffer<u64>,
     phase: Phase,
     asserted: Option<u64>,
+    caused: Option<u64>,
+    read: u64,
     frames: u64,
     deferrals: u32,
     counts: QueueCounts,
@@ -279,24 +272,27 @@ pub(crate) struct ReceiveQueue {
 }
 
 impl Model for ReceiveQueue {
-    ghost use Rattle.std.specs.Prelude.{◌≡◌};
+    ghost use Rattle.std.specs.Prelude.{◌≡◌, ◌≤◌};
     ghost use Rattle.machine_model.specs.Device.{QueueView};
 
     ghost Value = { QueueView };
 
     ghost view = { λ d. record {
       ring = d.ring.items;
-      capacity = d.ring.capacity;
+      capacity = d.capacity;
       taken = d.taken.items;
       phase = d.phase;
       asserted = d.asserted;
+      caused = d.caused;
+      read = d.read;
       frames = d.frames;
       deferrals = d.deferrals;
       counts = d.counts;
       waits = d.waits;
     } };
 
-    ghost invariant = { λ d. d.taken.capacity ≡ d.ring.capacity };
+    ghost invariant = { λ d. (d.taken.capacity ≡ d.ring.capacity) × (d.capacity ≤ d.ring.capacity)
+        × (64 ≤ d.taken.capacity) };
 }
 
 impl ReceiveQueue {
@@ -304,13 +300,17 @@ impl ReceiveQueue {
     pub(crate) fn new(alloc: Global, capacity: u32) -> Result<ReceiveQueue, AllocError>
         ensures { IfOk result (λ d. d ≡ new_queue capacity) }
     {
-        let ring = HeapCircularBuffer::with_capacity(alloc, capacity as usize)?;
-        let taken = HeapCircularBuffer::with_capacity(alloc, capacity as usize)?;
+        let most = (capacity as usize).max(64);
+        let ring = HeapCircularBuffer::with_capacity(alloc, most)?;
+        let taken = HeapCircularBuffer::with_capacity(alloc, most)?;
         Ok(ReceiveQueue {
+            capacity,
             ring,
             taken,
             phase: Phase::QUIET,
             asserted: None,
+            caused: None,
+            read: 0,
             frames: 0,
             deferrals: 0,
             counts: QueueCounts::NONE,
@@ -337,13 +337,6 @@ impl ReceiveQueue {
         ensures { result ≡ is_fired self.now.phase }
     {
         self.phase.is_fired()
-    }
-
-    /// Returns whether its instance missed an interrupt.
-    pub(crate) fn is_missed(&self) -> bool
-        ensures { result ≡ is_missed self.now.phase }
-    {
-        self.phase.is_missed()
     }
 
     /// Returns whether its interrupt schedules the instance.
@@ -417,32 +410,42 @@ impl ReceiveQueue {
         self.frames = self.frames.saturating_add(1);
     }
 
-    /// Handles the arrival of a packet: a full ring drops it. Otherwise the card reports it, unless its interrupt is masked.
-    /// Returns whether the ring had room.
+    // Returns whether the card doesn't report a packet: its interrupt is masked, or, if it latches causes, raised.
+    fn is_silent(&self, settings: &MachineSettings) -> bool
+        ensures { result ≡ is_silent settings.now self.now.phase }
+    {
+        self.is_masked() || settings.latched != 0 && self.phase.line == Line::Raised
+    }
+
+    /// Handles the arrival of a packet: a full ring drops it. Otherwise the card reports it, or only sets a cause. Returns whether
+    /// the ring had room.
     #[tactic(auto, unfolding(crate::specs::Device::after_packet))]
     pub(crate) fn arrive(&mut self, moment: u64, settings: &MachineSettings) -> bool
         ensures device { self.new ≡ after_packet moment settings.now self.old }
         ensures room { result ≡ has_room self.old }
     {
         self.counts.arrived = self.counts.arrived.saturating_add(1);
-        if self.ring.try_push_back(moment).is_err() {
+        if self.ring.len() >= self.capacity as usize || self.ring.try_push_back(moment).is_err() {
             self.counts.dropped = self.counts.dropped.saturating_add(1);
             return false;
         }
-        if !self.is_masked() {
+        if !self.is_silent(settings) {
             self.notify(moment, settings);
+        } else if settings.latched != 0 {
+            self.caused = Some(moment);
         }
         true
     }
 
-    /// Handles its interrupt, or that of its NAPI timer.
+    /// Handles its interrupt, or that of its NAPI timer. The handler ends at the time `until`.
     #[tactic(auto, unfolding(crate::specs::Device::interrupted))]
-    pub(crate) fn interrupt(&mut self, polling: bool)
-        ensures { self.new ≡ interrupted polling self.old }
+    pub(crate) fn interrupt(&mut self, until: u64, polling: bool)
+        ensures { self.new ≡ interrupted until polling self.old }
     {
         let is_timer = self.is_fired();
         self.phase = self.phase.handled(polling);
         if !is_timer {
+            self.read = until;
             self.frames = 0;
             self.counts.interrupts = self.counts.interrupts.saturating_add(1);
         }
@@ -472,6 +475,34 @@ impl ReceiveQueue {
         self.taken.pop_front()
     }
 
+    /// Returns whether a poll that took this many packets takes another one, if it hands over batches of this many.
+    pub(crate) fn pulls(&self, batch: u32, given: u32) -> bool
+        requires { 1 ≤ batch }
+        ensures { result ≡ pulls batch given self.now }
+    {
+        self.taken.len() == (given % batch) as usize && !self.ring.is_empty()
+    }
+
+    /// Takes the oldest packet out of the ring for GRO, which holds fewer than a batch.
+    pub(crate) fn hold(&mut self)
+        requires { length self.old.taken < 64 }
+        ensures { self.new ≡ holding self.old }
+    {
+        if let Some(came) = self.ring.pop_front() {
+            if self.taken.try_push_back(came).is_err() {
+                return;
+            }
+        }
+    }
+
+    /// Takes the oldest packet that GRO holds.
+    pub(crate) fn take_held(&mut self) -> Option<u64>
+        ensures packet { result ≡ next_held self.old }
+        ensures device { self.new ≡ without_held self.old }
+    {
+        self.taken.pop_front()
+    }
+
     /// Delivers a packet that arrived at `came`. Fails if the allocation for counting its wait fails; then nothing is counted.
     pub(crate) fn deliver(&mut self, now: u64, came: u64) -> Result<(), AllocError>
         ensures device { OnOk result (self.new ≡ queue_delivered now came self.old) }
@@ -483,23 +514,94 @@ impl ReceiveQueue {
         Ok(())
     }
 
+    // Returns how often its interrupt may still be deferred, after a poll that processed this many packets.
+    fn deferrals_after(&self, given: u32, settings: &MachineSettings) -> u32
+        ensures { result ≡ deferrals_after given settings.now self.now }
+    {
+        if given == 0 {
+            self.deferrals
+        } else {
+            settings.defer_hard_irqs
+        }
+    }
+
+    // Returns whether its interrupt is deferred after that poll.
+    fn defers(&self, given: u32, settings: &MachineSettings) -> bool
+        ensures { result ≡ is_deferred given settings.now self.now }
+    {
+        self.deferrals_after(given, settings) != 0 && settings.gro_flush_timeout != 0
+    }
+
+    // Returns whether the driver finds packets after that poll, and schedules the instance again.
+    fn finds_packets(&self, given: u32, settings: &MachineSettings) -> bool
+        ensures { result ≡ finds_packets given settings.now self.now }
+    {
+        if self.ring.is_empty() {
+            return false;
+        }
+        settings.latched == 0 && !settings.heedless && !self.defers(given, settings)
+    }
+
+    /// Returns whether its instance is scheduled again, if it completes after a poll that processed this many packets.
+    pub(crate) fn is_rescheduled(&self, given: u32, settings: &MachineSettings) -> bool
+        ensures { result ≡ is_rescheduled given settings.now self.now }
+    {
+        self.phase.is_missed() || self.finds_packets(given, settings)
+    }
+
+    // Returns whether the card has a cause.
+    fn has_cause(&self, settings: &MachineSettings) -> bool
+        ensures { result ≡ has_cause settings.now self.now }
+    {
+        match self.caused {
+            Some(came) => settings.latched != 2 || self.read <= came,
+            None => false,
+        }
+    }
+
+    // Returns whether the card asks for an interrupt when the driver unmasks it.
+    fn is_owed(&self, settings: &MachineSettings) -> bool
+        ensures { result ≡ is_owed settings.now self.now }
+    {
+        if settings.latched == 0 {
+            !self.ring.is_empty()
+        } else {
+            self.has_cause(settings)
+        }
+    }
+
+    // Unmasks the card.
+    #[tactic(auto, unfolding(crate::specs::Device::armed))]
+    fn arm(&mut self, now: u64, settings: &MachineSettings)
+        ensures { self.new ≡ armed now settings.now self.old }
+    {
+        let is_owed = self.is_owed(settings);
+        self.phase.line = unmasked_line(self.phase.line);
+        self.caused = None;
+        if is_owed {
+            self.notify(now, settings);
+        }
+    }
+
     // Unmasks its interrupt, unless that is deferred (`napi_complete_done`); a heedless driver unmasks it in any case.
     #[tactic(auto, unfolding(crate::specs::Device::queue_completed))]
     fn complete(&mut self, now: u64, given: u32, settings: &MachineSettings)
         ensures { self.new ≡ queue_completed now given settings.now self.old }
     {
-        if given != 0 {
-            self.deferrals = settings.defer_hard_irqs;
+        let defers = self.defers(given, settings);
+        let finds_packets = self.finds_packets(given, settings);
+        let is_missed = self.phase.is_missed();
+        self.deferrals = self.deferrals_after(given, settings).saturating_sub(1);
+        if defers && !is_missed {
+            self.phase.timer = Some(now.saturating_add(u64::from(settings.gro_flush_timeout)));
         }
-        let wait = u64::from(settings.gro_flush_timeout);
-        let defers = self.deferrals != 0 && wait != 0;
-        self.deferrals = self.deferrals.saturating_sub(1);
-        if defers && !self.is_missed() {
-            self.phase.timer = Some(now.saturating_add(wait));
-        }
-        self.phase.state = completed(self.phase.state);
-        if !defers || settings.heedless {
-            self.phase.line = unmasked_line(self.phase.line);
+        self.phase.state = if is_missed || finds_packets {
+            NapiState::Scheduled
+        } else {
+            NapiState::Idle
+        };
+        if !(defers && !settings.heedless || finds_packets) {
+            self.arm(now, settings);
         }
     }
 

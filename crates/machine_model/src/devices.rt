@@ -1,6 +1,6 @@
 //! The receive queues of a processor.
 
-ghost use Rattle.std.specs.Prelude.{◌≡◌, ◌≢◌, ◌≤◌, ◌<◌, ◌+◌, ◌-◌, ◌++◌, ◌==◌, ℕ, IfSome, OnOk, length, position, replicate, None, false, true};
+ghost use Rattle.std.specs.Prelude.{◌≡◌, ◌≢◌, ◌≤◌, ◌<◌, ◌+◌, ◌-◌, ◌++◌, ◌==◌, ◌&&◌, ℕ, IfSome, OnOk, length, nat_lt, position, replicate, None, false, true};
 ghost use Rattle.std.specs.Int.{bit_at};
 ghost use Rattle.std.specs.Option.{option_map_or};
 ghost use Rattle.device_places.specs.Places.{at, changed};
@@ -241,8 +241,8 @@ impl QueueTable {
     ghost use Rattle.std.specs.Option.{option_map};
     ghost use Rattle.machine_model.specs.Machine.{queue_report};
     ghost use Rattle.device_places.specs.Places.{at, changed};
-    ghost use Rattle.machine_model.specs.Device.{after_packet, queue_delivered, expired, interrupted, queue_polled, raised_again, without_next};
-    ghost use Rattle.machine_model.specs.Devices.{asks_at, has_room_at, is_fired_at, is_missed_at, next_packet_at, schedules_at, soonest_from, with_device};
+    ghost use Rattle.machine_model.specs.Device.{after_packet, queue_delivered, expired, holding, interrupted, queue_polled, raised_again, without_held, without_next};
+    ghost use Rattle.machine_model.specs.Devices.{asks_at, has_room_at, is_rescheduled_at, is_fired_at, next_held_at, next_packet_at, schedules_at, soonest_from, pulls_at, with_device};
     ghost use Rattle.machine_model.specs.Kept.{all_scheduled};
 
     /// Returns an empty table.
@@ -330,11 +330,16 @@ impl QueueTable {
         matches!(self.places.get(number), Some(Some(device)) if device.is_fired())
     }
 
-    /// Returns whether the instance of a queue missed an interrupt.
-    pub(crate) fn is_missed(&self, number: usize) -> bool
-        ensures { result ≡ is_missed_at (at number self.now) }
+    /// Returns whether the instance of a queue is scheduled again, if it completes after a poll that processed this many packets.
+    pub(crate) fn is_rescheduled(
+        &self,
+        number: usize,
+        given: u32,
+        settings: &MachineSettings,
+    ) -> bool
+        ensures { result ≡ is_rescheduled_at given settings.now (at number self.now) }
     {
-        matches!(self.places.get(number), Some(Some(device)) if device.is_missed())
+        matches!(self.places.get(number), Some(Some(device)) if device.is_rescheduled(given, settings))
     }
 
     /// Returns whether the interrupt of a queue schedules its instance.
@@ -344,14 +349,14 @@ impl QueueTable {
         matches!(self.places.get(number), Some(Some(device)) if device.schedules())
     }
 
-    /// Handles the interrupt of a queue.
-    pub(crate) fn interrupt(&mut self, number: usize, polling: bool)
-        ensures devices { self.new ≡ changed (interrupted polling) number self.old }
+    /// Handles the interrupt of a queue. The handler ends at the time `until`.
+    pub(crate) fn interrupt(&mut self, number: usize, until: u64, polling: bool)
+        ensures devices { self.new ≡ changed (interrupted until polling) number self.old }
         ensures few { length self.new ≤ 64 }
     {
         if number < self.places.len() {
             if let Some(device) = &mut self.places[number] {
-                device.interrupt(polling);
+                device.interrupt(until, polling);
                 self.pending = pending_after(self.pending, number, &self.places);
             }
         }
@@ -377,6 +382,38 @@ impl QueueTable {
         if number < self.places.len() {
             if let Some(device) = &mut self.places[number] {
                 return device.take_next(backlog);
+            }
+        }
+        None
+    }
+
+    /// Takes another packet of a queue for GRO, if a poll of this weight that took this many packets, and hands over batches of this
+    /// many, does so. Returns whether it does.
+    pub(crate) fn hold(&mut self, number: usize, weight: u32, batch: u32, given: u32) -> bool
+        requires batch { (1 ≤ batch) × (batch ≤ 64) }
+        ensures more { result ≡ (nat_lt given weight && pulls_at batch given (at number self.old)) }
+        ensures taken { result ≡ true → self.new ≡ changed holding number self.old }
+        ensures kept { result ≡ false → self.new ≡ self.old }
+    {
+        if given < weight && number < self.places.len() {
+            if let Some(device) = &mut self.places[number] {
+                if device.pulls(batch, given) {
+                    device.hold();
+                    return true;
+                }
+            }
+        }
+        false
+    }
+
+    /// Takes the oldest packet of a queue that GRO holds.
+    pub(crate) fn take_held(&mut self, number: usize) -> Option<u64>
+        ensures packet { result ≡ next_held_at (at number self.old) }
+        ensures devices { self.new ≡ changed without_held number self.old }
+    {
+        if number < self.places.len() {
+            if let Some(device) = &mut self.places[number] {
+                return device.take_held();
             }
         }
         None

@@ -25,7 +25,7 @@ pub use args::parse_words;
 pub use device::{Expiry, Line, NapiState, Phase, QueueCounts, QueueReport};
 pub use devices::Timer;
 pub use machine::Machine;
-pub use processor::{InHand, ProcessorCounts, ProcessorReport, Rest, Upcoming, Work};
+pub use processor::{InHand, Looking, ProcessorCounts, ProcessorReport, Rest, Upcoming, Work};
 pub use settings::{MachineOption, MachineSettings, OPTION_COUNT, OPTIONS};
 pub use tasks::RunnableTask;
 pub use waits::{WaitCounts, Waits};

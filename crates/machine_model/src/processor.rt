@@ -6,7 +6,7 @@ ghost use Rattle.device_places.specs.Places.{at};
 ghost use Rattle.machine_model.specs.Devices.{asks_at};
 ghost use Rattle.machine_model.specs.Kept.{IsProcessorKept, all_scheduled, polled_by};
 ghost use Rattle.machine_model.specs.Machine.{ArrivesAt, FinishesAt, processor_report, queue_report};
-ghost use Rattle.machine_model.specs.Processor.{Advances, begins_run, delivers, disturbed, ends_current, ends_interrupt, ends_poll, ends_run, goes_on, interrupt_cost, interrupts, is_due, is_polling, leaves_softirq, poll_looks, opened_processor, rests, runs_first, scheduled, set_aside, spent, step, takes_up, upcoming, uses, wake_cost, woken};
+ghost use Rattle.machine_model.specs.Processor.{Advances, begins_run, delivers, disturbed, ends_current, ends_interrupt, ends_poll, ends_run, goes_on, interrupt_cost, interrupts, is_batching, is_due, is_polling, leaves_softirq, batch_looks, plain_looks, poll_looks, opened_processor, rests, runs_first, scheduled, set_aside, spent, step, takes_up, upcoming, uses, wake_cost, woken};
 ghost use Rattle.machine_model.specs.Shown.{listed};
 ghost use Rattle.machine_model.specs.Waits.{saturated};
 ghost use Rattle.machine_model.specs.declared.processor.Work.TheVariants.{Nothing};
@@ -28,7 +28,16 @@ pub struct InHand {
     pub device: u32,
     /// When it arrived, in nanoseconds.
     pub came: u64,
-    /// How many packets its poll processed before it.
+    /// How many packets its poll took besides it.
+    pub given: u32,
+}
+
+/// A poll that looks for its next packet when this work ends.
+#[derive(Clone, Copy, Debug, PartialEq, Eq)]
+pub struct Looking {
+    /// The number of its queue.
+    pub device: u32,
+    /// How many packets it took.
     pub given: u32,
 }
 
@@ -39,9 +48,9 @@ pub enum Work {
     Nothing,
     /// The interrupt of a queue.
     Interrupt(u32),
-    /// The poll of a queue, before its first packet.
-    Poll(u32),
-    /// A packet that a poll processes.
+    /// The poll of a queue, before its first packet; with `gro_batch` also while it takes a packet.
+    Poll(Looking),
+    /// A packet that a poll processes, or hands over.
     Packet(InHand),
     /// The application uses a packet that arrived at this time.
     Use(u64),
@@ -180,6 +189,13 @@ fn is_polling(settings: &MachineSettings) -> bool
     settings.budget != 0
 }
 
+// Returns whether polls hold the packets that they take, for GRO.
+fn is_batching(settings: &MachineSettings) -> bool
+    ensures { result ≡ is_batching settings.now }
+{
+    settings.gro_batch != 0 && !settings.backlog
+}
+
 // Returns the time of an interrupt of a card, or of a NAPI timer. Without polling it also takes a packet.
 fn interrupt_cost(is_timer: bool, settings: &MachineSettings) -> u32
     ensures { result ≡ interrupt_cost is_timer settings.now }
@@ -241,7 +257,8 @@ impl Processor {
         let polling = is_polling(&self.settings);
         let is_timer = self.devices.is_fired(number as usize);
         let schedules = self.devices.schedules(number as usize);
-        self.devices.interrupt(number as usize, polling);
+        let ends = end_after(self.clock, interrupt_cost(is_timer, &self.settings));
+        self.devices.interrupt(number as usize, ends, polling);
         if polling && schedules {
             self.schedule(number)?;
         }
@@ -251,7 +268,7 @@ impl Processor {
             self.counts.interrupts = self.counts.interrupts.saturating_add(1);
         }
         self.work = Work::Interrupt(number);
-        self.ends = end_after(self.clock, interrupt_cost(is_timer, &self.settings));
+        self.ends = ends;
         Ok(())
     }
 
@@ -276,7 +293,10 @@ impl Processor {
     {
         match self.tasks.next(self.application.is_idle()) {
             Some(RunnableTask::Thread(number)) => {
-                self.work = Work::Poll(number);
+                self.work = Work::Poll(Looking {
+                    device: number,
+                    given: 0,
+                });
                 self.ends = end_after(self.clock, self.settings.poll);
             }
             Some(RunnableTask::Application) => self.use_first(),
@@ -316,7 +336,10 @@ impl Processor {
         } = self.settings;
         self.softirq.begin(self.clock, budget, weight, window);
         if let Some(number) = self.softirq.next() {
-            self.work = Work::Poll(number);
+            self.work = Work::Poll(Looking {
+                device: number,
+                given: 0,
+            });
             self.ends = end_after(self.clock, self.settings.poll);
         }
     }
@@ -366,7 +389,10 @@ impl Processor {
         }
         match self.softirq.next() {
             Some(number) => {
-                self.work = Work::Poll(number);
+                self.work = Work::Poll(Looking {
+                    device: number,
+                    given: 0,
+                });
                 self.ends = end_after(self.clock, self.settings.poll);
             }
             None => {
@@ -427,7 +453,7 @@ impl Processor {
         Ok(())
     }
 
-    // Ends a poll that processed this many packets. An instance that completes and missed an interrupt is scheduled again.
+    // Ends a poll that processed this many packets. An instance that completes may be scheduled again at once.
     #[tactic(auto, unfolding(crate::specs::Processor::ends_poll))]
     fn end_poll(&mut self, number: u32, given: u32) -> Result<(), AllocError>
         requires polled { polled_by self.old.work ≡ Some number }
@@ -436,11 +462,13 @@ impl Processor {
             (self.new ≡ ends_poll number given (record self.old { work = Nothing })) }
     {
         let full = given == self.settings.weight;
-        let missed = self.devices.is_missed(number as usize);
-        let again = full || missed;
+        let again = self
+            .devices
+            .is_rescheduled(number as usize, given, &self.settings);
+        let stays = full || again;
         if !self.settings.threaded {
-            self.softirq.poll_ended(number, given, full, missed);
-        } else if again {
+            self.softirq.poll_ended(number, given, full, again);
+        } else if stays {
             self.tasks.push_first(number)?;
         }
         self.devices
@@ -451,12 +479,48 @@ impl Processor {
         Ok(())
     }
 
-    // Takes the next packet for a poll that processed this many packets; without one, ends the poll.
-    #[tactic(auto, unfolding(crate::specs::Processor::poll_looks))]
-    fn look(&mut self, number: u32, given: u32) -> Result<(), AllocError>
+    // Takes the next packet for a poll that took this many packets, or hands over one that GRO holds; without one, ends the poll.
+    #[tactic(auto, unfolding(crate::specs::Processor::batch_looks))]
+    fn batch_look(&mut self, number: u32, given: u32) -> Result<(), AllocError>
+        requires batching { is_batching self.old.settings ≡ true }
         requires polled { polled_by self.old.work ≡ Some number }
         requires given { given ≤ self.old.settings.weight }
-        ensures { OnOk result (self.new ≡ poll_looks number given
+        ensures { OnOk result (self.new ≡ batch_looks number given
+            (record self.old { work = Nothing })) }
+    {
+        let MachineSettings {
+            packet,
+            take,
+            weight,
+            gro_batch,
+            ..
+        } = self.settings;
+        if self.devices.hold(number as usize, weight, gro_batch, given) {
+            self.work = Work::Poll(Looking {
+                device: number,
+                given: given + 1,
+            });
+            self.ends = end_after(self.clock, take);
+            return Ok(());
+        }
+        if let Some(came) = self.devices.take_held(number as usize) {
+            self.work = Work::Packet(InHand {
+                device: number,
+                came,
+                given: given.saturating_sub(1),
+            });
+            self.ends = end_after(self.clock, packet - take);
+            return Ok(());
+        }
+        self.end_poll(number, given)
+    }
+
+    // Takes the next packet for a poll that processed this many packets; without one, ends the poll.
+    #[tactic(auto, unfolding(crate::specs::Processor::plain_looks))]
+    fn plain_look(&mut self, number: u32, given: u32) -> Result<(), AllocError>
+        requires polled { polled_by self.old.work ≡ Some number }
+        requires given { given ≤ self.old.settings.weight }
+        ensures { OnOk result (self.new ≡ plain_looks number given
             (record self.old { work = Nothing })) }
     {
         if given < self.settings.weight {
@@ -472,6 +536,20 @@ impl Processor {
             }
         }
         self.end_poll(number, given)
+    }
+
+    // Continues a poll that processed this many packets, or ends it.
+    fn look(&mut self, number: u32, given: u32) -> Result<(), AllocError>
+        requires polled { polled_by self.old.work ≡ Some number }
+        requires given { given ≤ self.old.settings.weight }
+        ensures { OnOk result (self.new ≡ poll_looks number given
+            (record self.old { work = Nothing })) }
+    {
+        if is_batching(&self.settings) {
+            self.batch_look(number, given)
+        } else {
+            self.plain_look(number, given)
+        }
     }
 
     // Ends the work in progress.
@@ -490,7 +568,7 @@ impl Processor {
                     self.end_interrupt(number)?;
                 }
             }
-            Work::Poll(number) => self.look(number, 0)?,
+            Work::Poll(look) => self.look(look.device, look.given)?,
             Work::Packet(packet) => {
                 self.deliver(packet.device, packet.came)?;
                 self.look(packet.device, packet.given + 1)?;

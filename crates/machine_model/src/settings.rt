@@ -38,7 +38,7 @@ macro_rules! options {
 }
 
 /// The number of options.
-pub const OPTION_COUNT: usize = 25;
+pub const OPTION_COUNT: usize = 28;
 
 /// The options, in the order of the settings: name, least and greatest value, default, unit, and what it is. `scripts/options.py`
 /// reads this table, and writes what other languages, tools and pages have of it.
@@ -68,6 +68,9 @@ pub const OPTIONS: [MachineOption; OPTION_COUNT] = options! {
     ("rx-gap", 0, 1000000000, 0, "ns", "least time between two interrupts of a card (ethtool -C rx-usecs of igb, ixgbe, e1000, e1000e, in us there); not with rx-nsecs or rx-frames"),
     ("timer", 0, 1000000000, 4294967295, "ns", "time of the interrupt of an expired NAPI timer (napi_watchdog)"),
     ("timer-wake", 0, 1000000000, 4294967295, "ns", "time to wake an idle processor by an expired NAPI timer, which counts as interrupt time"),
+    ("latched", 0, 2, 0, "", "1: a packet that comes while the interrupt is raised or masked sets a cause, which raises the interrupt when the driver unmasks it (igb, igc, ixgbe, vmxnet3); 2: the interrupt's handler also clears it (e1000, e1000e without MSI-X)"),
+    ("gro-batch", 0, 64, 0, "packets", "packets that a poll takes before it hands them over (net.core.gro_normal_batch), for drivers that call napi_gro_receive; 0: each at once"),
+    ("take", 0, 1000000000, 0, "ns", "with gro-batch the part of packet that taking one from the ring and GRO take"),
 };
 
 /// The settings of a receiving machine. Times are in nanoseconds.
@@ -132,6 +135,15 @@ pub struct MachineSettings {
     pub timer: Option<u32>,
     /// The time that a NAPI timer takes to wake an idle processor, 0 to 1000000000; `None` if it is `wake`.
     pub timer_wake: Option<u32>,
+    /// Whether a packet that comes while the interrupt is raised or masked sets a cause in the card, which raises the interrupt when the
+    /// driver unmasks it, 0 to 2. With 1 only that clears the cause (EICR of igb, igc and ixgbe; vmxnet3), with 2 the interrupt's handler
+    /// clears it too, at its end (ICR of e1000, and of e1000e without MSI-X).
+    pub latched: u32,
+    /// The number of packets that a poll takes before it hands them over, 0 to 64 (`net.core.gro_normal_batch`, for drivers that call
+    /// `napi_gro_receive`). With 0, or with `backlog`, it delivers each packet before it takes the next one.
+    pub gro_batch: u32,
+    /// With `gro_batch`, the part of `packet` that it takes to get a packet from the ring to GRO, at most `packet`.
+    pub take: u32,
     ghost processors_in: { (1 ≤ processors) × (processors ≤ 64) },
     ghost queues_in: { (1 ≤ queues) × (queues ≤ 64) },
     ghost ring_in: { (1 ≤ ring) × (ring ≤ 65536) },
@@ -153,6 +165,9 @@ pub struct MachineSettings {
     ghost rx_gap_in: { rx_gap ≤ 1000000000 },
     ghost timer_in: { ForSome timer (λ time. time ≤ 1000000000) },
     ghost timer_wake_in: { ForSome timer_wake (λ time. time ≤ 1000000000) },
+    ghost latched_in: { latched ≤ 2 },
+    ghost gro_batch_in: { gro_batch ≤ 64 },
+    ghost take_in: { take ≤ packet },
 }
 
 impl MachineOption {
@@ -177,8 +192,8 @@ impl MachineOption {
 }
 
 impl MachineSettings {
-    ghost use Rattle.std.specs.Prelude.{◌≡◌, IfErr, IfNone, IfOk, IfSome, false};
-    ghost use Rattle.machine_model.specs.Options.{AreInRange, IsFirstOut, IsRejected, excludes, option_defaults, own_cost, values_of};
+    ghost use Rattle.std.specs.Prelude.{◌≡◌, IfErr, IfNone, IfOk, IfSome, None, false};
+    ghost use Rattle.machine_model.specs.Options.{AreInRange, IsFirstOut, IsRejected, exceeds, excludes, misfit, option_defaults, own_cost, values_of};
 
     // Returns the number of the first value that is out of its range, counted from 1.
     fn first_out(values: &[u32; OPTION_COUNT]) -> Option<u32>
@@ -200,6 +215,19 @@ impl MachineSettings {
         values[22] != 0 && (values[9] != 0 || values[10] != 0)
     }
 
+    // Returns the number of the value that doesn't fit the others, counted from 1.
+    fn misfit(values: &[u32; OPTION_COUNT]) -> Option<u32>
+        ensures { result ≡ misfit values.now }
+    {
+        if MachineSettings::excludes(values) {
+            Some(23)
+        } else if values[18] < values[27] {
+            Some(28)
+        } else {
+            None
+        }
+    }
+
     // Returns a cost of its own, or `None` if it is that of another option.
     fn own_cost(value: u32) -> Option<u32>
         ensures { result ≡ own_cost value }
@@ -209,7 +237,8 @@ impl MachineSettings {
 
     // Returns the settings with these values.
     fn of_values(values: &[u32; OPTION_COUNT]) -> MachineSettings
-        requires { AreInRange values.now }
+        requires in_range { AreInRange values.now }
+        requires fit { exceeds values.now ≡ false }
         ensures { values_of result ≡ values.now }
     {
         MachineSettings {
@@ -238,6 +267,9 @@ impl MachineSettings {
             rx_gap: values[22],
             timer: MachineSettings::own_cost(values[23]),
             timer_wake: MachineSettings::own_cost(values[24]),
+            latched: values[25],
+            gro_batch: values[26],
+            take: values[27],
         }
     }
 
@@ -257,16 +289,18 @@ impl MachineSettings {
     ///
     /// # Errors
     ///
-    /// The number of the first value that is out of its range, counted from 1; if there is none, the number of `rx-gap`, which isn't
-    /// 0, and nor is `rx-nsecs` or `rx-frames`.
+    /// The number of the first value that is out of its range, counted from 1. If there is none, the number of `rx-gap`, which isn't
+    /// 0, and nor is `rx-nsecs` or `rx-frames`; or else that of `take`, which is above `packet`.
     pub fn from_values(values: &[u32; OPTION_COUNT]) -> Result<MachineSettings, u32>
         ensures settings { IfOk result (λ settings. values_of settings ≡ values.now) }
-        ensures fit { IfOk result (λ settings. excludes values.now ≡ false) }
+        ensures fit { IfOk result (λ settings. misfit values.now ≡ None) }
         ensures out { IfErr result (λ number. IsRejected values.now number) }
     {
-        match MachineSettings::first_out(values) {
+        if let Some(number) = MachineSettings::first_out(values) {
+            return Err(number);
+        }
+        match MachineSettings::misfit(values) {
             Some(number) => Err(number),
-            None if MachineSettings::excludes(values) => Err(23),
             None => Ok(MachineSettings::of_values(values)),
         }
     }
@@ -301,6 +335,9 @@ impl MachineSettings {
             self.rx_gap,
             self.timer.unwrap_or(u32::MAX),
             self.timer_wake.unwrap_or(u32::MAX),
+            self.latched,
+            self.gro_batch,
+            self.take,
         ]
     }
 }

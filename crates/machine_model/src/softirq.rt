@@ -129,18 +129,18 @@ impl Softirq {
     }
 
     /// Ends the poll of that number, which processed this many packets: if it used its whole weight (`full`), it is polled again
-    /// by the run. If it completed and missed an interrupt, it is appended to the list.
-    pub(crate) fn poll_ended(&mut self, number: u32, given: u32, full: bool, missed: bool)
+    /// by the run. If it completed and is scheduled again at once, it is appended to the list.
+    pub(crate) fn poll_ended(&mut self, number: u32, given: u32, full: bool, again: bool)
         requires asked { asked_in self.old.run ≡ Some number }
         requires work { given ≤ weight_in self.old.run }
-        ensures { self.new ≡ poll_ended number given full missed self.old }
+        ensures { self.new ≡ poll_ended number given full again self.old }
     {
         if self.is_running {
             self.polled(Once {
                 work: given,
                 next: next_after(full),
             });
-            if missed && !full {
+            if again && !full {
                 self.push(number);
             }
         }

@@ -2,7 +2,7 @@
 use Rattle.std.proofs.Common.{ℕ, List, Option, Some, None, ap}
 use Rattle.napi_model.specs.{History.state_after, Step.opening, declared.event.Event.Event}
 use Rattle.napi_calls.specs.{Instance.IsNewSeat, Seats.{controller_of, own_list, state_shown}, declared.types.Napi.Napi}
-use Rattle.c_handles.specs.{Endings.LeadsToSeat, declared.{body.Object.Object, seat.CallerObject.CallerObject}}
+use Rattle.c_handles.specs.{Endings.LeadsToCaller, declared.{body.Object.Object, caller.CallerObject.CallerObject}}
 use Rattle.napi_c.specs.Shared.{IsUnthreaded}
 use Rattle.c_handles.specs.declared.body.Object.TheVariants as body
 
@@ -15,8 +15,8 @@ unthreaded n k p new = record {
 }
 
 -- the caller of a handle has each property that follows from one that it has
-pub seat_weaker : (P Q : CallerObject → Type 0) → ((s : CallerObject) → P s → Q s) → (o : Option Object)
-    → LeadsToSeat P o → LeadsToSeat Q o
-seat_weaker P Q f None h = absurd h
-seat_weaker P Q f (Some (body.Seat s)) h = f s h
-seat_weaker P Q f (Some _) h = absurd h
+pub caller_weaker : (P Q : CallerObject → Type 0) → ((s : CallerObject) → P s → Q s) → (o : Option Object)
+    → LeadsToCaller P o → LeadsToCaller Q o
+caller_weaker P Q f None h = absurd h
+caller_weaker P Q f (Some (body.Caller s)) h = f s h
+caller_weaker P Q f (Some _) h = absurd h

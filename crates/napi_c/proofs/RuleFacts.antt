@@ -2,16 +2,16 @@
 use Rattle.std.proofs.Common.{◌≡◌, ℕ, Some}
 use Rattle.napi_model.specs.declared.state.{Kind.Kind, Seen.Seen}
 use Rattle.napi_calls.specs.declared.state.CallerState.{CallerState}
-use Rattle.c_handles.specs.{SeatCalls.{CallerHands, CallerRequeues, SeatLooks}, Seats.{IsGrantedCaller, IsPolling, IsResting}}
+use Rattle.c_handles.specs.{CallerCalls.{CallerHands, CallerRequeues, CallerLooks}, Callers.{IsGrantedCaller, IsPolling, IsResting}}
 use Rattle.c_handles.specs.Status.{OK}
 use Rattle.napi_calls.specs.declared.state.CallerState.TheVariants as caller
 
-pub look_stays_granted : (h : CallerState) (x : Seen) (k : CallerState) → SeatLooks h (Some x) k → IsGrantedCaller h → IsGrantedCaller k
+pub look_stays_granted : (h : CallerState) (x : Seen) (k : CallerState) → CallerLooks h (Some x) k → IsGrantedCaller h → IsGrantedCaller k
 look_stays_granted (caller.Granted g) x (caller.Granted q) m is = tt
 look_stays_granted (caller.Granted g) x _ m is = absurd m
 look_stays_granted _ x k m is = absurd is
 
-pub look_stays_polling : (h : CallerState) (x : Seen) (k : CallerState) → SeatLooks h (Some x) k → IsPolling h → IsPolling k
+pub look_stays_polling : (h : CallerState) (x : Seen) (k : CallerState) → CallerLooks h (Some x) k → IsPolling h → IsPolling k
 look_stays_polling (caller.Polls w) x (caller.Polls v) m is = tt
 look_stays_polling (caller.Polls w) x _ m is = absurd m
 look_stays_polling _ x k m is = absurd is

@@ -30,10 +30,10 @@ abbrev pub is_tx : Object → Bool
 is_tx (body.Tx ring) = true
 is_tx _ = false
 
--- a caller of a shared instance (a "seat" in C)
-abbrev pub is_seat : Object → Bool
-is_seat (body.Seat seat) = true
-is_seat _ = false
+-- a caller of a shared instance
+abbrev pub is_caller : Object → Bool
+is_caller (body.Caller s) = true
+is_caller _ = false
 
 -- the caller polls or busy polls
 abbrev pub is_poller : CallerState → Bool
@@ -42,9 +42,9 @@ is_poller (caller.Busy busy) = true
 is_poller _ = false
 
 -- a caller that polls or busy polls
-abbrev pub is_polling_seat : Object → Bool
-is_polling_seat (body.Seat seat) = is_poller seat.state
-is_polling_seat _ = false
+abbrev pub is_polling_caller : Object → Bool
+is_polling_caller (body.Caller s) = is_poller s.state
+is_polling_caller _ = false
 
 -- an object that has the poll end of a ring, and so the counts of its polls: a ring, its poll end, a caller that polls, the
 -- controller of a disabled instance

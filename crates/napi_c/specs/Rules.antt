@@ -2,10 +2,10 @@
 -- are repeated until no other thread interferes, the queueing of a granted instance, the end of a poll, and a driver's open and stop.
 use Rattle.std.specs.Prelude.{◌≡◌, ◌≢◌, ◌==◌, if◌then◌else◌, ℕ, zero, suc, Bool, true, false, Some}
 use Rattle.napi_model.specs.declared.state.{Seen.Seen}
-use Rattle.c_handles.specs.declared.seat.{CallerObject.CallerObject, Controller.Controller}
+use Rattle.c_handles.specs.declared.caller.{CallerObject.CallerObject, Controller.Controller}
 use Rattle.napi_calls.specs.declared.state.{CallerState.CallerState, ControlState.ControlState}
-use Rattle.c_handles.specs.{Handles.{SeatStep, ControlStep}, SeatCalls.SeatLooks}
-use Rattle.c_handles.specs.SeatCalls.{CallerCompletes, CallerHands, CallerRequeues, ControlEnables, ControlMarks, ControlTakes}
+use Rattle.c_handles.specs.{Handles.{CallerStep, ControlStep}, CallerCalls.CallerLooks}
+use Rattle.c_handles.specs.CallerCalls.{CallerCompletes, CallerHands, CallerRequeues, ControlEnables, ControlMarks, ControlTakes}
 use Rattle.c_handles.specs.Freeing.{is_control_off}
 use Rattle.c_handles.specs.Status.{OK, TAKEN, RELEASED, AGAIN, HELD, CHANGED, NOT_ALLOWED}
 use Rattle.napi_c.specs.Serial.{again_kind, next_again, stays_scheduled, NEXT_GONE, NEXT_REPOLL}
@@ -34,15 +34,15 @@ pub record Repeats {A : Type 0} (attempt : A → ℕ → A → Type 0) (before :
 -- ---- `____napi_schedule`
 
 -- a look at the state word shows this, and counts as no result
-abbrev pub SeatLooked : CallerObject → Seen → CallerObject → Type 0
-SeatLooked s seen t = SeatLooks s.state (Some seen) t.state × (t.answers ≡ s.answers)
+abbrev pub CallerLooked : CallerObject → Seen → CallerObject → Type 0
+CallerLooked s seen t = CallerLooks s.state (Some seen) t.state × (t.answers ≡ s.answers)
 
 -- The caller looks, and queues the instance: for its thread if THREADED is set, on the list otherwise. `next` says which.
 pub record Queues (s : CallerObject) (next : ℕ) (t : CallerObject) : Type 0 where
   pub seen : Seen
   pub looked : CallerObject
-  pub looks : SeatLooked s seen looked
-  pub queues : SeatStep (CallerHands (again_kind seen.flags)) looked OK t
+  pub looks : CallerLooked s seen looked
+  pub queues : CallerStep (CallerHands (again_kind seen.flags)) looked OK t
   pub says : next ≡ next_again seen.flags
 
 -- a caller that was granted the instance queues it; any other is refused
@@ -50,8 +50,8 @@ abbrev pub QueuesIn : CallerState → CallerObject → ℕ → ℕ → CallerObj
 QueuesIn (caller.Granted g) s n next t = (n ≡ OK) × Queues s next t
 QueuesIn other s n next t = (n ≡ NOT_ALLOWED) × (next ≡ NEXT_GONE) × (t ≡ s)
 
-abbrev pub SeatQueues : ℕ → CallerObject → ℕ → CallerObject → Type 0
-SeatQueues next s n t = QueuesIn s.state s n next t
+abbrev pub CallerQueues : ℕ → CallerObject → ℕ → CallerObject → Type 0
+CallerQueues next s n t = QueuesIn s.state s n next t
 
 -- ---- `__napi_poll`
 
@@ -62,36 +62,36 @@ pub record AfterComplete (said : ℕ) (s : CallerObject) (n next : ℕ) (t : Cal
   pub other : said ≢ RELEASED → said ≢ AGAIN → (n ≡ said) × (next ≡ NEXT_GONE) × (t ≡ s)
 
 -- `napi_complete_done`, repeated, and what follows it
-pub record SeatCompletes (s : CallerObject) (n next : ℕ) (t : CallerObject) : Type 0 where
+pub record CallerFinishes (s : CallerObject) (n next : ℕ) (t : CallerObject) : Type 0 where
   pub said : ℕ
   pub completed : CallerObject
-  pub completes : Repeats (SeatStep CallerCompletes) s said completed
+  pub completes : Repeats (CallerStep CallerCompletes) s said completed
   pub ends : AfterComplete said completed n next t
 
 -- After a full poll the caller looks. If a disable is pending it completes; a thread's poll goes on; any other puts the instance on
 -- the list again.
-pub record SeatEndsFull (s : CallerObject) (n next : ℕ) (t : CallerObject) : Type 0 where
+pub record CallerEndsFull (s : CallerObject) (n next : ℕ) (t : CallerObject) : Type 0 where
   pub seen : Seen
   pub looked : CallerObject
-  pub looks : SeatLooked s seen looked
-  pub completed : stays_scheduled true seen.flags ≡ false → SeatCompletes looked n next t
+  pub looks : CallerLooked s seen looked
+  pub completed : stays_scheduled true seen.flags ≡ false → CallerFinishes looked n next t
   pub thread : stays_scheduled true seen.flags ≡ true → seen.flags.sched_threaded ≡ true
       → (n ≡ HELD) × (next ≡ NEXT_GONE) × (t ≡ looked)
   pub list : stays_scheduled true seen.flags ≡ true → seen.flags.sched_threaded ≡ false
-      → (n ≡ OK) × (next ≡ NEXT_REPOLL) × SeatStep CallerRequeues looked OK t
+      → (n ≡ OK) × (next ≡ NEXT_REPOLL) × CallerStep CallerRequeues looked OK t
 
 -- a poll that returned the whole weight, and isn't a busy poll
 abbrev pub is_full_poll : Bool → CallerState → Bool
 is_full_poll full (caller.Polls w) = full
 is_full_poll full _ = false
 
-abbrev pub SeatEndsBy : Bool → CallerObject → ℕ → ℕ → CallerObject → Type 0
-SeatEndsBy true = SeatEndsFull
-SeatEndsBy false = SeatCompletes
+abbrev pub CallerEndsBy : Bool → CallerObject → ℕ → ℕ → CallerObject → Type 0
+CallerEndsBy true = CallerEndsFull
+CallerEndsBy false = CallerFinishes
 
 -- the end of a poll, full or not. `next` says what a run has to know of it.
-abbrev pub SeatEnds : Bool → ℕ → CallerObject → ℕ → CallerObject → Type 0
-SeatEnds full next s n t = SeatEndsBy (is_full_poll full s.state) s n next t
+abbrev pub CallerEnds : Bool → ℕ → CallerObject → ℕ → CallerObject → Type 0
+CallerEnds full next s n t = CallerEndsBy (is_full_poll full s.state) s n next t
 
 -- ---- `napi_enable` and `napi_disable`
 

@@ -23,11 +23,11 @@ pub(crate) trait Attempt {
 pub(crate) struct ScheduleAttempt;
 
 impl Attempt for ScheduleAttempt {
-    ghost use Rattle.c_handles.specs.{Handles.SeatStep, SeatCalls.CallerSchedules};
+    ghost use Rattle.c_handles.specs.{Handles.CallerStep, CallerCalls.CallerSchedules};
 
     type On = CallerObject;
 
-    ghost makes = { λ _. SeatStep CallerSchedules };
+    ghost makes = { λ _. CallerStep CallerSchedules };
 
     #[inline(always)]
     fn make(&self, it: &mut CallerObject) -> u32 {
@@ -40,11 +40,11 @@ impl Attempt for ScheduleAttempt {
 pub(crate) struct CompleteAttempt;
 
 impl Attempt for CompleteAttempt {
-    ghost use Rattle.c_handles.specs.{Handles.SeatStep, SeatCalls.CallerCompletes};
+    ghost use Rattle.c_handles.specs.{Handles.CallerStep, CallerCalls.CallerCompletes};
 
     type On = CallerObject;
 
-    ghost makes = { λ _. SeatStep CallerCompletes };
+    ghost makes = { λ _. CallerStep CallerCompletes };
 
     #[inline(always)]
     fn make(&self, it: &mut CallerObject) -> u32 {
@@ -60,7 +60,7 @@ pub(crate) struct EnableAttempt {
 }
 
 impl Attempt for EnableAttempt {
-    ghost use Rattle.c_handles.specs.{Handles.ControlStep, SeatCalls.ControlEnables};
+    ghost use Rattle.c_handles.specs.{Handles.ControlStep, CallerCalls.ControlEnables};
 
     type On = Controller;
 
@@ -76,7 +76,7 @@ impl Attempt for EnableAttempt {
 pub(crate) struct TakeAttempt;
 
 impl Attempt for TakeAttempt {
-    ghost use Rattle.c_handles.specs.{Handles.ControlStep, SeatCalls.ControlTakes};
+    ghost use Rattle.c_handles.specs.{Handles.ControlStep, CallerCalls.ControlTakes};
 
     type On = Controller;
 

@@ -2,7 +2,7 @@
 ghost use Rattle.std.specs.Prelude.{◌≡◌, ◌≢◌, true, false};
 ghost use Rattle.c_handles.specs.Freeing.{is_control_off};
 ghost use Rattle.c_handles.specs.Handles.{ControlDoes, ControlMakes, LeadsToController};
-ghost use Rattle.c_handles.specs.SeatCalls.{ControlEnables, ControlMarks, ControlTakes};
+ghost use Rattle.c_handles.specs.CallerCalls.{ControlEnables, ControlMarks, ControlTakes};
 ghost use Rattle.c_handles.specs.Status.{OK, BAD_HANDLE};
 ghost use Rattle.napi_c.specs.Rules.{ControlSteps, IsSwitched, ControlStops};
 
@@ -108,14 +108,14 @@ pub extern "C" fn fq_control_step(handle: &mut FqHandle, on: bool, threaded: boo
 
 /// Returns OK if the caller belongs to the controller's instance, otherwise BAD_HANDLE.
 #[unsafe(no_mangle)]
-pub extern "C" fn fq_control_has(handle: &mut FqHandle, seat: &mut FqHandle) -> u32
+pub extern "C" fn fq_control_has(handle: &mut FqHandle, caller: &mut FqHandle) -> u32
     ensures { result ≢ OK → result ≡ BAD_HANDLE }
 {
-    if !handle.is_set() || !seat.is_set() {
+    if !handle.is_set() || !caller.is_set() {
         return status::BAD_HANDLE;
     }
-    match (&*handle.held.as_mut(), &*seat.held.as_mut()) {
-        (Object::Controller(control), Object::Seat(seat)) if control.has(seat) => status::OK,
+    match (&*handle.held.as_mut(), &*caller.held.as_mut()) {
+        (Object::Controller(control), Object::Caller(caller)) if control.has(caller) => status::OK,
         _ => status::BAD_HANDLE,
     }
 }

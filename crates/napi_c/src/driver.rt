@@ -1,10 +1,10 @@
 //! Drivers for C.
 ghost use Rattle.std.specs.Prelude.{◌≡◌, ◌≢◌, ◌≤◌, ◌<◌, ◌↔◌, IsSome, IfOk};
-ghost use Rattle.c_handles.specs.Drivers.{failed_in, IsDriverEndRun, IsDriverInterrupt, IsNewDriver, IsDriverNext, IsDriverOpen, IsDriverShow, IsDriverStep, IsDriverStop, IsTodoReport, new_status};
+ghost use Rattle.c_handles.specs.Drivers.{failed_in, IsDriverEndRun, IsDriverInterrupt, IsNewDriver, IsDriverNext, IsDriverOpen, IsDriverSet, IsDriverShow, IsDriverStep, IsDriverStop, IsDriverTimer, IsTodoReport, new_status};
 ghost use Rattle.c_handles.specs.Handles.{DriverMakes, DriverMakesIn, IsDriverWith, LeadsToDriver};
 ghost use Rattle.c_handles.specs.Status.{OK, IN_USE, OUT_OF_MEMORY, BAD_HANDLE, BAD_SIZE};
 
-use c_handles::{FqDeviceShown, FqHandle, FqTodo, Object, drive, status};
+use c_handles::{FqDeviceSettings, FqDeviceShown, FqHandle, FqTodo, Object, drive, status};
 use driver_core::{Driver, Limits};
 use std::alloc::{AllocError, Global};
 use std::mem::size_of;
@@ -112,6 +112,43 @@ pub extern "C" fn fq_driver_interrupt(handle: &mut FqHandle, device: u32) -> u32
     }
 }
 
+/// Reports that the timer of a device expired, like `Driver::timer`.
+#[unsafe(no_mangle)]
+pub extern "C" fn fq_driver_timer(handle: &mut FqHandle, device: u32) -> u32
+    ensures { DriverMakes (IsDriverTimer device) handle.old result handle.new }
+{
+    if !handle.is_set() {
+        return status::BAD_HANDLE;
+    }
+    match handle.held.as_mut() {
+        Object::Driver(driver) => drive::timer(driver, device),
+        _ => status::BAD_HANDLE,
+    }
+}
+
+/// Sets the settings of a device, like `Driver::set`.
+#[unsafe(no_mangle)]
+pub extern "C" fn fq_driver_set_sized(
+    handle: &mut FqHandle,
+    device: u32,
+    settings: &FqDeviceSettings,
+) -> u32
+    ensures size { settings.now.size ≢ 32 → (result ≡ BAD_SIZE) × (handle.new ≡ handle.old) }
+    ensures makes { settings.now.size ≡ 32
+        → DriverMakes (IsDriverSet device settings.now) handle.old result handle.new }
+{
+    if settings.size != size_of::<FqDeviceSettings>() {
+        return status::BAD_SIZE;
+    }
+    if !handle.is_set() {
+        return status::BAD_HANDLE;
+    }
+    match handle.held.as_mut() {
+        Object::Driver(driver) => drive::set(driver, device, settings),
+        _ => status::BAD_HANDLE,
+    }
+}
+
 /// Ends the run in progress, like `Driver::end_run`.
 #[unsafe(no_mangle)]
 pub extern "C" fn fq_driver_end_run(handle: &mut FqHandle) -> u32
@@ -129,9 +166,9 @@ pub extern "C" fn fq_driver_end_run(handle: &mut FqHandle) -> u32
 /// Sets `todo` to the next action, like `Driver::next`.
 #[unsafe(no_mangle)]
 pub extern "C" fn fq_driver_next_sized(handle: &mut FqHandle, todo: &mut FqTodo) -> u32
-    ensures size { todo.old.size ≢ 64 → (result ≡ BAD_SIZE) × (todo.new ≡ todo.old)
+    ensures size { todo.old.size ≢ 72 → (result ≡ BAD_SIZE) × (todo.new ≡ todo.old)
         × (handle.new ≡ handle.old) }
-    ensures makes { todo.old.size ≡ 64
+    ensures makes { todo.old.size ≡ 72
         → DriverMakes (IsDriverNext todo.old todo.new) handle.old result handle.new }
     ensures none { result ≡ BAD_HANDLE → todo.new ≡ failed_in todo.old.size BAD_HANDLE }
 {
@@ -150,8 +187,8 @@ pub extern "C" fn fq_driver_next_sized(handle: &mut FqHandle, todo: &mut FqTodo)
 /// Reports that an action was done, like `Driver::done`.
 #[unsafe(no_mangle)]
 pub extern "C" fn fq_driver_done(handle: &mut FqHandle, todo: &FqTodo) -> u32
-    ensures size { todo.now.size ≢ 64 → (result ≡ BAD_SIZE) × (handle.new ≡ handle.old) }
-    ensures makes { todo.now.size ≡ 64
+    ensures size { todo.now.size ≢ 72 → (result ≡ BAD_SIZE) × (handle.new ≡ handle.old) }
+    ensures makes { todo.now.size ≡ 72
         → DriverMakes (IsTodoReport todo.now.number todo.now.packets todo.now.rearm)
         handle.old result handle.new }
 {
@@ -170,9 +207,9 @@ pub extern "C" fn fq_driver_done(handle: &mut FqHandle, todo: &FqTodo) -> u32
 /// Reports that an action was done, unless its number is 0, and sets `todo` to the next action, like `Driver::step`.
 #[unsafe(no_mangle)]
 pub extern "C" fn fq_driver_step_sized(handle: &mut FqHandle, todo: &mut FqTodo) -> u32
-    ensures size { todo.old.size ≢ 64 → (result ≡ BAD_SIZE) × (todo.new ≡ todo.old)
+    ensures size { todo.old.size ≢ 72 → (result ≡ BAD_SIZE) × (todo.new ≡ todo.old)
         × (handle.new ≡ handle.old) }
-    ensures makes { todo.old.size ≡ 64
+    ensures makes { todo.old.size ≡ 72
         → DriverMakes (IsDriverStep todo.old todo.new) handle.old result handle.new }
     ensures none { result ≡ BAD_HANDLE → todo.new ≡ failed_in todo.old.size BAD_HANDLE }
 {

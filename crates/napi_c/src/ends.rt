@@ -100,7 +100,7 @@ fn counts_of(at: &Object) -> Option<RxCounts>
     match at {
         Object::Ring(ring) => Some(ring.ctx.counts()),
         Object::Ctx(ctx) => Some(ctx.counts()),
-        Object::Seat(seat) => seat.counts(),
+        Object::Caller(caller) => caller.counts(),
         Object::Controller(control) => control.counts(),
         _ => None,
     }

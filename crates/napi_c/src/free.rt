@@ -12,7 +12,7 @@ fn is_freeable(body: &Object) -> bool
     ensures { result ≡ is_freeable body.now }
 {
     match body {
-        Object::Seat(seat) => matches!(seat.state, CallerState::Rests(_)),
+        Object::Caller(caller) => matches!(caller.state, CallerState::Rests(_)),
         Object::Controller(control) => matches!(control.state, ControlState::Off(_)),
         Object::List(list) => !list.is_running(),
         _ => true,

@@ -1,9 +1,9 @@
 //! The packet polling core for C: exported functions that check the preconditions of the calls that they make. Comments name
-//! the statuses of `enum fq_status` without their prefix `FQ_`. Names here call a caller of a shared instance (`fq_caller_..`)
-//! a seat.
+//! the statuses of `enum fq_status` without their prefix `FQ_`.
 #![tactic(auto)]
 
 mod attempts;
+mod caller_calls;
 mod control_calls;
 mod counts;
 mod driver;
@@ -14,7 +14,6 @@ mod list;
 mod names;
 mod ring;
 mod rules;
-mod seat_calls;
 mod serial;
 mod serial_calls;
 mod serial_control;

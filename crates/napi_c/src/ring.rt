@@ -71,11 +71,15 @@ pub extern "C" fn fq_ring_put(handle: &mut FqHandle, number: u64, bytes: u32) ->
         return status::BAD_HANDLE;
     }
     let packet = Packet { number, bytes };
-    match handle.held.as_mut() {
-        Object::Ring(ring) => ring.input.put(packet),
-        Object::In(input) => input.put(packet),
-        _ => status::BAD_HANDLE,
+    // not a `match`, which would compare a ring's kind with those of all other objects first
+    let body = handle.held.as_mut();
+    if let Object::Ring(ring) = body {
+        return ring.input.put(packet);
     }
+    if let Object::In(input) = body {
+        return input.put(packet);
+    }
+    status::BAD_HANDLE
 }
 
 /// Like `RxIn::put_all`: sets `count` to how many of the packets were put, the first ones.
@@ -146,10 +150,14 @@ pub extern "C" fn fq_ring_poll(
     if !handle.is_set() {
         return status::BAD_HANDLE;
     }
-    *count = match handle.held.as_mut() {
-        Object::Ring(ring) => ring.ctx.poll_into(weight, out),
-        Object::Ctx(ctx) => ctx.poll_into(weight, out),
-        _ => return status::BAD_HANDLE,
-    };
-    status::OK
+    let body = handle.held.as_mut();
+    if let Object::Ring(ring) = body {
+        *count = ring.ctx.poll_into(weight, out);
+        return status::OK;
+    }
+    if let Object::Ctx(ctx) = body {
+        *count = ctx.poll_into(weight, out);
+        return status::OK;
+    }
+    status::BAD_HANDLE
 }

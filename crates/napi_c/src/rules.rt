@@ -1,12 +1,12 @@
 //! What the kernel does with a shared instance in several steps: a request and a completion, each repeated while another thread
 //! interferes, the queueing of a granted instance, and the end of a poll.
 ghost use Rattle.std.specs.Prelude.{◌≡◌, ◌≢◌};
-ghost use Rattle.c_handles.specs.Endings.{LeadsToSeat};
-ghost use Rattle.c_handles.specs.Handles.{IsCallerWith, SeatDoes, SeatDoesIn, SeatStep};
-ghost use Rattle.c_handles.specs.SeatCalls.{CallerCompletes, CallerSchedules};
-ghost use Rattle.c_handles.specs.Seats.{IsGrantedCaller, IsPolling, IsResting};
+ghost use Rattle.c_handles.specs.Endings.{LeadsToCaller};
+ghost use Rattle.c_handles.specs.Handles.{IsCallerWith, AtCaller, AtCallerIn, CallerStep};
+ghost use Rattle.c_handles.specs.CallerCalls.{CallerCompletes, CallerSchedules};
+ghost use Rattle.c_handles.specs.Callers.{IsGrantedCaller, IsPolling, IsResting};
 ghost use Rattle.c_handles.specs.Status.{OK};
-ghost use Rattle.napi_c.specs.Rules.{SeatCompletes, SeatEndsFull, is_full_poll, Queues, Repeats, SeatEnds, SeatQueues};
+ghost use Rattle.napi_c.specs.Rules.{CallerFinishes, CallerEndsFull, is_full_poll, Queues, Repeats, CallerEnds, CallerQueues};
 ghost use Rattle.napi_c.specs.Serial.{NEXT_GONE};
 
 use crate::attempts::{CompleteAttempt, ScheduleAttempt, repeat};
@@ -18,13 +18,13 @@ use napi_calls::CallerState;
 /// MISSED or DISABLED; NOT_ALLOWED if the caller owns the instance; CHANGED only after 2^64 attempts.
 #[unsafe(no_mangle)]
 pub extern "C" fn fq_caller_schedule_prep(handle: &mut FqHandle) -> u32
-    ensures { SeatDoes (Repeats (SeatStep CallerSchedules)) handle.old result handle.new }
+    ensures { AtCaller (Repeats (CallerStep CallerSchedules)) handle.old result handle.new }
 {
     if !handle.is_set() {
         return status::BAD_HANDLE;
     }
     match handle.held.as_mut() {
-        Object::Seat(seat) => repeat(seat, &ScheduleAttempt),
+        Object::Caller(caller) => repeat(caller, &ScheduleAttempt),
         _ => status::BAD_HANDLE,
     }
 }
@@ -33,28 +33,28 @@ pub extern "C" fn fq_caller_schedule_prep(handle: &mut FqHandle) -> u32
 /// or AGAIN; HELD if the caller busy polls; NOT_ALLOWED if it doesn't poll; CHANGED only after 2^64 attempts.
 #[unsafe(no_mangle)]
 pub extern "C" fn fq_caller_complete_done(handle: &mut FqHandle) -> u32
-    ensures { SeatDoes (Repeats (SeatStep CallerCompletes)) handle.old result handle.new }
+    ensures { AtCaller (Repeats (CallerStep CallerCompletes)) handle.old result handle.new }
 {
     if !handle.is_set() {
         return status::BAD_HANDLE;
     }
     match handle.held.as_mut() {
-        Object::Seat(seat) => repeat(seat, &CompleteAttempt),
+        Object::Caller(caller) => repeat(caller, &CompleteAttempt),
         _ => status::BAD_HANDLE,
     }
 }
 
 // Queues an instance that the caller was granted, and returns how the poll ended for a run.
-fn queue_granted(seat: &mut CallerObject) -> u32
-    requires { IsGrantedCaller seat.old.state }
-    ensures queues { Queues seat.old result seat.new }
-    ensures rests { IsResting seat.new.state }
+fn queue_granted(caller: &mut CallerObject) -> u32
+    requires { IsGrantedCaller caller.old.state }
+    ensures queues { Queues caller.old result caller.new }
+    ensures rests { IsResting caller.new.state }
 {
-    let Some(seen) = seat.look() else {
+    let Some(seen) = caller.look() else {
         unreachable!()
     };
     let (kind, next) = queue_of(seen.flags);
-    seat.hand(kind);
+    caller.hand(kind);
     next
 }
 
@@ -62,34 +62,34 @@ fn queue_granted(seat: &mut CallerObject) -> u32
 /// which (`enum fq_next`). Returns OK; NOT_ALLOWED if the caller wasn't granted the instance.
 #[unsafe(no_mangle)]
 pub extern "C" fn fq_caller_hand_again(handle: &mut FqHandle, next: &mut u32) -> u32
-    ensures makes { SeatDoes (SeatQueues next.new) handle.old result handle.new }
+    ensures makes { AtCaller (CallerQueues next.new) handle.old result handle.new }
     ensures none { result ≢ OK → next.new ≡ NEXT_GONE }
 {
     *next = GONE;
     if !handle.is_set() {
         return status::BAD_HANDLE;
     }
-    let Object::Seat(seat) = handle.held.as_mut() else {
+    let Object::Caller(caller) = handle.held.as_mut() else {
         return status::BAD_HANDLE;
     };
-    if !matches!(seat.state, CallerState::Granted(_)) {
+    if !matches!(caller.state, CallerState::Granted(_)) {
         return status::NOT_ALLOWED;
     }
-    *next = queue_granted(seat);
+    *next = queue_granted(caller);
     status::OK
 }
 
 // CompleteAttempt the poll, and queues the instance again if a request was missed.
-fn complete(seat: &mut CallerObject, next: &mut u32) -> u32
+fn complete(caller: &mut CallerObject, next: &mut u32) -> u32
     requires { next.old ≡ NEXT_GONE }
-    ensures makes { SeatCompletes seat.old result next.new seat.new }
-    ensures rests { result ≡ OK → IsResting seat.new.state }
+    ensures makes { CallerFinishes caller.old result next.new caller.new }
+    ensures rests { result ≡ OK → IsResting caller.new.state }
     ensures none { result ≢ OK → next.new ≡ NEXT_GONE }
 {
-    match repeat(seat, &CompleteAttempt) {
+    match repeat(caller, &CompleteAttempt) {
         status::RELEASED => status::OK,
         status::AGAIN => {
-            *next = queue_granted(seat);
+            *next = queue_granted(caller);
             status::OK
         }
         other => other,
@@ -104,39 +104,39 @@ fn is_full_poll(full: bool, state: &CallerState) -> bool
 }
 
 // Ends a poll that returned its whole weight, and isn't a busy poll.
-fn end_full(seat: &mut CallerObject, next: &mut u32) -> u32
-    requires polls { IsPolling seat.old.state }
+fn end_full(caller: &mut CallerObject, next: &mut u32) -> u32
+    requires polls { IsPolling caller.old.state }
     requires gone { next.old ≡ NEXT_GONE }
-    ensures makes { SeatEndsFull seat.old result next.new seat.new }
-    ensures rests { result ≡ OK → IsResting seat.new.state }
+    ensures makes { CallerEndsFull caller.old result next.new caller.new }
+    ensures rests { result ≡ OK → IsResting caller.new.state }
     ensures none { result ≢ OK → next.new ≡ NEXT_GONE }
 {
-    let Some(seen) = seat.look() else {
+    let Some(seen) = caller.look() else {
         unreachable!()
     };
     if !stays_scheduled(true, seen.flags) {
-        return complete(seat, next);
+        return complete(caller, next);
     }
     if seen.flags.sched_threaded {
         return status::HELD;
     }
     *next = REPOLL;
-    seat.requeue()
+    caller.requeue()
 }
 
 fn end_in(at: &mut Object, full: bool, next: &mut u32) -> u32
-    ensures makes { SeatDoesIn (SeatEnds full next.new) at.old result at.new }
+    ensures makes { AtCallerIn (CallerEnds full next.new) at.old result at.new }
     ensures rests { result ≡ OK → IsCallerWith (λ s. IsResting s.state) at.new }
     ensures none { result ≢ OK → next.new ≡ NEXT_GONE }
 {
     *next = GONE;
-    let Object::Seat(seat) = at else {
+    let Object::Caller(caller) = at else {
         return status::BAD_HANDLE;
     };
-    if is_full_poll(full, &seat.state) {
-        return end_full(seat, next);
+    if is_full_poll(full, &caller.state) {
+        return end_full(caller, next);
     }
-    complete(seat, next)
+    complete(caller, next)
 }
 
 /// Ends a poll, full or not, as `__napi_poll` and its callers do, and sets `next` to how it ended (`enum fq_next`). After a full
@@ -146,8 +146,8 @@ fn end_in(at: &mut Object, full: bool, next: &mut u32) -> u32
 /// poll; CHANGED only after 2^64 attempts, and the caller still polls.
 #[unsafe(no_mangle)]
 pub extern "C" fn fq_caller_end(handle: &mut FqHandle, full: bool, next: &mut u32) -> u32
-    ensures makes { SeatDoes (SeatEnds full next.new) handle.old result handle.new }
-    ensures rests { result ≡ OK → LeadsToSeat (λ s. IsResting s.state) handle.new.held.body }
+    ensures makes { AtCaller (CallerEnds full next.new) handle.old result handle.new }
+    ensures rests { result ≡ OK → LeadsToCaller (λ s. IsResting s.state) handle.new.held.body }
     ensures none { result ≢ OK → next.new ≡ NEXT_GONE }
 {
     if !handle.is_set() {

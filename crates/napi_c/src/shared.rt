@@ -9,7 +9,7 @@ ghost use Rattle.c_handles.specs.declared.body.Object.TheVariants as variant;
 ghost use Rattle.c_handles.specs.declared.body.Ring.{Ring};
 ghost use Rattle.c_handles.specs.Rings.{HasInput, LeadsTo, LeadsToItsInput};
 ghost use Rattle.napi_c.specs.Objects.{is_ring, LeadsToOther};
-ghost use Rattle.napi_c.specs.Shared.{AreFree, AreFresh, AreOfOne, AreUnthreaded, IsFree, IsInstanceOver, IsUnthreaded, LeadsToNewSeat};
+ghost use Rattle.napi_c.specs.Shared.{AreFree, AreFresh, AreOfOne, AreUnthreaded, IsFree, IsInstanceOver, IsUnthreaded, LeadsToNewCaller};
 ghost use Rattle.c_handles.specs.Status.{OK, IN_USE, BAD_COUNT, BAD_HANDLE, OUT_OF_MEMORY};
 
 use c_handles::{
@@ -76,27 +76,27 @@ fn reserve(alloc: Global, handle: &mut FqHandle) -> bool {
 }
 
 // Allocates the memory for all handles, or for none.
-fn reserve_all(alloc: Global, control: &mut FqHandle, seats: &mut [FqHandle]) -> bool
-    ensures { result ≡ false → IsFree control.new × AreFree seats.new }
+fn reserve_all(alloc: Global, control: &mut FqHandle, handles: &mut [FqHandle]) -> bool
+    ensures { result ≡ false → IsFree control.new × AreFree handles.new }
 {
     let mut is_there = reserve(alloc, control);
-    for seat in seats.iter_mut() {
-        is_there = is_there && reserve(alloc, seat);
+    for handle in handles.iter_mut() {
+        is_there = is_there && reserve(alloc, handle);
     }
     if !is_there {
-        clear(alloc, control, seats);
+        clear(alloc, control, handles);
     }
     is_there
 }
 
 // Frees the objects of these handles.
-fn clear(alloc: Global, control: &mut FqHandle, seats: &mut [FqHandle])
+fn clear(alloc: Global, control: &mut FqHandle, handles: &mut [FqHandle])
     ensures control { IsFree control.new }
-    ensures seats { AreFree seats.new }
+    ensures handles { AreFree handles.new }
 {
     let _control = control.take(alloc);
-    for seat in seats.iter_mut() {
-        let _seat = seat.take(alloc);
+    for handle in handles.iter_mut() {
+        let _taken = handle.take(alloc);
     }
 }
 
@@ -112,26 +112,26 @@ fn fill(alloc: Global, handle: &mut FqHandle, body: Object) -> bool
     true
 }
 
-fn give_seat(
+fn give_caller(
     alloc: Global,
     shared: &Arc<Shared, Global>,
     caller: Caller,
     handle: &mut FqHandle,
 ) -> bool
-    requires seat { IsSeatOf (arc_value shared.now).napi caller.pass }
+    requires belongs { IsSeatOf (arc_value shared.now).napi caller.pass }
     requires new { IsUnthreaded (own_list caller.pass) (state_shown caller.pass) }
-    ensures { result ≡ true → LeadsToNewSeat (arc_value shared.now).napi handle.new }
+    ensures { result ≡ true → LeadsToNewCaller (arc_value shared.now).napi handle.new }
 {
     let Ok(napi) = Arc::try_clone(shared) else {
         caller.abandon();
         return false;
     };
-    let seat = CallerObject {
+    let object = CallerObject {
         napi,
         state: CallerState::Rests(caller),
         answers: FqAnswers::none(),
     };
-    fill(alloc, handle, Object::Seat(seat))
+    fill(alloc, handle, Object::Caller(object))
 }
 
 fn abandon_all(mut callers: Vec<Caller>) {
@@ -141,22 +141,22 @@ fn abandon_all(mut callers: Vec<Caller>) {
     callers.destroy_empty();
 }
 
-fn give_seats(
+fn give_callers(
     alloc: Global,
     shared: &Arc<Shared, Global>,
     mut callers: Vec<Caller>,
     handles: &mut [FqHandle],
 ) -> bool
-    requires seats { (k : ℕ) (c : Caller) → slice_get callers.items k ≡ Some c
+    requires handles { (k : ℕ) (c : Caller) → slice_get callers.items k ≡ Some c
         → IsSeatOf (arc_value shared.now).napi c.pass }
     requires new { (k : ℕ) (c : Caller) → slice_get callers.items k ≡ Some c
         → IsUnthreaded (own_list c.pass) (state_shown c.pass) }
-    ensures { result ≡ true → All (LeadsToNewSeat (arc_value shared.now).napi) handles.new }
+    ensures { result ≡ true → All (LeadsToNewCaller (arc_value shared.now).napi) handles.new }
 {
     let mut given = true;
     for handle in handles.iter_mut() {
         given = match callers.pop() {
-            Some(caller) => give_seat(alloc, shared, caller, handle) && given,
+            Some(caller) => give_caller(alloc, shared, caller, handle) && given,
             None => false,
         };
     }
@@ -164,17 +164,17 @@ fn give_seats(
     given
 }
 
-fn give(alloc: Global, opened: Opened, control: &mut FqHandle, seats: &mut [FqHandle]) -> u32
-    ensures made { result ≡ OK → AreOfOne control.new seats.new }
-    ensures fresh { result ≡ OK → AreFresh seats.new }
-    ensures unthreaded { result ≡ OK → AreUnthreaded control.new seats.new }
+fn give(alloc: Global, opened: Opened, control: &mut FqHandle, handles: &mut [FqHandle]) -> u32
+    ensures made { result ≡ OK → AreOfOne control.new handles.new }
+    ensures fresh { result ≡ OK → AreFresh handles.new }
+    ensures unthreaded { result ≡ OK → AreUnthreaded control.new handles.new }
     ensures over { result ≡ OK
         → IsInstanceOver (first_of_instance (arc_value opened.napi).napi) control.new }
-    ensures memory { result ≡ OUT_OF_MEMORY → IsFree control.new × AreFree seats.new }
+    ensures memory { result ≡ OUT_OF_MEMORY → IsFree control.new × AreFree handles.new }
     ensures only { result ≢ OK → result ≡ OUT_OF_MEMORY }
 {
     let Opened { napi, callers, off } = opened;
-    let given = give_seats(alloc, &napi, callers, seats);
+    let given = give_callers(alloc, &napi, callers, handles);
     let controller = Controller {
         napi,
         state: ControlState::Off(off),
@@ -182,17 +182,17 @@ fn give(alloc: Global, opened: Opened, control: &mut FqHandle, seats: &mut [FqHa
     if fill(alloc, control, Object::Controller(controller)) && given {
         return status::OK;
     }
-    clear(alloc, control, seats);
+    clear(alloc, control, handles);
     status::OUT_OF_MEMORY
 }
 
 // Makes an instance over the ring of a handle; the handle keeps the ring's input.
-fn share(alloc: Global, body: &mut Object, control: &mut FqHandle, seats: &mut [FqHandle]) -> u32
-    requires { (2 ≤ length seats.old) × (length seats.old ≤ 8) }
-    ensures made { result ≡ OK → AreOfOne control.new seats.new }
-    ensures fresh { result ≡ OK → AreFresh seats.new }
-    ensures unthreaded { result ≡ OK → AreUnthreaded control.new seats.new }
-    ensures memory { result ≡ OUT_OF_MEMORY → IsFree control.new × AreFree seats.new }
+fn share(alloc: Global, body: &mut Object, control: &mut FqHandle, handles: &mut [FqHandle]) -> u32
+    requires { (2 ≤ length handles.old) × (length handles.old ≤ 8) }
+    ensures made { result ≡ OK → AreOfOne control.new handles.new }
+    ensures fresh { result ≡ OK → AreFresh handles.new }
+    ensures unthreaded { result ≡ OK → AreUnthreaded control.new handles.new }
+    ensures memory { result ≡ OUT_OF_MEMORY → IsFree control.new × AreFree handles.new }
     ensures only { (r : Ring) → body.old ≡ variant.Ring r → result ≢ OK → result ≡ OUT_OF_MEMORY }
     ensures other { is_ring body.old ≡ false → result ≡ BAD_HANDLE }
     ensures input { (r : Ring) → body.old ≡ variant.Ring r → result ≡ OK
@@ -202,98 +202,98 @@ fn share(alloc: Global, body: &mut Object, control: &mut FqHandle, seats: &mut [
     ensures left { (r : Ring) → body.old ≡ variant.Ring r → result ≡ OUT_OF_MEMORY
         → HasInput r.input body.new }
     ensures kept { result ≢ OK → result ≢ OUT_OF_MEMORY → (control.new ≡ control.old)
-        × (seats.new ≡ seats.old) × (body.new ≡ body.old) }
+        × (handles.new ≡ handles.old) × (body.new ≡ body.old) }
 {
     // checked before anything is allocated
     if !matches!(&*body, Object::Ring(_)) {
         return status::BAD_HANDLE;
     }
-    if !reserve_all(alloc, control, seats) {
+    if !reserve_all(alloc, control, handles) {
         return status::OUT_OF_MEMORY;
     }
     let Object::Ring(ring) = mem::replace(body, Object::Gone) else {
         unreachable!()
     };
-    match open(alloc, ring, seats.len() as u32) {
+    match open(alloc, ring, handles.len() as u32) {
         Ok((input, opened)) => {
             *body = Object::In(input);
-            give(alloc, opened, control, seats)
+            give(alloc, opened, control, handles)
         }
         Err(ring) => {
             *body = Object::Ring(ring);
-            clear(alloc, control, seats);
+            clear(alloc, control, handles);
             status::OUT_OF_MEMORY
         }
     }
 }
 
 /// Like `Napi::new`, with the context of a ring. After it, `input` has only the ring's input end, `control` has the controller,
-/// and `seats` (2 to 8 handles) have the callers. If an allocation fails, nothing changes.
+/// and `handles` (2 to 8 handles) have the callers. If an allocation fails, nothing changes.
 #[unsafe(no_mangle)]
 pub extern "C" fn fq_shared_new(
     alloc: Global,
     input: &mut FqHandle,
     control: &mut FqHandle,
-    seats: &mut [FqHandle],
+    handles: &mut [FqHandle],
 ) -> u32
-    ensures made { result ≡ OK → AreOfOne control.new seats.new }
-    ensures fresh { result ≡ OK → AreFresh seats.new }
-    ensures unthreaded { result ≡ OK → AreUnthreaded control.new seats.new }
+    ensures made { result ≡ OK → AreOfOne control.new handles.new }
+    ensures fresh { result ≡ OK → AreFresh handles.new }
+    ensures unthreaded { result ≡ OK → AreUnthreaded control.new handles.new }
     ensures input { (r : Ring) → LeadsTo input.old r → result ≡ OK
         → input.new.held.body ≡ Some (variant.In r.input) }
     ensures over { (r : Ring) → LeadsTo input.old r → result ≡ OK
         → IsInstanceOver r.ctx control.new }
     ensures kept { result ≢ OK → result ≢ OUT_OF_MEMORY → (control.new ≡ control.old)
-        × (seats.new ≡ seats.old) × (input.new.held.body ≡ input.old.held.body) }
+        × (handles.new ≡ handles.old) × (input.new.held.body ≡ input.old.held.body) }
     ensures left { (r : Ring) → LeadsTo input.old r → result ≡ OUT_OF_MEMORY
         → LeadsToItsInput r.input input.new.held.body }
-    ensures memory { result ≡ OUT_OF_MEMORY → IsFree control.new × AreFree seats.new }
-    ensures in_use { ¬ (IsFree control.old × AreFree seats.old) → result ≡ IN_USE }
-    ensures count { IsFree control.old → AreFree seats.old
-        → (length seats.old < 2) ⊎ (8 < length seats.old) → result ≡ BAD_COUNT }
-    ensures only { (r : Ring) → LeadsTo input.old r → IsFree control.old → AreFree seats.old
-        → (2 ≤ length seats.old) × (length seats.old ≤ 8)
+    ensures memory { result ≡ OUT_OF_MEMORY → IsFree control.new × AreFree handles.new }
+    ensures in_use { ¬ (IsFree control.old × AreFree handles.old) → result ≡ IN_USE }
+    ensures count { IsFree control.old → AreFree handles.old
+        → (length handles.old < 2) ⊎ (8 < length handles.old) → result ≡ BAD_COUNT }
+    ensures only { (r : Ring) → LeadsTo input.old r → IsFree control.old → AreFree handles.old
+        → (2 ≤ length handles.old) × (length handles.old ≤ 8)
         → (result ≡ OK) ⊎ (result ≡ OUT_OF_MEMORY) }
-    ensures other { LeadsToOther is_ring input.old → IsFree control.old → AreFree seats.old
-        → (2 ≤ length seats.old) × (length seats.old ≤ 8) → result ≡ BAD_HANDLE }
+    ensures other { LeadsToOther is_ring input.old → IsFree control.old → AreFree handles.old
+        → (2 ≤ length handles.old) × (length handles.old ≤ 8) → result ≡ BAD_HANDLE }
 {
-    if control.is_set() || !are_free(seats) {
+    if control.is_set() || !are_free(handles) {
         return status::IN_USE;
     }
-    if seats.len() < 2 || 8 < seats.len() {
+    if handles.len() < 2 || 8 < handles.len() {
         return status::BAD_COUNT;
     }
     if !input.is_set() {
         return status::BAD_HANDLE;
     }
-    share(alloc, input.held.as_mut(), control, seats)
+    share(alloc, input.held.as_mut(), control, handles)
 }
 
 /// Like `Napi::new`, but without a ring, for a card that the driver polls itself: `fq_caller_poll` returns no packets. `control`
-/// and `seats` are as in [`fq_shared_new`].
+/// and `handles` are as in [`fq_shared_new`].
 #[unsafe(no_mangle)]
 pub extern "C" fn fq_shared_bare(
     alloc: Global,
     control: &mut FqHandle,
-    seats: &mut [FqHandle],
+    handles: &mut [FqHandle],
 ) -> u32
-    ensures made { result ≡ OK → AreOfOne control.new seats.new }
-    ensures fresh { result ≡ OK → AreFresh seats.new }
-    ensures unthreaded { result ≡ OK → AreUnthreaded control.new seats.new }
+    ensures made { result ≡ OK → AreOfOne control.new handles.new }
+    ensures fresh { result ≡ OK → AreFresh handles.new }
+    ensures unthreaded { result ≡ OK → AreUnthreaded control.new handles.new }
     ensures kept { result ≢ OK → result ≢ OUT_OF_MEMORY → (control.new ≡ control.old)
-        × (seats.new ≡ seats.old) }
-    ensures memory { result ≡ OUT_OF_MEMORY → IsFree control.new × AreFree seats.new }
-    ensures in_use { ¬ (IsFree control.old × AreFree seats.old) → result ≡ IN_USE }
-    ensures count { IsFree control.old → AreFree seats.old
-        → (length seats.old < 2) ⊎ (8 < length seats.old) → result ≡ BAD_COUNT }
-    ensures only { IsFree control.old → AreFree seats.old
-        → (2 ≤ length seats.old) × (length seats.old ≤ 8)
+        × (handles.new ≡ handles.old) }
+    ensures memory { result ≡ OUT_OF_MEMORY → IsFree control.new × AreFree handles.new }
+    ensures in_use { ¬ (IsFree control.old × AreFree handles.old) → result ≡ IN_USE }
+    ensures count { IsFree control.old → AreFree handles.old
+        → (length handles.old < 2) ⊎ (8 < length handles.old) → result ≡ BAD_COUNT }
+    ensures only { IsFree control.old → AreFree handles.old
+        → (2 ≤ length handles.old) × (length handles.old ≤ 8)
         → (result ≡ OK) ⊎ (result ≡ OUT_OF_MEMORY) }
 {
-    if control.is_set() || !are_free(seats) {
+    if control.is_set() || !are_free(handles) {
         return status::IN_USE;
     }
-    if seats.len() < 2 || 8 < seats.len() {
+    if handles.len() < 2 || 8 < handles.len() {
         return status::BAD_COUNT;
     }
     let Ok((end, ctx)) = ring(alloc, 1) else {
@@ -304,6 +304,6 @@ pub extern "C" fn fq_shared_bare(
         alloc,
         &mut Object::Ring(Ring { input, ctx }),
         control,
-        seats,
+        handles,
     )
 }

@@ -49,6 +49,7 @@ pub(crate) fn hand_on<L: PollList>(next: Next, id: u32, list: &mut L, repoll: &m
 }
 
 // Puts the numbers that the run holds back on the list, and returns its report.
+#[inline(always)]
 fn give_back<L: PollList>(run: &PollingRun, list: &mut L) -> RunReport
     requires room { L.has_room list.old (length run.now.own + length run.now.repoll) }
     ensures back { (came : List _)
@@ -135,6 +136,7 @@ impl PollingRun {
 
     /// Returns the number to poll next, or `None` if the run is over: the work reaches the budget, or the number of polls the
     /// window, or all entries are polled and a repoll is pending or the list is empty.
+    #[inline(always)]
     pub fn next<L: PollList>(&mut self, list: &mut L) -> Option<u32>
         requires rests { self.old.asked ≡ None }
         requires room { L.has_room list.old (held self.old) }
@@ -194,6 +196,7 @@ impl PollingRun {
 
     /// Reports the outcome of the poll of the number that [`next`](PollingRun::next) returned last; its work is at most the
     /// weight.
+    #[inline(always)]
     pub fn polled<L: PollList>(&mut self, list: &mut L, once: Once)
         requires asked { is_some self.old.asked ≡ true }
         requires work { once.work ≤ self.old.weight }
@@ -245,6 +248,7 @@ impl PollingRun {
     }
 
     /// Like [`end`](PollingRun::end), for a run behind a reference, which holds nothing afterwards.
+    #[inline(always)]
     pub fn finish<L: PollList>(&mut self, list: &mut L) -> RunReport
         requires rests { self.old.asked ≡ None }
         requires room { L.has_room list.old (held self.old) }

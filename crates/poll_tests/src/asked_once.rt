@@ -1,8 +1,8 @@
 //! How often a run asks its gate: exactly once before each act, once as each poller starts, and not at all before that.
 
-use crate::threads::{settings_of, text_of};
+use crate::threads::{replayed, text_of};
 use poll_engine::Gate;
-use replay::{ReplayFault, replay_threads};
+use replay::ReplayFault;
 use std::sync::atomic::{AtomicU32, Ordering};
 use std::test::Fail;
 
@@ -44,6 +44,18 @@ impl CountsEach {
     }
 }
 
+impl CountsEach {
+    // Returns how often it was asked for each act of both devices, for each start, and for anything else.
+    fn asked(&self) -> ([u32; 6], [u32; 6], [u32; 5], u32) {
+        (
+            loaded(&self.first),
+            loaded(&self.second),
+            loaded(&self.starts),
+            self.others.load(Ordering::SeqCst),
+        )
+    }
+}
+
 impl Gate for CountsEach {
     fn pass(&self, worker: u32, act: u32) -> bool {
         let count = self.count_of(worker, act).unwrap_or(&self.others);
@@ -52,12 +64,12 @@ impl Gate for CountsEach {
     }
 }
 
-fn asked<const N: usize>(counts: &[AtomicU32; N]) -> [u32; N] {
-    let mut asked = [0; N];
-    for (place, count) in asked.iter_mut().zip(counts) {
+fn loaded<const N: usize>(counts: &[AtomicU32; N]) -> [u32; N] {
+    let mut found = [0; N];
+    for (place, count) in found.iter_mut().zip(counts) {
         *place = count.load(Ordering::SeqCst);
     }
-    asked
+    found
 }
 
 // Each row but an open row is an act. Only device 2 gets a thread. A third poller has no device, and asks too.
@@ -71,16 +83,11 @@ fn each_act_and_each_start_is_asked_once(rt: HostRuntime) -> Result<(), Fail> {
     ];
     let text = text_of(rt.alloc(), &rows)?;
     for pollers in 1..=3 {
-        let settings = settings_of(pollers, 300, 64, 1024)?;
         let gate = CountsEach::new();
-        let mut report = Vec::new(rt.alloc());
-        let text = text.as_bytes();
-        replay_threads(&rt, rt.alloc(), text, &mut report, &settings, &gate)?;
-        assert_eq!(rt; asked(&gate.first), [1; 6]);
-        assert_eq!(rt; asked(&gate.second), [1; 6]);
+        let (polled, _report) = replayed(&rt, rt.alloc(), text.as_str(), pollers, &gate)?;
+        assert!(rt; polled.is_ok());
         let starts = [1, u32::from(pollers > 1), u32::from(pollers > 2), 0, 1];
-        assert_eq!(rt; asked(&gate.starts), starts);
-        assert_eq!(rt; gate.others.load(Ordering::SeqCst), 0);
+        assert_eq!(rt; gate.asked(), ([1; 6], [1; 6], starts, 0));
     }
     Ok(())
 }
@@ -89,17 +96,14 @@ fn each_act_and_each_start_is_asked_once(rt: HostRuntime) -> Result<(), Fail> {
 #[test]
 fn a_ring_is_too_small_before_any_gate(rt: HostRuntime) -> Result<(), Fail> {
     let text = text_of(rt.alloc(), &[(1, "0,1,open,1\n"), (2, "1,1,rx,100\n")])?;
-    let settings = settings_of(1, 300, 64, 1024)?;
     let gate = CountsEach::new();
-    let mut report = Vec::new(rt.alloc());
-    let text = text.as_bytes();
-    let done = replay_threads(&rt, rt.alloc(), text, &mut report, &settings, &gate);
+    let (polled, _report) = replayed(&rt, rt.alloc(), text.as_str(), 1, &gate)?;
     let small = ReplayFault::RingTooSmall {
         device: 1,
         needs: 2,
     };
-    assert_eq!(rt; done.err(), Some(small));
-    assert_eq!(rt; (asked(&gate.first), asked(&gate.starts)), ([0; 6], [0; 5]));
+    assert_eq!(rt; polled.err(), Some(small));
+    assert_eq!(rt; gate.asked(), ([0; 6], [0; 6], [0; 5], 0));
     Ok(())
 }
 
@@ -123,13 +127,10 @@ impl Gate for CountsShut {
 #[test]
 fn a_shut_gate_is_asked_once(rt: HostRuntime) -> Result<(), Fail> {
     let text = text_of(rt.alloc(), &[(1, "0,1,open,50\n"), (3, "2,1,rx,100\n")])?;
-    let settings = settings_of(1, 300, 64, 1024)?;
     let gate = CountsShut { asked: zero() };
-    let mut report = Vec::new(rt.alloc());
-    let text = text.as_bytes();
-    let done = replay_threads(&rt, rt.alloc(), text, &mut report, &settings, &gate);
-    assert_eq!(rt; done.err(), Some(ReplayFault::GateShut));
-    assert!(rt; report.is_empty());
-    assert_eq!(rt; gate.asked.load(Ordering::SeqCst), 1);
+    let (polled, report) = replayed(&rt, rt.alloc(), text.as_str(), 1, &gate)?;
+    assert_eq!(rt; polled.err(), Some(ReplayFault::GateShut));
+    let asked = gate.asked.load(Ordering::SeqCst);
+    assert_eq!(rt; (report.len(), asked), (0, 1));
     Ok(())
 }

@@ -1,13 +1,15 @@
 //! A test with a gate at which two devices meet at each of their acts.
 
-use crate::threads::{settings_of, text_of};
+use crate::threads::{replayed, text_of};
 use poll_engine::Gate;
-use replay::replay_threads;
 use std::sync::atomic::{AtomicU64, Ordering};
 use std::test::Fail;
 use std::thread;
 
 const ACTS: u32 = 50;
+
+const REPORT: &str =
+    "device 1 arrived 50 bytes 5000\ndevice 2 arrived 50 bytes 5000\ntotal devices 2\n";
 
 /// A gate that lets devices 1 and 2 continue at an act only after the other one has reached its own act with that number.
 #[derive(Drop)]
@@ -53,27 +55,17 @@ fn devices_meet_at_each_of_50_acts(rt: HostRuntime) -> Result<(), Fail> {
     ];
     let text = text_of(rt.alloc(), &rows)?;
     for pollers in [1, 2, 8] {
-        let settings = settings_of(pollers, 300, 64, 1024)?;
         let gate = MeetsAtEachAct {
             came: [AtomicU64::new(0), AtomicU64::new(0)],
         };
-        let mut report = Vec::new(rt.alloc());
-        let polled = replay_threads(
-            &rt,
-            rt.alloc(),
-            text.as_bytes(),
-            &mut report,
-            &settings,
-            &gate,
-        )?;
-        assert_eq!(rt; polled.len(), 2);
-        assert_eq!(rt;
-            report.as_slice(),
-            b"device 1 arrived 50 bytes 5000\ndevice 2 arrived 50 bytes 5000\ntotal devices 2\n".as_slice()
-        );
-        for came in &gate.came {
-            assert_eq!(rt; came.load(Ordering::SeqCst), (1u64 << ACTS) - 1);
-        }
+        let (polled, report) = replayed(&rt, rt.alloc(), text.as_str(), pollers, &gate)?;
+        assert_eq!(rt; polled?.len(), 2);
+        assert_eq!(rt; report.as_slice(), REPORT.as_bytes());
+        let came = [
+            gate.came[0].load(Ordering::SeqCst),
+            gate.came[1].load(Ordering::SeqCst),
+        ];
+        assert_eq!(rt; came, [(1u64 << ACTS) - 1; 2]);
     }
     Ok(())
 }

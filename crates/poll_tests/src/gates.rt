@@ -199,14 +199,22 @@ fn two(alloc: Global, packets: u64, thread: bool) -> Result<Vec<Station<ActList>
     with(stations, 1, 1000, thread, first)
 }
 
-// Checks the totals of each device's ring: the packets put, those polled plus those left, and the bytes of all.
-fn add_totals(rt: &impl Abort, done: &[Finished<ActList>], packets: u64) {
+// Checks how many devices ended, and the totals of each one's ring: the packets put, those polled plus those left, and the bytes
+// of all. Returns how many are left.
+fn add_totals(rt: &impl Abort, done: &[Finished<ActList>], devices: usize, packets: u64) -> u64 {
+    assert_eq!(rt; done.len(), devices);
+    let mut left = 0u64;
     for finished in done {
         let totals = finished.totals;
-        assert_eq!(rt; totals.put, packets);
-        assert_eq!(rt; totals.polled.saturating_add(totals.left), packets);
-        assert_eq!(rt; totals.bytes, packets.saturating_mul(100));
+        let found = [
+            totals.put,
+            totals.polled.saturating_add(totals.left),
+            totals.bytes,
+        ];
+        assert_eq!(rt; found, [packets, packets, packets.saturating_mul(100)]);
+        left = left.saturating_add(totals.left);
     }
+    left
 }
 
 // the last disable of a worker waits for the polls that its packets requested
@@ -215,11 +223,7 @@ fn what_was_put_is_polled(rt: HostRuntime) -> Result<(), Fail> {
     for thread in [false, true] {
         let stations = two(rt.alloc(), 63, thread)?;
         let done = run(&rt, rt.alloc(), stations, 1, &OpenGate)?;
-        assert_eq!(rt; done.len(), 2);
-        for finished in done {
-            let totals = finished.totals;
-            assert_eq!(rt; (totals.put, totals.polled, totals.left), (63, 63, 0));
-        }
+        assert_eq!(rt; add_totals(&rt, done.as_slice(), 2, 63), 0);
     }
     Ok(())
 }
@@ -237,7 +241,7 @@ fn threads_run_side_by_side(rt: HostRuntime) -> Result<(), Fail> {
         let gate = Together::new(first, second);
         let stations = two(rt.alloc(), 50, true)?;
         let done = run(&rt, rt.alloc(), stations, 2, &gate)?;
-        add_totals(&rt, done.as_slice(), 50);
+        add_totals(&rt, done.as_slice(), 2, 50);
     }
     Ok(())
 }
@@ -253,36 +257,31 @@ fn a_gate_shuts_the_run(rt: HostRuntime) -> Result<(), Fail> {
     Ok(())
 }
 
-// each error has its number and its text
-#[test]
-fn faults_are_told(rt: HostRuntime) -> Result<(), Fail> {
-    for (fault, number, text) in [
-        (WorkFault::OutOfMemory, 1, "work fault 1 OutOfMemory"),
-        (WorkFault::GateShut, 2, "work fault 2 GateShut"),
-        (WorkFault::SpawnFailed, 3, "work fault 3 SpawnFailed"),
-    ] {
-        assert_eq!(rt; fault.number(), number);
-        assert_eq!(rt; format!(in rt.alloc(); "{fault}")?.as_str(), text);
-    }
-    Ok(())
+// Returns a device that is disabled after its packet; `thread` says whether it has its own thread.
+fn disabling(alloc: Global, thread: bool) -> Result<Vec<Station<ActList>>, AllocError>
+    ensures all { IfOk result (λ v. All IsStation v.items) }
+    ensures numbers { IfOk result (λ v. numbers_of v.items ≡ 1 ∷ []) }
+{
+    let mut acts = vec![in alloc; Act::SetThreaded(thread)]?;
+    receive(&mut acts, 1)?;
+    acts.push(Act::Disable)?;
+    acts.push(Act::Nothing)?;
+    with(Vec::new(alloc), 1, 4, thread, acts)
 }
 
 // a packet arrives and the device is disabled while its poller waits at the gate: the disable waits for the poll
 #[test]
 fn a_disable_waits_for_a_poller_at_the_gate(rt: HostRuntime) -> Result<(), Fail> {
     for (poller, thread) in [(100, false), (201, true)] {
-        let mut acts = vec![in rt.alloc(); Act::SetThreaded(thread)]?;
-        receive(&mut acts, 1)?;
-        acts.push(Act::Disable)?;
-        acts.push(Act::Nothing)?;
-        let stations = with(Vec::new(rt.alloc()), 1, 4, thread, acts)?;
-        let gate = HoldsPoller::new(poller, 1, 2);
-        let done = run(&rt, rt.alloc(), stations, 1, &gate)?;
-        assert_eq!(rt; done.len(), 1);
-        for finished in done {
-            let totals = finished.totals;
-            assert_eq!(rt; (totals.put, totals.polled, totals.left), (1, 1, 0));
-        }
+        let stations = disabling(rt.alloc(), thread)?;
+        let done = run(
+            &rt,
+            rt.alloc(),
+            stations,
+            1,
+            &HoldsPoller::new(poller, 1, 2),
+        )?;
+        assert_eq!(rt; add_totals(&rt, done.as_slice(), 1, 1), 0);
     }
     Ok(())
 }
@@ -301,10 +300,7 @@ impl Gate for ShutsPoller {
 #[test]
 fn a_poller_goes_on_behind_a_shut_gate(rt: HostRuntime) -> Result<(), Fail> {
     for (poller, thread) in [(100, false), (201, true)] {
-        let mut acts = vec![in rt.alloc(); Act::SetThreaded(thread)]?;
-        receive(&mut acts, 1)?;
-        acts.push(Act::Disable)?;
-        let stations = with(Vec::new(rt.alloc()), 1, 4, thread, acts)?;
+        let stations = disabling(rt.alloc(), thread)?;
         let gate = ShutsPoller(HoldsPoller::new(poller, 1, 2));
         let done = run(&rt, rt.alloc(), stations, 1, &gate);
         assert!(rt; matches!(done, Err(WorkFault::GateShut)));

@@ -9,6 +9,8 @@ mod at_each_act;
 #[cfg(test)]
 mod counts;
 #[cfg(test)]
+mod faults;
+#[cfg(test)]
 mod gates;
 #[cfg(test)]
 mod listing;

@@ -3,7 +3,7 @@
 ghost use Rattle.std.specs.Prelude.{◌≡◌, [], ◌∷◌, IfOk};
 ghost use Rattle.poll_engine.specs.SharedLists.{IsInOf, IsNewList, in_hand, pushed_by};
 
-use poll_engine::{ListFault, ListIn, PollList, SharedList, SoftList, shared_list};
+use poll_engine::{ListIn, PollList, SharedList, SoftList, shared_list};
 use std::alloc::Global;
 use std::sync::Wait;
 use std::test::Fail;
@@ -49,23 +49,6 @@ fn a_poller_never_waits_for_itself(rt: HostRuntime) -> Result<(), Fail> {
     assert!(rt; spliced(&mut list).ids().iter().copied().eq(0..64u32));
     assert_eq!(rt; spliced(&mut list).ids(), [64].as_slice());
     assert!(rt; spliced(&mut list).is_empty());
-    Ok(())
-}
-
-#[test]
-fn faults_have_numbers_and_texts(rt: HostRuntime) -> Result<(), Fail> {
-    for (fault, number, text) in [
-        (
-            ListFault::BadSize,
-            1,
-            "the count of pushers is out of range",
-        ),
-        (ListFault::OutOfMemory, 2, "out of memory"),
-        (ListFault::NotAll, 3, "ends of the list are missing"),
-    ] {
-        assert_eq!(rt; fault.number(), number);
-        assert_eq!(rt; format!(in rt.alloc(); "{fault}")?.as_str(), text);
-    }
     Ok(())
 }
 

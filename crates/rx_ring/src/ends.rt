@@ -6,6 +6,7 @@ ghost use Rattle.rtrb.specs.Ring.{sent, received, known_items, known_free, produ
 ghost use Rattle.rx_ring.specs.ReceiveRing.{NAPI_POLL_WEIGHT, capped, bytes_of};
 
 use crate::packet::{Batch, MAX_WEIGHT, Packet, RxCounts, bytes_in};
+use core::mem::replace_with;
 use rtrb::{Consumer, Producer, PushError};
 
 /// The producer's end, to which an interrupt handler puts packets. It can be sent to another thread.
@@ -63,6 +64,7 @@ impl RxIn {
     /// caller may put the others later.
     ///
     /// Which packets fit is as for [`put`](RxIn::put); the poll's end sees all of them at once.
+    #[inline(always)]
     pub fn put_all(&mut self, packets: &[Packet]) -> usize
         ensures ring { SameIn self.old self.new }
         ensures put { put_list self.new ≡ put_list self.old ++ take result packets.now }
@@ -109,6 +111,7 @@ impl RxCtx {
 
     /// Like [`poll`](RxCtx::poll), into an array that has room for at least `weight` packets: it moves the packets into the first
     /// elements, and returns how many these are. The array's other elements stay as they are.
+    #[inline(always)]
     pub fn poll_into(&mut self, weight: usize, packets: &mut [Packet]) -> usize
         requires weight { (1 ≤ weight) × (weight ≤ NAPI_POLL_WEIGHT) }
         requires room { weight ≤ length packets.old }
@@ -136,6 +139,7 @@ impl RxCtx {
 impl PollEnd {
     ghost use Rattle.std.specs.Prelude.{◌≡◌, ◌+◌, ◌≤◌, ◌++◌, length, take, drop, false};
     ghost use Rattle.rx_ring.specs.Ends.{Gives};
+    ghost use Rattle.rx_ring.specs.Taking.{TakesKnown};
 
     fn poll(&mut self, weight: usize, batch: &mut Batch) -> usize
         requires { (1 ≤ weight) × (weight ≤ NAPI_POLL_WEIGHT) }
@@ -144,10 +148,10 @@ impl PollEnd {
     {
         let count = due(&mut self.consumer, self.mark, weight);
         resize(batch, count);
-        self.take(batch.as_mut_slice());
-        count
+        self.take(batch.as_mut_slice())
     }
 
+    #[inline(never)]
     fn poll_into(&mut self, weight: usize, packets: &mut [Packet]) -> usize
         requires weight { (1 ≤ weight) × (weight ≤ NAPI_POLL_WEIGHT) }
         requires room { weight ≤ length packets.old }
@@ -156,64 +160,94 @@ impl PollEnd {
         ensures others { drop result packets.new ≡ drop result packets.old }
     {
         let count = due(&mut self.consumer, self.mark, weight);
-        self.take(&mut packets[..count]);
-        count
+        if count == 1 {
+            return self.take(&mut packets[..1]);
+        }
+        self.take_burst(&mut packets[..count])
     }
 
-    // A poll that takes as many packets as the slice has elements.
-    fn take(&mut self, packets: &mut [Packet])
+    // The same as `take`, as a function of its own: a burst needs more registers than a single packet.
+    #[inline(never)]
+    fn take_burst(&mut self, packets: &mut [Packet]) -> usize
         requires known { length packets.old ≤ length (known_items self.old.consumer) }
         requires room { length packets.old ≤ NAPI_POLL_WEIGHT }
-        ensures ring { SameConsumer self.old.consumer self.new.consumer }
-        ensures taken { packets.new ≡ take (length packets.old) (known_items self.old.consumer) }
-        ensures received { received self.new.consumer
-            ≡ received self.old.consumer ++ packets.new }
-        ensures known { IsPrefix (known_items self.old.consumer)
-            (packets.new ++ known_items self.new.consumer) }
-        ensures polls { self.new.polls ≡ capped (self.old.polls + 1) }
-        ensures unmarked { self.new.mark ≡ false }
+        ensures takes { TakesKnown result self.old self.new packets.new }
+        ensures count { result ≡ length packets.old }
     {
-        self.bytes = take_known(&mut self.consumer, self.bytes, packets);
+        self.take(packets)
+    }
+
+    // A poll that takes as many packets as the slice has elements, and returns how many these are.
+    #[inline(always)]
+    fn take(&mut self, packets: &mut [Packet]) -> usize
+        requires known { length packets.old ≤ length (known_items self.old.consumer) }
+        requires room { length packets.old ≤ NAPI_POLL_WEIGHT }
+        ensures takes { TakesKnown result self.old self.new packets.new }
+        ensures count { result ≡ length packets.old }
+    {
+        let bytes = take_known(&mut self.consumer, packets);
+        self.bytes = self.bytes.saturating_add(bytes);
         self.packets = self.packets.saturating_add(packets.len() as u64);
         self.polls = self.polls.saturating_add(1);
         self.mark = false;
+        packets.len()
     }
 }
 
 // Reads the ring if the mark isn't set and fewer packets are known than the weight allows. Returns how many packets a poll takes.
+#[inline(always)]
 fn due(consumer: &mut Consumer<Packet>, mark: bool, weight: usize) -> usize
     ensures looked { ConsumerLooked consumer.old consumer.new }
     ensures count { result ≡ min weight (length (known_items consumer.new)) }
     ensures marked { mark ≡ true → consumer.new ≡ consumer.old }
 {
-    if !mark && consumer.cached_slots() < weight {
-        consumer.slots();
+    let known = consumer.cached_slots();
+    if !mark && known < weight {
+        return consumer.slots().min(weight);
     }
-    consumer.cached_slots().min(weight)
+    known.min(weight)
 }
 
-// Moves as many packets that the consumer knows of as the slice has elements into it, in one step, and adds their bytes to `bytes`.
-fn take_known(consumer: &mut Consumer<Packet>, bytes: u64, packets: &mut [Packet]) -> u64
+// Moves as many packets that the consumer knows of as the slice has elements into it, in one step, and returns the sum of
+// their bytes.
+#[inline(always)]
+fn take_known(consumer: &mut Consumer<Packet>, packets: &mut [Packet]) -> u64
     requires known { length packets.old ≤ length (known_items consumer.old) }
     requires room { length packets.old ≤ NAPI_POLL_WEIGHT }
-    requires bytes { bytes ≡ capped (bytes_of (received consumer.old)) }
     ensures ring { SameConsumer consumer.old consumer.new }
     ensures taken { packets.new ≡ take (length packets.old) (known_items consumer.old) }
     ensures received { received consumer.new ≡ received consumer.old ++ packets.new }
     ensures known { IsPrefix (known_items consumer.old)
         (packets.new ++ known_items consumer.new) }
-    ensures bytes { result ≡ capped (bytes_of (received consumer.new)) }
+    ensures bytes { result ≡ bytes_of packets.new }
 {
     // A single packet, as under light load, needs no slice.
     if packets.len() == 1 {
         let packet = consumer.pop_known();
         packets[0] = packet;
-        return bytes.saturating_add(u64::from(packet.bytes));
+        return u64::from(packet.bytes);
     }
+    bytes_in(replace_with(consumer, packets, pop_burst))
+}
+
+// Fills the slice with packets that the consumer knows of, in one step. It takes the consumer by value, so that the loop keeps
+// its fields in registers.
+#[inline(always)]
+fn pop_burst<'a>(
+    mut consumer: Consumer<Packet>,
+    packets: &'a mut [Packet],
+) -> (Consumer<Packet>, &'a mut [Packet])
+    requires { length packets.now ≤ length (known_items consumer) }
+    ensures same { result.1.ghost_name ≡ packets.entry.ghost_name }
+    ensures ring { SameConsumer consumer result.0 }
+    ensures received { received result.0 ≡ received consumer ++ result.1.now }
+    ensures taken { result.1.now ≡ take (length packets.entry.now) (known_items consumer) }
+    ensures known { IsPrefix (known_items consumer) (result.1.now ++ known_items result.0) }
+{
     let Ok(()) = consumer.pop_entire_slice(packets) else {
         unreachable!();
     };
-    bytes.saturating_add(bytes_in(packets))
+    (consumer, packets)
 }
 
 const BLANKS: [Packet; MAX_WEIGHT] = [Packet {

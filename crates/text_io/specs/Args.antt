@@ -1,8 +1,8 @@
 -- The command line: what it asks for, and the number, the message and the exit status of each error.
 use Rattle.std.specs.{Prelude.{ℕ, [], ◌∷◌, List, Option, Some, None, if◌then◌else◌, codes}, Str.bytes_eq}
-use Rattle.text_io.specs.Defaults.{usual_budget, usual_pollers, usual_weight, usual_window}
+use Rattle.text_io.specs.Defaults.{default_budget, default_pollers, default_weight, default_window}
 use Rattle.text_io.specs.Given.{◌>>=◌, given_by, number_within}
-use Rattle.text_io.specs.Given.{or_usual, value_of}
+use Rattle.text_io.specs.Given.{or_default, value_of}
 pub use Rattle.text_io.specs.Given.{Text}
 use Rattle.text_io.specs.declared.mode.ReplayMode.{ReplayMode}
 use Rattle.text_io.specs.declared.mode.ReplayMode.TheVariants.{Serial, Shared, Threads}
@@ -58,11 +58,11 @@ replay_option_names = codes "mode" ∷ codes "pollers" ∷ codes "budget" ∷ co
 -- the replay that the values of the options ask for
 abbrev pub replay_args_with : (Text → Option Text) → Option ReplayArgs
 replay_args_with value = do
-  mode ← or_usual Serial mode_of (value (codes "mode"))
-  pollers ← or_usual usual_pollers (number_up_to 8) (value (codes "pollers"))
-  budget ← or_usual usual_budget (number_up_to 65535) (value (codes "budget"))
-  weight ← or_usual usual_weight (number_up_to 64) (value (codes "weight"))
-  window ← or_usual usual_window (number_up_to 65535) (value (codes "window"))
+  mode ← or_default Serial mode_of (value (codes "mode"))
+  pollers ← or_default default_pollers (number_up_to 8) (value (codes "pollers"))
+  budget ← or_default default_budget (number_up_to 65535) (value (codes "budget"))
+  weight ← or_default default_weight (number_up_to 64) (value (codes "weight"))
+  window ← or_default default_window (number_up_to 65535) (value (codes "window"))
   Some (record { mode = mode; pollers = pollers; budget = budget; weight = weight; window = window })
 
 -- the replay that the arguments ask for, or None if they are an error

@@ -2,20 +2,20 @@
 use Rattle.std.specs.Prelude.{ℕ, ◌≡◌}
 use Rattle.text_io.specs.declared.settings.ReplaySettings.{ReplaySettings}
 
-abbrev pub usual_pollers : ℕ
-usual_pollers = 1
+abbrev pub default_pollers : ℕ
+default_pollers = 1
 
-abbrev pub usual_budget : ℕ
-usual_budget = 300
+abbrev pub default_budget : ℕ
+default_budget = 300
 
-abbrev pub usual_weight : ℕ
-usual_weight = 64
+abbrev pub default_weight : ℕ
+default_weight = 64
 
-abbrev pub usual_window : ℕ
-usual_window = 1024
+abbrev pub default_window : ℕ
+default_window = 1024
 
 pub record HasDefaults (s : ReplaySettings) : Type 0 where
-  pub pollers : s.pollers ≡ usual_pollers
-  pub budget : s.budget ≡ usual_budget
-  pub weight : s.weight ≡ usual_weight
-  pub window : s.window ≡ usual_window
+  pub pollers : s.pollers ≡ default_pollers
+  pub budget : s.budget ≡ default_budget
+  pub weight : s.weight ≡ default_weight
+  pub window : s.window ≡ default_window

@@ -58,9 +58,9 @@ abbrev pub given_by : List Text → List Text → Option GivenOptions
 given_by names words = fold (read_on names) (Some ([], None)) words >>= complete
 
 -- the parsed value of an option, or the default
-abbrev pub or_usual : {A : Type 0} → A → (Text → Option A) → Option Text → Option A
-or_usual usual read None = Some usual
-or_usual usual read (Some text) = read text
+abbrev pub or_default : {A : Type 0} → A → (Text → Option A) → Option Text → Option A
+or_default default read None = Some default
+or_default default read (Some text) = read text
 
 abbrev pub value_of : Text → GivenOptions → Option Text
 value_of name given = option_map (λ g. g.1) (find (λ g. bytes_eq g.0 name) given)

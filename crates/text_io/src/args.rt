@@ -1,7 +1,7 @@
 //! The command line.
 
 ghost use Rattle.std.specs.Prelude.{◌≡◌, ◌≤◌, Some, None, Err, IfOk, IfSome, option_map, map, string_bytes, codes};
-ghost use Rattle.text_io.specs.Given.{or_usual};
+ghost use Rattle.text_io.specs.Given.{or_default};
 ghost use Rattle.text_io.specs.Options.{value_in};
 ghost use Rattle.text_io.specs.Refusals.{IsArgsOutOfMemory};
 ghost use Rattle.text_io.specs.Args.{replay_asked_for, replay_args_of, replay_args_with, fault_number, word_fault_line, mode_of};
@@ -99,7 +99,7 @@ pub fn number_of(text: &str, high: u32) -> Option<u32>
 
 // Returns the mode that is given, or the default; `None` for an unknown name.
 fn mode_in(matches: &ArgMatches<'_>) -> Option<ReplayMode>
-    ensures { result ≡ or_usual Serial mode_of (value_in matches.now (codes "mode")) }
+    ensures { result ≡ or_default Serial mode_of (value_in matches.now (codes "mode")) }
 {
     match matches.get_str("mode") {
         None => Some(ReplayMode::Serial),
@@ -108,12 +108,12 @@ fn mode_in(matches: &ArgMatches<'_>) -> Option<ReplayMode>
 }
 
 // Returns the number given for an option, or the default; `None` if it isn't a number in the range.
-fn number_in(matches: &ArgMatches<'_>, name: &str, usual: u32, high: u32) -> Option<u32>
+fn number_in(matches: &ArgMatches<'_>, name: &str, default: u32, high: u32) -> Option<u32>
     ensures number { result
-        ≡ or_usual usual (number_up_to high) (value_in matches.now name.now) }
-    ensures range { (1 ≤ usual) × (usual ≤ high) → IfSome result (λ n. (1 ≤ n) × (n ≤ high)) }
+        ≡ or_default default (number_up_to high) (value_in matches.now name.now) }
+    ensures range { (1 ≤ default) × (default ≤ high) → IfSome result (λ n. (1 ≤ n) × (n ≤ high)) }
 {
-    option_number(matches, name, usual, 5, 1, high)
+    option_number(matches, name, default, 5, 1, high)
 }
 
 // Returns what the matches ask for.
@@ -121,11 +121,11 @@ fn asked_by(matches: &ArgMatches<'_>) -> Option<(ReplayMode, ReplaySettings)>
     ensures { option_map replay_args_of result ≡ replay_args_with (value_in matches.now) }
 {
     let mode = mode_in(matches)?;
-    let usual = ReplaySettings::default();
-    let pollers = number_in(matches, "pollers", usual.pollers, MOST_POLLERS)?;
-    let budget = number_in(matches, "budget", usual.budget, MOST_BUDGET)?;
-    let weight = number_in(matches, "weight", usual.weight, MOST_WEIGHT)?;
-    let window = number_in(matches, "window", usual.window, MOST_WINDOW)?;
+    let default = ReplaySettings::default();
+    let pollers = number_in(matches, "pollers", default.pollers, MOST_POLLERS)?;
+    let budget = number_in(matches, "budget", default.budget, MOST_BUDGET)?;
+    let weight = number_in(matches, "weight", default.weight, MOST_WEIGHT)?;
+    let window = number_in(matches, "window", default.window, MOST_WINDOW)?;
     let settings = ReplaySettings::new(pollers, budget, weight, window)?;
     Some((mode, settings))
 }

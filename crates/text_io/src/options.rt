@@ -3,7 +3,7 @@
 ghost use Rattle.std.specs.Prelude.{◌≡◌, ◌≤◌, ◌<◌, ◌∷◌, List, Some, None, Err, IfOk, IfSome, option_map, map, string_bytes, codes, false};
 ghost use Rattle.std.specs.List.{list_any};
 ghost use Rattle.clap.specs.Words.{app_of, found_of, rows_of, rule_of};
-ghost use Rattle.text_io.specs.Given.{Text, given_by, is_stray, number_within, or_usual};
+ghost use Rattle.text_io.specs.Given.{Text, given_by, is_stray, number_within, or_default};
 ghost use Rattle.text_io.specs.Options.{option, rows_for, tool, value_in, with_name};
 ghost use Rattle.text_io.specs.Refusals.{IsArgsOutOfMemory};
 ghost use Rattle.text_io.specs.declared.args.WordFault.TheVariants.{OutOfMemory, Usage};
@@ -41,18 +41,19 @@ pub fn number_within(text: &str, digits: usize, low: u32, high: u32) -> Option<u
 pub fn option_number(
     matches: &ArgMatches<'_>,
     name: &str,
-    usual: u32,
+    default: u32,
     digits: usize,
     low: u32,
     high: u32,
 ) -> Option<u32>
     requires { digits ≤ 10 }
     ensures number { result
-        ≡ or_usual usual (number_within digits low high) (value_in matches.now name.now) }
-    ensures range { (low ≤ usual) × (usual ≤ high) → IfSome result (λ n. (low ≤ n) × (n ≤ high)) }
+        ≡ or_default default (number_within digits low high) (value_in matches.now name.now) }
+    ensures range { (low ≤ default) × (default ≤ high)
+        → IfSome result (λ n. (low ≤ n) × (n ≤ high)) }
 {
     match matches.get_str(name) {
-        None => Some(usual),
+        None => Some(default),
         Some(text) => number_within(text, digits, low, high),
     }
 }

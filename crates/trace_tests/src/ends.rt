@@ -18,16 +18,21 @@ total devices 1 runs 1 polls 1 work 1 squeezed 0
 /// The report of that packet with threads.
 pub const ONE_PACKET_THREADS: &str = "device 1 arrived 1 bytes 100\ntotal devices 1\n";
 
+/// Returns whether this is the beginning of a text, and as many bytes.
+pub fn begins(text: &str, written: &[u8], count: usize) -> bool {
+    written.len() == count && text.as_bytes().starts_with(written)
+}
+
 /// A reader that returns one byte at a time, and fails at one of its reads.
 #[derive(Drop)]
 pub struct FailingReader {
     bytes: &'static [u8],
-    before: u32,
+    before: usize,
 }
 
 impl FailingReader {
     /// Returns a reader of this text that fails after this many reads.
-    pub fn new(text: &'static str, before: u32) -> FailingReader {
+    pub fn new(text: &'static str, before: usize) -> FailingReader {
         FailingReader {
             bytes: text.as_bytes(),
             before,
@@ -55,12 +60,12 @@ impl Read for FailingReader {
 pub struct FailingWriter {
     /// The bytes that were written.
     pub taken: Vec<u8>,
-    before: u32,
+    before: usize,
 }
 
 impl FailingWriter {
     /// Returns a writer that fails after this many writes.
-    pub fn new(alloc: Global, before: u32) -> FailingWriter {
+    pub fn new(alloc: Global, before: usize) -> FailingWriter {
         FailingWriter {
             taken: Vec::new(alloc),
             before,

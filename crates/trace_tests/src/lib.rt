@@ -3,8 +3,6 @@
 #![tactic(auto)]
 
 #[cfg(test)]
-mod attaching;
-#[cfg(test)]
 mod calls;
 #[cfg(test)]
 mod ends;

@@ -50,7 +50,6 @@ impl TxFault {
 }
 
 /// The state of a transmit ring.
-#[repr(C)]
 #[derive(Clone, Copy, Debug, PartialEq, Eq)]
 pub struct TxState {
     /// The bytes of all packets ever sent, modulo 2^32.

@@ -6,7 +6,7 @@ ghost use Rattle.driver_core.specs.Driver.{MaySleep, driver_devices};
 
 use driver_core::{Driver, Rearm, Refused, What};
 
-/// A card: its interrupt mask and its receive ring.
+/// A card: its interrupt mask, its receive ring, and a timer.
 pub trait LoopCard {
     /// Masks its interrupt.
     fn mask(&mut self);
@@ -16,6 +16,9 @@ pub trait LoopCard {
 
     /// Returns whether its ring has packets.
     fn has_packets(&mut self) -> bool;
+
+    /// Sets its timer, so that it expires after this many nanoseconds, once.
+    fn set_timer(&mut self, nanoseconds: u64);
 
     /// Takes packets from its ring, at most this many, and delivers them. Returns how many it took.
     fn fetch(&mut self, most: u32) -> u32
@@ -40,6 +43,10 @@ fn act<C: LoopCard>(driver: &mut Driver, cards: &mut [C]) -> Result<bool, Refuse
             0
         }
         What::Look(device) => u32::from(cards[device as usize].has_packets()),
+        What::Timer(device, nanoseconds) => {
+            cards[device as usize].set_timer(nanoseconds);
+            0
+        }
         What::Fetch(device, most) => cards[device as usize].fetch(most),
         What::Ended(_) => return Ok(false),
         What::Sleep(_) => return Ok(true),

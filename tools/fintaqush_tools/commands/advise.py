@@ -16,8 +16,8 @@ Goals: the 99th or 50th percentile of the wait, the kernel's processor time, or 
 has used it, or until its delivery if the program isn't recorded. Only settings with at most --max-drops drops (as many as now) and with a
 99th percentile below --p99-below are considered.
 
-At a network card arrivals are inferred from polls. --capture names a capture that was made meanwhile (tcpdump -j adapter), of which the packets
-to the device that came during the recording are the arrivals.
+At a network card arrivals are inferred from polls. --capture names a capture that was made meanwhile: if the card stamped its packets
+(tcpdump -j adapter), those to the device that came during the recording are the arrivals.
 
 --verify needs root. It records today's settings and the advised ones on this machine, three times each in turn, during
 traffic, and restores the old settings. It prints predicted and measured values, and by how much the goal's value became
@@ -45,9 +45,8 @@ from fintaqush_tools.advice import (
     interrupts_of,
     options_of,
     unmodelled_in,
-    usecs_of,
 )
-from fintaqush_tools.bands import DOUBT, TIMERS, Doubt, with_costs
+from fintaqush_tools.bands import ALIKE, DOUBT, TIMERS, Doubt, with_costs
 from fintaqush_tools.choosing import GOALS, Choice, Options, Predictions, Values, settings_of, timeout_of
 from fintaqush_tools.commands import costs
 from fintaqush_tools.errors import Refusal
@@ -81,6 +80,14 @@ NO_TIMER = (
     "deferral isn't compared with none, because the recording has too few of NAPI's timers to know their cost: record "
     "again with napi_defer_hard_irqs 2 and a gro_flush_timeout of 100000"
 )
+UNUSED = (
+    "the capture isn't used, because the recording has its times already: a veth pair's are the sender's, and a card's those at which polls took the packets, "
+    "unless the card stamps them itself (tcpdump -j adapter, if ethtool -T shows hardware-receive)"
+)
+MORE = (
+    "with the advised setting the card would interrupt more often than it did; if it keeps a least time between interrupts by itself, as QEMU's e1000 "
+    "does (128 us), waits are longer than predicted: --verify shows it, or a recording with this setting and --capture"
+)
 UNKNOWN = "no wait was measured, because which packet was in which poll isn't known"
 
 
@@ -92,27 +99,27 @@ def as_keys(options: Options) -> dict[str, int]:
     return {identifier(name): value for name, value in options.items()}
 
 
-def named(options: Options, varied: Sequence[str], spare: int) -> str:
-    """Describes a setting by the kernel's names of the options that vary. A ring has `spare` entries more than packets."""
+def named(options: Options, varied: Sequence[str], machine: Machine) -> str:
+    """Describes a setting of the machine by the kernel's names of the options that vary."""
     parts = []
     for name in varied:
         value = options.get(name, 0)
         if name == "ring" and options.get("backlog"):
             parts.append(f"netdev_max_backlog {value - 1}")
         elif name == "ring":
-            parts.append(f"ring {value + spare}")
+            parts.append(f"ring {value + machine.spare}")
         elif name == "layout":
             parts.append(LAYOUTS[value])
         elif name == "apart":
             parts.append(f"the program {'apart' if value else 'with the polls'}")
         else:
-            parts.append(f"{NAMES.get(name, name)} {usecs_of(value) if name in COALESCING else value}")
+            parts.append(f"{NAMES.get(name, name)} {machine.usecs_in(options, name) if name in COALESCING else value}")
     return ", ".join(parts)
 
 
-def several(settings: Sequence[Options], varied: Sequence[str], spare: int) -> str:
+def several(settings: Sequence[Options], varied: Sequence[str], machine: Machine) -> str:
     """Describes the first of several settings with equal results, and how many others there are."""
-    return named(settings[0], varied, spare) + (f"; {len(settings) - 1} more" if len(settings) > 1 else "")
+    return named(settings[0], varied, machine) + (f"; {len(settings) - 1} more" if len(settings) > 1 else "")
 
 
 def varied_in(tried: Sequence[Options]) -> list[str]:
@@ -161,9 +168,9 @@ class Advice:
         recording, head = self.recording, self.recording.head
         has_one = recording.polled == BACKLOG or len(head["device"].split()) == 1
         times = costs.timeline_for(head, [] if has_one else [recording.device])
-        recording.read(times)
+        recording.read(times, words.goal)
         self.told = costs.object_after(times, head)
-        if words.capture:
+        if recording.is_captured:
             self.take_interrupt()
         self.costs = self.settled({name.replace("_", "-"): cost["value"] for name, cost in self.told["costs"].items()})
         self.processors = recording.layout.processors
@@ -172,13 +179,17 @@ class Advice:
         whole, first = arrivals_in(recording, words)
         made, majors = program("napi_machine", words.binary), recording.layout.major()
         predictions = Predictions(made, self.costs, whole, majors)
+        if len(self.processors) > 1:
+            ratios = {each["processor"]: each["ratio"] for each in self.told["ratios"]}
+            own = (ratios.get(each, 1.0) for each in self.processors)
+            predictions.ratios = tuple(ratio if abs(ratio - 1) > costs.UNEVEN else 1.0 for ratio in own)
         self.compare(predictions)
         self.doubt = self.doubt_by(predictions)
         self.machine = Machine(head, recording.device, recording.seen.processor, recording.seen.tasks.idle())
         self.note_tasks()
         self.note_recording()
-        self.predictions, self.choice = Predictions(made, self.costs, first, majors), None
-        self.predictions.doubt = self.doubt
+        predictions.doubt = self.doubt
+        self.predictions, self.choice = predictions.on_others(first, majors), None
         if self.grade in ("good", "fair"):
             self.choose(len(first.splitlines()) - 1)
 
@@ -238,20 +249,28 @@ class Advice:
 
     def judge(self, predictions: Predictions) -> None:
         """Compares each processor too, and grades the fit by the worst one."""
-        words = self.words
         self.check = self.compared(self.measured, predictions.of(self.options))
         self.check_on: dict[int, list[Compared]] = {}
-        self.judged = predicting.judged_for(words.goal, self.end, words.p99_below is not None)
         if len(self.processors) > 1:
             for (processor, measured), values in zip(self.measured_on.items(), predictions.on(self.options)):
                 self.check_on[processor] = self.compared(measured, values)
-        grades = [predicting.grade_of(self.check, self.judged)]
-        grades += [
-            predicting.grade_of(rows, self.judged)
-            for processor, rows in self.check_on.items()
-            if self.measured_on[processor]["sent"] >= FEWEST
-        ]
-        self.grade = max(grades, key=("good", "fair", "poor").index) if self.is_measured() else "unknown"
+        self.judged, self.grade = self.judged_for(self.words.goal), self.grade_for(self.words.goal)
+
+    def judged_for(self, goal: str) -> set[str]:
+        return predicting.judged_for(goal, self.end, self.words.p99_below is not None)
+
+    def grade_for(self, goal: str) -> str:
+        """Returns the grade of the fit for a goal."""
+        many = (rows for processor, rows in self.check_on.items() if self.measured_on[processor]["sent"] >= FEWEST)
+        grades = [predicting.grade_of(rows, self.judged_for(goal)) for rows in (self.check, *many)]
+        return max(grades, key=("good", "fair", "poor").index) if self.is_measured(goal) else "unknown"
+
+    def why_none(self) -> str:
+        """Returns why there is no advice, with the goals for which there is, and what the waits are."""
+        why = UNKNOWN if self.grade == "unknown" else f"the prediction of the recorded setting is poor ({self.worst()})"
+        others = [f"--goal {goal}" for goal in GOALS if self.grade_for(goal) in ("good", "fair")]
+        what = f"this goal, but there is with {' or '.join(others)}" if others else "any goal"
+        return "; ".join([f"{why}, so there is no advice for {what}", *self.blame])
 
     def doubt_by(self, predictions: Predictions) -> Doubt:
         """Returns how far the costs are in doubt, and what else the recording leaves open."""
@@ -269,14 +288,14 @@ class Advice:
 
     def arrivals_doubt(self) -> int:
         """Returns by how many ns an arrival may be off, if arrivals are inferred from polls."""
-        return self.recording.seen.held.doubt if self.recording.by and not self.words.capture else 0
+        return self.recording.seen.held.doubt if self.recording.by and not self.recording.is_captured else 0
 
     def note_tasks(self) -> None:
         """Finds the tasks that disturbed the processors that poll, and that on which the program reads."""
         recording = self.recording
         self.others = {processor: recording.disturbing(processor) for processor in recording.layout.processors}
         self.others_apart = {}
-        self.blame = list(blame.lines_of_socket(recording.head))
+        self.blame = [*blame.lines_of_socket(recording.head), *blame.lines_of_traffic(recording.seen)]
         if not timeout_of(self.options):  # with deferral packets wait for the timer, whatever runs meanwhile
             self.blame += blame.lines_of(recording.seen, recording.layout, recording.program_pids())
         if self.told["apart"]:
@@ -290,10 +309,11 @@ class Advice:
 
     def note_recording(self) -> None:
         """Notes what the recording lacks."""
-        recording, words = self.recording, self.words
+        recording = self.recording
         self.notes += [f"{each}, which isn't modelled" for each in unmodelled_in(recording.head, recording.device)]
         self.notes += drivers.notes_on(recording.head, recording.device)
-        if recording.by and not words.capture:
+        self.notes += [UNUSED] if self.words.capture and not recording.is_captured else []
+        if recording.by and not recording.is_captured:
             self.notes.append(
                 f"arrivals are when polls took the packets ({recording.by}), so waits in the card's ring before the interrupt aren't in these values; "
                 "--capture takes those of a capture with the card's timestamps"
@@ -313,9 +333,9 @@ class Advice:
                 f"{self.measured['sent']} packets are few for a 99th percentile, which needs {FEWEST}: record for longer"
             )
 
-    def is_measured(self) -> bool:
-        """Returns whether what the goal is about was measured: a wait isn't, if packets and polls of the recording don't match."""
-        is_wait = self.words.goal in ("p50", "p99") or self.words.p99_below is not None
+    def is_measured(self, goal: str) -> bool:
+        """Returns whether what a goal is about was measured: a wait isn't, if packets and polls of the recording don't match."""
+        is_wait = goal in ("p50", "p99") or self.words.p99_below is not None
         return not is_wait or any(name == f"{self.end}_p99" for name, *_ in self.check)
 
     def settled(self, costs: Mapping[str, int]) -> dict[str, int]:
@@ -403,9 +423,13 @@ class Advice:
         rare = max(counts.values()) / RARE
         majors = {device for device, count in counts.items() if count >= rare}
         self.predictions.layouts[number] = "".join(lines[: packets + 1]).encode(), majors
+        self.predictions.ratios = ()  # which processor would be how fast isn't known
 
     def unknown(self) -> Iterator[str]:
-        """Yields what the band of the goal's value leaves open."""
+        """Yields what the card and the band of the goal's value leave open."""
+        is_open = drivers.is_least_open(self.recording.head, self.recording.device)
+        if is_open and self.choice and self.values["interrupts"] > (1 + ALIKE) * self.choice.tried[0][1]["interrupts"]:
+            yield MORE
         name = predicting.name_of(self.words.goal, self.end)
         if name not in self.values or name not in self.measured:
             return
@@ -460,7 +484,7 @@ class Advice:
         found = [(row, where) for where, row in worst if row]
         if not found:
             return "nothing was measured"
-        row, where = max(found, key=lambda each: abs(each[0][3]))
+        row, where = max(found, key=lambda each: predicting.judged_error(each[0]))
         return f"{TOLD[row[0]]}{where}: {row[3]:+.0f} %"
 
     def processor_lines(self) -> Iterator[str]:
@@ -500,7 +524,7 @@ class Advice:
         alike: dict[tuple[str, ...], list[Options]] = {}
         for options, values in choice.order:
             alike.setdefault(tuple(columns_of(values, self.end)), []).append(options)
-        rows = [[several(each, self.varied, self.machine.spare), *cells] for cells, each in list(alike.items())[:SHOWN]]
+        rows = [[several(each, self.varied, self.machine), *cells] for cells, each in list(alike.items())[:SHOWN]]
         yield from table(rows, "setting")
         if not choice.best:
             yield "no setting keeps to the limits"
@@ -508,7 +532,7 @@ class Advice:
         if self.best == self.options:
             yield f"advice: change nothing, since no setting is notably better for {GOALS[choice.goal]}"
         else:
-            yield f"advice: {named(self.best, self.varied, self.machine.spare)}"
+            yield f"advice: {named(self.best, self.varied, self.machine)}"
         ends = zip(*(columns_of(values, self.end) for values in self.ends()))
         rows = [
             ["now", *columns_of(choice.tried[0][1], self.end)],
@@ -634,24 +658,24 @@ def verified(advice: Advice) -> tuple[list[Compared], float, Verdict]:
     )
 
 
-def print_verified(advice: Advice) -> bool:
-    """Verifies the advice, if that is asked for, and prints the result; as JSON with the advice. Returns false if it
-    should have made the goal's value lower, and didn't. Within limits that the recorded setting exceeds, the value may
-    have to rise."""
+def print_verified(advice: Advice) -> str:
+    """Verifies the advice, if that is asked for, and prints the result; as JSON with the advice. Returns what failed if it
+    should have made the goal's value lower, and didn't, else nothing. Within limits that the recorded setting exceeds, the
+    value may have to rise."""
     choice, told = advice.choice, dict[str, Any](verified=None, verdict=None)
     if not (advice.words.verify and choice and choice.best and advice.changes):
         if advice.words.verify and choice and choice.best:
             say("--verify recorded nothing, because the advice changes nothing")
         write_json(advice.words.json, "advise", [{**advice.object(), **told}])
-        return True
+        return ""
     rows, packets, verdict = verified(advice)
     told = {"verified": objects_in(rows, packets), "verdict": verdict.object()}
     write_json(advice.words.json, "advise", [{**advice.object(), **told}])
     if not is_printed(advice.words.json):
         heading = f"{'the advised setting':36} {'measured':>12} {'predicted':>12}"
-        print(heading, *check_lines(rows, packets), *verdict.lines(), sep="\n")
+        print(heading, *check_lines(rows, packets), *verdict.lines(), sep="\n", flush=True)
     is_promised = choice.value(choice.best[1]) < choice.value(choice.tried[0][1])
-    return not is_promised or verdict.judgement() == "better"
+    return verdict.failure() if is_promised else ""
 
 
 # ---- words
@@ -707,20 +731,13 @@ def main(given: Sequence[str]) -> int:
         raise Refusal(f"{shown(words.recording)}: {error}") from None
     if not is_printed(words.json):
         print("\n".join(advice.lines()), flush=True)
-    holds = print_verified(advice)
+    failure = print_verified(advice)
     if words.plot and advice.choice:
         draw(advice, advice.choice, words.plot)
-    if advice.grade == "poor":
-        raise Refusal(
-            f"{shown(words.recording)}: the prediction of the recorded setting is poor ({advice.worst()}), so there is no advice for this goal"
-            + "".join(f"; {line}" for line in advice.blame)
-        )
-    if not holds:
-        raise Refusal("the advised settings weren't better than today's, which are set again")
-    if advice.grade == "unknown":
-        raise Refusal(
-            f"{shown(words.recording)}: {UNKNOWN}, so there is no advice for this goal; --goal cpu and --goal drops need no wait"
-        )
+    if advice.grade not in ("good", "fair"):
+        raise Refusal(f"{shown(words.recording)}: {advice.why_none()}")
+    if failure:
+        raise Refusal(failure)
     if not (advice.choice and advice.choice.best):
         return 1
     waits = {each: advice.measured.get(f"{advice.end}_{each}", 0) for each in ("p50", "p99")}

@@ -9,9 +9,10 @@ softirq_exit and napi_poll, and optionally the other events of fintaqush record.
 
 A poll's time begins with the softirq or thread, or with the end of the poll before it, and excludes interrupts. The tool fits a straight line
 to poll time against packets per poll: the intercept is the cost of a poll, the slope the cost of a packet. Polls far off the line are left
-out and counted. One line is fitted for all processors; a line says if the polls of one differ from it. If all polls took the same number of
+out and counted. One line is fitted for all processors; a line says if the polls of one differ from it. If nearly all polls took equally many
 packets, only their sum is known: poll and packet get the half each, with an interval from 0 to the sum. If the line explains none of the
-variation, the tool fails and prints what to record. Instances that took no packet, which are those of transmit queues, are left out.
+variation, the tool fails and prints what to record. Instances that took no packet, which are those of transmit queues, are left out, and so
+are polls in which a processor's backlog took packets of other devices, as replies.
 
 --device names the devices whose polls, pairs and interrupts count. Without it, and in recordings of other tools, a processor's backlog counts
 only if no device polls. Interrupts of other cards, as a disk's, don't count if fintaqush record knows the device's own interrupts.
@@ -26,6 +27,7 @@ the time that the processor slept, so the recorded gro_flush_timeout is printed 
 
 from __future__ import annotations
 
+from collections import defaultdict
 from collections.abc import Iterator, Mapping, Sequence
 from statistics import median
 from typing import Any, Optional
@@ -41,12 +43,12 @@ from fintaqush_tools.card_costs import (
 )
 from fintaqush_tools.errors import Refusal
 from fintaqush_tools.files import check_input
-from fintaqush_tools.fits import FEWEST, Cost, Line, cost_line, cost_of, halves_of, shift_of
+from fintaqush_tools.fits import FEWEST, Cost, cost_line, cost_of, halves_of, shift_of
 from fintaqush_tools.machine import COSTS
 from fintaqush_tools.options import Parser, Words, words_of
 from fintaqush_tools.progress import say
-from fintaqush_tools.instances import Routes
-from fintaqush_tools.recording import BACKLOG, Head, Look, check_lost, read
+from fintaqush_tools.instances import Place, Routes
+from fintaqush_tools.recording import BACKLOG, POLLED, Event, Head, Look, check_lost, read
 from fintaqush_tools.results import add_json, is_printed, write_json
 from fintaqush_tools.texts import as_rows, shown
 from fintaqush_tools.thresholds import add_fail_if, status_of
@@ -69,6 +71,28 @@ class Times(Timeline):
     def __init__(self, routes: Routes, polled: Sequence[str], irq: Optional[str], interrupts: Sequence[str]) -> None:
         super().__init__(routes, polled, irq, interrupts)
         self.card = CardTimes(polled)
+        self.mixed = defaultdict[Place, set[int]](set)  # for each backlog its polls that took packets of other devices
+
+    def poll(self, event: Event) -> None:
+        """Handles a poll. Those of a backlog may take packets of other devices too, whose times differ."""
+        if not self.routes.moved:
+            return super().poll(event)
+        napi, device, work, _ = event.parts(POLLED)
+        own, count = len(self.waiting[self.routes.of_poll(device, napi)].packets), len(self.of[device, napi].polls)
+        super().poll(event)
+        if own != int(work) and len(self.of[device, napi].polls) > count:
+            self.mixed[device, napi].add(count)
+
+    def settle(self) -> Timeline:
+        """Ends the reading. Polls with packets of other devices don't count if there are enough others."""
+        self.of_others = sum(map(len, self.mixed.values()))
+        if sum(len(polls.polls) for polls in self.of.values()) - self.of_others < FEWEST:
+            self.of_others = 0
+        for place, mixed in self.mixed.items() if self.of_others else ():
+            polls = self.of[place]
+            polls.polls = [poll for number, poll in enumerate(polls.polls) if number not in mixed]
+            polls.on = [cpu for number, cpu in enumerate(polls.on) if number not in mixed]
+        return super().settle()
 
     def looks_at(self, name: str) -> list[Look]:
         """Returns what handles the events of this name."""
@@ -87,8 +111,8 @@ def polls_of(times: Timeline, head: Head) -> Told:
         raise Refusal(
             f"{len(times.polls)} polls{of} in complete softirqs or threads, but {FEWEST} are needed: {lacking}"
         )
-    if times.is_even():
-        return alike(times)
+    if (size := times.size()) is not None:
+        return alike(times, size)
     by = "threads" if 2 * times.by_threads > len(times.polls) else "softirqs"
     line = cost_line(times.polls, 1000 if times.is_coarse else 1, by)
     told = (
@@ -96,36 +120,61 @@ def polls_of(times: Timeline, head: Head) -> Told:
         f"packets by {by}, of which {line.polls - len(line.kept)} lie far off and are left out; the line explains "
         f"{100 * (line.poll.explained or 0):.0f} % of the others' variation, and half of them are within {100 * line.off:.0f} % of it"
     )
-    return {"poll": line.poll, "packet": line.packet}, [told, *uneven(times, line)] + [WEAK] * (line.packet.low <= 0)
+    weak = [WEAK] * (line.packet.low <= 0)
+    return {"poll": line.poll, "packet": line.packet}, [told, *uneven(times, line.poll, line.packet), *weak]
 
 
-def uneven(times: Timeline, line: Line) -> Iterator[str]:
-    """Yields a line for each processor whose polls take longer or shorter than those of all processors by more than chance."""
-    middle, _ = shift_of(times.polls, line.poll.value, line.packet.value)
+def polls_on(times: Timeline) -> Iterator[tuple[int, list[tuple[int, int]]]]:
+    """Yields each processor with the polls that it made, if there are enough."""
     for cpu, count in sorted(times.where.items()):
-        own = [poll for poll, place in zip(times.polls, times.places) if place == cpu]
-        shift, chance = shift_of(own, line.poll.value + middle, line.packet.value)
-        if count >= FEWEST and abs(shift) > chance and abs(shift) > UNEVEN * median(took for _, took in own):
-            yield f"on processor {cpu} {count} polls take {abs(shift):.0f} ns {'more' if shift > 0 else 'less'} than polls of as many packets on all"
+        if count >= FEWEST:
+            yield cpu, [poll for poll, place in zip(times.polls, times.places) if place == cpu]
 
 
-def alike(times: Timeline) -> Told:
-    """Returns the costs if all polls took the same number of packets."""
-    count = times.polls[0][0]
+def uneven(times: Timeline, poll: Cost, packet: Cost) -> Iterator[str]:
+    """Yields a line for each processor whose polls take longer or shorter than those of all processors by more than chance."""
+    middle, _ = shift_of(times.polls, poll.value, packet.value)
+    for cpu, own in polls_on(times):
+        shift, chance = shift_of(own, poll.value + middle, packet.value)
+        if abs(shift) > chance and abs(shift) > UNEVEN * median(took for _, took in own):
+            yield f"on processor {cpu} {len(own)} polls take {abs(shift):.0f} ns {'more' if shift > 0 else 'less'} than polls of as many packets on all"
+
+
+def ratios_of(times: Timeline, poll: float, packet: float) -> dict[int, float]:
+    """Returns for each processor how many times as long as these costs its polls take, in the median."""
+    ratios = (
+        (cpu, [took / (poll + work * packet) for work, took in own if poll + work * packet])
+        for cpu, own in polls_on(times)
+    )
+    return {cpu: round(median(own), 2) for cpu, own in ratios if own}
+
+
+def alike(times: Timeline, count: int) -> Told:
+    """Returns the costs if nearly all polls took the same number of packets."""
     if not count:
         raise Refusal(f"none of {len(times.polls)} polls took a packet: record while packets come")
-    whole, poll, packet = halves_of([took for _, took in times.polls], count, "polls of one size")
+    polls = [took for work, took in times.polls if work == count]
+    whole, poll, packet = halves_of(polls, count, "polls of one size")
+    each = "each" if len(polls) == len(times.polls) else "nearly each"
     return {"poll": poll, "packet": packet}, [
-        f"poll {poll.interval()}, packet {packet.interval()}: each of {len(times.polls)} polls took {count} packet{'s' * (count > 1)}, so only what they "
+        f"poll {poll.interval()}, packet {packet.interval()}: {each} of {len(times.polls)} polls took {count} packet{'s' * (count > 1)}, so only what they "
         f"cost together is known, {whole.interval()}; half of that counts for the poll. Traffic of which some polls take several packets separates "
-        "them: bursts, a higher load, or while recording napi_defer_hard_irqs 2 with a gro_flush_timeout of 100000, or ethtool -C rx-usecs 100"
+        "them: bursts, a higher load, or while recording napi_defer_hard_irqs 2 with a gro_flush_timeout of 100000, or ethtool -C rx-usecs 100",
+        *uneven(times, poll, packet),
     ]
 
 
+def is_sent_here(times: Timeline) -> bool:
+    """Returns whether most packets are sent on the processor that polls."""
+    processor = times.processor()
+    return processor is not None and 2 * times.sent_on[processor] > times.came
+
+
 def interrupts_of(times: Timeline) -> Told:
-    """Returns the cost of an interrupt, without those of NAPI's timer."""
+    """Returns the cost of an interrupt, without those of NAPI's timer. A sender on the processor that polls needs none."""
     count = sum(map(len, times.handlers.values()))
-    if times.has_handlers and not times.irq and times.without > count:
+    by_timers = len(times.handlers.get(TIMER, ())) if is_sent_here(times) else 0
+    if times.has_handlers and not times.irq and times.without > count - by_timers:
         cost = cost_of([0] * times.without, "no handler")
         return {"interrupt": cost} if cost else {}, [
             f"interrupt 0 ns: {times.without} runs follow no handler, and {count} one"
@@ -171,8 +220,7 @@ def wakes_of(times: Timeline) -> Told:
             "or more, which the scheduler decides: record on a processor that does nothing else"
         ]
     more = [f"{busy} of them while another task had the processor"] if busy else []
-    processor = times.processor()
-    if processor is not None and 2 * times.sent_on[processor] > times.came:
+    if is_sent_here(times):
         more.append("the packets are sent on this processor, which doesn't sleep then")
     return {"wake": cost}, [
         f"wake {cost.interval()}: " + "; ".join([f"{cost.count} by packets, {told_half(cost)}", *more])
@@ -239,12 +287,14 @@ def options_of(costs: Mapping[str, Cost]) -> str:
     return " ".join(f"--{name} {cost.value:.0f}" for name, cost in costs.items() if name in COSTS)
 
 
-def notes_on(times: Timeline) -> Iterator[str]:
+def notes_on(times: Times) -> Iterator[str]:
     """Yields further notes on the recording."""
     if len(times.devices) > 1:
         yield f"polls of several devices are combined: {shown(', '.join(times.devices))}; --device takes those of one"
     for name, count in times.transmit.items():
         yield f"{count} polls of transmit instances of {shown(name)}, which took no packet, are left out"
+    if times.of_others:
+        yield f"{times.of_others} polls in which a processor's backlog took packets of other devices too are left out"
     for name, count in times.left_out.items():
         yield f"{count} polls of a processor's backlog, {name}, are left out, because devices poll; --device '{name}' takes only these"
     if times.by_threads and 2 * times.by_threads <= len(times.polls):
@@ -255,7 +305,7 @@ def notes_on(times: Timeline) -> Iterator[str]:
         yield "time stamps are of microseconds, so a single time is known to one"
 
 
-def object_of(times: Timeline, costs: Mapping[str, Cost], told: list[str]) -> dict[str, Any]:
+def object_of(times: Times, costs: Mapping[str, Cost], told: list[str]) -> dict[str, Any]:
     """Returns all results as an object, for other tools."""
     processor = times.processor()
     return {
@@ -268,7 +318,7 @@ def object_of(times: Timeline, costs: Mapping[str, Cost], told: list[str]) -> di
         "processor": processor,
         "threaded": int(2 * times.by_threads > len(times.polls)),
         "apart": int(is_apart(times)),
-        "is_separated": int(not times.is_even()),
+        "is_separated": int(times.size() is None),
         "reads": times.reads.count,
         "reads_on": as_rows("processor", "reads", times.reads.on),
         "sent_on": as_rows("processor", "packets", times.sent_on),
@@ -277,6 +327,7 @@ def object_of(times: Timeline, costs: Mapping[str, Cost], told: list[str]) -> di
         "delivered": times.given,
         "polls": len(times.polls),
         "polls_on": as_rows("processor", "polls", times.where),
+        "ratios": as_rows("processor", "ratio", ratios_of(times, costs["poll"].value, costs["packet"].value)),
         "tasks": as_rows("task", "share", {name: round(share, 5) for name, share in times.shares(processor).items()}),
     }
 

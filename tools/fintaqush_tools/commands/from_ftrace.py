@@ -35,6 +35,7 @@ from fintaqush_tools.errors import Refusal
 from fintaqush_tools.files import check_input, check_target
 from fintaqush_tools.options import Parser, Words, words_of
 from fintaqush_tools.recording import (
+    BACKLOG,
     NET_RX,
     POLLED,
     SENT,
@@ -136,16 +137,25 @@ def group_polls(events: Sequence[Event]) -> tuple[list[Polling], Counter[str]]:
     rows: list[Polling] = []
     strays: Counter[str] = Counter()
     began: dict[int, Optional[int]] = {}
+    latest: dict[int, int] = {}  # by processor: its last event
+    since: dict[
+        str, int
+    ] = {}  # by thread that has a processor: the last event there before the thread's first one, or its last poll
     under_way: dict[Union[int, str], Polling] = {}  # by processor, or by thread
     for place, event in enumerate(events):
-        if event.name in ("softirq_entry", "softirq_exit") and int(event.parts(SOFTIRQ)[0]) == NET_RX:
+        if event.task.startswith("napi/"):
+            since.setdefault(event.task, latest.get(event.cpu, place))
+        latest[event.cpu] = place
+        if event.name == "sched_switch":
+            since.pop(event.task, None)
+        elif event.name in ("softirq_entry", "softirq_exit") and int(event.parts(SOFTIRQ)[0]) == NET_RX:
             under_way.pop(event.cpu, None)
             began[event.cpu] = place if event.name == "softirq_entry" else None
         elif event.name == "napi_poll":
             _, device, work, budget = event.parts(POLLED)
             by_thread = is_by_thread(event)
             who: Union[int, str] = event.task if by_thread else event.cpu
-            first = place if by_thread else began.get(event.cpu)
+            first = since[event.task] if by_thread else began.get(event.cpu)
             if first is None:
                 strays[device] += 1
                 continue
@@ -154,6 +164,7 @@ def group_polls(events: Sequence[Event]) -> tuple[list[Polling], Counter[str]]:
                 rows.append(under_way[who])
             under_way[who].last = place
             under_way[who].polls.append((device, int(work)))
+            since[event.task] = place
             if by_thread and int(work) < int(budget):
                 del under_way[who]
     return rows, strays
@@ -249,6 +260,11 @@ class Trace:
         if own:
             where = "nothing polls in it: the polls of its devices stand in no softirq"
             return f"{where}; record the event irq/softirq_entry too, and begin before the traffic does"
+        if set(polled) == {BACKLOG}:
+            how = "record again with GRO at the receiving end and without TSO at the sending end (ethtool -K END tso off gro on)"
+            return (
+                f"only a processor's backlog polls in it, which a trace doesn't have: {how}; --arrivals needs neither"
+            )
         if polled:
             return f"nothing polls in it but devices that are in no pair: {', '.join(sorted(map(shown, polled)))}; see --pair"
         return (

@@ -36,6 +36,7 @@ from fintaqush_tools.errors import Refusal
 from fintaqush_tools.files import check_input, check_target, lines_in, opened
 from fintaqush_tools.options import Parser, Words, number, words_of
 from fintaqush_tools.processes import lines_by
+from fintaqush_tools.recording import HEAD
 from fintaqush_tools.texts import shown
 from fintaqush_tools.trace import MOST_DEVICES, TICKS, Row, trace_text, with_runs
 from fintaqush_tools.trace import add_delay, add_files, check_flows, write_files
@@ -183,6 +184,8 @@ def packets_of(
     for place, line in enumerate(lines, 1):
         found = PACKET.match(line)
         if not found and line[:1] not in ("\t", " ", "", "\n", "\r"):  # tcpdump continues on the same packet
+            if line.startswith(HEAD):
+                raise Refusal("this is a file of fintaqush record, which from-ftrace, costs and advise read")
             raise Refusal(f"line {place}: not in the format of `tcpdump -tt -n -e`: {shown(line[:60].rstrip())}")
         if not found:
             continue

@@ -272,13 +272,8 @@ def find_senders(words: Words) -> list[str]:
 def sources_of(words: Words, settings: Mapping[str, str], program: str) -> Sources:
     if not words.sender:
         return Sources(program, words.device)
-    moving = [key for key, value in settings.items() if key.endswith(".rps_cpus") and value.strip("0,")]
-    by_rps = {key.rpartition(".rx-")[0] for key in moving}
-    without_gro = {key for key, value in settings.items() if value == "off"}
-    offload = "ethtool.feature.generic-receive-offload"
-    moved = [it for it in words.device if f"device.{it}" in by_rps or f"device.{it}.{offload}" in without_gro]
     senders = [sender for sender, name in zip(words.sender, words.device) if f"device.{name}.rx-1.rps_cpus" in settings]
-    return Sources(program, (), moved, senders)
+    return Sources(program, (), words.device, senders)
 
 
 def told_end(words: Words, head: Mapping[str, Any], body: Body) -> str:

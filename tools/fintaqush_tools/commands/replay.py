@@ -7,6 +7,7 @@ import re
 import sys
 from collections.abc import Sequence
 
+from fintaqush_tools.errors import Signals
 from fintaqush_tools.options import Parser
 from fintaqush_tools.places import TOP, usage_text, with_pages
 from fintaqush_tools.progress import Program
@@ -40,4 +41,5 @@ def main(given: Sequence[str]) -> None:
     launcher = [f"{TOP}/replay"]
     if not os.path.exists(launcher[0]):
         launcher = [sys.executable, "-EsSB", f"{TOP}/scripts/start.py", "replay"]
+    Signals.leave()
     os.execv(launcher[0], [*launcher, *given])

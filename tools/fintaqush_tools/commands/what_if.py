@@ -53,18 +53,8 @@ from fintaqush_tools.combinations import add_words, check_words, choices, fault_
 from fintaqush_tools.commands import traffic
 from fintaqush_tools.errors import Refusal, unfinished, unlink
 from fintaqush_tools.files import WholeFile, check_regular, check_target
-from fintaqush_tools.machine import (
-    ARE,
-    COSTS,
-    OPTIONS,
-    VALUES,
-    WAITS,
-    default_of,
-    help_of,
-    identifier,
-    option_words,
-    values_of,
-)
+from fintaqush_tools.machine import ARE, COSTS, OPTIONS, VALUES, WAITS
+from fintaqush_tools.machine import default_of, help_of, identifier, option_words, values_of
 from fintaqush_tools.options import Parser, Words, number, require_end, words_of, wrong
 from fintaqush_tools.pictures import COLORS, ENDS, Curve, Picture, check_library, picture_bytes
 from fintaqush_tools.processes import program, ran
@@ -80,6 +70,8 @@ FAULT = re.compile(r"arrivals fault (?!10 )\d+ \w+ row \d+$")
 HEADER, TRACE = b"ns,device,bytes", b"moment,device,event"
 MOST_CURVES = len(COLORS)
 SHORT = {"p50": "used_p50", "p99": "used_p99", "p999": "used_p999"}  # names for --fail-if
+# A change of an order: a line, the index pairs of its keys, and what they are ordered by.
+Change = tuple[str, list[tuple[int, int]], str]
 # Options of traffic that are set here.
 TAKEN = ("--arrivals", "--out", "--seed", "--help", "-h", "--version", "--manual")
 making = threading.Lock()
@@ -191,28 +183,22 @@ def grouped(keys: Sequence[Key], chosen: set[str]) -> dict[Key, list[Key]]:
     return groups
 
 
-def orders_that_change(
-    rows: Sequence[Row], keys: Sequence[Key], percent: int
-) -> Iterator[tuple[str, list[tuple[int, int]], str]]:
-    """Yields the combinations whose order changes within the band of costs: lines, and for each line the index pairs of their keys."""
+def orders_that_change(rows: Sequence[Row], keys: Sequence[Key], percent: int) -> Iterator[Change]:
+    """Yields the combinations whose order changes within the band of costs."""
     by_key = {TABLE.key_of({**row, **{name: str(row[name]) for name in VARIED}}): row for row in told_in(rows)}
     varied = set(varied_in([dict(zip(VARIED, key[2:])) for key in keys]))
     groups = grouped(keys, varied - {"load", *COSTS})
+    pairs = [pair for group in groups.values() for pair in itertools.combinations(group, 2)]
+    every = [(one, other, side) for one, other in pairs for side in (-percent, percent)]
     for what, of in ORDERS.items():
-        changed = [
-            (one, other, side)
-            for group in groups.values()
-            for one, other in itertools.combinations(group, 2)
-            for side in (-percent, percent)
-            if changes(by_key, one, other, side, of)
-        ]
+        changed = [each for each in every if changes(by_key, *each, of)]
         if changed:
             one, other, side = changed[0]
             more = f", and so does that of {len(changed) - 1} more pairs" if len(changed) > 1 else ""
             costs = f"with costs {abs(side)} % {'lower' if side < 0 else 'higher'}"
             both = f"{name_of(one, varied)} and {name_of(other, varied)}"
-            pairs = sorted({(keys.index(one) + 1, keys.index(other) + 1) for one, other, _ in changed})
-            yield f"{costs} the order by {what} changes: {both}{more}", pairs, what
+            places = sorted({(keys.index(one) + 1, keys.index(other) + 1) for one, other, _ in changed})
+            yield f"{costs} the order by {what} changes: {both}{more}", places, what
 
 
 def changes(by_key: Mapping[Key, Row], one: Key, other: Key, side: int, of: Callable[[Row], int]) -> bool:
@@ -471,33 +457,25 @@ def keys_of(words: Words, arrivals: str) -> tuple[list[Key], list[Key]]:
 # ---- the load at which a setting breaks, and repeats
 
 
-def print_breakings(found: Sequence[breaking.Breaking], words: Words, rate: float, percents: Sequence[int]) -> None:
+def print_breakings(found: breaking.Found, words: Words, rate: float, percents: Sequence[int]) -> None:
     """Prints where each combination breaks."""
-    varied = list(varied_in([dict(zip(VARIED, each.key[2:])) for each in found]))
-    lines = []
-    for each in found:
-        holds, broken = each.ends[100]
+    varied = list(varied_in([dict(zip(VARIED, key[2:])) for key in found]))
+    rows, objects = [], []
+    for key, ends in found.items():
+        holds, broken = ends[100]
         line: Row = {"holds_at": breaking.text_of(holds), "breaks_at": breaking.text_of(broken)}
         line["packets_per_second"] = broken and round(rate * float(broken))
-        for percent in percents[1:]:
-            line[f"breaks_at_costs_{percent}"] = breaking.text_of(each.ends[percent][1])
-        lines.append(({name: value for name, value in zip(VARIED, each.key[2:]) if name != "load"}, line))
+        line |= {f"breaks_at_costs_{percent}": breaking.text_of(ends[percent][1]) for percent in percents[1:]}
+        rows.append({**dict(zip(OPTIONS, key[3:])), **line})
+        told = {identifier(name): value if value is None else value_of(str(value)) for name, value in rows[-1].items()}
+        objects.append({"arrivals": words.arrivals, "until": words.until, **told})
     if words.form == "table":
-        for each in found:
-            named = name_of(each.key, varied)
-            print(f"{named}: " * bool(named) + breaking.told(words.until, each, rate, percents))
+        for key, ends in found.items():
+            named = name_of(key, varied)
+            print(f"{named}: " * bool(named) + breaking.told(words.until, ends, rate, percents))
     elif words.form == "csv":
-        write_rows([*varied, *lines[0][1]], [{**options, **line} for options, line in lines])
-    write_json(words.json, "what-if", (object_of_breaking(words, *each) for each in lines))
-
-
-def object_of_breaking(words: Words, options: Mapping[str, str], line: Row) -> Row:
-    return {
-        "arrivals": words.arrivals,
-        "until": words.until,
-        **{identifier(name): value_of(value) for name, value in options.items()},
-        **{name: None if value is None else value_of(str(value)) for name, value in line.items()},
-    }
+        write_rows([*varied, *line], rows)
+    write_json(words.json, "what-if", objects)
 
 
 def until_it_breaks(made: str, words: Words) -> None:
@@ -566,9 +544,11 @@ def check_arrivals(words: Words) -> None:
     if "\n" in words.arrivals or "\r" in words.arrivals:
         raise Refusal(f"{shown(words.arrivals)}: {reason}")
     with open(words.arrivals, "rb") as file:
-        if file.readline(1000).startswith(TRACE):
-            made = "arrivals are made by --arrivals of from-pcap, from-ftrace or traffic"
-            raise Refusal(f"{shown(words.arrivals)}: a trace, whose runs are given; {made}")
+        begin = file.readline(1000)
+    if begin.startswith(TRACE) or b"device" not in begin:
+        what = "a trace, whose runs are given" if begin.startswith(TRACE) else "not arrivals"
+        made = "arrivals are made by --arrivals of from-pcap, from-ftrace or traffic"
+        raise Refusal(f"{shown(words.arrivals)}: {what}; {made}")
     if any(int(each) > 1 for each in words.queues) and not has_flows(words.arrivals):
         how = "ns,device,bytes,flow, as from-pcap, from-ftrace and traffic write it by --flows"
         raise Refusal(f"{shown(words.arrivals)}: there is no column flow, which --queues above 1 needs: {how}")

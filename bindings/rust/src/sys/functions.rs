@@ -358,6 +358,21 @@ extern "C" {
     /// any more, and `*todo` is what is due instead; `FQ_BAD_HANDLE`, and `FQ_BAD_WORK` if a fetch took more than
     /// `most`: nothing changes, and `*todo` is `FQ_TODO_FAILED`.
     pub fn fq_driver_step_sized(driver: *mut fq_driver, todo: *mut fq_todo) -> u32;
+    /// Reports that the timer of a device expired (`napi_watchdog`), at any time, also if it isn't set any more.
+    /// Returns `FQ_GRANTED`: a poll was requested; `FQ_NOT_DUE`: one is requested already, or the device is closed or
+    /// being stopped, and nothing has changed; `FQ_BAD_DEVICE`; `FQ_BAD_HANDLE`. The status may be ignored if the
+    /// device and the handle are right.
+    pub fn fq_driver_timer(driver: *mut fq_driver, device: u32) -> u32;
+    /// Sets the settings of a closed device. With deferral, a completion leaves the card masked, and `FQ_TODO_TIMER`
+    /// follows; with busy polling, the device is polled again until it was empty so often in a row. A fetch must not
+    /// unmask the card then, because that ends both. A timer may still be set after a stop: cancel it, or report it.
+    /// Returns `FQ_OK`; `FQ_BAD_SIZE`; `FQ_BAD_HANDLE`; `FQ_BAD_DEVICE`; `FQ_BAD_WEIGHT`; `FQ_NOT_DUE` if the device
+    /// isn't closed.
+    pub fn fq_driver_set_sized(
+        driver: *mut fq_driver,
+        device: u32,
+        settings: *const fq_device_settings,
+    ) -> u32;
     /// Ends the run in progress, for a program with a clock of its own (`netdev_budget_usecs`): a fetch that is due
     /// already is still made, and then `FQ_TODO_ENDED` follows, whose report says that the run was squeezed. Returns
     /// `FQ_OK`; `FQ_NOT_DUE` if no run is in progress; `FQ_BAD_HANDLE`. The status may be ignored if the handle is

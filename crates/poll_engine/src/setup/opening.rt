@@ -1,9 +1,8 @@
 //! How the instances of stations are opened and closed.
 
-ghost use Rattle.std.specs.Prelude.{◌≡◌, ◌≤◌, ◌+◌, ℕ, [], ◌∷◌, IfOk, OnOk, length, slice_get, Some, vec_items, vec_len, vec_capacity};
+ghost use Rattle.std.specs.Prelude.{◌≡◌, ◌≤◌, [], ◌∷◌, IfOk, OnOk, vec_items, vec_len};
 ghost use Rattle.std.specs.List.{All, AllZip};
-ghost use Rattle.napi_calls.specs.Instance.{IsNewSeat, IsSeatOf, callers_of};
-ghost use Rattle.napi_calls.specs.declared.types.Caller.{Caller};
+ghost use Rattle.napi_calls.specs.Instance.{IsSeatOf, callers_of};
 ghost use Rattle.poll_engine.specs.Ends.{IsFinishOf, IsKeptFinishOf};
 ghost use Rattle.poll_engine.specs.Opens.{IsHome, IsKeptLoose, IsKeptPartOf, IsKeptSideOf, IsLoose, IsPartOf, IsSideOf, IsStation};
 ghost use Rattle.poll_engine.specs.Tasks.{HasRoom};
@@ -14,7 +13,7 @@ use crate::setup::signals::{IdleWait, Waker};
 use crate::setup::trail::{Asked, Trail};
 use crate::station::{Closed, Finished, Station};
 use crate::worker::{ControllerState, WorkerHandles};
-use napi_calls::{Caller, DropBomb, Napi, NewBack};
+use napi_calls::{Caller, DropBomb, Napi, NewBack, next_caller};
 use rx_ring::{RxCtx, RxIn, beside, finish, ring};
 use std::alloc::{AllocError, Global};
 use std::snapshot::Snapshot;
@@ -104,22 +103,6 @@ impl Placed {
     }
 }
 
-// Returns the next of an instance's callers: the last one that is left in the vector.
-fn next(napi: &Napi, callers: &mut Vec<Caller>) -> Caller
-    requires some { 1 ≤ length callers.old.items }
-    requires seats { (k : ℕ) (c : Caller) → slice_get callers.old.items k ≡ Some c
-        → IsNewSeat napi.now k c.pass }
-    ensures caller { IsNewSeat napi.now (length callers.new.items) result.pass }
-    ensures left { length callers.new.items + 1 ≡ length callers.old.items }
-    ensures seats { (k : ℕ) (c : Caller) → slice_get callers.new.items k ≡ Some c
-        → IsNewSeat napi.now k c.pass }
-    ensures room { vec_capacity callers.new ≡ vec_capacity callers.old }
-{
-    let popped = callers.pop();
-    let Some(caller) = popped else { unreachable!() };
-    caller
-}
-
 // Opens a station: returns its instance, made and disabled, in the parts for its threads and the part that stays.
 fn open<D: Drop>(alloc: Global, station: Station<D>) -> Result<(Placed, Loose<D>), AllocError>
     requires { IsStation station }
@@ -138,9 +121,9 @@ fn open<D: Drop>(alloc: Global, station: Station<D>) -> Result<(Placed, Loose<D>
         Ok(made) => made,
         Err(NewBack { fault: _, ctx: _ }) => return Err(AllocError),
     };
-    let thread = next(&napi, &mut callers);
-    let poller = next(&napi, &mut callers);
-    let caller = next(&napi, &mut callers);
+    let thread = next_caller(&napi, &mut callers);
+    let poller = next_caller(&napi, &mut callers);
+    let caller = next_caller(&napi, &mut callers);
     let placed = Placed {
         number,
         napi,

@@ -1,5 +1,5 @@
 use Rattle.std.proofs.Common.{◌≡◌, ℕ, true, false, refl, subst, sym, ◌∙◌}
-use Rattle.c_handles.specs.{Handles.SeatStep, SeatCalls.CallerRequeues}
+use Rattle.c_handles.specs.{Handles.CallerStep, CallerCalls.CallerRequeues}
 use Rattle.napi_c.proofs.RuleFacts.{look_stays_polling, polls_requeues}
 use Rattle.napi_c.proofs.rules.end_full.Goals as goal
 
@@ -27,7 +27,7 @@ pub returns-clause-makes : goal.returns-clause-makes
 returns-clause-makes c =
     let looked = c.look.new.self in
     let listed = c.requeue.new.self in
-    let polls = look_stays_polling c.args.seat.now.state c.in-Some.seen looked.state c.in-Some.ensures.looks c.requires.polls in
+    let polls = look_stays_polling c.args.caller.now.state c.in-Some.seen looked.state c.in-Some.ensures.looks c.requires.polls in
     let requeues = polls_requeues looked.state c.requeue.result listed.state c.requeue.ensures.0 polls in
     record {
       seen = c.in-Some.seen;
@@ -38,12 +38,12 @@ returns-clause-makes c =
       list = λ _ _. (
         requeues.0,
         refl,
-        subst (λ (n : ℕ). SeatStep CallerRequeues looked n listed) requeues.0 c.requeue.ensures,
+        subst (λ (n : ℕ). CallerStep CallerRequeues looked n listed) requeues.0 c.requeue.ensures,
       );
     }
 
 pub returns-clause-none : goal.returns-clause-none
 returns-clause-none c = λ no.
     let looked = c.look.new.self in
-    let polls = look_stays_polling c.args.seat.now.state c.in-Some.seen looked.state c.in-Some.ensures.looks c.requires.polls in
+    let polls = look_stays_polling c.args.caller.now.state c.in-Some.seen looked.state c.in-Some.ensures.looks c.requires.polls in
     absurd (no (polls_requeues looked.state c.requeue.result c.requeue.new.self.state c.requeue.ensures.0 polls).0)

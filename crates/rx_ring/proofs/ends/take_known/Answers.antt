@@ -1,6 +1,7 @@
-use Rattle.std.proofs.{Common.{◌≡◌, ◌++◌, [], length, take, sym, ap, ◌∙◌, arith}, lemmas.{Grind.common_steps, List.append-nil}}
+use Rattle.std.proofs.{Common.{rules, ◌≡◌, ◌∷◌, ◌++◌, [], length, take, sym, ap, ◌∙◌, arith}, lemmas.{Grind.common_steps, List.append-nil}}
 use Rattle.rtrb.specs.Ring.{received, known_items}
-use Rattle.rx_ring.proofs.{Only.set_only, Prefix.front_of_prefix}
+use Rattle.rx_ring.specs.ReceiveRing.{bytes_of}
+use Rattle.rx_ring.proofs.Only.{set_only}
 use Rattle.rx_ring.proofs.ends.take_known.Goals as goal
 
 pub returns-then-packets-eq1-clause-taken : goal.returns-then-packets-eq1-clause-taken
@@ -25,10 +26,8 @@ returns-then-packets-eq1-clause-known c =
           ∙ ap (λ l. l ++ known_items c.pop_known-packet.new.self) (sym e),
     )
 
-pub returns-clause-taken : goal.returns-clause-taken
-returns-clause-taken c =
-    let given = c.pop_entire_slice.new.slice in
-    let n : length given ≡ length c.args.packets.now = grind (arith, common_steps) in
-    let e =
-    front_of_prefix (known_items c.args.consumer.now) given (known_items c.pop_entire_slice.new.self) (omega arith) c.in-Ok.ensures.ok.1 in
-    grind (arith, common_steps)
+pub returns-then-packets-eq1-clause-bytes : goal.returns-then-packets-eq1-clause-bytes
+returns-then-packets-eq1-clause-bytes c =
+    let n : length c.args.packets.now ≡ 1 = grind (arith, common_steps) in
+    let e = set_only c.args.packets.now c.pop_known-packet.result n in
+    let one : c.from.result ≡ bytes_of (c.pop_known-packet.result ∷ []) = search rules in one ∙ sym (ap bytes_of e)

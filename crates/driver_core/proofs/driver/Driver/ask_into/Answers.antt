@@ -3,7 +3,14 @@ use Rattle.std.proofs.lemmas.Bool.{cases_Bool}
 use Rattle.driver_core.specs.Todo.{ended_in}
 use Rattle.driver_core.specs.Driver.{IsEndedEarly, is_ending, is_running}
 use Rattle.driver_core.specs.declared.{driver.Driver.Driver, todo.What.What}
+use Rattle.driver_core.proofs.QueueFacts.{said_due}
 use Rattle.driver_core.proofs.driver.Driver.ask_into.Goals as goal
+
+pub invariant_of-self-clause-asks : goal.invariant_of-self-clause-asks
+invariant_of-self-clause-asks g c =
+    let self = c.args.self.now in
+    said_due self.devices.all.items self.run.asked c.in-Some.device c.in-Some.chore c.in-Some.ensures.range c.in-Some.ensures.found
+    c.requires.free.1
 
 pub returns-clause-asks : goal.returns-clause-asks
 returns-clause-asks g c =
@@ -21,6 +28,7 @@ returns-clause-asks g c =
       again = λ busy. absurd (busy c.requires.free);
       devices = rw next.devices (rw begun.devices refl);
       counts = next.counts ∙ begun.counts;
+      pacings = next.pacings ∙ begun.pacings;
       limits = next.limits ∙ begun.limits;
       begins = λ off on. next.going self.list [] (begun.begun off) on;
       going = λ start polls going on. next.going start polls (begun.going start polls going) on;

@@ -1,12 +1,12 @@
-use Rattle.std.specs.Prelude.{◌==◌}
 use Rattle.std.proofs.Common.{◌≡◌, ◌∙◌, ◌≤◌, ◌+◌, None, Some, List, length, refl, sym, subst, arith, rules, ap, set}
-use Rattle.std.proofs.lemmas.{List.Sums.count_by-le-length}
+use Rattle.std.proofs.lemmas.{List.get_or_default, List.Sums.count_by-le-length}
+use Rattle.std.proofs.Math.ListN.{length-set}
 use Rattle.poll_runs.specs.Driven.{held}
 use Rattle.driver_core.specs.{Device.stage_is_listed, Queue.IsQueue, declared.device.DriverDevice.DriverDevice}
 use Rattle.poll_runs.specs.Polls.{is_arrival}
-use Rattle.driver_core.specs.{Counts.count_one_poll, Driver.poll_counts_of, declared.counts.PollCounts.PollCounts}
+use Rattle.driver_core.specs.{Counts.count_one_poll, Driver.{no_pacing, pacing_of, poll_counts_of}, declared.counts.PollCounts.PollCounts}
 use Rattle.driver_core.proofs.LineFacts.{polled_line}
-use Rattle.driver_core.proofs.QueueFacts.{comes_back, polled_keeps, polled_listed}
+use Rattle.driver_core.proofs.QueueFacts.{comes_back, polled_keeps, polled_listed, polled_weights}
 use Rattle.driver_core.proofs.driver.Driver.fetched.Goals as goal
 
 pub invariant_of-self-clause-queue : goal.invariant_of-self-clause-queue
@@ -14,7 +14,7 @@ invariant_of-self-clause-queue c =
     let self = c.args.self.now in
     let asked = c.requires.polled in
     let back : stage_is_listed c.polled-next.result.0.stage ≡ comes_back c.polled-next.result.1 =
-    rw c.polled-next.ensures (polled_listed (c.args.packets == self.limits.weight) c.args.rearm c.get-before.result) in
+    rw c.polled-next.ensures (polled_listed c.keeps_polling-stays.result c.defers.result c.args.rearm c.get-before.result) in
     let kept =
     polled_keeps self.devices.all.items self.list c.polled.new.list self.run c.polled.new.self c.args.device c.polled-next.result.0
     c.polled-next.result.1 c.requires.range asked c.polled.ensures.rests c.polled.ensures.kept (c.polled.ensures.repoll c.args.device asked)
@@ -27,6 +27,23 @@ polled-requires-clause-room c =
     let listed = count_by-le-length (λ (d : DriverDevice). stage_is_listed d.stage) self.devices.all.items in
     let room : length self.list + held self.run ≤ 64 = omega (arith, self.queue.size, listed, self.devices.few) in
     room
+
+pub invariant_of-self-clause-paced : goal.invariant_of-self-clause-paced
+invariant_of-self-clause-paced c =
+    let self = c.args.self.now in
+    let set : length c.put.new.self.all.items ≡ length self.devices.all.items =
+    rw c.put.ensures (length-set self.devices.all.items c.args.device c.polled-next.result.0) in
+    omega (arith, self.paced, set, length-set self.pacings.items c.args.device c.count.new.self)
+
+pub invariant_of-self-clause-weights : goal.invariant_of-self-clause-weights
+invariant_of-self-clause-weights c =
+    let self = c.args.self.now in
+    let at-hand : c.index_mut-2.result.now ≡ pacing_of self c.args.device =
+    c.index_mut-2.ensures.value
+    ∙ get_or_default self.pacings.items c.args.device c.index_mut-2.result.now no_pacing (omega (arith, self.paced, c.requires.range)) in
+    rw (c.count.ensures, at-hand)
+    (polled_weights self.limits self.pacings.items c.args.device c.completes-completes.result c.args.packets
+    (omega (arith, self.paced, c.requires.range)) self.weights)
 
 pub invariant_of-self-clause-idle : goal.invariant_of-self-clause-idle
 invariant_of-self-clause-idle c =
@@ -44,9 +61,13 @@ returns-clause-ends c =
     let self = c.args.self.now in
     let asked = c.requires.polled in
     let at-hand : c.counts-so_far.result ≡ poll_counts_of self c.args.device = c.counts-so_far.ensures in
+    let paced : c.index_mut-2.result.now ≡ pacing_of self c.args.device =
+    c.index_mut-2.ensures.value
+    ∙ get_or_default self.pacings.items c.args.device c.index_mut-2.result.now no_pacing (omega (arith, self.paced, c.requires.range)) in
     record {
       devices = search rules;
       counts = rw c.and.ensures (ap (λ (x : PollCounts). set self.counts.items c.args.device (count_one_poll c.args.packets x)) at-hand);
+      pacings = rw (c.count.ensures, paced) (search rules);
       limits = refl;
       number = refl;
       ending = refl;

@@ -19,6 +19,7 @@ returns-clause-asks g c =
       again = λ _. (refl, last.number);
       devices = refl;
       counts = refl;
+      pacings = refl;
       limits = refl;
       begins = λ off on. let both : false ≡ true = sym off ∙ on in absurd (cc both);
       going = λ start polls going on. going;

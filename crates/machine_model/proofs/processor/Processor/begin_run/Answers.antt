@@ -15,7 +15,7 @@ invariant_of-self c =
     let asked = rw (c.next.ensures.softirq, c.begin.ensures) at (sym c.next.ensures.answer ∙ c.in-Some.is) in
     rw (c.next.ensures.softirq, c.begin.ensures)
     (kept-next s i.work
-    (Poll c.in-Some.number) i.devices q
+    (Poll (record { device = c.in-Some.number; given = 0 })) i.devices q
     (kept-begun s i.work i.devices i.softirq i.clock c.self.invariant none (rw nothing refl) polling threaded) refl
     (rw threaded asked)
     (omega (arith, s.weight_in.0)))

@@ -11,8 +11,8 @@ invariant_of-self c =
     let asked = rw c.next.ensures.softirq at (sym c.next.ensures.answer ∙ c.in-Some.is) in
     let threaded = asks-unthreaded i.settings i.work i.devices i.softirq c.in-Some.number c.self.invariant none asked in
     rw c.next.ensures.softirq
-    (kept-next i.settings i.work
-    (Poll c.in-Some.number) i.devices i.softirq c.self.invariant none (rw threaded asked) (omega (arith, i.settings.weight_in.0)))
+    (kept-next i.settings i.work (Poll (record { device = c.in-Some.number; given = 0 })) i.devices i.softirq c.self.invariant none
+    (rw threaded asked) (omega (arith, i.settings.weight_in.0)))
 
 pub invariant_of-self-in-None : goal.invariant_of-self-in-None
 invariant_of-self-in-None c =

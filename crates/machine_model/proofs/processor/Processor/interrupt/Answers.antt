@@ -11,7 +11,8 @@ schedule-requires-clause-few c =
     let up : asks_at (at c.args.number ds) ≡ true = rw (← c.self.view_is) at c.requires.asks in
     let own : schedules_at (at c.args.number ds) ≡ true = sym c.schedules-schedules.ensures ∙ c.if-schedules.true in
     let more : all_scheduled ds + 1 ≤ all_scheduled c.interrupt.new.self =
-    rw (c.interrupt.ensures.devices, c.if-polling.true) (rw own at (scheduled-interrupted true c.args.number ds up)) in
+    rw (c.interrupt.ensures.devices, c.if-polling.true)
+    (rw own at (scheduled-interrupted c.end_after-ends.result true c.args.number ds up)) in
     omega (arith, c.self.invariant.few, more)
 
 pub schedule-requires-clause-room : goal.schedule-requires-clause-room
@@ -20,8 +21,17 @@ schedule-requires-clause-room c =
     let up : asks_at (at c.args.number ds) ≡ true = rw (← c.self.view_is) at c.requires.asks in
     let own : schedules_at (at c.args.number ds) ≡ true = sym c.schedules-schedules.ensures ∙ c.if-schedules.true in
     let more : all_scheduled ds + 1 ≤ all_scheduled c.interrupt.new.self =
-    rw (c.interrupt.ensures.devices, c.if-polling.true) (rw own at (scheduled-interrupted true c.args.number ds up)) in
+    rw (c.interrupt.ensures.devices, c.if-polling.true)
+    (rw own at (scheduled-interrupted c.end_after-ends.result true c.args.number ds up)) in
     omega (arith, c.self.invariant.few, more, scheduled-most c.interrupt.new.self, c.interrupt.ensures.few)
+
+pub invariant_of-self : goal.invariant_of-self
+invariant_of-self c =
+    let i = c.self.inside in
+    let up : asks_at (at c.args.number i.devices) ≡ true = rw (← c.self.view_is) at c.requires.asks in
+    rw c.interrupt.ensures.devices
+    (kept-devices i.settings i.work i.devices _ i.softirq c.self.invariant
+    (omega (arith, scheduled-interrupted c.end_after-ends.result c.is_polling-polling.result c.args.number i.devices up)))
 
 pub invariant_of-self-else-polling : goal.invariant_of-self-else-polling
 invariant_of-self-else-polling c =
@@ -29,4 +39,4 @@ invariant_of-self-else-polling c =
     let up : asks_at (at c.args.number i.devices) ≡ true = rw (← c.self.view_is) at c.requires.asks in
     rw c.interrupt.ensures.devices
     (kept-devices i.settings i.work i.devices _ i.softirq c.self.invariant
-    (omega (arith, scheduled-interrupted c.is_polling-polling.result c.args.number i.devices up)))
+    (omega (arith, scheduled-interrupted c.end_after-ends.result c.is_polling-polling.result c.args.number i.devices up)))

@@ -9,18 +9,32 @@ returns-clause-side g c =
     record {
       part = record {
         number = refl;
-        handles = ((c.next-caller.ensures.caller.instance, new.control.instance), refl);
+        handles = ((c.next_caller-caller.ensures.caller, new.control.instance), refl);
         controller = new.control.number_is;
-        poller = c.next-poller.ensures.caller.instance;
-        thread = c.next-thread.ensures.caller.instance;
+        poller = c.next_caller-poller.ensures.caller;
+        thread = c.next_caller-thread.ensures.caller;
         ring = (c.in_ok-rx.ctx, search rules, search rules);
         home = record {
           callers = new.count.1;
           nothing_received = ap (λ (x : RxCtx). received_list x) new.first ∙ unreceived;
           empty =
-              grind (arith, common_steps, new.count.2, c.next-thread.ensures.left, c.next-poller.ensures.left, c.next-caller.ensures.left);
+              grind (
+                arith,
+                common_steps,
+                new.count.2,
+                c.next_caller-thread.ensures.left,
+                c.next_caller-poller.ensures.left,
+                c.next_caller-caller.ensures.left,
+              );
           room =
-              grind (arith, common_steps, new.count.2, c.next-thread.ensures.room, c.next-poller.ensures.room, c.next-caller.ensures.room);
+              grind (
+                arith,
+                common_steps,
+                new.count.2,
+                c.next_caller-thread.ensures.room,
+                c.next_caller-poller.ensures.room,
+                c.next_caller-caller.ensures.room,
+              );
         };
       };
       name = c.requires.number.1;
@@ -31,9 +45,12 @@ returns-clause-side g c =
 pub returns-clause-loose : goal.returns-clause-loose
 returns-clause-loose g c =
     let new = c.in-Ok.ensures in
-    let three = c.next-thread.ensures.left in
-    let two = c.next-poller.ensures.left in
-    let one = c.next-caller.ensures.left in
+    let three = c.next_caller-thread.ensures.left in
+    let two = c.next_caller-poller.ensures.left in
+    let one = c.next_caller-caller.ensures.left in
+    let first = new.callers 0 c.next_caller-caller.result (grind (arith, common_steps, new.count.2, three, two, one)) in
+    let second = new.callers 1 c.next_caller-poller.result (grind (arith, common_steps, new.count.2, three, two)) in
+    let third = new.callers 2 c.next_caller-thread.result (grind (arith, common_steps, new.count.2, three)) in
     record {
       same_number = refl;
       same_device = refl;
@@ -43,8 +60,8 @@ returns-clause-loose g c =
       unused = record {
         caller =
             record {
-              number_is = c.next-caller.ensures.caller.number_is ∙ grind (arith, common_steps, new.count.2, three, two, one);
-              nothing_done = c.next-caller.ensures.caller.nothing_done;
+              number_is = first.number_is;
+              nothing_done = first.nothing_done;
             };
         control = new.control.nothing_done;
         number = new.control.number_is;
@@ -53,12 +70,12 @@ returns-clause-loose g c =
       };
       poller =
           record {
-            number_is = c.next-poller.ensures.caller.number_is ∙ grind (arith, common_steps, new.count.2, three, two);
-            nothing_done = c.next-poller.ensures.caller.nothing_done;
+            number_is = second.number_is;
+            nothing_done = second.nothing_done;
           };
       own = record {
-        number_is = c.next-thread.ensures.caller.number_is ∙ grind (arith, common_steps, new.count.2, three);
-        nothing_done = c.next-thread.ensures.caller.nothing_done;
+        number_is = third.number_is;
+        nothing_done = third.nothing_done;
       };
       unasked = search rules;
     }
