@@ -7,6 +7,7 @@ import io
 import os
 import signal
 import subprocess
+import sys
 import time
 import unittest.mock
 from collections.abc import Callable
@@ -49,6 +50,14 @@ BARE = ["env", "-i", f"PATH={os.environ['PATH']}", "CI=true", *(f"{name}={path}"
 def long_report() -> str:
     """Returns a report of more than 1 kB."""
     return process(REPLAY, text=(TOP / "examples/linux-veth-bursts.csv").read_text()).stdout
+
+
+def session(number: int) -> int:
+    """Returns the session that a process is in; 0 if it has ended."""
+    try:
+        return os.getsid(number)
+    except OSError:
+        return 0
 
 
 class Surroundings(InFolder):
@@ -133,8 +142,10 @@ class Surroundings(InFolder):
     def ended(self, number: int, tool: str, *words: object, is_ready: Callable[[], bool] = lambda: True, **program: object) -> str:
         """Starts a tool, and sends a signal once the program that it runs waits: SIGINT to all processes, as a terminal does, others to
         the tool only, as a batch system does. Returns what it prints on standard error; the program must not be left running."""
-        child, begun = self.start(tool, *words, ends={"start_new_session": True}, **program), self.folder / "begun"
-        until = time.monotonic() + MOST_SECONDS
+        return self.ends(self.start(tool, *words, ends={"start_new_session": True}, **program), number, tool, is_ready)
+
+    def ends(self, child: subprocess.Popen[str], number: int, tool: str, is_ready: Callable[[], bool] = lambda: True) -> str:
+        begun, until = self.folder / "begun", time.monotonic() + MOST_SECONDS
         while not (begun.exists() and is_ready()):
             self.assertIsNone(child.poll(), tool)
             self.assertLess(time.monotonic(), until)
@@ -168,6 +179,30 @@ class Surroundings(InFolder):
                 self.assertTrue(said.count("\n") == 1 or tool == "sweep", said)
                 (self.folder / "rows").unlink(missing_ok=True)
                 self.assertEqual((old.read_text(), self.names()), ("old\n", before), tool)
+
+    def test_an_end_while_a_thread_is_started(self) -> None:
+        """A pool waits for no thread that it was starting when a signal came: its program is ended all the same, and no other is begun."""
+        self.write("pool.py", f"""import sys, threading, time
+sys.path.insert(0, {str(TOP / "tools")!r})
+from fintaqush_tools import errors, processes
+
+def one_after_another():
+    while True:
+        try:
+            processes.ran([sys.argv[1]])
+        except errors.Interrupted:
+            pass
+
+def main(words):
+    threading.Thread(target=one_after_another, daemon=True).start()
+    time.sleep(1000)
+
+errors.run("fintaqush sweep", main, [])
+""")
+        for number in (signal.SIGINT, signal.SIGTERM):
+            child = started(sys.executable, "-BES", "pool.py", self.held(), folder=self.folder, ends={"start_new_session": True})
+            self.ends(child, number, "sweep")
+            self.assertEqual([number for number in os.listdir("/proc") if number.isdigit() and session(int(number)) == child.pid], [])
 
     def test_a_signal_that_is_deferred(self) -> None:
         """One that comes while a program is being started ends the tool after that."""

@@ -3,6 +3,7 @@ that is slow to import."""
 
 from __future__ import annotations
 
+import _thread
 import os
 import sys
 
@@ -22,6 +23,7 @@ BAD_USAGE = 64  # the exit status for wrong options, as of the programs (EX_USAG
 
 unfinished: set[str] = set()  # files that are being written
 running: set[Popen[bytes]] = set()  # our programs that are running
+starting = _thread.allocate_lock()  # is held while one is started and put there
 
 
 class Refusal(Exception):
@@ -131,6 +133,15 @@ def ended(main: Main, words: Sequence[str]) -> int:
         return error.status if isinstance(error, Refusal) else 1
 
 
+def end_programs() -> None:
+    """Ends those that still run, after which none is started. A pool of threads doesn't wait for its last one if a signal comes while it
+    is being started."""
+    starting.acquire()
+    for process in list(running):
+        process.kill()
+        process.wait()
+
+
 def clean_up() -> None:
     """Removes the files that weren't finished."""
     for name in unfinished:
@@ -162,5 +173,6 @@ def run(name: str, main: Main, words: Sequence[str], is_short: bool = False) -> 
     except Interrupted as signalled:
         say(f"interrupted{signalled.more}")
         status = 128 + signalled.number
+    end_programs()
     clean_up()
     os._exit(status)  # output that couldn't be written isn't tried again

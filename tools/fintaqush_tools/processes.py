@@ -10,7 +10,7 @@ import threading
 from collections.abc import Generator, Sequence
 from typing import IO, Any, NoReturn
 
-from fintaqush_tools.errors import Interrupted, Refusal, Signals, running
+from fintaqush_tools.errors import Interrupted, Refusal, Signals, running, starting
 from fintaqush_tools.files import check_input
 from fintaqush_tools.places import HOME, IS_CHECKOUT, TOP
 from fintaqush_tools.progress import Program, Progress, share_of
@@ -43,8 +43,9 @@ def begun(command: Sequence[str], among: set[subprocess.Popen[bytes]], **ends: A
     if is_main:
         Signals.defer()
     try:
-        process = subprocess.Popen(command, **ends)
-        among.add(process)
+        with starting:
+            process = subprocess.Popen(command, **ends)
+            among.add(process)
     finally:
         if is_main:
             Signals.is_deferred = False
