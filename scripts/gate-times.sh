@@ -165,6 +165,7 @@ table() {
 # Ctrl-C, or a signal to this process only: the gate restores what it set aside, and ends.
 interrupted() {
     trap '' INT TERM HUP
+    child=${!:-}
     kill -INT -- "-$child" 2> /dev/null
     while kill -0 "$child" 2> /dev/null; do wait "$child" 2> /dev/null; done
     table "$(whole)" | tee -a "$log"
@@ -172,13 +173,13 @@ interrupted() {
 }
 
 pipe=$(mktemp -u) && mkfifo -m 600 "$pipe" || exit 73
+trap 'interrupted 130' INT
+trap 'interrupted 143' TERM HUP
 # the command must not ignore Ctrl-C either
 setsid env --default-signal=INT "$@" > "$pipe" 2>&1 < /dev/null 4>&- &
 child=$!
 exec 3< "$pipe"
 rm -f "$pipe"
-trap 'interrupted 130' INT
-trap 'interrupted 143' TERM HUP
 last=0
 while true; do
     line=

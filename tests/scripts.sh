@@ -126,14 +126,20 @@ fi
 # A tool that has to build first says so at once: the replacement for the toolchain never ends.
 mkdir -p "$scratch/kit/bin" "$scratch/kit/rattle"
 printf '#!/bin/sh\necho "%s/kit/rattle"\n' "$scratch" > "$scratch/kit/bin/rt"
-printf '#!/bin/sh\nsleep 60\n' > "$scratch/kit/bin/rattle"
+printf '#!/bin/sh\nexec sleep 600\n' > "$scratch/kit/bin/rattle"
 : > "$scratch/kit/KIT-ID"
 chmod +x "$scratch/kit/bin"/*
+# comes COMMAND ..: waits for it, at most some minutes.
+comes() { for _ in $(seq 3000); do "$@" > /dev/null 2>&1 && return; sleep 0.05; done; return 1; }
 says_that_it_builds() {
     "$top/scripts/fresh_clone.sh" "$scratch/clone" && rm -f "$scratch"/clone/fintaqush/crates/*/out/*
     (cd "$scratch/clone/fintaqush" && cp tests/tools/soft-tcp.csv mine.csv && cp tests/tools/soft-tcp.work mine.work &&
-        env -i PATH="$scratch/kit/bin:$PATH" HOME="$scratch/clone/home" timeout 10 ./fintaqush compare-recording mine --budget 300) > "$scratch/out" 2>&1
-    grep -q 'proving and building napi_serial' "$scratch/out"
+        exec env -i PATH="$scratch/kit/bin:$PATH" HOME="$scratch/clone/home" ./fintaqush compare-recording mine --budget 300) > "$scratch/out" 2>&1 &
+    comes grep 'proving and building napi_serial' "$scratch/out"
+    local status=$?
+    kill $!
+    wait $!
+    return "$status"
 }
 check 'compare-recording without a built program says that it builds' says_that_it_builds
 
@@ -154,11 +160,14 @@ check 'too few descriptors are no missing python3' tells_no_untruth
 check 'the launcher is interrupted as it begins' ends_in_a_line 'import os; os.kill(os.getpid(), 2)' interrupted
 check 'it is out of memory as it begins' ends_in_a_line 'raise MemoryError' "there isn't enough memory"
 
-# A gate of one crate, whose prover is a shell with the prover's name.
+# A gate of one crate, whose prover is a shell with the prover's name. It ends after the processes were read again: that is before a line
+# that follows two lines over half a second apart.
 mkdir -p "$scratch/rt-edit-x"
 cat > "$scratch/gate" << 'END'
 #!/usr/bin/env bash
-prove() { bash -c 'exec -a /x/rattle bash -c "for ((i = 0; i < 300000; i++)); do :; done; sleep 1.2; :" "$@"' '' "$@"; }
+export work='for ((i = 0; i < 300000; i++)); do :; done
+    for pause in 0 0.7 0; do sleep "$pause"; echo "$$ $((++lines))"; until grep "  $$ $lines\$" "$LOG"; do sleep 0.05; done > /dev/null; done'
+prove() { bash -c 'exec -a /x/rattle bash -c "$work" "$@"' '' "$@"; }
 prove check --crate-name low && echo 'rt: low proved'
 prove check --crate-name low --test && echo 'rt: low: its tests are proved'
 cd "$1" && prove check --crate-name low
@@ -179,6 +188,9 @@ LOG=/proc/none/log "$top/scripts/gate-times.sh" true 2> "$scratch/out" || status
 check 'a log that cannot be written' [ "$status" = 73 ]
 cp "$(command -v sleep)" "$scratch/slow"
 status=0
-LOG=$scratch/gate.log env --default-signal=INT timeout --preserve-status -s INT 1 "$top/scripts/gate-times.sh" "$scratch/slow" 30 > "$scratch/out" 2>&1 || status=$?
+LOG=$scratch/gate.log env --default-signal=INT "$top/scripts/gate-times.sh" "$scratch/slow" 600 > "$scratch/out" 2>&1 &
+comes pgrep -f "^$scratch/slow"
+kill -INT $!
+wait $! || status=$?
 check 'it can be interrupted, and ends the gate' [ "$status $(pgrep -f "^$scratch/slow")" = '130 ' ]
 sum_up
