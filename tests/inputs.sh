@@ -53,25 +53,27 @@ still() {
 
 # fails FAULT CAUSE: the real program on the FIFO, whose writer doesn't close it.
 fails() {
-    run timeout -s KILL 300 "${as[@]}" "$top/replay" "$scratch/fifo"
+    run timeout -s KILL 900 "${as[@]}" "$top/replay" "$scratch/fifo"
     kill "$writer" 2> /dev/null
     wait "$writer" 2> /dev/null
     check "a writer that goes on: $2" is "$status $(sed "s,$scratch/,,g" "$scratch/err")" "2 trace fault $1
 replay: fifo line $2"
 }
 
-program=$top/crates/napi_serial/out/napi_serial
-is_begun() { pgrep -f "^$program" > /dev/null; }
+# begins LAUNCHER: it has started the program, whose number is then in `program`. Others may run the same program meanwhile.
+begins() { program=$(pgrep -P "$1" -f "^$top/crates/napi_serial/out/napi_serial"); }
+is_over() { [ -n "$program" ] && ! grep -q napi_serial "/proc/$program/cmdline" 2> /dev/null; }
 
 # ends_by SIGNAL STATUS: to this process only, while a writer doesn't close its FIFO.
 ends_by() {
+    local program
     still "echo 'moment,device,event,value'"
     env --default-signal=INT "$top/replay" "$scratch/fifo" > "$scratch/out" 2> "$scratch/err" &
-    comes is_begun
+    comes begins $!
     kill -"$1" $!
     status=0
     wait $! || status=$?
-    check "$1 ends a replay whose trace is still to come" is "$status $(cat "$scratch/err") $(pgrep -f "^$program")" \
+    check "$1 ends a replay whose trace is still to come" is "$status $(cat "$scratch/err") $(comes is_over || echo "$program runs")" \
         "$2 replay: interrupted "
     kill "$writer"
     wait "$writer" 2> /dev/null
@@ -102,7 +104,7 @@ inputs() {
     local lines='memory fault 11 OutOfMemory
 replay: it: it takes more memory than the program may have'
     for how in '< /dev/zero' '/dev/zero' '< <(tr "\0" x < /dev/zero)'; do
-        run timeout 60 "$BASH" -c "'$top/replay' $how"
+        run timeout 900 "$BASH" -c "'$top/replay' $how"
         check "an input without end, $how" is "$status $(sed 's,^replay: [^:]*,replay: it,' "$scratch/err")" "4 $lines, 2048 MiB (REPLAY_MEMORY sets that)"
         # The launcher that explains it has a memory limit here too, because one that kept all would run out.
         run env REPLAY_MEMORY=200 bash -c "ulimit -v 1500000; '$top/replay' $how"
