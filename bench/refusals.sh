@@ -53,7 +53,7 @@ fail() { echo "refusals: $*" >&2; exit 1; }
 refuse() {
     status=0
     rm -f "$folder/refused"
-    timeout 60 env "$1=$2" REFUSED="$folder/refused" LD_PRELOAD="$folder/refuse.so" \
+    timeout 600 env "$1=$2" REFUSED="$folder/refused" LD_PRELOAD="$folder/refuse.so" \
         "$program" $words < "$folder/$input" > "$folder/out" 2> "$folder/err" || status=$?
 }
 

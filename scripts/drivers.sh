@@ -16,7 +16,7 @@ build() {
 refuses() {
     local status=0
     # shellcheck disable=SC2086
-    timeout 60 "$scratch/plain/$driver" $1 > "$scratch/run" 2>&1 || status=$?
+    timeout 300 "$scratch/plain/$driver" $1 > "$scratch/run" 2>&1 || status=$?
     check "'$1' is refused" [ "$status $(grep -c '^usage: ' "$scratch/run")" = '64 1' ]
 }
 
@@ -25,7 +25,7 @@ way() {
     local name=$1 status=0
     shift
     [ "$over" = 0 ] || return 0
-    BUILT=$scratch/$name timeout -k 20 300 "$top/examples/$driver/run.sh" "$@" > "$scratch/run" 2>&1 || status=$?
+    BUILT=$scratch/$name timeout -k 20 1h "$top/examples/$driver/run.sh" "$@" > "$scratch/run" 2>&1 || status=$?
     count_run "$status" "$name with '$*'"
 }
 
@@ -39,7 +39,7 @@ as_printed() {
         mkdir -p "$scratch/fresh/home/${fetched%/*}"
         [ ! -d ~/"$fetched" ] || ln -s ~/"$fetched" "$scratch/fresh/home/$fetched"
     fi
-    (cd "$scratch/fresh/fintaqush" && env -i PATH="$PATH" TERM="${TERM:-dumb}" HOME="$scratch/fresh/home" timeout -k 20 600 bash -c "$1") > "$scratch/run" 2>&1
+    (cd "$scratch/fresh/fintaqush" && env -i PATH="$PATH" TERM="${TERM:-dumb}" HOME="$scratch/fresh/home" timeout -k 20 1h bash -c "$1") > "$scratch/run" 2>&1
 }
 
 # printed COMMAND: runs the driver as a page shows it; each line `ok` or `WRONG` that it prints counts as a test.
@@ -87,7 +87,7 @@ mistake() {
         check "$name: planted" false
         return
     fi
-    BUILT=$scratch/mistake/built PATIENCE=15 timeout -k 20 180 "$scratch/mistake/examples/$driver/run.sh" > "$scratch/run" 2>&1 || status=$?
+    BUILT=$scratch/mistake/built PATIENCE=15 timeout -k 20 1h "$scratch/mistake/examples/$driver/run.sh" > "$scratch/run" 2>&1 || status=$?
     check "$name is found: $(grep '^WRONG: ' "$scratch/run")" [ "$status $(grep -c -x -e "WRONG: $wrong" "$scratch/run")" = '1 1' ]
 }
 

@@ -9,7 +9,7 @@
 # MACHINE=FILE names another build of napi_machine. The last line is `N passed, M failed, K skipped`.
 . "$(dirname "$(readlink -f "$0")")/../scripts/checks.sh"
 
-cards() { timeout 3400 python3 -EsSB "$top/tests/cards/cards.py" "$@"; }
+cards() { timeout 2h python3 -EsSB "$top/tests/cards/cards.py" "$@"; }
 
 [ "${1:-}" != --fetch ] || exec python3 -EsSB "$top/tests/cards/cards.py" fetch
 

@@ -334,10 +334,10 @@ def ends(program: str) -> list[str]:
             if not end:
                 os.close(write)
             try:
-                printed = child.communicate(timeout=60)[0]
+                printed = child.communicate(timeout=600)[0]
             except subprocess.TimeoutExpired:
                 child.kill()
-                printed = "nothing in 60 s"
+                printed = "nothing in 600 s"
         if printed != wanted:
             wrong.append(f"{name}: {printed}")
         if end:

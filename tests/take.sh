@@ -52,7 +52,7 @@ is_closed() {
 
 # prints_when_proved CRATE LINE: `rt run` there proves it and all below it, builds it and prints the line.
 prints_when_proved() {
-    [ "$(cd "$to/crates/$1" && timeout 1h rt run 2> "$scratch/said")" = "$2" ] || { tail -n 20 "$scratch/said"; return 1; }
+    [ "$(cd "$to/crates/$1" && timeout 2h rt run 2> "$scratch/said")" = "$2" ] || { tail -n 20 "$scratch/said"; return 1; }
 }
 
 # begin: an empty repository in place of the last one.

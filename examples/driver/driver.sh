@@ -3,7 +3,7 @@
 # loads; and the checks, a line `ok` or `WRONG` each; the first WRONG ends the script. PATIENCE: how many seconds it waits for
 # each condition.
 . "$(dirname "${BASH_SOURCE[0]}")/../tap/device.sh"
-patience=${PATIENCE:-120}
+patience=${PATIENCE:-300}
 
 # over NEED [WHY]: ends the script, because the driver can't run here without NEED
 over() {
@@ -78,7 +78,7 @@ start() {
     : > "$scratch/err"
     "$@" > "$scratch/out" 2>> "$scratch/err" &
     driver=$!
-    wait_for has_begun && told on 1 && return
+    patience=300 wait_for has_begun && told on 1 && return
     kill -KILL "$driver" 2> /dev/null
     wait "$driver"
     [ $? != 69 ] || over "$kernel" "$(cat "$scratch/err")"

@@ -13,7 +13,7 @@ trap 'remove_device; rm -rf "$scratch"' EXIT
 built=${BUILT:-$scratch}
 [ -n "${BUILT:-}" ] || "$here/build.sh" "$built" || exit
 
-load() { inside timeout 60 "$built/load" "$@"; }
+load() { inside timeout 600 "$built/load" "$@"; }
 failed() {
     echo "tap: the load failed: $*" >&2
     exit 1

@@ -2,7 +2,7 @@
 # examples/virtio/run.sh: runs the driver on the virtio card of a virtual machine: 3000 pings of 1400 bytes, two seconds of UDP
 # both ways, disables and enables under load (ROUNDS of them, 5), and SIGINT under load. Prints the driver's counts and those of
 # the card, of the guest's kernel and of the other end, and a line `ok` or `WRONG` for each check. PATIENCE: how many seconds it
-# waits for packets (120); the other settings are those of vm.sh. The status is 0 only if all checks pass, 69 if there is no
+# waits for packets (300); the other settings are those of vm.sh. The status is 0 only if all checks pass, 69 if there is no
 # root, no `ip`, no right to make a namespace, no TAP, or something that a virtual machine needs is missing.
 set -uo pipefail
 unset CDPATH

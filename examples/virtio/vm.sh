@@ -55,7 +55,7 @@ boot() {
     mkfifo "$scratch"/{commands,monitor.in,monitor.out}
     touch "$scratch/console"
     inside cat "$scratch/monitor.out" > "$scratch/monitor" &
-    ip netns exec "$space" timeout -k 10 600 qemu-system-x86_64 -M q35 -cpu max -accel tcg -smp "${CPUS:-2}" -m 256 -no-reboot -nodefaults \
+    ip netns exec "$space" timeout -k 10 3000 qemu-system-x86_64 -M q35 -cpu max -accel tcg -smp "${CPUS:-2}" -m 256 -no-reboot -nodefaults \
         -display none -kernel "$image" -initrd "$scratch/initramfs" -append "$words" -device intel-iommu,intremap=on \
         -netdev tap,id=far,ifname=fq0,script=no,downscript=no,vhost=off \
         -device virtio-net-pci,id=card,netdev=far,addr=5,disable-legacy=on,iommu_platform=on,event_idx=off,mac=02:00:00:00:00:02 \
@@ -93,26 +93,26 @@ guest() {
     local lines commands
     lines=$(wc -l < "$scratch/console") commands=$(grep -c '^GUEST ' "$scratch/console")
     echo "$*" >&8
-    patience=120 wait_for wrote 'GUEST .*' $((commands + 1)) || return 1
+    patience=300 wait_for wrote 'GUEST .*' $((commands + 1)) || return 1
     tail -n +$((lines + 1)) "$scratch/console" | tr -d '\r' | awk '/^GUEST / { status = $2; exit } { print } END { exit status }'
 }
 
 # start_driver: starts the driver; its link is up afterwards
 start_driver() {
     guest "virtio $address > /out &"
-    patience=120 wait_for wrote 'virtio: on' 1 || { cat "$scratch/console"; exit 1; }
+    patience=300 wait_for wrote 'virtio: on' 1 || { cat "$scratch/console"; exit 1; }
     ip -n "$space" link set fq0 up
 }
 
 # counts: prints the driver's counts
-counts() { guest 'kill -USR1 $!; sleep 1; tail -n 3 /out'; }
+counts() { guest 'had=$(wc -l < /out); kill -USR1 $! && for i in $(seq 99); do [ $(wc -l < /out) = $had ] || break; sleep 1; done; tail -n 3 /out'; }
 
 # card QUEUE: prints how many descriptors the card returned, modulo 2^16, as the host's side sees it (QEMU's monitor)
 card() {
     local answers
     answers=$(grep -c used_idx: "$scratch/monitor")
     echo "info virtio-queue-status /machine/peripheral/card/virtio-backend $1" >&9
-    patience=120 wait_for has_told $((answers + 1)) && tr -d '\r' < "$scratch/monitor" | awk '$1 == "used_idx:" { last = $2 } END { print last }'
+    patience=300 wait_for has_told $((answers + 1)) && tr -d '\r' < "$scratch/monitor" | awk '$1 == "used_idx:" { last = $2 } END { print last }'
 }
 has_told() { [ "$(grep -c used_idx: "$scratch/monitor")" -ge "$1" ]; }
 
