@@ -19,7 +19,7 @@ compile() {
 compared() {
     local wanted=$1
     shift
-    timeout 600 "$@" > "$scratch/printed" && diff "$scratch/printed" "$wanted"
+    timeout 1h "$@" > "$scratch/printed" && diff "$scratch/printed" "$wanted"
 }
 
 refused() {
@@ -184,7 +184,7 @@ check 'each allocation refused in turn' compared "$scratch/refused_all" "$scratc
 
 # ---- what each call that allocates has made, freed in each state
 
-ends_each_box() { timeout 900 "$@" > "$scratch/printed" && grep -qx '[0-9]* cases, and nothing is left' "$scratch/printed"; }
+ends_each_box() { timeout 1h "$@" > "$scratch/printed" && grep -qx '[0-9]* cases, and nothing is left' "$scratch/printed"; }
 check 'boxes.c compiles' compile gcc "$top/tests/c/boxes.c" "$scratch/boxes" -O2 "$wraps"
 check 'no box is forgotten' ends_each_box "$scratch/boxes"
 
@@ -206,8 +206,8 @@ as_the_tool() {
     local program=$1 trace=$2 wanted=0 status=0 tool=("$serial")
     shift 2
     [ $# = 3 ] || tool=("$series" "--raise=$4" --rows)
-    timeout 600 "${tool[@]}" --budget="$1" --weight="$2" --window="$3" < "$trace" > "$scratch/wanted" 2> "$scratch/wanted.line" || wanted=$?
-    timeout 600 "$program" "$@" < "$trace" > "$scratch/printed" 2> "$scratch/line" || status=$?
+    timeout 1h "${tool[@]}" --budget="$1" --weight="$2" --window="$3" < "$trace" > "$scratch/wanted" 2> "$scratch/wanted.line" || wanted=$?
+    timeout 1h "$program" "$@" < "$trace" > "$scratch/printed" 2> "$scratch/line" || status=$?
     [ "$status" = "$wanted" ] && cmp "$scratch/printed" "$scratch/wanted" && diff "$scratch/line" "$scratch/wanted.line"
 }
 
@@ -290,8 +290,8 @@ fi
 as_napi_machine() {
     local arrivals=$1 wanted=0 status=0
     shift
-    timeout 600 "$top/crates/napi_machine/out/napi_machine" "${@/#/--}" < "$arrivals" > "$scratch/wanted" 2> "$scratch/wanted.line" || wanted=$?
-    timeout 600 "$scratch/machine" "$@" < "$arrivals" > "$scratch/printed" 2> "$scratch/line" || status=$?
+    timeout 1h "$top/crates/napi_machine/out/napi_machine" "${@/#/--}" < "$arrivals" > "$scratch/wanted" 2> "$scratch/wanted.line" || wanted=$?
+    timeout 1h "$scratch/machine" "$@" < "$arrivals" > "$scratch/printed" 2> "$scratch/line" || status=$?
     [ "$status" = "$wanted" ] && cmp "$scratch/printed" "$scratch/wanted" && diff "$scratch/line" "$scratch/wanted.line"
 }
 

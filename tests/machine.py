@@ -53,7 +53,7 @@ def plain() -> str:
 
 def ran(program: str, arguments: Sequence[str | bytes], text: str | bytes) -> tuple[str, str, int]:
     sent = text if isinstance(text, bytes) else text.encode()
-    done = subprocess.run([program, *arguments], input=sent, capture_output=True, check=False, timeout=600)
+    done = subprocess.run([program, *arguments], input=sent, capture_output=True, check=False, timeout=3600)
     return done.stdout.decode("latin-1"), done.stderr.decode("latin-1"), done.returncode
 
 
@@ -334,10 +334,10 @@ def ends(program: str) -> list[str]:
             if not end:
                 os.close(write)
             try:
-                printed = child.communicate(timeout=600)[0]
+                printed = child.communicate(timeout=3600)[0]
             except subprocess.TimeoutExpired:
                 child.kill()
-                printed = "nothing in 600 s"
+                printed = "nothing in an hour"
         if printed != wanted:
             wrong.append(f"{name}: {printed}")
         if end:

@@ -5,7 +5,7 @@
 # another build of napi_machine. The last line is `N passed, M failed, K skipped`.
 . "$(dirname "$(readlink -f "$0")")/../scripts/checks.sh"
 
-of_machine() { timeout 900 python3 -B "$top/tests/machine.py" "$@"; }
+of_machine() { timeout 1h python3 -B "$top/tests/machine.py" "$@"; }
 
 compiled() { g++ -std=c++17 -O2 -Wall -Wextra -Werror "$top/bench/machine.cc" -o "$@"; }
 export PLAIN=$scratch/counted

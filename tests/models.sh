@@ -94,7 +94,7 @@ search() {
     words=(./search -a -f -N "$property")
     [ "$property" = "$2" ] || text=${2#*=}
     [ "$property" != safe ] || words=(./search_safe) breaks='invalid end state|assertion violated'
-    (cd "$scratch/$1" && timeout 600 "${words[@]}" -m1000000 > "$log" 2>&1)
+    (cd "$scratch/$1" && timeout 1h "${words[@]}" -m1000000 > "$log" 2>&1)
     if grep -qE 'max search depth too small|out of memory' "$log"; then
         echo unknown
     elif grep -q 'errors: 0$' "$log" && ! grep -q 'Search not completed' "$log"; then

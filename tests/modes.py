@@ -75,7 +75,7 @@ def check(name: str, holds: bool, why: str = "other than wanted") -> Judged:
 
 
 def play(text: bytes, words: list[str], program: str = PROGRAM) -> tuple[int, bytes, bytes]:
-    run = subprocess.run([program] + words, input=text, capture_output=True, timeout=300)
+    run = subprocess.run([program] + words, input=text, capture_output=True, timeout=3600)
     return run.returncode, run.stdout, run.stderr
 
 

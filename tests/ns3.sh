@@ -4,7 +4,7 @@
 # build) report the same for the same arrivals. It is skipped without ns-3. The last line is `N passed, M failed, K skipped`.
 . "$(dirname "$(readlink -f "$0")")/../scripts/checks.sh"
 
-timeout 1200 "$top/examples/ns3/run.sh" "$scratch" 100000 250000 400000 > "$scratch/table" 2> "$scratch/errors"
+timeout 1h "$top/examples/ns3/run.sh" "$scratch" 100000 250000 400000 > "$scratch/table" 2> "$scratch/errors"
 status=$?
 if [ "$status" = 69 ]; then
     cat "$scratch/errors"
@@ -22,13 +22,13 @@ fi
 prints() {
     local wanted=$1
     shift
-    timeout 300 "$@" > "$scratch/printed" && grep -x -E -q -e "$wanted" "$scratch/printed" || { cat "$scratch/printed"; false; }
+    timeout 1h "$@" > "$scratch/printed" && grep -x -E -q -e "$wanted" "$scratch/printed" || { cat "$scratch/printed"; false; }
 }
 
 refused() {
     local wanted=$1 status=0
     shift
-    timeout 300 "$@" || status=$?
+    timeout 1h "$@" || status=$?
     [ "$status" = "$wanted" ]
 }
 
@@ -39,7 +39,7 @@ check 'random calls answer as those on the limit of ns-3' prints \
 check 'with a minimum they differ' prints 'call [0-9]+ has them differ' "$scratch/limits" 100000 3000
 check 'behind a reset they differ' prints 'call [0-9]+ has them differ' "$scratch/limits" 100000 0 reset
 
-simulate() { timeout 300 "$scratch/bottleneck" --budget="$1" --load="$2" --limits="$3" --calls="$scratch/$3.calls" > "$scratch/$3.line"; }
+simulate() { timeout 1h "$scratch/bottleneck" --budget="$1" --load="$2" --limits="$3" --calls="$scratch/$3.calls" > "$scratch/$3.line"; }
 both_limits() {
     simulate "$1" "$2" fintaqush && simulate "$1" "$2" ns3 && [ "$(wc -l < "$scratch/ns3.calls")" -gt "$((2 * $2 / 10))" ] &&
         cmp "$scratch/fintaqush.calls" "$scratch/ns3.calls" && cmp "$scratch/fintaqush.line" "$scratch/ns3.line"
@@ -84,7 +84,7 @@ machine() {
     local options=(--defer-hard-irqs "$3" --gro-flush-timeout 50000)
     "$scratch/bottleneck" --budget="$2" --defer="$3" --flush=50000 --load="$4" --arrivals="$scratch/arrivals" --report="$scratch/report" \
         > "$scratch/again" &&
-        timeout 300 "$1" --budget "$2" --window 65535 "${options[@]}" < "$scratch/arrivals" > "$scratch/machine.report" &&
+        timeout 1h "$1" --budget "$2" --window 65535 "${options[@]}" < "$scratch/arrivals" > "$scratch/machine.report" &&
         python3 -B "$top/tests/machine.py" simulated "$scratch/machine.report" "$scratch/report"
 }
 programs=("$scratch/plain")

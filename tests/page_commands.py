@@ -26,7 +26,7 @@ from fintaqush_tools import cli  # noqa: E402
 from fintaqush_tools.options import parser_of  # noqa: E402
 
 LIST = TOP / "tests/commands.txt"
-LONGEST = 900  # seconds; nothing is judged by its time
+LONGEST = 3600  # seconds; nothing is judged by its time
 PROGRAMS = set("""rt cc gcc g++ clang clang++ c++ make cmake ctest cargo rustc python3 bash sh awk sbatch trace-cmd apt apt-get git cp mv rm
     mkdir cd printf echo cat head pkg-config valgrind man ip ethtool taskset tcpdump parallel perf sudo export curl ns3 tar diff
     fintaqush napi_machine napi_replay napi_series napi_serial""".split())

@@ -133,6 +133,8 @@ bare_runs() {
 }
 
 check 'no folder is refused' status_of 64 "$top/scripts/release.sh"
+# shellcheck disable=SC2046 # words
+check 'what it has is built' "$top/scripts/build.sh" napi_c files_c $("$top/scripts/install.sh" --programs)
 check 'a release is made' "$top/scripts/release.sh" "$release"
 check 'without a warning' [ -z "$(grep -v '^[a-z]*\.sh: ' "$scratch/log")" ]
 check 'a folder that is filled is refused' status_of 73 "$top/scripts/release.sh" "$release"

@@ -45,11 +45,11 @@ files > "$scratch/before"
 of() {
     local command=$1
     shift
-    (cd "$crate" && timeout 600 cargo "$command" --offline --locked --quiet "$@")
+    (cd "$crate" && timeout 1h cargo "$command" --offline --locked --quiet "$@")
 }
 
 # compared COMMAND ..: it succeeds, and prints what the example of the same name in C prints.
-compared() { timeout 300 "$@" > "$scratch/printed" && diff "$scratch/printed" "$top/examples/c/$(basename "$1").stdout"; }
+compared() { timeout 1h "$@" > "$scratch/printed" && diff "$scratch/printed" "$top/examples/c/$(basename "$1").stdout"; }
 
 nothing_is_left() { files | diff "$scratch/before" -; }
 
@@ -78,7 +78,7 @@ check 'the example threads as a release' compared "$scratch/target/release/examp
 raised() {
     "$top/crates/napi_series/out/napi_series" --raise --rows --budget="$2" --weight="$3" < "$1" > "$scratch/raised.csv" &&
         "$top/crates/napi_serial/out/napi_serial" --budget="$2" --weight="$3" < "$scratch/raised.csv" > "$scratch/wanted" &&
-        timeout 300 "$scratch/target/debug/examples/raised" "$2" "$3" < "$1" | cmp - "$scratch/wanted"
+        timeout 1h "$scratch/target/debug/examples/raised" "$2" "$3" < "$1" | cmp - "$scratch/wanted"
 }
 
 if "$top/scripts/build.sh" napi_serial napi_series > "$scratch/build.log" 2>&1; then
@@ -112,7 +112,7 @@ done
 
 if has valgrind 'its tests under valgrind'; then
     watched() {
-        timeout 300 valgrind -q --fair-sched=yes --leak-check=full --errors-for-leak-kinds=definite --error-exitcode=9 "$@"
+        timeout 1h valgrind -q --fair-sched=yes --leak-check=full --errors-for-leak-kinds=definite --error-exitcode=9 "$@"
     }
     watched_tests() { watched "$(find "$scratch/target/debug/deps" -name 'calls-*' ! -name '*.*')" --test-threads=1; }
     watched_threads() { watched "$scratch/target/debug/examples/threads" 2000 | grep -x '2000 packets, each once and in order'; }

@@ -20,7 +20,7 @@ OTHERS = re.compile(r"/reference/(c|rust)/")
 
 
 def run(*words: str | pathlib.Path, **others: Any) -> subprocess.CompletedProcess[str]:
-    return subprocess.run(words, cwd=TOP, capture_output=True, text=True, stdin=subprocess.DEVNULL, timeout=900, check=False, **others)
+    return subprocess.run(words, cwd=TOP, capture_output=True, text=True, stdin=subprocess.DEVNULL, timeout=3600, check=False, **others)
 
 
 def marks() -> Iterator[str]:

@@ -40,7 +40,7 @@ def run(program: str, words: Sequence[str], text: bytes) -> list[str]:
     """The lines that a program prints; a message on standard error raises an exception."""
     begun = time.monotonic()
     most = MEMORY[" ".join([program, *words[1:2]]) if program == "napi_replay" else program] << 20
-    done = subprocess.run([f"{sys.argv[1]}/{program}/out/{program}", *words], input=text, capture_output=True, check=False, timeout=300,
+    done = subprocess.run([f"{sys.argv[1]}/{program}/out/{program}", *words], input=text, capture_output=True, check=False, timeout=3600,
                           env=ENVIRONMENT, preexec_fn=lambda: resource.setrlimit(resource.RLIMIT_AS, (most, most)))
     took[" ".join([program, *words[:2]])] += time.monotonic() - begun
     if (done.returncode, done.stderr) != (0, b""):

@@ -109,6 +109,8 @@ def seen_in(setting: Setting, recorded: rig.Recorded) -> tuple[Receiving, dict[s
 
 def values_of(setting: Setting, recorded: rig.Recorded) -> dict[str, Any]:
     seen, head = seen_in(setting, recorded)
+    if recorded.reads and max(recorded.reads)[0] >= len(seen.sent):
+        raise rig.Failed(f"a recording by {setting.name} ended before the last packet")
     ends = [(seen.sent[number], read + rig.USE_NS) for number, read in recorded.reads]
     return predicting.measured_of(seen, head, ends)
 

@@ -1,6 +1,6 @@
 /* receiver PORT USE_NS FILTER FILE: reads UDP packets of the sender, works USE_NS on each, and writes `number,read` of each
  * to FILE (CLOCK_MONOTONIC, in ns) once none has arrived for 300 ms. It prints `ready` on standard output when it listens,
- * and gives up if none arrives for 5 s. A socket filter of FILTER multiplications makes the kernel's work on each packet
+ * and gives up if none arrives for a minute. A socket filter of FILTER multiplications makes the kernel's work on each packet
  * more expensive. */
 #define _GNU_SOURCE
 #include <arpa/inet.h>
@@ -48,7 +48,7 @@ int main(int count, char **words) {
     size_t have = 0;
     memset(packets, 1, sizeof packets); // so that no page is missing later
     setsockopt(in, SOL_SOCKET, SO_RCVBUFFORCE, &room, sizeof room);
-    give_up_after(in, 5000000);
+    give_up_after(in, 60000000);
     if (add_filter(in, atoi(words[3]))) return 1;
     if (bind(in, (const struct sockaddr *)&at, sizeof at)) return 1;
     puts("ready");
