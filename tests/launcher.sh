@@ -21,7 +21,7 @@ tries() {
         check "$name" is "$status $(sed "s,$scratch/,,g; s/\r\$//" err out | paste -s -d '|')" "${wanted# }"
     done 3<&0 < /dev/null
 }
-replay() { timeout --foreground 300 "$launcher" "$@"; }
+replay() { timeout --foreground 1h "$launcher" "$@"; }
 judged() { PYTHONPATH=$top/tools python3 -Bc 'import sys; from fintaqush_tools import settings; print(settings.judge(sys.argv[1:]))' "$@"; }
 # shellcheck disable=SC2120 # called by eval
 built() { replay trace.csv "$@" > made 2>&1; }
