@@ -25,7 +25,7 @@ def together(*calls):
     for thread in threads:
         thread.start()
     for thread in threads:
-        thread.join(60)
+        thread.join(600)
 
 
 class Refusals(unittest.TestCase):
