@@ -70,6 +70,26 @@ NO_HEADERS = [
     b"moment,device,event,value \n", b"0,1,open,4\n", b"\xef\xbb\xbf\xef\xbb\xbfmoment,device,event,value\n",
 ]
 
+# Counts the yields, and makes them if YIELDS isn't empty. The file COUNT gets their number at the end.
+COUNTED_YIELD = b"""
+#define _GNU_SOURCE
+#include <stdio.h>
+#include <stdlib.h>
+#include <sys/syscall.h>
+#include <unistd.h>
+static unsigned long count;
+int sched_yield(void) {
+    __atomic_add_fetch(&count, 1, __ATOMIC_RELAXED);
+    return *getenv("YIELDS") ? (int)syscall(SYS_sched_yield) : 0;
+}
+__attribute__((destructor)) static void tell(void) {
+    FILE *file = fopen(getenv("COUNT"), "w");
+    fprintf(file, "%lu", count);
+    fclose(file);
+}
+"""
+
+
 def check(name: str, holds: bool, why: str = "other than wanted") -> Judged:
     return name, [] if holds else [why]
 
@@ -242,15 +262,20 @@ def has_no_trace(_trace: IO[bytes]) -> None:
     pass
 
 
+def yields(room: str, how: str) -> tuple[int, int]:
+    """The status of a run whose disables wait, and how often it yields the processor, by a replacement of that call in `room`."""
+    status, _ = on_one_processor(PROGRAM, ["--mode", "threads"], disables_often, LD_PRELOAD=f"{room}/yield.so", COUNT=f"{room}/count", YIELDS=how)
+    with open(f"{room}/count") as count:
+        return status, int(count.read())
+
+
 def spins() -> Iterator[Judged]:
-    """A disable that doesn't yield the processor is seen: with a yield that does nothing the same run takes hundreds of times as long, and
-    under other load, which ends the slices of a spinning thread early, still more than five times."""
-    words = ["--mode", "threads"]
+    """Disables wait for another thread, and yield: with a yield that does nothing they try it hundreds of times as often. Their processor
+    time wouldn't show it on a busy machine, which ends the slice of a spinning thread early."""
     with tempfile.TemporaryDirectory() as room:
-        subprocess.run(["cc", "-shared", "-fPIC", "-x", "c", "-", "-o", room + "/yield.so"], input=b"int sched_yield(void) { return 0; }", check=True)
-        status, seconds = on_one_processor(PROGRAM, words, disables_often, LD_PRELOAD=room + "/yield.so")
-    _, usual = on_one_processor(PROGRAM, words, disables_often)
-    yield check("disables without a yield", status == 0 and seconds > 5 * usual, "status %d, %.2f s, usually %.2f s" % (status, seconds, usual))
+        subprocess.run(["cc", "-shared", "-fPIC", "-x", "c", "-", "-o", room + "/yield.so"], input=COUNTED_YIELD, check=True)
+        (status, without), (_, usual) = yields(room, ""), yields(room, "yes")
+    yield check("disables without a yield", status == 0 and without > 20 * usual > 0, "status %d, %d tries, usually %d" % (status, without, usual))
 
 
 def idle() -> Iterator[Judged]:
