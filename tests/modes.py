@@ -70,22 +70,24 @@ NO_HEADERS = [
     b"moment,device,event,value \n", b"0,1,open,4\n", b"\xef\xbb\xbf\xef\xbb\xbfmoment,device,event,value\n",
 ]
 
-# Counts the yields, and makes them if YIELDS isn't empty. The file COUNT gets their number at the end.
+# Counts the yields in the file COUNT, and makes them if YIELDS isn't empty.
 COUNTED_YIELD = b"""
 #define _GNU_SOURCE
-#include <stdio.h>
+#include <fcntl.h>
+#include <stdint.h>
 #include <stdlib.h>
+#include <sys/mman.h>
 #include <sys/syscall.h>
 #include <unistd.h>
-static unsigned long count;
-int sched_yield(void) {
-    __atomic_add_fetch(&count, 1, __ATOMIC_RELAXED);
-    return *getenv("YIELDS") ? (int)syscall(SYS_sched_yield) : 0;
+static uint64_t *count;
+__attribute__((constructor)) static void begin(void) {
+    int file = open(getenv("COUNT"), O_CREAT | O_TRUNC | O_RDWR, 0600);
+    if (ftruncate(file, sizeof *count)) abort();
+    count = mmap(NULL, sizeof *count, PROT_READ | PROT_WRITE, MAP_SHARED, file, 0);
 }
-__attribute__((destructor)) static void tell(void) {
-    FILE *file = fopen(getenv("COUNT"), "w");
-    fprintf(file, "%lu", count);
-    fclose(file);
+int sched_yield(void) {
+    __atomic_add_fetch(count, 1, __ATOMIC_RELAXED);
+    return *getenv("YIELDS") ? (int)syscall(SYS_sched_yield) : 0;
 }
 """
 
@@ -265,8 +267,8 @@ def has_no_trace(_trace: IO[bytes]) -> None:
 def yields(room: str, how: str) -> tuple[int, int]:
     """The status of a run whose disables wait, and how often it yields the processor, by a replacement of that call in `room`."""
     status, _ = on_one_processor(PROGRAM, ["--mode", "threads"], disables_often, LD_PRELOAD=f"{room}/yield.so", COUNT=f"{room}/count", YIELDS=how)
-    with open(f"{room}/count") as count:
-        return status, int(count.read())
+    with open(f"{room}/count", "rb") as count:
+        return status, int.from_bytes(count.read(), sys.byteorder)
 
 
 def spins() -> Iterator[Judged]:
