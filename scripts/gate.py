@@ -183,18 +183,14 @@ class Round:
         return True
 
 
-def rounds_of(edits: Sequence[Edit], texts: Texts) -> tuple[list[Round], list[Edit]]:
-    """Returns the rounds of these edits, and the edits that have to be tried alone."""
-    rounds: list[Round] = []
-    alone: list[Edit] = []
+def round_of(edits: Sequence[Edit], texts: Texts) -> tuple[Round, list[Edit]]:
+    """Returns the round of these edits, one for each function, and the edits that have to be tried alone."""
+    together, alone = Round(texts), list[Edit]()
     for edit in edits:
         function = edit.function(texts)
-        if not function or not function.in_body:
+        if not function or not function.in_body or not together.takes(edit, function):
             alone.append(edit)
-        elif not any(it.takes(edit, function) for it in rounds):
-            rounds.append(Round(texts))
-            rounds[-1].takes(edit, function)
-    return rounds, alone
+    return together, alone
 
 
 def check(crate: Crate, texts: Texts, names: Sequence[str], over: str = "") -> tuple[str, bool | None]:
@@ -223,13 +219,13 @@ def texts_of(crate: Crate) -> Texts:
     return {it: read(f"{crate.folder}/{it}") for it in crate.texts()}
 
 
-def try_round(it: Round, crate: Crate, texts: Texts, over: str, is_first: bool) -> list[Tried]:
-    """Tries the edits of a round at once, and then alone those of which nothing is said. In the first round of a crate, a function without
-    an edit has to be proved by the same words."""
+def try_round(it: Round, crate: Crate, texts: Texts, over: str) -> list[Tried]:
+    """Tries the edits of a round at once, and then alone those of which nothing is said. A function without an edit has to be proved by the
+    same words."""
     said, proved = check(crate, it.texts, [function.name for _, function in it.edits], over)
     lines = [(edit, function.refusal(said) if proved is False else None) for edit, function in it.edits]
     told = [(edit.name, True, f"refused: {line}") for edit, line in lines if line]
-    if is_first and not re.search(r"^fn \S+: proved$", said, re.M):
+    if not re.search(r"^fn \S+: proved$", said, re.M):
         said, proved = check(crate, texts, [it.edits[0][1].name], over)
         text = "proved" if proved else f"NOT PROVED by the same words: {said}"
         told.append(("a function as it is", proved is True, text))
@@ -237,17 +233,17 @@ def try_round(it: Round, crate: Crate, texts: Texts, over: str, is_first: bool) 
 
 
 def try_crate(crate: Crate, kept: Kept) -> list[Tried]:
-    """Tries the edits of the crate, one round after the other: a function is checked with those that it calls, and what a round proved
-    of these, the next ones take. Returns for each edit a name, whether it passed, and what to print."""
+    """Tries the edits of the crate: a function is checked with those that it calls, and what the round proved of these, the edits that are
+    tried alone take. Returns for each edit a name, whether it passed, and what to print."""
     texts, folder = texts_of(crate), f"{crate.folder}/must-fail"
     names, why = sorted(os.listdir(folder)), "BAD EDIT: its name doesn't end in .edit"
     tried = [(it, False, why) for it in names if not it.endswith((".edit", ".md"))]
     told = {it: kept.text(it) for it in (Edit(crate, f"{folder}/{name}") for name in names if name.endswith(".edit"))}
     tried += [(it.name, True, text) for it, text in told.items() if text]
-    rounds, alone = rounds_of([it for it, text in told.items() if not text], texts)
+    together, alone = round_of([it for it, text in told.items() if not text], texts)
     with tempfile.TemporaryDirectory(prefix="must-fail-") as room:
-        over = room if len(rounds) > 1 else ""
-        tried += [line for it in rounds for line in try_round(it, crate, texts, over, it is rounds[0])]
+        over = room if alone else ""
+        tried += try_round(together, crate, texts, over) if together.edits else []
         tried += [(it.name, *it.alone(texts, over)) for it in alone]
     return [(f"{crate.name}/{name}", well, text) for name, well, text in tried]
 

@@ -18,7 +18,8 @@ use Rattle.machine_model.specs.Device as device
 use Rattle.device_places.specs.Places.{at, changed}
 use Rattle.machine.proofs.{CoverFacts.{batch-least, held-longer}, FateFacts.{queued, queued-expired, queued-holding, queued-interrupted}}
 use Rattle.machine.proofs.{FateFacts.taken-interrupted, LeftFacts.{Resting, list-empty, rested-on}, TendFacts.handled-phase, WorkFacts.Goes}
-use Rattle.machine.{proofs.WorkFacts.{goes-on, same-polling, same-threaded}, specs.Deferrals.{DeferralIsBounded, IsDeferred, packets_first}}
+use Rattle.machine.{proofs.WorkFacts.{goes-on, same-polling, same-threaded}}
+use Rattle.machine.specs.Deferrals.{DeferralIsBounded, IsDeferred, delivery_cost, packets_first}
 use Rattle.machine.specs.Lives.{behind}
 
 -- ---- the first queue that asks for an interrupt
@@ -234,7 +235,7 @@ looks-hands n given came p h1 h2 h3 = grind (arith, common_steps)
 -- the poll's first packet is in progress
 pub record TakesFirst (n came given over : ℕ) (q : ProcessorView) : Type 0 where
   pub work : q.work ≡ Packet (record { device = n; came = came; given = given })
-  pub ends : q.ends ≤ over
+  pub ends : q.ends ≡ saturated over
 
 first-plain : (n came : ℕ) (p : ProcessorView) → p.work ≡ Poll (record { device = n; given = 0 }) → is_batching p.settings ≡ false
     → next_packet_at p.settings.backlog (at n p.devices) ≡ Some came
@@ -250,7 +251,7 @@ first-plain n came p work plain found first =
 
 pub record Holds (s : MachineSettings) (n over count : ℕ) (d : QueueView) (p : ProcessorView) : Type 0 where
   pub work : p.work ≡ Poll (record { device = n; given = count })
-  pub ends : p.ends ≤ over + count * s.take
+  pub ends : p.ends ≡ saturated (over + count * s.take)
   pub settings : p.settings ≡ s
   pub now : QueueView
   pub own : at n p.devices ≡ Some now
@@ -323,7 +324,7 @@ first-held (x ∷ taken) ring came some is = cc is
 hands-first : (s : MachineSettings) (n over count came : ℕ) (d : QueueView) (p : ProcessorView) → is_batching s ≡ true
     → (h : Holds s n over count d p) → stops count s (Some h.now) ≡ true → 0 < length h.now.taken
     → slice_get (d.taken ++ d.ring) 0 ≡ Some came → upcoming p ≡ Ends
-    → TakesFirst n came (count - 1) (over + count * s.take + (s.packet - s.take)) (step p)
+    → TakesFirst n came (count - 1) (over + (count * s.take + (s.packet - s.take))) (step p)
 unfolding queued
 hands-first s n over count came d p batch h stop some oldest first =
     let is = h.settings in
@@ -339,7 +340,7 @@ hands-first s n over count came d p batch h stop some oldest first =
     (looks-hands n count came e (ap (λ (x : MachineSettings). is_batching x) is ∙ batch) stopped
     (ap (λ (o : Option QueueView). next_held_at o) h.own ∙ held)) refl in
     let cost : p.settings.packet - p.settings.take ≡ s.packet - s.take = ap (λ (x : MachineSettings). x.packet - x.take) is in
-    subst (λ (x : ProcessorView). TakesFirst n came (count - 1) (over + count * s.take + (s.packet - s.take)) x) (sym same)
+    subst (λ (x : ProcessorView). TakesFirst n came (count - 1) (over + (count * s.take + (s.packet - s.take))) x) (sym same)
     (record { work = refl; ends = omega (arith, h.ends, cost) })
 
 -- the poll takes no more: its batch is whole, it has reached its weight, or the ring is empty
@@ -363,21 +364,13 @@ first-batch : (s : MachineSettings) (n over came : ℕ) (d : QueueView) (p : Pro
     → next_packet true d ≡ Some came
     → (let first = if length d.taken == 0 then min s.gro_batch (min s.weight (length d.ring)) else 0 in
     ((k : ℕ) → k ≤ first → upcoming (processor_after k p) ≡ Ends) → Holds s n over 0 d p
-    → TakesFirst n came (first - 1) (over + ((first - 1) * s.take + s.packet)) (step (processor_after first p)))
+    → TakesFirst n came (first - 1) (over + (first * s.take + (s.packet - s.take))) (step (processor_after first p)))
 unfolding processor_after
 first-batch s n over came d p batch found each h =
     by (length d.taken == 0) refl (min s.gro_batch (min s.weight (length d.ring))) refl each
   where
     oldest : slice_get (d.taken ++ d.ring) 0 ≡ Some came
     oldest = oldest-is d came found
-
-    one : (count : ℕ) → 1 ≤ count → (q : ProcessorView)
-        → TakesFirst n came (count - 1) (over + count * s.take + (s.packet - s.take)) q
-        → TakesFirst n came (count - 1) (over + ((count - 1) * s.take + s.packet)) q
-    one zero some q t = absurd (omega (arith, some))
-    one (suc count) some q t =
-        let less : suc count - 1 ≡ count = omega arith in
-        record { work = t.work; ends = rw less (omega (arith, t.ends, s.take_in)) }
 
     there : (taken ring : List ℕ) → (length taken == 0) ≡ true → slice_get (taken ++ ring) 0 ≡ Some came → 1 ≤ length ring
     there [] [] none is = cc is
@@ -390,7 +383,7 @@ first-batch s n over came d p batch found each h =
     by : (none : Bool) → (length d.taken == 0) ≡ none → (all : ℕ) → all ≡ min s.gro_batch (min s.weight (length d.ring))
         → (let first = if none then all else 0 in
         ((k : ℕ) → k ≤ first → upcoming (processor_after k p) ≡ Ends)
-        → TakesFirst n came (first - 1) (over + ((first - 1) * s.take + s.packet)) (step (processor_after first p)))
+        → TakesFirst n came (first - 1) (over + (first * s.take + (s.packet - s.take))) (step (processor_after first p)))
     by true none all is each =
         let empty : length d.taken ≡ 0 = eqb-true (length d.taken) 0 none in
         let some : 1 ≤ all = omega (arith, is, batch-least s batch, s.weight_in.0, there d.taken d.ring none oldest) in
@@ -399,16 +392,14 @@ first-batch s n over came d p batch found each h =
         let stop = stops-first s.gro_batch s.weight (length d.ring) (length k.now.taken) (all % s.gro_batch) (length k.now.ring) all is
         (omega (arith, k.taken, empty)) (holds-size s n over all d (processor_after all p) k)
         (λ full. ap (λ (x : ℕ). x % s.gro_batch) full ∙ mod_self s.gro_batch) some in
-        one all some (step (processor_after all p))
-        (hands-first s n over all came d (processor_after all p) batch k stop (omega (arith, k.taken, empty, some)) oldest
-        (each all (omega arith)))
+        hands-first s n over all came d (processor_after all p) batch k stop (omega (arith, k.taken, empty, some)) oldest
+        (each all (omega arith))
     by false some all is each =
         let held : length d.taken ≡ 0 → ⊥ = eqb-false (length d.taken) 0 some in
         let more : 0 < length h.now.taken = omega (arith, h.taken, held) in
         let stop = held-stops (nat_lt 0 s.weight) (length h.now.taken) (0 % s.gro_batch) (length h.now.ring == 0) (zero-mod s.gro_batch)
         more in
-        let t = hands-first s n over 0 came d p batch h stop more oldest (each 0 (omega arith)) in
-        record { work = t.work; ends = omega (arith, t.ends, s.take_in) }
+        hands-first s n over 0 came d p batch h stop more oldest (each 0 (omega arith))
 
 -- ---- all steps together
 
@@ -434,7 +425,7 @@ deferral-steps : (s : MachineSettings) (n until came : ℕ) (d : QueueView) (p :
     → (let first = packets_first s d in
     ((k : ℕ) → k ≤ first → upcoming (processor_after k (step (step p))) ≡ Ends)
     → TakesFirst n came (first - 1)
-    (until + (unwrap_or s.timer_wake s.wake + (unwrap_or s.timer s.interrupt + s.poll)) + ((first - 1) * s.take + s.packet))
+    (until + (unwrap_or s.timer_wake s.wake + (unwrap_or s.timer s.interrupt + s.poll)) + (first * s.take + delivery_cost s))
     (step (processor_after first (step (step p)))))
 unfolding processor_after
 deferral-steps s n until came d p goes r polls single nothing there deferred first found second each =
@@ -472,7 +463,7 @@ deferral-steps s n until came d p goes r polls single nothing there deferred fir
     over : ℕ
     over = until + (unwrap_or s.timer_wake s.wake + (unwrap_or s.timer s.interrupt + s.poll))
 
-    begun-by : v.ends ≤ over
+    begun-by : v.ends ≡ saturated over
     begun-by =
         omega (
           arith,
@@ -486,7 +477,8 @@ deferral-steps s n until came d p goes r polls single nothing there deferred fir
     by : (batch : Bool) → is_batching s ≡ batch → next_packet (s.backlog || batch) d ≡ Some came
         → (let first = if batch && length d.taken == 0 then min s.gro_batch (min s.weight (length d.ring)) else 0 in
         ((k : ℕ) → k ≤ first → upcoming (processor_after k v) ≡ Ends)
-        → TakesFirst n came (first - 1) (over + ((first - 1) * s.take + s.packet)) (step (processor_after first v)))
+        → TakesFirst n came (first - 1) (over + (first * s.take + (if batch then s.packet - s.take else s.packet)))
+        (step (processor_after first v)))
     by true batch found each =
         first-batch s n over came d v batch (rw (or-true s.backlog) at found) each (record {
           work = f.work;

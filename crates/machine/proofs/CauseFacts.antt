@@ -76,10 +76,6 @@ owed-cause : (s : MachineSettings) (d : QueueView) → ((s.latched == 0) ≡ tru
     → (is_caused_at s (Some d) ≡ true) × (is_some d.caused ≡ true)
 owed-cause s d h1 h2 = grind (arith, common_steps)
 
-notified-allowed : (now most : ℕ) (s : MachineSettings) (d : QueueView) → d.counts.interrupts + 1 ≤ most → d.counts.interrupts
-    + to_come (notified now s d).phase.line ≤ most
-notified-allowed now most s d few = omega (arith, few, to-come-few (notified now s d).phase.line)
-
 armed-counted : (most now : ℕ) (caused : Bool) (s : MachineSettings) (d : QueueView)
     → ((s.latched == 0) ≡ true → (length d.ring == 0) ≡ true) → Counted s most caused d → Counted s most caused (armed now s d)
 unfolding notified

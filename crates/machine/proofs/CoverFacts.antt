@@ -98,9 +98,6 @@ called-line : (line : Line) (masked at_once : Bool) (until : ℕ) → (is_masked
     → is_called (if at_once then Raised else coalesced until line) ≡ true
 called-line line masked at_once until clear = grind (arith, common_steps)
 
-owed-now : (free late : Bool) (some : Bool) → late ≡ true → some ≡ true → (if free then some else late) ≡ true
-owed-now free late some is there = grind (arith, common_steps)
-
 late-cause : (both : Bool) (read moment : ℕ) → read ≤ moment → (not both || nat_le read moment) ≡ true
 late-cause both read moment low = grind (arith, common_steps)
 

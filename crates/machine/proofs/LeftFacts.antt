@@ -246,9 +246,6 @@ both-empty : (xs ys : List ℕ) → xs ++ ys ≡ [] → (xs ≡ []) × (ys ≡ [
 both-empty [] ys is = (refl, is)
 both-empty (x ∷ xs) ys is = cc is
 
-one-not : (b : Bool) → ◌≡◌ {A = ℕ} (if b then 1 else 0) 0 → b ≡ false
-one-not b h1 = grind (arith, common_steps)
-
 left-phase : (t gro : ℕ) (phase : Phase) → is_stuck phase ≡ false → asks phase ≡ false → Late (2 ^ 64) (timer_of phase) → Set t gro phase
     → ◌≡◌ {A = ℕ} (if is_scheduled phase then 1 else 0) 0 → is_quiet phase ≡ true
 left-phase t gro phase free quiet late set none = grind (arith, common_steps)

@@ -5,6 +5,7 @@ use Rattle.machine_model.specs.{Device.{QueueView, next_packet}, Processor.{Adva
 use Rattle.machine_model.specs.{Processor.{upcoming, processor_after}, declared.device.Line.TheVariants.Masked}
 use Rattle.machine_model.specs.declared.{device.{NapiState.TheVariants.Idle, Phase.Phase}, processor.Upcoming.TheVariants.{Ends, Expires}}
 use Rattle.machine_model.specs.declared.{processor.Work.TheVariants.{Nothing, Packet}, settings.MachineSettings.MachineSettings}
+use Rattle.machine_model.specs.Waits.{saturated}
 use Rattle.device_places.specs.Places.{at}
 use Rattle.machine.specs.Lives.{MachineEvent, InTurn, behind}
 
@@ -29,10 +30,15 @@ pub record IsDeferred (until : ℕ) (phase : Phase) : Type 0 where
 abbrev pub packets_first : MachineSettings → QueueView → ℕ
 packets_first s d = if is_batching s && length d.taken == 0 then min s.gro_batch (min s.weight (length d.ring)) else 0
 
+-- how long the delivery of a packet takes; with batches its `take` is over
+abbrev pub delivery_cost : MachineSettings → ℕ
+delivery_cost s = if is_batching s then s.packet - s.take else s.packet
+
 -- Law: on an idle processor with polling and without threads, let the next event be that a queue's NAPI timer expires. If nothing
--- else interferes, the queue's interrupt, its poll and its oldest packet follow at once, and the packet is delivered at most
--- `timer-wake` + `timer` + `poll` + `packet` later; with batches, the poll takes the other packets of the first batch before, each for
--- `take`. By the previous law, its whole wait is at most this sum plus `gro-flush-timeout`.
+-- else interferes, the queue's interrupt, its poll and its oldest packet follow at once, and the packet is delivered exactly
+-- `timer-wake` + `timer` + `poll` + `packet` later. With batches, the poll takes the other packets of the first batch before, each for
+-- `take`; a packet that GRO held already is delivered a `take` earlier. By the previous law, its whole wait is at most this sum plus
+-- `gro-flush-timeout`.
 abbrev pub DeferralIsBounded : Type 0
 DeferralIsBounded = (s : MachineSettings) (events : List MachineEvent) (n until came : ℕ) (d : QueueView) → let p = behind s events in
     let first = packets_first s d in
@@ -42,5 +48,5 @@ DeferralIsBounded = (s : MachineSettings) (events : List MachineEvent) (n until 
     → ((k : ℕ) → k ≤ first → upcoming (processor_after k (step (step p))) ≡ Ends)
     → let q = step (processor_after first (step (step p))) in
     (q.work ≡ Packet (record { device = n; came = came; given = first - 1 }))
-    × (q.ends
-    ≤ until + (unwrap_or s.timer_wake s.wake + (unwrap_or s.timer s.interrupt + (s.poll + ((first - 1) * s.take + s.packet)))))
+    × (q.ends ≡ saturated
+    (until + (unwrap_or s.timer_wake s.wake + (unwrap_or s.timer s.interrupt + (s.poll + (first * s.take + delivery_cost s))))))

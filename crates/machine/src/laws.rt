@@ -69,8 +69,8 @@ pub fn timers_are_near()
     ensures { TimersAreNear }
 {}
 
-/// If a queue's NAPI timer expires on an idle processor, its oldest packet is delivered at most `timer-wake` + `timer` +
-/// `poll` + `packet` later, and with batches after at most a `take` more for each other packet of its batch.
+/// If a queue's NAPI timer expires on an idle processor, its oldest packet is delivered exactly `timer-wake` + `timer` +
+/// `poll` + `packet` later, with batches a `take` later for each other packet of its batch, or a `take` earlier if GRO held it.
 pub fn deferral_is_bounded()
     ensures { DeferralIsBounded }
 {}

@@ -1,11 +1,11 @@
 -- The invariant of each processor is preserved.
-use Rattle.std.proofs.{Common.{◌≡◌, ◌∙◌, ℕ, ◌<◌, ◌≤◌, Bool, true, false, Option, Some, None, length, refl, sym, arith}}
+use Rattle.std.proofs.{Common.{◌≡◌, ◌∙◌, ℕ, ◌<◌, ◌≤◌, Bool, true, false, Option, Some, None, refl, sym, arith}}
 use Rattle.std.{proofs.lemmas.Grind.common_steps, specs.{Prelude.{◌==◌, if◌then◌else◌}}}
-use Rattle.machine_model.proofs.ListedFacts.{asked-polled, listed-again, listed-begun, listed-ended, listed-pushed, next-keeps, pushed-run}
+use Rattle.machine_model.proofs.ListedFacts.{asked-polled, listed-again, listed-begun, listed-ended, next-keeps, pushed-run}
 use Rattle.machine_model.{proofs.{ListedFacts.weight-polled, PlacesFacts.scheduled-polled}, specs.{Device.queue_polled, Devices.QueueViews}}
 use Rattle.machine_model.specs.{Devices.is_rescheduled_at, Kept.{ProcessorKept, all_scheduled, work_given, has_list, polled_by}}
 use Rattle.machine_model.specs.{Processor.is_polling, Shown.listed, Softirq.{SoftirqView, asked_in, begun, poll_ended, run_ended, run_next}}
-use Rattle.machine_model.specs.{Softirq.pushed, declared.processor.Work.{Work, TheVariants.Nothing}}
+use Rattle.machine_model.specs.declared.processor.Work.{Work, TheVariants.Nothing}
 use Rattle.machine_model.specs.declared.settings.MachineSettings.{MachineSettings}
 use Rattle.device_places.specs.Places.{at, changed}
 
@@ -26,12 +26,6 @@ pub kept-work : (s : MachineSettings) (w v : Work) (ds : QueueViews) (q : Softir
 kept-work s w v ds q k same within =
     record { few = k.few; unused = k.unused; asked = rw same k.asked; weight = k.weight; within = within }
 
--- with threads, any queue may be polled
-pub kept-thread : (s : MachineSettings) (w v : Work) (ds : QueueViews) (q : SoftirqView) → ProcessorKept s w ds q → s.threaded ≡ true
-    → work_given v < s.weight → ProcessorKept s v ds q
-kept-thread s w v ds q k threaded within =
-    record { few = k.few; unused = k.unused; asked = rw threaded (rw threaded at k.asked); weight = k.weight; within = within }
-
 list-is : (s : MachineSettings) → is_polling s ≡ true → s.threaded ≡ false → has_list s ≡ true
 list-is s polling threaded = grind (arith, common_steps)
 
@@ -42,11 +36,6 @@ no-list s polling = grind (arith, common_steps)
 pub kept-lone : (s : MachineSettings) (w : Work) (ds es : QueueViews) (q : SoftirqView) → ProcessorKept s w ds q → is_polling s ≡ false
     → ProcessorKept s w es q
 kept-lone s w ds es q h1 h2 = grind (arith, common_steps, no-list)
-
-pub kept-pushed : (s : MachineSettings) (w : Work) (ds : QueueViews) (q : SoftirqView) (n : ℕ) → ProcessorKept s w ds q
-    → is_polling s ≡ true
-    → s.threaded ≡ false → listed q < all_scheduled ds → ProcessorKept s w ds (pushed n q)
-kept-pushed s w ds q n h1 h2 h3 h4 = grind (arith, common_steps, list-is, listed-pushed)
 
 -- a run begins
 pub kept-begun : (s : MachineSettings) (w : Work) (ds : QueueViews) (q : SoftirqView) (moment : ℕ) → ProcessorKept s w ds q → q.run ≡ None
@@ -88,11 +77,6 @@ pub kept-alone : (s : MachineSettings) (w : Work) (ds es : QueueViews) (q : Soft
     → 1 ≤ s.weight
     → ProcessorKept s Nothing es q
 kept-alone s w ds es q h1 h2 h3 = grind (arith, common_steps)
-
--- if the list isn't empty, the machine has no threads
-pub list-unthreaded : (s : MachineSettings) (w : Work) (ds : QueueViews) (q : SoftirqView) → ProcessorKept s w ds q → 0 < length q.list
-    → s.threaded ≡ false
-list-unthreaded s w ds q h1 h2 = grind (arith, common_steps)
 
 -- while no queue is polled, the run doesn't ask for a poll
 pub kept-idle : (s : MachineSettings) (w : Work) (ds : QueueViews) (q : SoftirqView) → ProcessorKept s w ds q → polled_by w ≡ None

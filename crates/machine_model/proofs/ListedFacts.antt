@@ -81,6 +81,3 @@ pub weight-polled : (once : Once) (q : SoftirqView)
     → (weight_in (softirq_polled once q).run ≡ weight_in q.run) × (is_some (softirq_polled once q).run ≡ is_some q.run)
 unfolding softirq_polled
 weight-polled once q = polled-weighs q.run once
-
-pub run-some : (n : ℕ) (run : Option RunView) → asked_in run ≡ Some n → is_some run ≡ true
-run-some n run asked = grind (arith, common_steps)

@@ -73,9 +73,6 @@ module _ (holds : Option QueueView → Bool) where
   mask-changed change n before after old new below is own others mask =
       rw (placed change n before after is) (mask-set before n (at n after) old new (long change n before after is below) own others mask)
 
-  pub mask-more : (xs ys : QueueViews) (old : ℕ) → ((m : ℕ) → at m ys ≡ at m xs) → IsMask holds xs old → IsMask holds ys old
-  mask-more xs ys old same mask m small = mask m small ∙ ap (λ (o : Option QueueView). mask_bit (holds o)) (sym (same m))
-
   within : (xs : QueueViews) (i : ℕ) → holds None ≡ false → holds (at i xs) ≡ true → i < length xs
   within [] i none up = absurd (cc (none, up))
   within (x ∷ xs) zero none up = omega arith

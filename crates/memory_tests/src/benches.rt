@@ -3,7 +3,7 @@
 use anyhow::{Result, ensure};
 use device_model::{DeviceBench, ReceiveSide, SerialBench, SharedBench};
 use poll_engine::Bench;
-use std::alloc::Global;
+use std::alloc::{AllocError, Global};
 use std::sync::Wait;
 
 // Attaches device 2 after device 1, which has a packet. If an allocation fails, it isn't attached, and device 1 is unchanged.
@@ -42,22 +42,12 @@ fn device_is_attached<S: ReceiveSide>(alloc: Global, bench: &mut DeviceBench<S>)
 }
 
 pub(crate) fn bench_is_made(alloc: Global) -> Result<bool> {
-    let made = SerialBench::new(alloc);
-    let refused = made.is_err();
-    let mut bench = match made {
-        Ok(bench) => bench,
-        Err(_) => SerialBench::new(alloc)?,
-    };
+    let (refused, mut bench) = made!(SerialBench::new(alloc), AllocError);
     Ok(device_is_attached(alloc, &mut bench)? || refused)
 }
 
 pub(crate) fn shared_bench_is_made<R: Wait + Copy + Drop>(rt: R, alloc: Global) -> Result<bool> {
-    let made = SharedBench::over(rt, alloc);
-    let refused = made.is_err();
-    let mut bench = match made {
-        Ok(bench) => bench,
-        Err(_) => SharedBench::over(rt, alloc)?,
-    };
+    let (refused, mut bench) = made!(SharedBench::over(rt, alloc), AllocError);
     let attached = device_is_attached(alloc, &mut bench);
     bench.end();
     Ok(attached? || refused)

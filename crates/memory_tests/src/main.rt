@@ -2,6 +2,19 @@
 //! succeeds when it is made again. `tests/refusals.sh` makes each allocation of this program fail in turn.
 #![tactic(auto)]
 
+// Makes a call, and again if it fails with this error. Returns whether it failed, and its value.
+macro_rules! made {
+    ($call:expr, $error:pat) => {
+        match $call {
+            Ok(value) => (false, value),
+            Err(error) => {
+                ensure!(matches!(error, $error), "another error");
+                (true, $call?)
+            }
+        }
+    };
+}
+
 mod benches;
 mod rings;
 mod stops;

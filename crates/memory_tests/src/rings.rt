@@ -24,35 +24,23 @@ const PACKET: Packet = Packet {
 
 // Returns a ring with a packet in it.
 fn filled(alloc: Global) -> Result<(RxIn, RxCtx)> {
-    let (mut input, ctx) = match ring(alloc, 4) {
-        Ok(ends) => ends,
-        Err(_) => ring(alloc, 4)?,
-    };
+    let (_, (mut input, ctx)) = made!(ring(alloc, 4), RingFault::OutOfMemory);
     ensure!(input.put(PACKET).is_ok(), "no place for a packet");
     Ok((input, ctx))
 }
 
 pub(crate) fn ring_is_made(alloc: Global) -> Result<bool> {
-    let (refused, (mut input, ctx)) = match ring(alloc, 4) {
-        Ok(ends) => (false, ends),
-        Err(fault) => {
-            ensure!(fault == RingFault::OutOfMemory, "another fault of a ring");
-            (true, ring(alloc, 4)?)
-        }
-    };
+    let (refused, (mut input, ctx)) = made!(ring(alloc, 4), RingFault::OutOfMemory);
     ensure!(input.put(PACKET).is_ok(), "no place for a packet");
     ensure!(gives_packet(ctx), "another packet");
     Ok(refused)
 }
 
 pub(crate) fn transmit_ring_is_made(alloc: Global) -> Result<bool> {
-    let (refused, mut ring) = match TxRing::new(alloc, 4, Dql::new(0, 3000, 1000, 0)?) {
-        Ok(ring) => (false, ring),
-        Err(fault) => {
-            ensure!(fault == TxFault::OutOfMemory, "another fault of a ring");
-            (true, TxRing::new(alloc, 4, Dql::new(0, 3000, 1000, 0)?)?)
-        }
-    };
+    let (refused, mut ring) = made!(
+        TxRing::new(alloc, 4, Dql::new(0, 3000, 1000, 0)?),
+        TxFault::OutOfMemory
+    );
     ring.send(60)?;
     Ok(refused)
 }
@@ -153,16 +141,7 @@ fn gives_pushes<R: Wait + Drop>(mut list: SharedList<R>, mut ins: Vec<ListIn<R>>
 }
 
 pub(crate) fn list_is_made<R: Wait + Copy + Drop>(rt: R, alloc: Global) -> Result<bool> {
-    match shared_list(rt, alloc, 3) {
-        Ok((list, ins)) => {
-            ensure!(gives_pushes(list, ins), "other numbers");
-            Ok(false)
-        }
-        Err(fault) => {
-            ensure!(fault == ListFault::OutOfMemory, "another fault of a list");
-            let (list, ins) = shared_list(rt, alloc, 3)?;
-            ensure!(gives_pushes(list, ins), "other numbers");
-            Ok(true)
-        }
-    }
+    let (refused, (list, ins)) = made!(shared_list(rt, alloc, 3), ListFault::OutOfMemory);
+    ensure!(gives_pushes(list, ins), "other numbers");
+    Ok(refused)
 }

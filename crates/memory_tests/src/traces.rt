@@ -15,15 +15,7 @@ fn read(alloc: Global) -> Result<Trace, TraceFault> {
 }
 
 pub(crate) fn trace_is_read(alloc: Global) -> Result<bool> {
-    let read_first = read(alloc);
-    let refused = read_first.is_err();
-    let trace = match read_first {
-        Ok(trace) => trace,
-        Err(fault) => {
-            ensure!(fault.number() == 11, "another fault of a trace");
-            read(alloc)?
-        }
-    };
+    let (refused, trace) = made!(read(alloc), TraceFault::OutOfMemory);
     ensure!(trace.rows().len() == 5, "other rows");
     Ok(refused)
 }
@@ -32,27 +24,14 @@ pub(crate) fn trace_is_read(alloc: Global) -> Result<bool> {
 fn device_is_made(alloc: Global, trace: &Trace) -> Result<bool> {
     let opening = opening_of(trace.rows(), 2);
     ensure!(opening.is_some(), "the device isn't opened");
-    match ScriptDevice::new(alloc, trace, 2) {
-        Ok(device) => {
-            ensure!(device.acts() == 3, "other acts");
-            Ok(false)
-        }
-        Err(_) => {
-            let device = ScriptDevice::new(alloc, trace, 2)?;
-            ensure!(device.acts() == 3, "other acts");
-            Ok(true)
-        }
-    }
+    let (refused, device) = made!(ScriptDevice::new(alloc, trace, 2), AllocError);
+    ensure!(device.acts() == 3, "other acts");
+    Ok(refused)
 }
 
 pub(crate) fn script_is_made(alloc: Global) -> Result<bool> {
-    match read(alloc) {
-        Ok(trace) => device_is_made(alloc, &trace),
-        Err(_) => {
-            let trace = read(alloc)?;
-            device_is_made(alloc, &trace)
-        }
-    }
+    let (_, trace) = made!(read(alloc), TraceFault::OutOfMemory);
+    device_is_made(alloc, &trace)
 }
 
 fn some_words(alloc: Global) -> Result<Vec<String>, AllocError> {
@@ -60,30 +39,17 @@ fn some_words(alloc: Global) -> Result<Vec<String>, AllocError> {
 }
 
 pub(crate) fn words_are_read(alloc: Global) -> Result<bool> {
-    let words = match some_words(alloc) {
-        Ok(words) => words,
-        Err(_) => some_words(alloc)?,
-    };
-    let parsed = parse_words(alloc, words.as_slice());
-    let refused = parsed.is_err();
-    let (mode, _settings) = match parsed {
-        Ok(parsed) => parsed,
-        Err(fault) => {
-            ensure!(fault == WordFault::OutOfMemory, "another fault of words");
-            parse_words(alloc, words.as_slice())?
-        }
-    };
+    let (_, words) = made!(some_words(alloc), AllocError);
+    let (refused, (mode, _settings)) = made!(
+        parse_words(alloc, words.as_slice()),
+        WordFault::OutOfMemory
+    );
     ensure!(mode == Mode::Threads, "another mode");
     Ok(refused)
 }
 
 pub(crate) fn line_is_told(alloc: Global) -> Result<bool> {
-    let told = fault_line(alloc, &ReplayFault::GateShut);
-    let refused = told.is_err();
-    let line = match told {
-        Ok(line) => line,
-        Err(_) => fault_line(alloc, &ReplayFault::GateShut)?,
-    };
+    let (refused, line) = made!(fault_line(alloc, &ReplayFault::GateShut), AllocError);
     ensure!(
         line.as_str() == "worker fault 14 GateShut\n",
         "another line"
