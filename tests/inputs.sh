@@ -61,18 +61,19 @@ replay: fifo line $2"
 }
 
 program=$top/crates/napi_serial/out/napi_serial
-is_begun() { pgrep -f "^$program" > /dev/null; }
+is_begun() { child=$(pgrep -P "$1" -f "^$program"); }
+is_over() { ! grep -q . "/proc/$child/cmdline" 2> /dev/null; }
 
 # ends_by SIGNAL STATUS: to this process only, while a writer doesn't close its FIFO.
 ends_by() {
     still "echo 'moment,device,event,value'"
     env --default-signal=INT "$top/replay" "$scratch/fifo" > "$scratch/out" 2> "$scratch/err" &
-    comes is_begun
+    comes is_begun $!
     kill -"$1" $!
     status=0
     wait $! || status=$?
-    check "$1 ends a replay whose trace is still to come" is "$status $(cat "$scratch/err") $(pgrep -f "^$program")" \
-        "$2 replay: interrupted "
+    check "$1 ends a replay whose trace is still to come" is "$status $(cat "$scratch/err")" "$2 replay: interrupted"
+    check "$1 ends its program" comes is_over
     kill "$writer"
     wait "$writer" 2> /dev/null
 }
@@ -102,7 +103,7 @@ inputs() {
     local lines='memory fault 11 OutOfMemory
 replay: it: it takes more memory than the program may have'
     for how in '< /dev/zero' '/dev/zero' '< <(tr "\0" x < /dev/zero)'; do
-        run timeout 60 "$BASH" -c "'$top/replay' $how"
+        run timeout 300 "$BASH" -c "'$top/replay' $how"
         check "an input without end, $how" is "$status $(sed 's,^replay: [^:]*,replay: it,' "$scratch/err")" "4 $lines, 2048 MiB (REPLAY_MEMORY sets that)"
         # The launcher that explains it has a memory limit here too, because one that kept all would run out.
         run env REPLAY_MEMORY=200 bash -c "ulimit -v 1500000; '$top/replay' $how"

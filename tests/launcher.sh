@@ -27,28 +27,27 @@ judged() { PYTHONPATH=$top/tools python3 -Bc 'import sys; from fintaqush_tools i
 built() { replay trace.csv "$@" > made 2>&1; }
 on_terminal() { python3 -c 'import os, pty, sys; sys.exit(os.waitstatus_to_exitcode(pty.spawn(sys.argv[1:])))' "$@" < /dev/null; }
 as_nobody() { if [ "$(id -u)" = 0 ]; then setpriv --reuid=65534 --regid=65534 --clear-groups "$@"; else "$@"; fi; }
-comes() { for _ in $(seq 3000); do "$@" > /dev/null && return; sleep 0.02; done; }
 # began: the crates that were started since the last call.
 began() { sed -n 's/^begin //p' rt.log | sort | paste -s -d ' '; : > rt.log; }
 change() { echo >> "$small/crates/${1:-low}/src/lib.rt"; }
 # signalled SIGNAL [HOW]: to the launcher only, while a build or a program is at work; and what goes on afterwards.
 signalled() {
-    env --default-signal=INT "$launcher" ${2:-} trace.csv > made &
-    comes pgrep -f "^$scratch/slow|^/bin/sh $scratch/bin/rattle build --crate-name ${at:-low}" && sleep 0.3 # the launcher notes it
+    env --default-signal=INT "$launcher" ${2:-} trace.csv > made 2> said &
+    comes sh -c "pgrep -f '^$scratch/slow' || grep '^replay: crate .*: .*${at:-low}' said"
     kill -"$1" $!
     status=0
     wait $! || status=$?
+    cat said >&2
     # The replacement for `rt` doesn't end what it started, as `rt` does.
     [ -z "${2:-}" ] || kill "$(pgrep -f "^$scratch/slow")"
-    sleep 0.3
-    pgrep -f "$scratch/bin/rattle|^$scratch/slow"
+    comes sh -c "! pgrep -f '^/bin/sh $scratch/bin/rattle|^$scratch/slow'" || echo 'some are left' >&2
     return "$status"
 }
 
 # small_checkout [ROW ..]: of crates by their rows of crates.txt; of seven where none are named, of which `wide` is only below the
 # program of all modes, and `apart` none of the replay's. Its `rattle` writes down when each begins and ends, and does what PROVES says
 # meanwhile; the program does what DOES says, first; TRIES are more words of an unproved run, which
-# does what LOOKS says before.
+# does what LOOKS says before. `comes COMMAND ..` waits for it, at most 5 minutes; `two_began` is whether two crates did.
 small_checkout() {
     rm -rf "$small" bin
     mkdir -p "$small"/{.git,docs,include} bin
@@ -83,6 +82,8 @@ case \$new in *.rlib.new) mkdir "\$new"; new=\$new/format ;; esac
 echo > "\$new"
 END
     printf '#!/bin/sh\ncp "%s" "$6"\n' "$small/program" > bin/rattle-link
+    printf '#!/bin/sh\nfor _ in $(seq 15000); do "$@" > /dev/null && exit; sleep 0.02; done; exit 1\n' > bin/comes
+    printf '#!/bin/sh\n[ "$(grep -c ^begin "%s/rt.log")" -ge 2 ]\n' "$scratch" > bin/two_began
     chmod +x bin/* "$small/program"; truncate -s 0 rt.log KIT-ID
 }
 
@@ -169,7 +170,7 @@ kept='; each crate that was proved is kept'
 no_rt="69 *replay: there is no rt on PATH, which proves and builds the program: see 'What it needs' in README.md"
 first='replay: the program is to be proved and built: meanwhile the answer of an UNPROVED run, in up to a minute'
 unproved='replay: this was an UNPROVED run; the proof goes on. Ctrl-C leaves what is proved by then, and the next call goes on from there'
-export slow='sleep 1' # so that the answer of an unproved run is there before the proof
+export slow="comes grep was.an.UNPROVED $scratch/out" # so that the answer of an unproved run is there before the proof
 high_fails='[ $name != high ] || { echo error: not proved; exit 1; }'
 c_is_killed='[ $name != c ] || ! mkdir ../../killed || kill -9 $$'
 export reports='cat > /dev/null; echo total devices 0; exit'
@@ -178,7 +179,7 @@ export fails='cat > /dev/null; echo trace fault 4 BadEvent row 1 >&2; exit 2'
 small_checkout
 tries << END
 a first call by a symlink, from another folder, builds and replays; it says what it takes and where it is % \
-cd deep; PROVES='sleep 0.6' CDPATH=.. ./link-of-a-link ../trace.csv --budget 7; cd .. % 0 replay: proving and building napi_serial and \
+cd deep; PROVES='comes two_began' CDPATH=.. ./link-of-a-link ../trace.csv --budget 7; cd .. % 0 replay: proving and building napi_serial and \
 what they stand on, 4 crates: on 4 cores some 2 minutes|*|replay: crate 4 of 4, * s, about * s left: napi_serial|\
 replay: napi_serial: proved and built, in *|napi_serial --budget 7|$header
 libraries that need nothing begin side by side, one that needs another behind it, and the program last % head -n 2 rt.log | sort; \
@@ -198,7 +199,7 @@ and a library that is gone % rm -r $small/.git/built/low.rlib; change high; buil
 one that another kit has built is built anew % echo other > KIT-ID; change high; built; began % 0 high low napi_serial side
 what is built needs no rt, and no checkout to write to % chmod -R a-w $small; as_nobody env PATH=few $launcher trace.csv % 0 $answer
 a crate at a time on each processor, the longest chain first % small_checkout a: b: c: d: one: 'two: one' 'napi_serial: a b c d two'; \
-echo longest > $small/crates/two/src/lib.rt; PROVES='sleep 1' taskset -c 0,1 $launcher trace.csv > made 2>&1; head -n 2 rt.log | grep one; \
+echo longest > $small/crates/two/src/lib.rt; PROVES='comes two_began; sleep 0.1' taskset -c 0,1 $launcher trace.csv > made 2>&1; head -n 2 rt.log | grep one; \
 awk '/^begin/ { now++ } /^end/ { now-- } now > most { most = now } END { print most }' rt.log % 0 begin one|2
 one that is killed for memory is begun once more % change c; PROVES='$c_is_killed' built; grep -c 'begin c' rt.log % 0 3
 an archive for another processor has a folder of its own % small_checkout low: 'arch staticlib:low'; FINTAQUSH_CPU=x86-64 PROVES='echo "\$*"' \
@@ -227,17 +228,17 @@ a proof that fails ends the build, with what rt said and where the rest stands %
 70 *|replay: high couldn't be built, status 1; small/.git/built/high.log has all that was said:|error: not proved
 and leaves no old program % ls $small/crates/napi_serial/out % 0 
 a full disk is told % change; (ulimit -f 0; $launcher trace.csv) 2>&1 | tail -n 1; (exit \${PIPESTATUS[0]}) % 70 *
-a second build waits for the first one, and each crate is built once % : > rt.log; PROVES='sleep 1' built & comes grep 'begin low' rt.log; \
+a second build waits for the first one, and each crate is built once % : > rt.log; PROVES='comes grep another $scratch/err' built & comes grep 'begin low' rt.log; \
 replay trace.csv; wait; wc -l < rt.log % 0 replay: another build is at work in this checkout: waiting for it|$answer|6
 a crate that is not there % $small/scripts/build.sh nothing % 64 replay: there is no crate 'nothing' in crates.txt
 
-Ctrl-C ends a build, and all that is at work % small_checkout; PROVES='sleep 5' signalled INT % 130 *|replay: interrupted$kept
-TERM ends one % small_checkout; PROVES='sleep 5' signalled TERM % 143 *|replay: interrupted$kept
-HUP ends one % small_checkout; PROVES='sleep 5' signalled HUP % 143 *|replay: interrupted$kept
-the next call builds what is left % small_checkout; (PROVES='[ \$name != high ] || sleep 5' at=high signalled INT) 2> made; : > rt.log; \
+Ctrl-C ends a build, and all that is at work % small_checkout; PROVES='sleep 400' signalled INT % 130 *|replay: interrupted$kept
+TERM ends one % small_checkout; PROVES='sleep 400' signalled TERM % 143 *|replay: interrupted$kept
+HUP ends one % small_checkout; PROVES='sleep 400' signalled HUP % 143 *|replay: interrupted$kept
+the next call builds what is left % small_checkout; (PROVES='[ \$name != high ] || sleep 400' at=high signalled INT) 2> made; : > rt.log; \
 built; began % 0 high napi_serial
-TERM ends a run % DOES='exec $scratch/slow 20' signalled TERM % 143 replay: interrupted
-and an unproved one % DOES='exec $scratch/slow 20' signalled TERM --unproved % 143 *|replay: interrupted
+TERM ends a run % DOES='exec $scratch/slow 400' signalled TERM % 143 replay: interrupted
+and an unproved one % DOES='exec $scratch/slow 400' signalled TERM --unproved % 143 *|replay: interrupted
 
 words that would be refused build nothing % small_checkout; replay --buget 7 trace.csv % 64 replay: '--buget' is no option: is --budget \
 meant, a whole number, 1..=65535? (see ./replay --help)
@@ -283,9 +284,9 @@ who has enough of a report ends it % $launcher trace.csv | head -n 1 % 0 napi_se
 on a terminal without input: a usage text % on_terminal $launcher --budget 3 % 66 usage: *|replay: no trace: name a file*
 where no terminal is, only proved bytes % change; replay trace.csv 2> made; ! grep -i unproved made % 0 $answer
 on a terminal an unproved answer comes first, once, and the proof of it then; the build writes one line over and over \
-% change; PROVES=\$slow on_terminal $launcher trace.csv --weight 4 % 0 $first|replay: proving and building *crate 1 of 3, 0 s: low*\
+% change; PROVES=\$slow on_terminal $launcher trace.csv --weight 4 % 0 $first|replay: proving and building *crate 1 of 3, * s: low*\
 napi_serial --weight 4|$header|*rt: a hint|*$unproved|*crate 3 of 3*proved and built, in * s|replay: the proved program gives the same bytes
-where the proof is sooner there, it alone counts % change; LOOKS='exec sleep 20' on_terminal $launcher trace.csv % 0 \
+where the proof is sooner there, it alone counts % change; LOOKS='exec sleep 400' on_terminal $launcher trace.csv % 0 \
 $first|*proved and built, in * s|$answer
 the next call replays % on_terminal $launcher trace.csv % 0 $answer
 so it does for a trace through a pipe % change; PROVES=\$slow on_terminal bash -c '$launcher <(cat trace.csv)' % 0 *$answer|*gives the same bytes

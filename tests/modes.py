@@ -249,12 +249,12 @@ def spins() -> Iterator[Judged]:
     with tempfile.TemporaryDirectory() as room:
         subprocess.run(["cc", "-shared", "-fPIC", "-x", "c", "-", "-o", room + "/yield.so"], input=b"int sched_yield(void) { return 0; }", check=True)
         status, seconds = on_one_processor(PROGRAM, words, disables_often, LD_PRELOAD=room + "/yield.so")
-    _, usual = on_one_processor(PROGRAM, words, disables_often)
+    usual = min(on_one_processor(PROGRAM, words, disables_often)[1] for _ in range(3))
     yield check("disables without a yield", status == 0 and seconds > 5 * usual, "status %d, %.2f s, usually %.2f s" % (status, seconds, usual))
 
 
 def idle() -> Iterator[Judged]:
-    """No run spins while it waits: it takes less than a second, which is a hundred times what it needs. The replays wait for a pipe that
+    """No run spins while it waits: it takes less than two seconds, which is two hundred times what it needs. The replays wait for a pipe that
     stays open for 3 seconds; the pollers of WORKERS for packets, while a gate holds a device for as long; and a disable for a poll by
     another thread, 3000 times."""
     modes = [["--mode", mode, "--pollers", "8"] for mode in ("serial", "shared", "threads")]
@@ -267,7 +267,7 @@ def idle() -> Iterator[Judged]:
     for program, words, feed in waiting:
         status, seconds = on_one_processor(program, words, feed)
         name = "%s, %s %s" % (feed.__name__.replace("_", " "), os.path.basename(program), " ".join(words))
-        yield check(name, status == 0 and seconds < 1, "status %d, %.2f s" % (status, seconds))
+        yield check(name, status == 0 and seconds < 2, "status %d, %.2f s" % (status, seconds))
 
 
 def checks() -> Iterator[Judged]:

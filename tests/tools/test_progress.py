@@ -74,10 +74,15 @@ class Shown(InFolder):
 
     @HAS_MACHINE
     def test_settings_of_advise(self) -> None:
-        seen, shown = self.folder / "seen", list[str]()
+        shown: list[str] = []
+
+        def show(text: str, *_: object) -> None:
+            shown.append(text)
+            (self.folder / "seen").touch()
+
         slow = self.program("slow", f"cd {self.folder}; {WAIT}\nexec '{MACHINE}' \"$@\"")
         predictions = choosing.Predictions(str(slow), {"poll": 2000, "packet": 300}, "ns,device,bytes\n0,1,60\n", [1])
-        with unittest.mock.patch.multiple(progress, show=lambda text, *_: shown.append(text) or seen.touch(), can_be_shown=lambda: True):
+        with unittest.mock.patch.multiple(progress, show=show, can_be_shown=lambda: True):
             self.assertEqual([values["lost"] for values in predictions.of_all([{"budget": 64}, {"budget": 300}])], [0, 0])
         self.assertEqual(shown[0], "predicting 2 settings, 0 %")
 

@@ -62,6 +62,7 @@ def instances_there() -> list[str]:
     return listed.split()
 
 
+FIRST = ["nice", "-n", "-10"]
 IS_ROOT = os.geteuid() == 0
 HAS_IP = shutil.which("ip") is not None
 HAS_NAMESPACES = IS_ROOT and HAS_IP and subprocess.run(["unshare", "-m", "-n", "true"], capture_output=True, check=False).returncode == 0
@@ -479,9 +480,10 @@ class Recorded(InFolder):
 
     def test_a_recording_that_is_larger_than_its_buffers(self) -> None:
         """They are emptied meanwhile, each time that one is half full: 25000 packets are some 5 MB of events, of which a processor's buffer holds four.
-        They are sent slowly, so that a busy machine can empty the buffer in time."""
-        sender = self.sender(100, 250, 250, 0.15)
-        process = self.start("--buffer", "4", seconds="30")
+        They are sent slowly and on the only processor that is recorded, and the tool has priority, so that a busy machine can empty the buffer in time."""
+        sender, processor = self.sender(100, 250, 250, 0.15), min(os.sched_getaffinity(0))
+        os.sched_setaffinity(sender.pid, {processor})
+        process = self.start("--buffer", "4", "--processors", str(processor), seconds="30", start=[*FIRST, *START])
         self.send(sender)
         _, said = process.communicate(timeout=MOST_SECONDS)
         self.assertEqual((said, process.returncode), ("", 0))
@@ -496,7 +498,7 @@ class Recorded(InFolder):
 tracing.Instance.end = lambda self: (end(self), ended.append(self))
 record.is_drained = lambda pipe, file: not ended or drained(pipe, file)""")
         sender = self.sender(10000, 75, 75, 0.05)
-        process = self.start("--buffer", "4", seconds="120", start=tool)
+        process = self.start("--buffer", "4", seconds="120", start=[*FIRST, *tool])
         assert sender.stdin
         print(file=sender.stdin, flush=True)
         said = process.communicate(timeout=MOST_SECONDS)[1]
