@@ -33,7 +33,7 @@ change() { echo >> "$small/crates/${1:-low}/src/lib.rt"; }
 # signalled SIGNAL [HOW]: to the launcher only, while a build or a program is at work; and what goes on afterwards.
 signalled() {
     env --default-signal=INT "$launcher" ${2:-} trace.csv > made 2> said &
-    comes sh -c "pgrep -f '^$scratch/slow' || grep '^replay: crate .*: .*${at:-low}' said"
+    if [ -n "${DOES:-}" ]; then comes pgrep -f "^$scratch/slow"; else comes grep "^replay: crate .*: .*${at:-low}" said; fi
     kill -"$1" $!
     status=0
     wait $! || status=$?
@@ -232,10 +232,10 @@ a second build waits for the first one, and each crate is built once % : > rt.lo
 replay trace.csv; wait; wc -l < rt.log % 0 replay: another build is at work in this checkout: waiting for it|$answer|6
 a crate that is not there % $small/scripts/build.sh nothing % 64 replay: there is no crate 'nothing' in crates.txt
 
-Ctrl-C ends a build, and all that is at work % small_checkout; PROVES='sleep 400' signalled INT % 130 *|replay: interrupted$kept
-TERM ends one % small_checkout; PROVES='sleep 400' signalled TERM % 143 *|replay: interrupted$kept
-HUP ends one % small_checkout; PROVES='sleep 400' signalled HUP % 143 *|replay: interrupted$kept
-the next call builds what is left % small_checkout; (PROVES='[ \$name != high ] || sleep 400' at=high signalled INT) 2> made; : > rt.log; \
+Ctrl-C ends a build, and all that is at work % small_checkout; PROVES='exec $scratch/slow 400' signalled INT % 130 *|replay: interrupted$kept
+TERM ends one % small_checkout; PROVES='exec $scratch/slow 400' signalled TERM % 143 *|replay: interrupted$kept
+HUP ends one % small_checkout; PROVES='exec $scratch/slow 400' signalled HUP % 143 *|replay: interrupted$kept
+the next call builds what is left % small_checkout; (PROVES='[ \$name != high ] || exec $scratch/slow 400' at=high signalled INT) 2> made; : > rt.log; \
 built; began % 0 high napi_serial
 TERM ends a run % DOES='exec $scratch/slow 400' signalled TERM % 143 replay: interrupted
 and an unproved one % DOES='exec $scratch/slow 400' signalled TERM --unproved % 143 *|replay: interrupted

@@ -126,14 +126,20 @@ fi
 # A tool that has to build first says so at once: the replacement for the toolchain never ends.
 mkdir -p "$scratch/kit/bin" "$scratch/kit/rattle"
 printf '#!/bin/sh\necho "%s/kit/rattle"\n' "$scratch" > "$scratch/kit/bin/rt"
-printf '#!/bin/sh\nsleep 60\n' > "$scratch/kit/bin/rattle"
+printf '#!/bin/sh\nexec sleep 400\n' > "$scratch/kit/bin/rattle"
 : > "$scratch/kit/KIT-ID"
 chmod +x "$scratch/kit/bin"/*
+# has_line TEXT: waits for it in `out`, at most 5 minutes.
+has_line() { for _ in $(seq 3000); do grep -q "$1" "$scratch/out" && return; sleep 0.1; done; false; }
 says_that_it_builds() {
+    local status=0
     "$top/scripts/fresh_clone.sh" "$scratch/clone" && rm -f "$scratch"/clone/fintaqush/crates/*/out/*
     (cd "$scratch/clone/fintaqush" && cp tests/tools/soft-tcp.csv mine.csv && cp tests/tools/soft-tcp.work mine.work &&
-        env -i PATH="$scratch/kit/bin:$PATH" HOME="$scratch/clone/home" timeout 10 ./fintaqush compare-recording mine --budget 300) > "$scratch/out" 2>&1
-    grep -q 'proving and building napi_serial' "$scratch/out"
+        exec env -i PATH="$scratch/kit/bin:$PATH" HOME="$scratch/clone/home" ./fintaqush compare-recording mine --budget 300) > "$scratch/out" 2>&1 &
+    has_line 'proving and building napi_serial' || status=1
+    kill $!
+    wait $!
+    return "$status"
 }
 check 'compare-recording without a built program says that it builds' says_that_it_builds
 
@@ -179,6 +185,9 @@ LOG=/proc/none/log "$top/scripts/gate-times.sh" true 2> "$scratch/out" || status
 check 'a log that cannot be written' [ "$status" = 73 ]
 cp "$(command -v sleep)" "$scratch/slow"
 status=0
-LOG=$scratch/gate.log env --default-signal=INT timeout --preserve-status -s INT 1 "$top/scripts/gate-times.sh" "$scratch/slow" 30 > "$scratch/out" 2>&1 || status=$?
+LOG=$scratch/gate.log env --default-signal=INT "$top/scripts/gate-times.sh" sh -c "echo begun; exec '$scratch/slow' 400" > "$scratch/out" 2>&1 &
+has_line begun
+kill -INT $!
+wait $! || status=$?
 check 'it can be interrupted, and ends the gate' [ "$status $(pgrep -f "^$scratch/slow")" = '130 ' ]
 sum_up
