@@ -17,7 +17,7 @@ from pathlib import Path
 from typing import Any
 
 from finding import group_in
-from tooltest import HAS_MACHINE, MACHINE, PROGRAMS, SERIES, TOP, Done, InFolder, process, process_to, run, skip_without, started
+from tooltest import HAS_MACHINE, MACHINE, MOST_SECONDS, PROGRAMS, SERIES, TOP, Done, InFolder, process, process_to, run, skip_without, started
 
 from fintaqush_tools.cli import MODULES, module_of
 from fintaqush_tools.options import parser_of
@@ -222,7 +222,7 @@ class Starts(InFolder):
             child = started(command, *words, folder=self.folder)
             time.sleep(place * 0.004)
             child.send_signal(signal.SIGINT)
-            said = child.communicate(timeout=100)[1]
+            said = child.communicate(timeout=MOST_SECONDS)[1]
             self.assertIn(child.returncode, (-signal.SIGINT, 130), (command, place, said))
             is_end = said == "" or said.splitlines()[-1].endswith("interrupted") or "interrupted; " in said
             self.assertTrue(is_end, (command, place, said))
@@ -262,7 +262,7 @@ errors.run("this", main, [])
         child = started(COMMAND, "replay", "--mode", "serial", self.folder / "fifo")
         time.sleep(1.5)
         child.send_signal(signal.SIGINT)
-        said = child.communicate(timeout=100)[1]
+        said = child.communicate(timeout=MOST_SECONDS)[1]
         self.assertIn(child.returncode, (-signal.SIGINT, 130), said)
         os.close(keeps)
 
@@ -307,7 +307,7 @@ class Completion(InFolder):
         seen = ""
         for text, wanted in ((first, ready), (then, told)):
             os.write(end, text.encode())
-            seen, until = "", time.monotonic() + 100
+            seen, until = "", time.monotonic() + MOST_SECONDS
             while wanted not in re.sub(r"\x08|\r|\x07", "", seen) and time.monotonic() < until:
                 if select.select([end], [], [], 0.1)[0]:
                     seen += os.read(end, 65536).decode(errors="replace")

@@ -145,23 +145,24 @@ class Surroundings(InFolder):
         return self.ends(self.start(tool, *words, ends={"start_new_session": True}, **program), number, tool, is_ready)
 
     def ends(self, child: subprocess.Popen[str], number: int, tool: str, is_ready: Callable[[], bool] = lambda: True) -> str:
-        begun, until = self.folder / "begun", time.monotonic() + MOST_SECONDS
-        while not (begun.exists() and is_ready()):
+        begun, until, program = self.folder / "begun", time.monotonic() + MOST_SECONDS, ""
+        while not (program.endswith("\n") and is_ready()):
             self.assertIsNone(child.poll(), tool)
             self.assertLess(time.monotonic(), until)
             time.sleep(0.02)
+            program = begun.read_text() if begun.exists() else ""
         (os.killpg if number == signal.SIGINT else os.kill)(child.pid, number)
         said = child.communicate(timeout=MOST_SECONDS)[1]
         self.assertEqual((said.splitlines()[-1], child.returncode), (f"fintaqush {tool}: interrupted", 128 + number))
-        self.assertFalse(os.path.exists(f"/proc/{begun.read_text().strip()}"), tool)
+        self.assertFalse(os.path.exists(f"/proc/{program.strip()}"), tool)
         self.assertNotIn("Traceback", said)
         begun.unlink()
         return said
 
     def held(self, body: str = "") -> Path:
-        """Returns a program that writes its number to `begun` when it begins, and then waits for ever."""
-        new, begun = self.folder / "new", self.folder / "begun"
-        return self.program("held", f"{body}\necho $$ > '{new}'\nmv '{new}' '{begun}'\nexec sleep 1000")
+        """Returns a program that writes its number to `begun` when it begins, and then waits for ever. It starts no other one, which could be
+        left after it."""
+        return self.program("held", f"{body}\necho $$ > '{self.folder / 'begun'}'\nexec sleep 1000")
 
     def test_an_end_leaves_nothing(self) -> None:
         """In the middle of a run: the old file stays, and no temporary file and no running program is left."""
@@ -182,31 +183,88 @@ class Surroundings(InFolder):
 
     def test_an_end_while_a_thread_is_started(self) -> None:
         """A pool waits for no thread that it was starting when a signal came: its program is ended all the same, and no other is begun."""
-        self.write("pool.py", f"""import sys, threading, time
-sys.path.insert(0, {str(TOP / "tools")!r})
-from fintaqush_tools import errors, processes
-
+        tool = self.own("""
 def one_after_another():
     while True:
         try:
-            processes.ran([sys.argv[1]])
+            processes.ran(words)
         except errors.Interrupted:
             pass
 
-def main(words):
-    threading.Thread(target=one_after_another, daemon=True).start()
-    time.sleep(1000)
-
-errors.run("fintaqush sweep", main, [])
-""")
+threading.Thread(target=one_after_another, daemon=True).start()
+time.sleep(1000)""", self.held())
         for number in (signal.SIGINT, signal.SIGTERM):
-            child = started(sys.executable, "-BES", "pool.py", self.held(), folder=self.folder, ends={"start_new_session": True})
-            self.ends(child, number, "sweep")
+            child = started(*tool, folder=self.folder, ends={"start_new_session": True})
+            self.ends(child, number, "own")
             self.assertEqual([number for number in os.listdir("/proc") if number.isdigit() and session(int(number)) == child.pid], [])
+
+    def own(self, body: str, *words: object) -> list[object]:
+        """Returns a command that is a tool with this body."""
+        lines = body.replace("\n", "\n    ")
+        code = f"""import os, signal, sys, threading, time
+sys.path.insert(0, {str(TOP / "tools")!r})
+from fintaqush_tools import errors, processes, tracing
+
+def signalled(*_):
+    os.kill(os.getpid(), signal.SIGTERM)
+
+def main(words):
+    {lines}
+
+errors.run("fintaqush own", main, sys.argv[1:])
+"""
+        return [sys.executable, "-BESc", code, *words]
+
+    def interrupted(self, body: str, *words: object, number: int = signal.SIGTERM, more: str = "") -> None:
+        """Checks that a tool with this body, which sends itself a signal, ends by it."""
+        done = process(*self.own(body, *words), folder=self.folder)
+        self.assertEqual((done.stdout, done.stderr, done.returncode), ("", f"fintaqush own: interrupted{more}\n", 128 + number))
+
+    def test_a_signal_after_that_to_its_program(self) -> None:
+        """A terminal's signal may end the program before it comes to the tool, which then ends already."""
+        self.interrupted("""
+say = errors.say
+errors.say = lambda text: signalled() or say(text)
+processes.ran(["sh", "-c", "kill -INT $$"])""", number=signal.SIGINT)
+
+    def test_a_signal_whose_exception_is_lost(self) -> None:
+        """In a destructor, which can raise none, or by another exception of what it interrupted."""
+        self.interrupted("""
+class Lost:
+    __del__ = signalled
+
+Lost()
+time.sleep(1000)""")
+        self.interrupted("""
+try:
+    signalled()
+finally:
+    raise errors.Refusal("it isn't as before")""", more="; it isn't as before")
+
+    def test_a_program_that_cleans_up(self) -> None:
+        """It runs to its end after a signal, and after another one."""
+        self.interrupted("""
+try:
+    signalled()
+finally:
+    processes.ran(["sh", "-c", "kill -TERM $PPID; echo > clean"])""")
+        self.assertEqual(self.names(), ["clean"])
+
+    def test_an_instance_of_ftrace(self) -> None:
+        """It is removed, also if a signal comes while it is made or removed. The kernel removes such a folder with its files."""
+        (self.folder / "instances").mkdir()
+        for name, body in (("mkdir", "(made(path), signalled())"), ("rmdir", "(setattr(os, 'rmdir', removed), signalled())")):
+            self.interrupted(f"""
+made, removed = os.mkdir, lambda path: os.system(f"rm -rf {{path}}")
+os.rmdir = removed
+os.{name} = lambda path: {body}
+with tracing.Instance("."):
+    pass""")
+            self.assertEqual(os.listdir(self.folder / "instances"), [])
 
     def test_a_signal_that_is_deferred(self) -> None:
         """One that comes while a program is being started ends the tool after that."""
-        with unittest.mock.patch.multiple(errors.Signals, is_over=False, waiting=0, is_deferred=False):
+        with unittest.mock.patch.multiple(errors.Signals, is_over=False, number=0, is_deferred=False):
             errors.Signals.defer()
             errors.Signals.take(signal.SIGTERM)
             self.assertRaises(errors.Interrupted, errors.Signals.resume)

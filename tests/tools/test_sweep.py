@@ -14,7 +14,7 @@ from pathlib import Path
 from typing import Any
 
 from finding import group_in
-from tooltest import HEADER, NO_WORDS, REPLAY, START, TOP, Done, InFolder, process, run, skip_without, started
+from tooltest import HEADER, MOST_SECONDS, NO_WORDS, REPLAY, START, TOP, Done, InFolder, process, run, skip_without, started
 
 
 def slurm_block() -> str:
@@ -173,13 +173,13 @@ tx {0} sent 0 held 0 done 0 denied 0 limit {3} avail {3} stopped 0
         def task(number: int) -> tuple[bool, list[str]]:
             more = ["--resume", "--jobs", "1", "--part", f"{number}/16", "--out", self.folder / f"rows-{number}"]
             said: list[str] = []
-            for seconds in (0.3, 0.5, 0.7, 300):
+            for seconds in (0.3, 0.5, 0.7, MOST_SECONDS):
                 with started(*START, "sweep", *words, *more) as child:
                     try:
                         said.append(child.communicate(timeout=seconds)[1])
                     except subprocess.TimeoutExpired:
                         child.terminate()
-                        said.append(child.communicate(timeout=300)[1])
+                        said.append(child.communicate(timeout=MOST_SECONDS)[1])
                 if child.returncode == 0:
                     return True, said
                 if child.returncode != 143 and (child.returncode != -15 or said[-1]):  # before it took signals

@@ -317,8 +317,8 @@ class Machine:
         if status != 0:
             raise Refusal(f"{shown(' '.join(command))[:120]}: {shown(said.decode('utf-8', 'replace').strip())[:200]}")
 
-    def move(self, change: Change) -> dict[int, set[int]]:
-        """Pins tasks to a processor. Returns the processors that each task was allowed on before."""
+    def move(self, change: Change, before: dict[int, set[int]]) -> None:
+        """Pins tasks to a processor; `before` gets the processors that each task was allowed on."""
         if change.kind == "threads":
             tasks = [task for task, _ in observed.tasks_named(lambda name: name.startswith(thread_of(change.name)))]
         else:
@@ -328,12 +328,10 @@ class Machine:
                 if os.path.isdir(f"/proc/{pid}/task")
                 for task in os.listdir(f"/proc/{pid}/task")
             ]
-        before = {}
         for task in tasks:
             with contextlib.suppress(ProcessLookupError):
                 before[task] = os.sched_getaffinity(task)
                 os.sched_setaffinity(task, {change.value})
-        return before
 
     @staticmethod
     def move_back(before: Mapping[int, set[int]]) -> None:
@@ -347,7 +345,9 @@ class Machine:
         with contextlib.ExitStack() as undo:
             for change in changes:
                 if change.kind in ("threads", "program"):
-                    undo.callback(self.move_back, self.move(change))
+                    before: dict[int, set[int]] = {}
+                    undo.callback(self.move_back, before)
+                    self.move(change, before)
                 else:
                     undo.callback(self.apply, change, change.before)
                     self.apply(change, change.value)

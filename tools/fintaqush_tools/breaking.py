@@ -6,12 +6,12 @@ import itertools
 import os
 import re
 from collections.abc import Callable, Mapping, Sequence
-from concurrent.futures import ThreadPoolExecutor
 from fractions import Fraction
 from typing import Any, Optional
 
 from fintaqush_tools.errors import Refusal
 from fintaqush_tools.options import wrong
+from fintaqush_tools.threads import in_threads
 
 Key = tuple[str, ...]  # of a combination of settings
 Ends = tuple[Optional[Fraction], Optional[Fraction]]  # the load that holds and the load that breaks
@@ -90,13 +90,9 @@ def breakings(keys: Sequence[Key], percents: Sequence[int], breaks: Breaks, jobs
         return job, search(lambda load: breaks(key, percent, load))
 
     found: dict[Key, dict[int, Ends]] = {key: {} for key in keys}
-    pool = ThreadPoolExecutor(jobs)
-    try:
-        for (key, percent), ends in pool.map(searched, itertools.product(keys, percents)):
-            found[key][percent] = ends
-            step()
-    finally:
-        pool.shutdown(cancel_futures=True)
+    for (key, percent), ends in in_threads(searched, list(itertools.product(keys, percents)), jobs):
+        found[key][percent] = ends
+        step()
     return found
 
 

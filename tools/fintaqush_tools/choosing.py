@@ -2,9 +2,7 @@
 
 from __future__ import annotations
 
-import os
 from collections.abc import Collection, Iterator, Mapping, Sequence
-from concurrent.futures import ThreadPoolExecutor
 from typing import Any, Optional
 
 from fintaqush_tools import predicting
@@ -12,6 +10,7 @@ from fintaqush_tools.bands import ALIKE, Costs, Doubt, Interval
 from fintaqush_tools.machine import COSTS, of_processors, values_of, values_on
 from fintaqush_tools.options import Words
 from fintaqush_tools.progress import Progress
+from fintaqush_tools.threads import in_threads
 
 Options = dict[str, int]
 Values = dict[str, Any]
@@ -102,15 +101,11 @@ class Predictions:
 
     def of_all(self, tried: Sequence[Options]) -> list[Values]:
         """Returns the results of each setting."""
-        pool = ThreadPoolExecutor(os.cpu_count())
-        values: list[Values] = []
-        try:
-            with Progress(f"predicting {len(tried)} settings", lambda: len(values) / len(tried)):
-                for each in pool.map(self.of, tried):
-                    values.append(each)
-        finally:
-            pool.shutdown(cancel_futures=True)
-        return values
+        values: dict[int, Values] = {}
+        with Progress(f"predicting {len(tried)} settings", lambda: len(values) / len(tried)):
+            for place, each in in_threads(lambda place: (place, self.of(tried[place])), range(len(tried))):
+                values[place] = each
+        return [values[place] for place in range(len(tried))]
 
     def sides_of(self, options: Options) -> list[Values]:
         """Returns the results with the other costs that the recording may have."""

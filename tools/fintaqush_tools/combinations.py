@@ -19,16 +19,16 @@ import subprocess
 import tempfile
 import time
 from collections.abc import Callable, Iterator, Mapping, Sequence
-from concurrent.futures import ThreadPoolExecutor, as_completed
 from typing import IO, Any
 
-from fintaqush_tools.errors import Refusal, unfinished, why
+from fintaqush_tools.errors import Refusal, Signals, unfinished, why
 from fintaqush_tools.files import check_target, write_whole
 from fintaqush_tools.options import Parser, Words, add_binary, as_options, number, pair
 from fintaqush_tools.places import TOP
-from fintaqush_tools.processes import begun, read_now
+from fintaqush_tools.processes import read_now
 from fintaqush_tools.progress import Program, Progress, can_be_shown, say, share_of
 from fintaqush_tools.texts import last_line, shown
+from fintaqush_tools.threads import in_threads
 
 Key = tuple[str, ...]
 Row = dict[str, Any]
@@ -175,8 +175,10 @@ class Combinations:
             # a file, because a pipe that is full in both directions would deadlock
             lines.write(b"".join(os.fsencode(f"{','.join(key[1:])},{key[0]}\n") for key in keys))
             lines.seek(0)
-            with begun(command, set(), stdin=lines, stdout=subprocess.PIPE) as process:
+            Signals.defer()
+            with subprocess.Popen(command, stdin=lines, stdout=subprocess.PIPE) as process:
                 try:
+                    Signals.resume()
                     for raw in process.stdout or ():
                         line = raw.decode("utf-8", "surrogateescape")
                         row = next(csv.DictReader([line], self.columns))
@@ -194,16 +196,11 @@ class Combinations:
                 row, told = (row, told) if row else self.try_row(made, key)
             return row, told
 
-        pool = ThreadPoolExecutor(words.jobs or os.cpu_count())
-        try:
-            for done in as_completed([pool.submit(tries, key) for key in keys]):
-                row, told = done.result()
-                if row:
-                    yield row
-                else:
-                    say(told)
-        finally:
-            pool.shutdown(cancel_futures=True)
+        for row, told in in_threads(tries, keys, words.jobs):
+            if row:
+                yield row
+            else:
+                say(told)
 
     def key_of(self, row: Row) -> Key:
         return tuple(row[name] for name in self.key)

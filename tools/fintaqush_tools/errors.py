@@ -21,7 +21,7 @@ if TYPE_CHECKING:
 
 BAD_USAGE = 64  # the exit status for wrong options, as of the programs (EX_USAGE)
 
-unfinished: set[str] = set()  # files that are being written
+unfinished: set[str] = set()  # files that are being written, and folders of the kernel
 running: set[Popen[bytes]] = set()  # our programs that are running
 starting = _thread.allocate_lock()  # is held while one is started and put there
 
@@ -47,7 +47,7 @@ class Signals:
     started, until the program is known, so that it is terminated too; and one that comes during an import, which may lose an exception.
     """
 
-    is_over, waiting, is_deferred = False, 0, False
+    is_over, number, is_deferred = False, 0, False
 
     @classmethod
     def defer(cls) -> None:
@@ -56,18 +56,30 @@ class Signals:
     @classmethod
     def resume(cls) -> None:
         cls.is_deferred = False
-        if cls.waiting:
-            cls.take(cls.waiting)
+        cls.look()
+
+    @classmethod
+    def look(cls, *_: object) -> None:
+        """Takes a signal that came, if that isn't done."""
+        if cls.number:
+            cls.take(cls.number)
 
     @classmethod
     def take(cls, number: int, _frame: FrameType | None = None) -> None:
-        if cls.is_deferred:
-            cls.waiting = number
-        elif not cls.is_over:
+        cls.number = number
+        if not (cls.is_deferred or cls.is_over):
             cls.is_over = True
             for process in list(running):
                 process.kill()
             raise Interrupted(number)
+
+    @classmethod
+    def lost(cls, unraisable: sys.UnraisableHookArgs) -> None:
+        """Handles an exception in a destructor, which can't be raised: a signal is taken again by the timer."""
+        if isinstance(unraisable.exc_value, Interrupted):
+            cls.is_over = False
+        else:
+            sys.__unraisablehook__(unraisable)
 
     @classmethod
     def handle(cls) -> None:
@@ -76,11 +88,12 @@ class Signals:
         """
         import signal  # which is slow to import
 
+        sys.unraisablehook = cls.lost
         for number in (signal.SIGINT, signal.SIGTERM, signal.SIGHUP):
             if signal.getsignal(number) in (signal.SIG_DFL, signal.default_int_handler):
                 signal.signal(number, cls.take)
         if not any(signal.getitimer(signal.ITIMER_REAL)):  # its caller's alarm is kept
-            signal.signal(signal.SIGALRM, lambda *_: None)
+            signal.signal(signal.SIGALRM, cls.look)
             signal.setitimer(signal.ITIMER_REAL, 1, 1)
         signal.pthread_sigmask(signal.SIG_UNBLOCK, {signal.SIGINT})
 
@@ -129,6 +142,8 @@ def ended(main: Main, words: Sequence[str]) -> int:
     except BrokenPipeError:
         return 1
     except Exception as error:
+        if Signals.number:
+            raise Interrupted(Signals.number, f"; {why(error)}") from None
         say(why(error))
         return error.status if isinstance(error, Refusal) else 1
 
@@ -143,17 +158,18 @@ def end_programs() -> None:
 
 
 def clean_up() -> None:
-    """Removes the files that weren't finished."""
-    for name in unfinished:
+    """Removes the files that weren't finished, and a kernel's folder."""
+    for name in list(unfinished):
         unlink(name)
     unfinished.clear()
 
 
 def unlink(name: str) -> None:
-    try:
-        os.unlink(name)
-    except OSError:
-        pass
+    for remove in (os.unlink, os.rmdir):
+        try:
+            remove(name)
+        except OSError:
+            pass
 
 
 def run(name: str, main: Main, words: Sequence[str], is_short: bool = False) -> None:
@@ -161,15 +177,17 @@ def run(name: str, main: Main, words: Sequence[str], is_short: bool = False) -> 
     temporary files or child processes. A short one only prints a text, so it handles no signal."""
     Program.name, status = name, 1
     try:
-        if not is_short:
-            Signals.handle()
-        if sys.stderr is not None:
-            sys.stderr.reconfigure(errors="backslashreplace")  # type: ignore[attr-defined]
-        if sys.stdout is not None:
-            # Python, with PYTHONUNBUFFERED, takes a partial write for a complete one.
-            sys.stdout = open(1, "w", encoding="utf-8", errors="surrogateescape", newline="", closefd=False)
-        status = ended(main, words)
-        Signals.is_over = True
+        try:
+            if not is_short:
+                Signals.handle()
+            if sys.stderr is not None:
+                sys.stderr.reconfigure(errors="backslashreplace")  # type: ignore[attr-defined]
+            if sys.stdout is not None:
+                # Python, with PYTHONUNBUFFERED, takes a partial write for a complete one.
+                sys.stdout = open(1, "w", encoding="utf-8", errors="surrogateescape", newline="", closefd=False)
+            status = ended(main, words)
+        finally:
+            Signals.is_over = True
     except Interrupted as signalled:
         say(f"interrupted{signalled.more}")
         status = 128 + signalled.number

@@ -2,12 +2,13 @@
 
 from __future__ import annotations
 
+import contextlib
 import os
 import signal
 import subprocess
 import sys
 import threading
-from collections.abc import Generator, Sequence
+from collections.abc import Generator, Iterator, Sequence
 from typing import IO, Any, NoReturn
 
 from fintaqush_tools.errors import Interrupted, Refusal, Signals, running, starting
@@ -32,72 +33,61 @@ def program(name: str, named: str | None = None) -> str:
         return made
     environment = {**os.environ, "FINTAQUSH_NAME": Program.name}
     build = [f"{TOP}/scripts/build.sh", name]
-    if subprocess.run(build, check=False, stdin=subprocess.DEVNULL, env=environment).returncode != 0:
+    with at_work(build, stdin=subprocess.DEVNULL, env=environment) as process:
+        process.wait()
+    if process.returncode != 0:
         raise Refusal(f"{name} couldn't be built")
     return f"{TOP}/crates/{name}/out/{name}"
 
 
-def begun(command: Sequence[str], among: set[subprocess.Popen[bytes]], **ends: Any) -> subprocess.Popen[bytes]:
-    """Starts a program, which is in the set `among` while it runs."""
-    is_main = threading.current_thread() is threading.main_thread()  # which signals interrupt
+@contextlib.contextmanager
+def at_work(command: Sequence[str], **ends: Any) -> Iterator[subprocess.Popen[bytes]]:
+    """A context manager that runs a program, and kills it if the block fails. Ends this program as well, if that one was interrupted."""
+    is_main = (
+        threading.current_thread() is threading.main_thread()
+    )  # which signals interrupt, and which may run programs to clean up
     if is_main:
         Signals.defer()
     try:
         with starting:
             process = subprocess.Popen(command, **ends)
-            among.add(process)
+            running.add(process)
     finally:
         if is_main:
-            Signals.is_deferred = False
-    if Signals.is_over or is_main and Signals.waiting:
-        if among is running:
+            Signals.resume()
+    with process:
+        try:
+            if Signals.is_over and not is_main:
+                process.kill()
+            yield process
+        except BaseException:
             process.kill()
-        else:
-            process.terminate()
-        process.wait()
-    if is_main:
-        Signals.resume()
-    return process
-
-
-def check_signal(process: subprocess.Popen[bytes]) -> None:
-    """Ends this program as well, if a program was interrupted."""
-    if process.returncode == -signal.SIGINT or Signals.is_over:
+            raise
+    running.discard(process)
+    if process.returncode == -signal.SIGINT or Signals.is_over and not is_main:
         raise Interrupted(signal.SIGINT)
 
 
 def ran(command: Sequence[str], text: bytes | None = None, stdin: IO[bytes] | None = None) -> tuple[int, bytes, bytes]:
     """Runs a program with this input. Returns its status and the bytes of its two outputs."""
     ends = {"stdin": stdin or subprocess.PIPE, "stdout": subprocess.PIPE, "stderr": subprocess.PIPE}
-    with begun(command, running, **ends) as process:
+    with at_work(command, **ends) as process:
         try:
             if stdin:
                 read_now.add(stdin)
             out, said = process.communicate(text)
-        except BaseException:
-            process.kill()
-            raise
         finally:
             if stdin:
                 read_now.discard(stdin)
-            running.discard(process)
-    check_signal(process)
     return process.returncode, out, said
 
 
 def lines_by(command: Sequence[str], stdin: IO[bytes], said: IO[bytes]) -> Generator[str, None, int]:
     """Yields the lines of a program's output as they come; its standard error goes to an open file. Returns its status."""
-    started = begun(command, running, stdin=stdin, stdout=subprocess.PIPE, stderr=said)
-    with Progress("reading", lambda: share_of(stdin)), started as process:
-        try:
-            for line in process.stdout or ():
-                yield line.decode("utf-8", "replace")
-        except BaseException:
-            process.kill()
-            raise
-        finally:
-            running.discard(process)
-    check_signal(process)
+    program = at_work(command, stdin=stdin, stdout=subprocess.PIPE, stderr=said)
+    with Progress("reading", lambda: share_of(stdin)), program as process:
+        for line in process.stdout or ():
+            yield line.decode("utf-8", "replace")
     return process.returncode
 
 

@@ -3,6 +3,7 @@ slow to import."""
 
 from __future__ import annotations
 
+import _thread
 import os
 import sys
 
@@ -15,6 +16,7 @@ if TYPE_CHECKING:
     Share = Callable[[], Optional[float]]
 
 CLEAR = "\r\033[K"  # the beginning of a terminal's line, and what is in it is removed
+writing = _thread.allocate_lock()  # is held while a line is written
 
 
 class Program:
@@ -28,7 +30,8 @@ class Program:
 
 def say(text: str) -> None:
     """Prints a line, if it can be written."""
-    put(f"{cleared()}{Program.name}: {text}\n")
+    with writing:
+        put(f"{cleared()}{Program.name}: {text}\n")
 
 
 def put(text: str) -> None:
@@ -50,14 +53,15 @@ def can_be_shown() -> bool:
     return not Program.is_quiet and sys.stderr is not None and sys.stderr.isatty()
 
 
-def show(text: str) -> None:
-    """Writes the line over, on a terminal, and no wider than it; an empty text clears it."""
-    if not text:
-        put(cleared())
-        return
-    columns = os.get_terminal_size(2).columns or 80  # a terminal without a known width reports 0
-    Program.is_shown = True
-    put(f"{CLEAR}{f'{Program.name}: {text}'[: columns - 1]}")
+def show(text: str, is_over: Callable[[], bool] = lambda: False) -> None:
+    """Writes the line over, on a terminal, and no wider than it; an empty text clears it. Writes nothing if its block is over."""
+    with writing:
+        if not text:
+            put(cleared())
+        elif not is_over():
+            columns = os.get_terminal_size(2).columns or 80  # a terminal without a known width reports 0
+            Program.is_shown = True
+            put(f"{CLEAR}{f'{Program.name}: {text}'[: columns - 1]}")
 
 
 class Progress:
@@ -95,8 +99,7 @@ class Progress:
             parts = [self.what, f"{100 * share:.0f} %" if share is not None else f"{took:.0f} s", self.more()]
             if share and share < 1:
                 parts.append(f"{took * (1 - share) / share:.0f} s left")
-            if not over.is_set():
-                show(", ".join(filter(None, parts)))
+            show(", ".join(filter(None, parts)), over.is_set)
 
 
 def share_of(file: IO[Any]) -> float | None:

@@ -11,7 +11,7 @@ from collections.abc import Collection, Iterator
 from dataclasses import dataclass
 from typing import Any
 
-from fintaqush_tools.errors import Refusal
+from fintaqush_tools.errors import Refusal, unfinished
 from fintaqush_tools.texts import shown
 
 PLACES = ("/sys/kernel/tracing", "/sys/kernel/debug/tracing")
@@ -91,6 +91,7 @@ class Instance:
 
     def __enter__(self) -> Instance:
         self.remove_abandoned()
+        unfinished.add(self.path)
         try:
             os.mkdir(self.path)
         except OSError as error:
@@ -99,6 +100,7 @@ class Instance:
 
     def __exit__(self, *_: object) -> None:
         self.remove(self.path)
+        unfinished.discard(self.path)
 
     def remove_abandoned(self) -> None:
         """Removes what a killed process left."""
