@@ -65,10 +65,11 @@ def quiet(reader: int = 5, count: int = 80, works: Sequence[int] = (5, 15), flus
     return made
 
 
-def deferred(works: Sequence[int] = (5, 15), period: int = 400_000) -> str:
+def deferred(works: Sequence[int] = (5, 15), period: int = 400_000, **head: object) -> str:
     """Returns the recording of these bursts with a deferral of 1 x a quarter of the period."""
     flush = period // 4
-    return file_of(quiet(works=works, flush=flush, period=period), **{"device.vb1.napi_defer_hard_irqs": 1, "device.vb1.gro_flush_timeout": flush})
+    own: dict[str, object] = {"device.vb1.napi_defer_hard_irqs": 1, "device.vb1.gro_flush_timeout": flush}
+    return file_of(quiet(works=works, flush=flush, period=period), **own, **head)
 
 
 def overloaded(count: int = 40, ring: int = 50) -> Made:
@@ -631,8 +632,8 @@ class Advise(InFolder):
         in turn, today's first. The advice holds if all of its recordings are below all of today's."""
         often = 100_000
 
-        def verified(*works: tuple[int, int], status: int = 0, words: Sequence[str] = ()) -> Done:
-            given = [self.write(f"{place}.rec", file_of(quiet(works=each, period=often))) for place, each in enumerate(works)]
+        def verified(*works: tuple[int, int], status: int = 0, words: Sequence[str] = (), stolen: str = "0 0") -> Done:
+            given = [self.write(f"{place}.rec", file_of(quiet(works=each, period=often), **{"stolen.3": stolen})) for place, each in enumerate(works)]
             state = {"is_changed": False}
 
             def record_again(_: Any, told: Any) -> Recording:
@@ -663,6 +664,8 @@ class Advise(InFolder):
         told = json.loads(verified(high, low, high, low, high, low, words=["--json"]).stdout)["verdict"]
         self.assertEqual((told["name"], told["verdict"], [[f"{each:.1f}" for each in told[name]] for name in ("today", "advised")]),
                          ("poll_percent", "better", [["4.3"] * 3, ["3.5"] * 3]))
+        done = verified(high, low, high, low, high, low, stolen="0 200")
+        self.assertRegex(done.stdout, r"\npredicted for these packets: [\d.]+; within which values nine of ten recordings are isn't known, because a hypervisor took 20 % of processor 3's")
         for works, what in (((high, low, high, high, high, low), "which is within their noise"), ((low, high) * 3, "worse in all recordings")):
             done = verified(*works, status=1)
             self.assertIn(what, done.stdout)
