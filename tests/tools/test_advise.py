@@ -26,7 +26,7 @@ import timing
 from timing import Made
 from tooltest import HAS_MACHINE, HERE, TOP, Done, InFolder, keys_of, process, run, skip_without
 
-from fintaqush_tools import advice, blame, predicting, verifying
+from fintaqush_tools import advice, blame, predicting, recording, verifying
 from fintaqush_tools.errors import Refusal
 from fintaqush_tools.options import Words
 from fintaqush_tools.receiving import Held, Received, Receiving
@@ -580,6 +580,18 @@ class Advise(InFolder):
                 except Refusal as error:
                     told = str(error)
                 self.assertRegex(told, why or "^$")
+
+    def test_waits_that_are_refused_early(self) -> None:
+        """If no program is recorded, so that waits end with the delivery, the first events are enough to refuse a goal that is a wait."""
+        made = Made(**{**COSTS, "wake": 20_000})
+        made.switch(made.time - 9000, timing.POLLER, "swapper/3-0", "cc1-77")
+        for _ in range(2400):
+            made.time = made.softirq_round([1]) + 50_000
+        none: dict[str, object] = {"program": "", "program.pids": "", "instance.1": "device vb1 napi 0 queue 0 kind receive polls 2400 packets 2400 on 3:2400:2400"}
+        with unittest.mock.patch.object(recording, "EARLY", 9000):
+            for goal, head, is_early in (("p50", none, True), ("p99", none, True), ("cpu", none, False), ("p50", {**none, "program.pids": "60"}, False)):
+                done = run("advise", self.write("x.rec", file_of(made, **head)), "--goal", goal)
+                self.assertEqual("passed while another task had the processor (cc1 88 %), so their " in done.stderr, is_early, (goal, done.stderr))
 
     def test_other_tasks_beside_the_program(self) -> None:
         """The program reads on a separate processor: another task has 10 of 42 ms there."""
