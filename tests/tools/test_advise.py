@@ -65,11 +65,11 @@ def quiet(reader: int = 5, count: int = 80, works: Sequence[int] = (5, 15), flus
     return made
 
 
-def deferred(works: Sequence[int] = (5, 15), period: int = 400_000, **head: object) -> str:
+def deferred(works: Sequence[int] = (5, 15), period: int = 400_000, stolen: str = "") -> str:
     """Returns the recording of these bursts with a deferral of 1 x a quarter of the period."""
     flush = period // 4
-    own: dict[str, object] = {"device.vb1.napi_defer_hard_irqs": 1, "device.vb1.gro_flush_timeout": flush}
-    return file_of(quiet(works=works, flush=flush, period=period), **own, **head)
+    head: dict[str, object] = {"device.vb1.napi_defer_hard_irqs": 1, "device.vb1.gro_flush_timeout": flush, "stolen.3": stolen}
+    return file_of(quiet(works=works, flush=flush, period=period), **head)
 
 
 def overloaded(count: int = 40, ring: int = 50) -> Made:
@@ -589,8 +589,9 @@ class Advise(InFolder):
             made.time = made.softirq_round([1]) + 50_000
         none: dict[str, object] = {"program": "", "program.pids": "", "instance.1": "device vb1 napi 0 queue 0 kind receive polls 2400 packets 2400 on 3:2400:2400"}
         with unittest.mock.patch.object(recording, "EARLY", 9000):
-            for goal, head, is_early in (("p50", none, True), ("p99", none, True), ("cpu", none, False), ("p50", {**none, "program.pids": "60"}, False)):
-                done = run("advise", self.write("x.rec", file_of(made, **head)), "--goal", goal)
+            for goal, pids, is_early in (("p50", "", True), ("p99", "", True), ("cpu", "", False), ("p50", "60", False)):
+                none["program.pids"] = pids
+                done = run("advise", self.write("x.rec", file_of(made, **none)), "--goal", goal)
                 self.assertEqual("passed while another task had the processor (cc1 88 %), so their " in done.stderr, is_early, (goal, done.stderr))
 
     def test_other_tasks_beside_the_program(self) -> None:

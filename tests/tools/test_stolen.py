@@ -6,7 +6,7 @@ import json
 import unittest
 import unittest.mock
 from collections import Counter
-from collections.abc import Mapping
+from pathlib import Path
 from typing import Any
 
 from test_advise import deferred, file_of, quiet
@@ -27,7 +27,7 @@ TAKEN = "a hypervisor took 20 % of processor 3's time"
 AGAIN = f"record again when it takes at most {100 * stolen.MOST:.0f} %"
 TOO_HIGH = f"{TAKEN}, so costs and waits may be much too high: {AGAIN}"
 NO_BAND = f"within which values nine of ten recordings are isn't known, because {TAKEN}: {AGAIN}"
-LARGE = {"stolen.3": "5000 5200"}  # ms before and after, of the second that the recordings below take
+LARGE, LITTLE, UNKNOWN = "5000 5200", "5000 5010", ""  # ms before and after, of the second that the recordings below take
 
 
 class Shares(unittest.TestCase):
@@ -37,10 +37,11 @@ class Shares(unittest.TestCase):
                 self.assertEqual(observed.stolen(), taken)
 
     def test_shares_of_a_recording(self) -> None:
-        """Of the processors that are asked for, if they are known: 0 is known."""
+        """Of processors with over 1 % of the polls or reads, if it is known: 0 is known."""
         head = {"seconds": "2.5", "stolen.0": "10 10", "stolen.2": "100 350", "stolen.3": "7", "stolen.5": "0 9"}
-        self.assertEqual(stolen.shares_in(head, (0, 2, 3, 4)), {0: 0, 2: 0.1})
-        self.assertEqual(stolen.shares_in({**head, "seconds": "0"}, (0, 2)), {})
+        self.assertEqual(stolen.shares_in(head, {0: 50, 2: 50, 3: 50, 4: 50}), {0: 0, 2: 0.1})
+        self.assertEqual(stolen.shares_in(head, {2: 99, 0: 1}, {5: 7}), {2: 0.1, 5: 0.0036})
+        self.assertEqual(stolen.shares_in({**head, "seconds": "0"}, {0: 1}), {})
 
     def test_which_are_large(self) -> None:
         self.assertEqual(stolen.warnings({1: stolen.MOST, 2: 0}), [])
@@ -55,21 +56,24 @@ class Reports(InFolder):
                                             for name, cpu in (("vb1", 3), ("vb2", 5))})
         head = {"missing": "", "seconds": "1.0", "stolen.5": "0 900"}
         words = Words(device=["vb1"], sender=["va1"])
-        self.assertEqual(list(record.notes_on(words, {**head, **LARGE}, body)), [TOO_HIGH])
+        self.assertEqual(list(record.notes_on(words, {**head, "stolen.3": LARGE}, body)), [TOO_HIGH])
         self.assertEqual(list(record.notes_on(words, head, body)), [])
+
+    def recordings(self) -> list[Path]:
+        return [self.write(f"{place}.rec", file_of(quiet(), **{"stolen.3": taken})) for place, taken in enumerate((LARGE, LITTLE, UNKNOWN))]
 
     def test_costs(self) -> None:
         """Options for another program go to standard output, so the warning goes to standard error."""
-        large, little, none = (self.write(f"{place}.rec", file_of(quiet(), **head)) for place, head in enumerate((LARGE, {"stolen.3": "5000 5000"}, {})))
+        large, little, none = self.recordings()
         self.assertIn(f"\n{TOO_HIGH}\n", self.succeeds("costs", large))
         self.assertEqual(self.ends_with(0, "costs", large, "--words").stderr, f"fintaqush costs: {TOO_HIGH}\n")
-        for path, shares in ((large, [{"processor": 3, "share": 0.2}]), (little, [{"processor": 3, "share": 0}]), (none, [])):
+        for path, shares in ((large, [{"processor": 3, "share": 0.2}]), (little, [{"processor": 3, "share": 0.01}]), (none, [])):
             self.assertEqual(json.loads(run("costs", path, "--json").stdout)["stolen"], shares)
         self.assertNotIn("hypervisor", self.succeeds("costs", little) + self.succeeds("costs", none))
 
     def test_compare(self) -> None:
         """The largest share of a processor that polled is a value of the recording."""
-        large, little, none = (self.write(f"{place}.rec", file_of(quiet(), **head)) for place, head in enumerate((LARGE, {"stolen.3": "5000 5010"}, {})))
+        large, little, none = self.recordings()
         told = {each["name"]: (each["before"], each["after"]) for each in map(json.loads, self.succeeds("compare", little, large, "--json").splitlines())}
         self.assertEqual([round(each, 6) for each in told["stolen_percent"]], [1, 20])
         self.assertNotIn("stolen", self.succeeds("compare", none, large, "--json"))
@@ -77,14 +81,14 @@ class Reports(InFolder):
 
 @HAS_MACHINE
 class Advice(InFolder):
-    def told(self, head: Mapping[str, object]) -> tuple[str, Any]:
+    def told(self, taken: str) -> tuple[str, Any]:
         """Returns the advice for less processor time, as text and as JSON."""
-        path, words = self.write("x.rec", deferred(**head)), ("--goal", "cpu")
+        path, words = self.write("x.rec", deferred(stolen=taken)), ("--goal", "cpu")
         return self.succeeds("advise", path, *words), json.loads(self.succeeds("advise", path, *words, "--json"))
 
     def test_a_band_that_is_not_known(self) -> None:
         """The advice is the same, but without a band and without a doubt of the costs."""
-        text, told = self.told({"stolen.3": "5000 5000"})
+        text, told = self.told(LITTLE)
         without, object_ = self.told(LARGE)
         self.assertEqual([line in text for line in ("nine times of ten", "costs may be", NO_BAND)], [True, True, False])
         self.assertEqual([line in without for line in ("nine times of ten ", "costs may be", f"\n{NO_BAND}\n")], [False, False, True])
@@ -95,8 +99,8 @@ class Advice(InFolder):
 
     def test_recordings_without_it(self) -> None:
         """That of an earlier version doesn't say what was taken, which isn't nothing."""
-        for head, notes in (({}, [stolen.UNKNOWN]), ({"stolen.3": "5000 5000"}, [])):
-            self.assertEqual([note for note in self.told(head)[1]["notes"] if "hypervisor" in note], notes)
+        for taken, notes in ((UNKNOWN, [stolen.UNKNOWN]), (LITTLE, [])):
+            self.assertEqual([note for note in self.told(taken)[1]["notes"] if "hypervisor" in note], notes)
 
 
 class Verified(unittest.TestCase):

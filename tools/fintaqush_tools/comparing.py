@@ -171,7 +171,7 @@ def of_recording(path: str, device: str | None) -> Values:
     for name, value in whole.items():
         known = [part[name] for part in parts if name in part]
         values[name] = Value(value, half_width(known) if len(known) == PARTS else None)
-    taken = shares_in(recording.head, seen.processors)
+    taken = shares_in(recording.head, Counter(seen.on))
     if taken:
         values["stolen_percent"] = Value(100 * max(taken.values()), None)
     return {"": {**values, **costs_in(told)}}

@@ -3,20 +3,23 @@
 from __future__ import annotations
 
 import re
-from collections.abc import Iterable, Mapping
+from collections.abc import Mapping
 from typing import Any
 
 MOST = 0.01  # share of a processor's time above which bands held fewer than nine of ten measured values
+RARE = 0.01  # share of polls or reads, up to which their processor doesn't count
 TIMES = re.compile(r"(\d{1,15}) (\d{1,15})")
 AGAIN = f"record again when it takes at most {100 * MOST:.0f} %"
 UNKNOWN = "what a hypervisor took isn't in recordings of this age: on a virtual machine bands may be too narrow"
 
+Counts = Mapping[int, int]  # of polls or reads, by processor
 Shares = Mapping[int, float]  # of the time, by processor
 
 
-def shares_in(head: Mapping[str, Any], processors: Iterable[int]) -> dict[int, float]:
-    """Returns the share of a recording that a hypervisor took from each of these processors, if the recording says it."""
-    found = {each: TIMES.fullmatch(head.get(f"stolen.{each}", "")) for each in processors}
+def shares_in(head: Mapping[str, Any], *counts: Counts) -> dict[int, float]:
+    """Returns the share of a recording that a hypervisor took from each of the processors that poll or read, if the recording says it."""
+    used = {each for some in counts for each, count in some.items() if count > RARE * sum(some.values())}
+    found = {each: TIMES.fullmatch(head.get(f"stolen.{each}", "")) for each in sorted(used)}
     whole = 1000 * float(head.get("seconds", 0))
     return {each: (int(times[2]) - int(times[1])) / whole for each, times in found.items() if times and whole > 0}
 

@@ -10,7 +10,8 @@ goal is a wait and no wait could be measured. If it is poor or unknown, there is
 settings: threaded NAPI, napi_defer_hard_irqs with gro_flush_timeout, interrupt coalescing, sizes of rings and backlogs,
 and the program on an idle processor. Of settings that are equally good it advises the one with the fewest changes. It
 prints the best settings for the goal, the band in which a recording with the first one is nine times of ten, the
-commands that set it, and what isn't modelled.
+commands that set it, and what isn't modelled. If a hypervisor took over 1 % of a processor's time during the recording,
+the band isn't known, and it says so.
 
 Goals: the 99th or 50th percentile of the wait, the kernel's processor time, or drops. A wait lasts from a packet's arrival until the program
 has used it, or until its delivery if the program isn't recorded. Only settings with at most --max-drops drops (as many as now) and with a
@@ -655,7 +656,7 @@ def verified(advice: Advice) -> tuple[list[Compared], float, Verdict]:
     predictions = advice.predictions.on_others(arrivals_in(middle, words)[0], middle.layout.major())
     options = {**advice.best, "processors": len(middle.layout.processors), "layout": 0}
     values = predictions.of(options)
-    shares = stolen.shares_in(middle.head, middle.layout.processors)
+    shares = stolen.shares_in(middle.head, Counter(middle.seen.on))
     why_no_band = advice.why_no_band or stolen.without_band(shares)
     band = None if why_no_band else predictions.band(name, options, values, predictions.sides_of(options))
     of_goal = [[each[name] for each, _ in some] for some in (before, after)]

@@ -289,7 +289,7 @@ def estimated(times: Times, head: Head) -> Told:
 
 def stolen_of(times: Times, head: Head) -> dict[int, float]:
     """Returns the share that a hypervisor took from each processor that polls or reads, if it is known."""
-    return stolen.shares_in(head, {*times.where, *times.reads.on})
+    return stolen.shares_in(head, times.where, times.reads.on)
 
 
 def options_of(costs: Mapping[str, Cost]) -> str:

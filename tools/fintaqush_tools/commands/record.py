@@ -301,8 +301,8 @@ def told_end(words: Words, head: Mapping[str, Any], body: Body) -> str:
 def notes_on(words: Words, head: Mapping[str, Any], body: Body) -> Iterator[str]:
     """Yields what the user should know about the recording."""
     polled = polled_of(words, body)
-    used = {processor for each in body.napi if each.device in polled for processor in each.polls}
-    yield from stolen.warnings(stolen.shares_in(head, used))
+    polls = sum((each.polls for each in body.napi if each.device in polled), Counter[int]())
+    yield from stolen.warnings(stolen.shares_in(head, polls))
     if head["missing"]:
         yield f"this kernel has no event {head['missing']}"
     if not words.sender and any(taken_of(body, name) for name in words.device):
