@@ -678,7 +678,7 @@ class Advise(InFolder):
         self.assertEqual((told["name"], told["verdict"], [[f"{each:.1f}" for each in told[name]] for name in ("today", "advised")]),
                          ("poll_percent", "better", [["4.3"] * 3, ["3.5"] * 3]))
         done = verified(high, low, high, low, high, low, stolen="0 200")
-        self.assertRegex(done.stdout, r"\npredicted for these packets: [\d.]+; within which values nine of ten recordings are isn't known, because a hypervisor took 20 % of processor 3's")
+        self.assertRegex(done.stdout, r"\npredicted for these packets: [\d.]+; the band isn't known, because a hypervisor took 20.0 % of processor 3's")
         for works, what in (((high, low, high, high, high, low), "which is within their noise"), ((low, high) * 3, "worse in all recordings")):
             done = verified(*works, status=1)
             self.assertIn(what, done.stdout)

@@ -23,10 +23,10 @@ cpu12 21 22 23 24 25 26 27 28 29 30
 intr 41 42 43 44 45 46 47 48 49 50
 """
 OLD = "cpu0 11 12 13 14\ncpu1 11 12 13 14 15 16 17\n"  # of kernels before 2.6.11
-TAKEN = "a hypervisor took 20 % of processor 3's time"
+TAKEN = "a hypervisor took 20.0 % of processor 3's time"
 AGAIN = f"record again when it takes at most {100 * stolen.MOST:.0f} %"
 TOO_HIGH = f"{TAKEN}, so costs and waits may be much too high: {AGAIN}"
-NO_BAND = f"within which values nine of ten recordings are isn't known, because {TAKEN}: {AGAIN}"
+NO_BAND = f"the band isn't known, because {TAKEN}: {AGAIN}"
 LARGE, LITTLE, UNKNOWN = "5000 5200", "5000 5010", ""  # ms before and after, of the second that the recordings below take
 
 
@@ -44,8 +44,9 @@ class Shares(unittest.TestCase):
         self.assertEqual(stolen.shares_in({**head, "seconds": "0"}, {0: 1}), {})
 
     def test_which_are_large(self) -> None:
-        self.assertEqual(stolen.warnings({1: stolen.MOST, 2: 0}), [])
-        self.assertEqual(stolen.told({3: 0.2, 2: 0.0, 1: 0.061}), "a hypervisor took 6 % of processor 1's time and 20 % of processor 3's time")
+        """Those above 1 % when printed: a hundredth of a second of 0.999 s isn't."""
+        self.assertEqual((stolen.told({1: 0.01 / 0.999, 2: 0}), stolen.told({1: 0.0106})), ("", "a hypervisor took 1.1 % of processor 1's time"))
+        self.assertEqual(stolen.told({3: 0.2, 2: 0.0, 1: 0.061}), "a hypervisor took 6.1 % of processor 1's time and 20.0 % of processor 3's time")
 
 
 class Reports(InFolder):

@@ -26,8 +26,8 @@ def shares_in(head: Mapping[str, Any], *counts: Counts) -> dict[int, float]:
 
 def told(shares: Shares) -> str:
     """Says from which processors a hypervisor took so much that it matters; nothing if from none."""
-    large = {each: share for each, share in sorted(shares.items()) if share > MOST}
-    parts = [f"{100 * share:.0f} % of processor {processor}'s time" for processor, share in large.items()]
+    large = {each: share for each, share in sorted(shares.items()) if round(share, 3) > MOST}
+    parts = [f"{100 * share:.1f} % of processor {processor}'s time" for processor, share in large.items()]
     return f"a hypervisor took {' and '.join(parts)}" if parts else ""
 
 
@@ -40,4 +40,4 @@ def warnings(shares: Shares) -> list[str]:
 def without_band(shares: Shares) -> str:
     """Returns why no band is known, or nothing if one is."""
     what = told(shares)
-    return f"within which values nine of ten recordings are isn't known, because {what}: {AGAIN}" if what else ""
+    return f"the band isn't known, because {what}: {AGAIN}" if what else ""
