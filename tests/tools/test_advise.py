@@ -646,7 +646,7 @@ class Advise(InFolder):
         often = 100_000
 
         def verified(*works: tuple[int, int], status: int = 0, words: Sequence[str] = (), stolen: str = "0 0") -> Done:
-            given = [self.write(f"{place}.rec", file_of(quiet(works=each, period=often), **{"stolen.3": stolen})) for place, each in enumerate(works)]
+            given = [self.write(f"{place}.rec", file_of(quiet(works=each, period=often), **{"stolen.3": "0 0" if place else stolen})) for place, each in enumerate(works)]
             state = {"is_changed": False}
 
             def record_again(_: Any, told: Any) -> Recording:

@@ -3,7 +3,7 @@
 from __future__ import annotations
 
 import re
-from collections.abc import Mapping
+from collections.abc import Iterable, Mapping
 from typing import Any
 
 MOST = 0.01  # share of a processor's time above which bands held fewer than nine of ten measured values
@@ -22,6 +22,14 @@ def shares_in(head: Mapping[str, Any], *counts: Counts) -> dict[int, float]:
     found = {each: TIMES.fullmatch(head.get(f"stolen.{each}", "")) for each in sorted(used)}
     whole = 1000 * float(head.get("seconds", 0))
     return {each: (int(times[2]) - int(times[1])) / whole for each, times in found.items() if times and whole > 0}
+
+
+def most_in(recordings: Iterable[Shares]) -> dict[int, float]:
+    """Returns the largest share of each processor."""
+    most: dict[int, float] = {}
+    for shares in recordings:
+        most |= {each: max(share, most.get(each, 0)) for each, share in shares.items()}
+    return most
 
 
 def told(shares: Shares) -> str:

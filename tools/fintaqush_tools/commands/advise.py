@@ -656,8 +656,8 @@ def verified(advice: Advice) -> tuple[list[Compared], float, Verdict]:
     predictions = advice.predictions.on_others(arrivals_in(middle, words)[0], middle.layout.major())
     options = {**advice.best, "processors": len(middle.layout.processors), "layout": 0}
     values = predictions.of(options)
-    shares = stolen.shares_in(middle.head, Counter(middle.seen.on))
-    why_no_band = advice.why_no_band or stolen.without_band(shares)
+    shares = (stolen.shares_in(each.head, Counter(each.seen.on)) for each in (*today, *changed))
+    why_no_band = advice.why_no_band or stolen.without_band(stolen.most_in(shares))
     band = None if why_no_band else predictions.band(name, options, values, predictions.sides_of(options))
     of_goal = [[each[name] for each, _ in some] for some in (before, after)]
     return (
