@@ -16,8 +16,10 @@ from pathlib import Path
 from typing import Any
 
 HERE = Path(__file__).resolve().parent
-sys.path.append(str(HERE.parent))
+sys.path += [str(HERE.parent), str(HERE.parent.parent / "tools")]
 from finding import group_in  # noqa: E402
+
+from fintaqush_tools import observed  # noqa: E402
 
 COMMAND = HERE.parent.parent / "fintaqush"
 PORT = 9000
@@ -104,8 +106,8 @@ def build(folder: Path) -> None:
 
 def stolen() -> int:
     """What a hypervisor took from the two processors so far, in hundredths of a second."""
-    lines = (line.split() for line in Path("/proc/stat").read_text(encoding="ascii").splitlines())
-    return sum(int(fields[8]) for fields in lines if fields[0] in (f"cpu{SENDS}", f"cpu{RECEIVES}"))
+    taken = observed.stolen()
+    return (taken[SENDS] + taken[RECEIVES]) // 10
 
 
 def wait_for_quiet() -> None:

@@ -26,7 +26,7 @@ import timing
 from timing import Made
 from tooltest import HAS_MACHINE, HERE, TOP, Done, InFolder, keys_of, process, run, skip_without
 
-from fintaqush_tools import advice, blame, predicting, verifying
+from fintaqush_tools import advice, blame, predicting, recording, verifying
 from fintaqush_tools.errors import Refusal
 from fintaqush_tools.options import Words
 from fintaqush_tools.receiving import Held, Received, Receiving
@@ -65,10 +65,11 @@ def quiet(reader: int = 5, count: int = 80, works: Sequence[int] = (5, 15), flus
     return made
 
 
-def deferred(works: Sequence[int] = (5, 15), period: int = 400_000) -> str:
+def deferred(works: Sequence[int] = (5, 15), period: int = 400_000, stolen: str = "") -> str:
     """Returns the recording of these bursts with a deferral of 1 x a quarter of the period."""
     flush = period // 4
-    return file_of(quiet(works=works, flush=flush, period=period), **{"device.vb1.napi_defer_hard_irqs": 1, "device.vb1.gro_flush_timeout": flush})
+    head: dict[str, object] = {"device.vb1.napi_defer_hard_irqs": 1, "device.vb1.gro_flush_timeout": flush, "stolen.3": stolen}
+    return file_of(quiet(works=works, flush=flush, period=period), **head)
 
 
 def overloaded(count: int = 40, ring: int = 50) -> Made:
@@ -580,6 +581,19 @@ class Advise(InFolder):
                     told = str(error)
                 self.assertRegex(told, why or "^$")
 
+    def test_waits_that_are_refused_early(self) -> None:
+        """If no program is recorded, so that waits end with the delivery, the first events are enough to refuse a goal that is a wait."""
+        made = Made(**{**COSTS, "wake": 20_000})
+        made.switch(made.time - 9000, timing.POLLER, "swapper/3-0", "cc1-77")
+        for _ in range(2400):
+            made.time = made.softirq_round([1]) + 50_000
+        none: dict[str, object] = {"program": "", "program.pids": "", "instance.1": "device vb1 napi 0 queue 0 kind receive polls 2400 packets 2400 on 3:2400:2400"}
+        with unittest.mock.patch.object(recording, "EARLY", 9000):
+            for goal, pids, is_early in (("p50", "", True), ("p99", "", True), ("cpu", "", False), ("p50", "60", False)):
+                none["program.pids"] = pids
+                done = run("advise", self.write("x.rec", file_of(made, **none)), "--goal", goal)
+                self.assertEqual("passed while another task had the processor (cc1 88 %), so their " in done.stderr, is_early, (goal, done.stderr))
+
     def test_other_tasks_beside_the_program(self) -> None:
         """The program reads on a separate processor: another task has 10 of 42 ms there."""
         made = quiet()
@@ -631,8 +645,8 @@ class Advise(InFolder):
         in turn, today's first. The advice holds if all of its recordings are below all of today's."""
         often = 100_000
 
-        def verified(*works: tuple[int, int], status: int = 0, words: Sequence[str] = ()) -> Done:
-            given = [self.write(f"{place}.rec", file_of(quiet(works=each, period=often))) for place, each in enumerate(works)]
+        def verified(*works: tuple[int, int], status: int = 0, words: Sequence[str] = (), stolen: str = "0 0") -> Done:
+            given = [self.write(f"{place}.rec", file_of(quiet(works=each, period=often), **{"stolen.3": "0 0" if place else stolen})) for place, each in enumerate(works)]
             state = {"is_changed": False}
 
             def record_again(_: Any, told: Any) -> Recording:
@@ -663,6 +677,8 @@ class Advise(InFolder):
         told = json.loads(verified(high, low, high, low, high, low, words=["--json"]).stdout)["verdict"]
         self.assertEqual((told["name"], told["verdict"], [[f"{each:.1f}" for each in told[name]] for name in ("today", "advised")]),
                          ("poll_percent", "better", [["4.3"] * 3, ["3.5"] * 3]))
+        done = verified(high, low, high, low, high, low, stolen="0 200")
+        self.assertRegex(done.stdout, r"\npredicted for these packets: [\d.]+; the band isn't known, because a hypervisor took 20.0 % of processor 3's")
         for works, what in (((high, low, high, high, high, low), "which is within their noise"), ((low, high) * 3, "worse in all recordings")):
             done = verified(*works, status=1)
             self.assertIn(what, done.stdout)

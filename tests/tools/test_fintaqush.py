@@ -92,6 +92,9 @@ class Fintaqush(InFolder):
         done = call("machine", arrivals, "--budget", "16")
         self.assertEqual((done.stdout, done.returncode), (expected.stdout, 0))
         self.assertEqual(self.fails("", "machine", "none", folder=self.folder), "fintaqush machine: none: there is no such file\n")
+        for name, what in ((BURSTS, "a trace, which fintaqush replay reads"), (self.write("x", "1,2\n"), "not arrivals")):
+            said = self.fails(f"{what}; arrivals are made by --arrivals of from-pcap, from-ftrace or traffic\n", "machine", name, status=2)
+            self.assertTrue(said.startswith(f"fintaqush machine: {name}: {what}"), said)
 
     def test_outputs_and_inputs_that_are_none(self) -> None:
         for words in (["--help"], ["plot", "--help"], ["--version"], ["completion", "bash"]):

@@ -161,7 +161,7 @@ class WhatIf(InFolder):
         self.assertEqual(json.loads(out.read_text())["until"], "drops")
 
     def test_a_trace_is_named(self) -> None:
-        self.fails("bursts.csv: a trace, whose runs are given; arrivals are made by --arrivals of", "what-if", TOP / "examples/bursts.csv")
+        self.fails("bursts.csv: a trace, which fintaqush replay reads; arrivals are made by --arrivals of", "what-if", TOP / "examples/bursts.csv")
         self.fails("veth-backlog.rec: not arrivals; arrivals are made by --arrivals of", "what-if", TOP / "examples/veth-backlog.rec")
 
     def test_json_keys_are_identifiers(self) -> None:

@@ -9,7 +9,9 @@ from operator import le
 from typing import Any, Optional
 
 from fintaqush_tools.errors import Refusal
+from fintaqush_tools.texts import shown
 
+TRACE = b"moment,device,event"  # begins a trace
 HEADER = "ns,device,bytes\n"
 HEADER_WITH_FLOWS = "ns,device,bytes,flow\n"
 SECOND = 10**9  # nanoseconds, which the time stamps here are
@@ -41,6 +43,16 @@ class Packets:
         places = range(len(self.times)) if is_sorted else sorted(range(len(self.times)), key=self.times.__getitem__)
         names = list(self.numbers)
         return ((self.times[place], names[self.kinds[place]], self.sizes[place]) for place in places)
+
+
+def check_header(path: str, status: int = 1) -> None:
+    """Fails with this exit status if a file doesn't begin as arrivals do."""
+    with open(path, "rb") as file:
+        begin = file.readline(1000)
+    if begin.startswith(TRACE) or b"device" not in begin:
+        what = "a trace, which fintaqush replay reads" if begin.startswith(TRACE) else "not arrivals"
+        made = "arrivals are made by --arrivals of from-pcap, from-ftrace or traffic"
+        raise Refusal(f"{shown(path)}: {what}; {made}", status)
 
 
 def check_devices(count: int) -> None:

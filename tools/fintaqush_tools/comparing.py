@@ -20,6 +20,7 @@ from fintaqush_tools.recorded import Recording
 from fintaqush_tools.recording import HEAD, opened
 
 from fintaqush_tools.results import objects_in
+from fintaqush_tools.stolen import shares_in
 from fintaqush_tools.tables import cell, heading
 from fintaqush_tools.texts import aligned, shown
 
@@ -170,6 +171,9 @@ def of_recording(path: str, device: str | None) -> Values:
     for name, value in whole.items():
         known = [part[name] for part in parts if name in part]
         values[name] = Value(value, half_width(known) if len(known) == PARTS else None)
+    taken = shares_in(recording.head, Counter(seen.on))
+    if taken:
+        values["stolen_percent"] = Value(100 * max(taken.values()), None)
     return {"": {**values, **costs_in(told)}}
 
 

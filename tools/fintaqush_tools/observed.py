@@ -20,6 +20,9 @@ from fintaqush_tools.texts import shown
 COUNTED = {"processed": 0, "dropped": 1, "squeezed": 2, "rps": 9, "flow_limit": 10}  # columns of /proc/net/softnet_stat
 PROCESSOR = 12  # the column of the processor's number, which kernels before 5.10 don't have
 SECRET = {"netdev_rss_key"}
+STOLEN = re.compile(
+    r"cpu(\d+)(?: \d+){7} (\d+)"
+)  # a processor's line of /proc/stat, with the time that a hypervisor took
 # The shell script that reads a device's settings; the device's name is an argument, never part of the script.
 DEVICE = """cd "/sys/class/net/$1" 2> /dev/null || exit 3
 grep -s "" address mtu tx_queue_len threaded napi_defer_hard_irqs gro_flush_timeout ifindex iflink operstate queues/*/rps_cpus queues/*/rps_flow_cnt \
@@ -223,6 +226,12 @@ def counters(devices: Sequence[str], netns: str | None) -> dict[str, int]:
         values = {key: value for key, value in of_device(device, netns).items() if key.startswith("statistics.")}
         counted |= {f"device.{device}.{key}": int(value) for key, value in values.items()}
     return counted
+
+
+def stolen() -> dict[int, int]:
+    """Returns for each processor how many ms a hypervisor took from it so far, as the kernel knows it."""
+    found = filter(None, map(STOLEN.match, lines_in_proc("stat")))
+    return {int(each[1]): int(each[2]) * 1000 // os.sysconf("SC_CLK_TCK") for each in found}
 
 
 def lacking(netns: str | None) -> list[str]:

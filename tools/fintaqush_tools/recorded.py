@@ -47,7 +47,8 @@ class Recording:
         """Reads the events, also for `times`, which costs are estimated from. Fails if the recording can't be predicted, and early if other tasks make the
         waits that the goal is about."""
         lost: list[str] = []
-        ends_with_delivery = len({cpu for each in self.own_instances() for cpu in each.polls}) > 1
+        are_several = len({cpu for each in self.own_instances() for cpu in each.polls}) > 1
+        ends_with_delivery = are_several or not self.program_pids()
         look = (
             partial(check_waits, self.seen, goal, self.program_pids())
             if goal in ("p50", "p99") and ends_with_delivery

@@ -65,13 +65,14 @@ def record_in_turn(
 @dataclass
 class Verdict:
     """The value that the goal is about, in each recording of today's and of the advised settings in which it could be
-    measured, and as predicted for one of the latter."""
+    measured, and as predicted for one of the latter, with its band or the reason why that isn't known."""
 
     name: str
     today: list[float]
     advised: list[float]
     predicted: float
-    band: Interval
+    band: Interval | None
+    why_no_band: str = ""
 
     def judgement(self) -> str:
         """Returns better or worse if all recordings of one setting are below all of the other; alike if they overlap;
@@ -99,7 +100,6 @@ class Verdict:
         if not self.today or not self.advised:
             return [f"the advice isn't verified: {TOLD[self.name]} wasn't measured"]
         before, after = median(self.today), median(self.advised)
-        low, high = (told_value(self.name, end) for end in self.band)
         change = f"{100 * (after - before) / before:+.0f} %" if before else told_value(self.name, after - before)
         what = {
             "better": "better in all recordings",
@@ -109,9 +109,16 @@ class Verdict:
         }[self.judgement()]
         return [
             f"{TOLD[self.name]}: {self.told(self.today)} today, {self.told(self.advised)} with the advised settings: {change}, {what}",
-            f"predicted for these packets: {told_value(self.name, self.predicted)}, nine times of ten {low} to {high}, "
-            f"which {'holds' if self.band[0] <= after <= self.band[1] else 'does not hold'} the measured median",
+            f"predicted for these packets: {told_value(self.name, self.predicted)}{self.told_band(after)}",
         ]
+
+    def told_band(self, measured: float) -> str:
+        """Returns the band, and whether it holds the measured median; or why it isn't known."""
+        if not self.band:
+            return f"; {self.why_no_band}"
+        low, high = (told_value(self.name, end) for end in self.band)
+        holds = "holds" if self.band[0] <= measured <= self.band[1] else "does not hold"
+        return f", nine times of ten {low} to {high}, which {holds} the measured median"
 
     def object(self) -> dict[str, Any]:
         return {**asdict(self), "verdict": self.judgement()}

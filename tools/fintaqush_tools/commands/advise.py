@@ -10,7 +10,8 @@ goal is a wait and no wait could be measured. If it is poor or unknown, there is
 settings: threaded NAPI, napi_defer_hard_irqs with gro_flush_timeout, interrupt coalescing, sizes of rings and backlogs,
 and the program on an idle processor. Of settings that are equally good it advises the one with the fewest changes. It
 prints the best settings for the goal, the band in which a recording with the first one is nine times of ten, the
-commands that set it, and what isn't modelled.
+commands that set it, and what isn't modelled. If a hypervisor took over 1 % of a processor's time during the recording,
+the band isn't known, and it says so.
 
 Goals: the 99th or 50th percentile of the wait, the kernel's processor time, or drops. A wait lasts from a packet's arrival until the program
 has used it, or until its delivery if the program isn't recorded. Only settings with at most --max-drops drops (as many as now) and with a
@@ -32,7 +33,7 @@ from collections.abc import Iterator, Mapping, Sequence
 from pathlib import Path
 from typing import Any, Optional
 
-from fintaqush_tools import blame, card_costs, drivers, predicting, verifying
+from fintaqush_tools import blame, card_costs, drivers, predicting, stolen, verifying
 from fintaqush_tools.advice import (
     COALESCING,
     MOVED,
@@ -185,6 +186,7 @@ class Advice:
             predictions.ratios = tuple(ratio if abs(ratio - 1) > costs.UNEVEN else 1.0 for ratio in own)
         self.compare(predictions)
         self.doubt = self.doubt_by(predictions)
+        self.why_no_band = stolen.without_band({each["processor"]: each["share"] for each in self.told["stolen"]})
         self.machine = Machine(head, recording.device, recording.seen.processor, recording.seen.tasks.idle())
         self.note_tasks()
         self.note_recording()
@@ -313,6 +315,7 @@ class Advice:
         self.notes += [f"{each}, which isn't modelled" for each in unmodelled_in(recording.head, recording.device)]
         self.notes += drivers.notes_on(recording.head, recording.device)
         self.notes += [UNUSED] if self.words.capture and not recording.is_captured else []
+        self.notes += [] if self.told["stolen"] else [stolen.UNKNOWN]
         if recording.by and not recording.is_captured:
             self.notes.append(
                 f"arrivals are when polls took the packets ({recording.by}), so waits in the card's ring before the interrupt aren't in these values; "
@@ -378,8 +381,10 @@ class Advice:
         else:
             self.changes = []
 
-    def ends(self) -> tuple[Values, Values]:
-        """Returns the lower and the upper ends of the bands of the advised setting."""
+    def ends(self) -> tuple[Values, Values] | None:
+        """Returns the lower and the upper ends of the bands of the advised setting, if they are known."""
+        if self.why_no_band:
+            return None
         bands = {name: self.predictions.band(name, self.best, self.values, self.sides) for name in self.values}
         places = {name: None if isinstance(value, int) else 2 for name, value in self.values.items()}
         lower, upper = ({name: round(band[end], places[name]) for name, band in bands.items()} for end in (0, 1))
@@ -431,7 +436,7 @@ class Advice:
         if is_open and self.choice and self.values["interrupts"] > (1 + ALIKE) * self.choice.tried[0][1]["interrupts"]:
             yield MORE
         name = predicting.name_of(self.words.goal, self.end)
-        if name not in self.values or name not in self.measured:
+        if name not in self.values or name not in self.measured or self.why_no_band:
             return
         low, high = self.predictions.band(name, self.best, self.values, self.sides)
         before, *ends = (told_value(name, each) for each in (self.measured[name], low, high))
@@ -518,7 +523,8 @@ class Advice:
         return f"other tasks used {where} too ({tasks}): the prediction assumes a processor without other tasks, because packets may wait for these"
 
     def advice_lines(self, choice: Choice) -> Iterator[str]:
-        yield f"costs may be {self.doubt.percent} % lower or higher (--band {self.doubt.percent} of what-if)"
+        if not self.why_no_band:
+            yield f"costs may be {self.doubt.percent} % lower or higher (--band {self.doubt.percent} of what-if)"
         count = len(choice.tried)
         yield f"{count} setting{'s' * (count > 1)} on {self.packets} packets, the best for {GOALS[choice.goal]} first:"
         alike: dict[tuple[str, ...], list[Options]] = {}
@@ -533,13 +539,13 @@ class Advice:
             yield f"advice: change nothing, since no setting is notably better for {GOALS[choice.goal]}"
         else:
             yield f"advice: {named(self.best, self.varied, self.machine)}"
-        ends = zip(*(columns_of(values, self.end) for values in self.ends()))
-        rows = [
-            ["now", *columns_of(choice.tried[0][1], self.end)],
-            ["advised", *columns_of(self.values, self.end)],
-            ["nine times of ten", *(low if low == high else f"{low} to {high}" for low, high in ends)],
-        ]
+        rows = [["now", *columns_of(choice.tried[0][1], self.end)], ["advised", *columns_of(self.values, self.end)]]
+        if found := self.ends():
+            ends = zip(*(columns_of(values, self.end) for values in found))
+            rows.append(["nine times of ten", *(low if low == high else f"{low} to {high}" for low, high in ends)])
         yield from table(rows, "")
+        if self.why_no_band:
+            yield self.why_no_band
         if self.changes:
             yield "to set it, as root:"
             yield from (f"  {self.machine.line_of(change)}" for change in self.changes)
@@ -571,7 +577,8 @@ class Advice:
             "goal": self.words.goal,
             "check": objects_in(self.check, self.measured["sent"]),
             "fit": self.grade,
-            "costs_doubt_percent": self.doubt.percent,
+            "costs_doubt_percent": None if self.why_no_band else self.doubt.percent,
+            "stolen": self.told["stolen"],
             "other_tasks": as_rows("task", "share", self.others[seen.processor]),
             "blame": self.blame,
             "other_tasks_of_program": as_rows("task", "share", self.others_apart),
@@ -589,7 +596,7 @@ class Advice:
         tried = [{"options": as_keys(options), "values": values} for options, values in choice.order]
         told: dict[str, Any] = {"now": choice.tried[0][1], "tried": tried}
         if choice.best:
-            low, high = self.ends()
+            low, high = self.ends() or (None, None)
             told["advised"] = {"options": as_keys(self.best), "values": self.values, "low": low, "high": high}
             told["set"] = [self.machine.line_of(change) for change in self.changes]
         return told
@@ -649,12 +656,14 @@ def verified(advice: Advice) -> tuple[list[Compared], float, Verdict]:
     predictions = advice.predictions.on_others(arrivals_in(middle, words)[0], middle.layout.major())
     options = {**advice.best, "processors": len(middle.layout.processors), "layout": 0}
     values = predictions.of(options)
-    band = predictions.band(name, options, values, predictions.sides_of(options))
+    shares = (stolen.shares_in(each.head, Counter(each.seen.on)) for each in (*today, *changed))
+    why_no_band = advice.why_no_band or stolen.without_band(stolen.most_in(shares))
+    band = None if why_no_band else predictions.band(name, options, values, predictions.sides_of(options))
     of_goal = [[each[name] for each, _ in some] for some in (before, after)]
     return (
         advice.compared(measured, values),
         measured["sent"],
-        Verdict(name, of_goal[0], of_goal[1], values[name], band),
+        Verdict(name, of_goal[0], of_goal[1], values[name], band, why_no_band),
     )
 
 

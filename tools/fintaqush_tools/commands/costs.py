@@ -32,6 +32,7 @@ from collections.abc import Iterator, Mapping, Sequence
 from statistics import median
 from typing import Any, Optional
 
+from fintaqush_tools import stolen
 from fintaqush_tools.card_costs import (
     CardTimes,
     is_by_scheduler,
@@ -279,7 +280,16 @@ def estimated(times: Times, head: Head) -> Told:
     use = None if is_apart(times) else costs.get("use")
     more, lines = known_costs(times.card, times, use, timeouts_of(head, times.devices))
     costs |= more
-    return {name: costs[name] for name in ORDER if name in costs}, told + lines
+    return {name: costs[name] for name in ORDER if name in costs}, [
+        *told,
+        *lines,
+        *stolen.warnings(stolen_of(times, head)),
+    ]
+
+
+def stolen_of(times: Times, head: Head) -> dict[int, float]:
+    """Returns the share that a hypervisor took from each processor that polls or reads, if it is known."""
+    return stolen.shares_in(head, times.where, times.reads.on)
 
 
 def options_of(costs: Mapping[str, Cost]) -> str:
@@ -305,7 +315,7 @@ def notes_on(times: Times) -> Iterator[str]:
         yield "time stamps are of microseconds, so a single time is known to one"
 
 
-def object_of(times: Times, costs: Mapping[str, Cost], told: list[str]) -> dict[str, Any]:
+def object_of(times: Times, head: Head, costs: Mapping[str, Cost], told: list[str]) -> dict[str, Any]:
     """Returns all results as an object, for other tools."""
     processor = times.processor()
     return {
@@ -329,6 +339,9 @@ def object_of(times: Times, costs: Mapping[str, Cost], told: list[str]) -> dict[
         "polls_on": as_rows("processor", "polls", times.where),
         "ratios": as_rows("processor", "ratio", ratios_of(times, costs["poll"].value, costs["packet"].value)),
         "tasks": as_rows("task", "share", {name: round(share, 5) for name, share in times.shares(processor).items()}),
+        "stolen": as_rows(
+            "processor", "share", {each: round(share, 5) for each, share in stolen_of(times, head).items()}
+        ),
     }
 
 
@@ -381,13 +394,13 @@ def timeline_for(head: Head, devices: Sequence[str]) -> Times:
 def object_after(times: Times, head: Head) -> dict[str, Any]:
     """Returns the costs of a timeline that has all events, and what is known about them."""
     times.settle()
-    return object_of(times, *estimated(times, head))
+    return object_of(times, head, *estimated(times, head))
 
 
 def object_in(recording: str, devices: Sequence[str]) -> dict[str, Any]:
     """Returns the costs of a recording and what is known about them, of the polls of these devices, or of all."""
     times, head = times_in(Words(recording=recording, device=list(devices), pair=None, irq=None))
-    return object_of(times, *estimated(times, head))
+    return object_of(times, head, *estimated(times, head))
 
 
 def add_options(parser: Parser) -> None:
@@ -421,9 +434,10 @@ def main(given: Sequence[str]) -> int:
         costs, told = estimated(times, head)
     except Refusal as error:
         raise Refusal(f"{shown(words.recording)}: {error}") from None
-    if WEAK in told and (words.words or is_printed(words.json)):
-        say(WEAK)
-    write_json(words.json, "costs", [object_of(times, costs, told)])
+    if words.words or is_printed(words.json):
+        for each in [*[WEAK] * (WEAK in told), *stolen.warnings(stolen_of(times, head))]:
+            say(each)
+    write_json(words.json, "costs", [object_of(times, head, costs, told)])
     if words.words:
         print(options_of(costs))
     elif not is_printed(words.json):

@@ -9,8 +9,10 @@ at once and prints a table; `fintaqush costs` estimates the costs from a recordi
 
 from __future__ import annotations
 
+import os
 from collections.abc import Sequence
 
+from fintaqush_tools.arrivals import check_header
 from fintaqush_tools.errors import Refusal
 from fintaqush_tools.files import check_input, opened
 from fintaqush_tools.machine import OPTIONS, default_of, help_of, identifier, values_of
@@ -18,6 +20,8 @@ from fintaqush_tools.options import Parser, as_options, number, words_of
 from fintaqush_tools.processes import become, program, ran
 from fintaqush_tools.results import add_json, is_printed, value_of, write_json
 from fintaqush_tools.texts import last_line, shown
+
+BAD_ARRIVALS = 2  # the program's exit status for them
 
 
 def add_options(parser: Parser) -> None:
@@ -30,6 +34,8 @@ def add_options(parser: Parser) -> None:
 
 def main(given: Sequence[str]) -> None:
     words = words_of(__doc__, add_options, given)
+    if words.file and os.path.isfile(words.file):
+        check_header(words.file, BAD_ARRIVALS)
     named = {name: getattr(words, name.replace("-", "_")) for name in OPTIONS}
     chosen = {name: value for name, value in named.items() if value is not None}
     options = as_options(chosen)

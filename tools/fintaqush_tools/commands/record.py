@@ -28,7 +28,7 @@ from collections import Counter
 from collections.abc import Callable, Iterator, Mapping, Sequence
 from typing import IO, Any
 
-from fintaqush_tools import observed
+from fintaqush_tools import observed, stolen
 from fintaqush_tools.errors import Refusal, unfinished, unlink
 from fintaqush_tools.files import WholeFile, check_target
 from fintaqush_tools.instances import Instances, described
@@ -198,6 +198,10 @@ class Body:
         file.writelines(each for _, each in sorted(waiting, key=lambda each: each[0]))
 
 
+def stolen_now() -> dict[str, int]:
+    return {f"stolen.{processor}": taken for processor, taken in observed.stolen().items()}
+
+
 Recorded = tuple[dict[str, Any], dict[str, str], Body]
 
 
@@ -207,15 +211,15 @@ def recorded(words: Words, folder: str, sources: Sources, tell: Callable[[str], 
         clock = instance.set_clock()
         instance.set_buffers(words.buffer, words.processors)
         events, missing = instance.enable(sources)
-        before, began, spent = observed.counters(words.device, words.netns), observed.now(), time.process_time()
-        start = time.monotonic()
+        before = {**observed.counters(words.device, words.netns), **stolen_now()}
+        began, spent, start = observed.now(), time.process_time(), time.monotonic()
         instance.begin()
         tell(f"recording for {words.seconds} s")
         with instance.pipe() as pipe:
             is_full = wait(instance, words, lambda: is_drained(pipe, scratch))
             instance.end()
             took, spent = time.monotonic() - start, time.process_time() - spent
-            after = observed.counters(words.device, words.netns)
+            after = {**stolen_now(), **observed.counters(words.device, words.netns)}
             while not is_drained(pipe, scratch):
                 pass
         lost = sum(each for _, each in instance.statistics())
@@ -296,6 +300,9 @@ def told_end(words: Words, head: Mapping[str, Any], body: Body) -> str:
 
 def notes_on(words: Words, head: Mapping[str, Any], body: Body) -> Iterator[str]:
     """Yields what the user should know about the recording."""
+    polled = polled_of(words, body)
+    polls = sum((each.polls for each in body.napi if each.device in polled), Counter[int]())
+    yield from stolen.warnings(stolen.shares_in(head, polls))
     if head["missing"]:
         yield f"this kernel has no event {head['missing']}"
     if not words.sender and any(taken_of(body, name) for name in words.device):
@@ -332,7 +339,7 @@ def record(words: Words, tell: Callable[[str], None]) -> str:
         text = "\n".join(head_of(words, head, {**settings, **counts}, body, pids))
         file.write(text.encode("utf-8", "replace") + b"\n")
         body.put(file)
-    for note in notes_on(words, head, body):
+    for note in notes_on(words, {**head, **counts}, body):
         tell(note)
     return told_end(words, head, body)
 

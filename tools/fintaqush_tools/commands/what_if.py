@@ -47,6 +47,7 @@ from pathlib import Path
 from typing import Any
 
 from fintaqush_tools import breaking, tables
+from fintaqush_tools.arrivals import check_header
 from fintaqush_tools.bands import DOUBT, with_costs
 from fintaqush_tools.combinations import Combinations, Key, Row
 from fintaqush_tools.combinations import add_words, check_words, choices, fault_of, sum_of, told_in
@@ -67,7 +68,7 @@ VARIED = ["load", *OPTIONS]
 KEY = ["arrivals", "sum", *VARIED]
 # Faults of arrivals; a failed read or a failed allocation isn't one.
 FAULT = re.compile(r"arrivals fault (?!10 )\d+ \w+ row \d+$")
-HEADER, TRACE = b"ns,device,bytes", b"moment,device,event"
+HEADER = b"ns,device,bytes"
 MOST_CURVES = len(COLORS)
 SHORT = {"p50": "used_p50", "p99": "used_p99", "p999": "used_p999"}  # names for --fail-if
 # A change of an order: a line, the index pairs of its keys, and what they are ordered by.
@@ -543,12 +544,7 @@ def check_arrivals(words: Words) -> None:
     check_regular(words.arrivals, reason)
     if "\n" in words.arrivals or "\r" in words.arrivals:
         raise Refusal(f"{shown(words.arrivals)}: {reason}")
-    with open(words.arrivals, "rb") as file:
-        begin = file.readline(1000)
-    if begin.startswith(TRACE) or b"device" not in begin:
-        what = "a trace, whose runs are given" if begin.startswith(TRACE) else "not arrivals"
-        made = "arrivals are made by --arrivals of from-pcap, from-ftrace or traffic"
-        raise Refusal(f"{shown(words.arrivals)}: {what}; {made}")
+    check_header(words.arrivals)
     if any(int(each) > 1 for each in words.queues) and not has_flows(words.arrivals):
         how = "ns,device,bytes,flow, as from-pcap, from-ftrace and traffic write it by --flows"
         raise Refusal(f"{shown(words.arrivals)}: there is no column flow, which --queues above 1 needs: {how}")
