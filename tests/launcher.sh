@@ -235,7 +235,8 @@ a crate that is not there % $small/scripts/build.sh nothing % 64 replay: there i
 Ctrl-C ends a build, and all that is at work % small_checkout; PROVES='exec $scratch/slow 400' signalled INT % 130 *|replay: interrupted$kept
 TERM ends one % small_checkout; PROVES='exec $scratch/slow 400' signalled TERM % 143 *|replay: interrupted$kept
 HUP ends one % small_checkout; PROVES='exec $scratch/slow 400' signalled HUP % 143 *|replay: interrupted$kept
-the next call builds what is left % small_checkout; (PROVES='[ \$name != high ] || exec $scratch/slow 400' at=high signalled INT) 2> made; : > rt.log; \
+the next call builds what is left % small_checkout; (PROVES='case \$name in low) comes test -e $small/.git/built/side.rlib.sum ;; \
+high) exec $scratch/slow 400 ;; esac' at=high signalled INT) 2> made; : > rt.log; \
 built; began % 0 high napi_serial
 TERM ends a run % DOES='exec $scratch/slow 400' signalled TERM % 143 replay: interrupted
 and an unproved one % DOES='exec $scratch/slow 400' signalled TERM --unproved % 143 *|replay: interrupted
