@@ -125,12 +125,14 @@ class Bands(unittest.TestCase):
         self.assertEqual(sides[2:], [("packets that cost nothing", {"poll": 4000, "packet": 0}), ("polls that cost nothing", {"poll": 0, "packet": 4000})])
 
     def test_what_the_recorded_setting_was_missed_by(self) -> None:
-        """Times by twice the difference, counts by twice the ratio, few packets by the difference; 3 % at both ends."""
+        """Times by twice the difference, counts by twice the ratio, few packets by the difference; 3 % at both ends, 23 % of the polls' share."""
         doubt = Doubt({}, [("used_p99", 58_000, 15_000, 0), ("polls", 480, 500, 0), ("dropped", 7, 2, 0), ("poll_percent", 6, 5, 0)], {})
         for name, value, moved in (("used_p99", 113_000, 199_000), ("polls", 1000, 920), ("lost", 1, 11), ("runs", 9, 9), ("kernel_percent", 10, 14)):
             self.assertAlmostEqual(doubt.moved(name, value), moved)
         self.assertEqual([round(end, 6) for end in doubt.band("polls", 1000, [990, 1010])], [892.4, 1040.3])
         self.assertEqual(doubt.band("dropped", 0, [0, 0]), (0, 10.3))
+        for name in ("poll_percent", "kernel_percent"):
+            self.assertEqual([round(end, 6) for end in doubt.band(name, 10, [10])], [7.7, 17.22])
 
     def test_a_timer_that_was_not_recorded(self) -> None:
         """A packet that waits for it may be delivered 30 us later, and polls every 60 us may come every 90 us; and 3 % more."""

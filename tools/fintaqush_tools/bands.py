@@ -5,7 +5,8 @@ The doubt of the costs is twice the change of all costs by which the recorded se
 predicted, at least 15 % and at most 50 %. A band holds the predictions with all costs lower and higher by the doubt, or at the ends of a cost's confidence interval if
 that is wider; and the prediction plus twice what was missed at the recorded setting: times and few packets by the
 difference, all else by the ratio. A setting that moves the program has costs up to `MOVED` % higher. Waits have half of NAPI's timeout, or of the card's least time between interrupts, if arrivals are inferred
-from polls that waited for it. Both of its ends are 3 % further, because recordings of one setting differ.
+from polls that waited for it. Both of its ends are 3 % further, because recordings of one setting differ; those of the share of the time that
+polls take `SLEPT` more, because what a poll costs depends on how long its processor slept.
 
 Twice, because what the model lacks may take longer with another setting; tests/tools/test_bands.py counts how many
 recorded values are within.
@@ -29,6 +30,7 @@ LEAST, MOST = 15, 50  # % of the costs; those of three like recordings differed 
 MOVED = 100  # % by which costs were higher with the program on another processor
 TIMES = 2  # how much further than at the recorded setting a prediction may be off
 ALIKE = 0.03  # relative difference between recordings of one setting
+SLEPT = 0.2  # by which deferral changed what a poll costs: 67 of 72 measured shares were in this band, 49 without it
 # If no NAPI timer was recorded: ns that its handler may take longer than an interrupt's, of which 3 to 6 us were
 # measured. Its polls may be late by `LATE`, because waking a processor after a long idle time took 16 to 40 us.
 TIMER = 5_000
@@ -133,4 +135,5 @@ class Doubt:
                 else value
             )
             ends.append(late)
-        return max(0.0, min(ends) * (1 - ALIKE)), max(ends) * (1 + ALIKE)
+        further = ALIKE + SLEPT * (LIKE.get(name, name) == "poll_percent")
+        return max(0.0, min(ends) * (1 - further)), max(ends) * (1 + further)
