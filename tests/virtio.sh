@@ -14,7 +14,7 @@ if build plain; then
     # a wrong order of some nanoseconds is stretched to a millisecond, so that each run shows it
     mistake 'no look behind the unmask' 'nothing lies in the queues' virtio/virtio.c \
         'case FQ_TODO_UNMASK: queue_unmask(side->queue); break;' 'case FQ_TODO_UNMASK: usleep(1000), queue_unmask(side->queue); break;' \
-        'case FQ_TODO_LOOK: todo.packets = queue_back(side->queue); break;' 'case FQ_TODO_LOOK: break;'
+        'case FQ_TODO_LOOK: todo.packets = queue_back(side->queue); break;' 'case FQ_TODO_LOOK: todo.packets = 0; break;'
     mistake 'a mask that comes too late' 'nothing lies in the queues' virtio/virtio.c \
         'case FQ_TODO_UNMASK: queue_unmask(side->queue); break;' 'case FQ_TODO_UNMASK: queue_unmask(side->queue), queue_mask(side->queue); break;'
     mistake 'a completion told twice' 'no answer waits or is in flight' virtio/virtio.c \
