@@ -1,8 +1,9 @@
 /* Times calls of the C library: c_library WHAT TIMES. Counts go to standard output, the time to standard error. limits: the
  * calls of limits.cc, which prints the same; reads are the header's inline functions. turns: schedule, hand, take and
  * complete on a shared instance, by one thread. driver: packets that come one by one, polled by what a driver says; driver64:
- * 64 at a time; step, step64: the same with fq_driver_step, which reports and asks at once. packets: puts, and polls of weight
- * 64; bursts: the same packets, put 64 at once. 1, 8, 32 or 64: packets, put and polled this many at once. beside: looks by two
+ * 64 at a time; step, step64: the same with fq_driver_step, which reports and asks at once; turn, turn64: with fq_driver_turn, which
+ * also reports the interrupt. packets: puts, and polls of weight 64; bursts: the same packets, put 64 at once. 1, 8, 32 or 64: packets, put and polled this many at once; places1 .. places64: the same without copies, in the
+ * program's own array. beside: looks by two
  * threads at once, each by its own caller, whose handles are adjacent; apart: 128 bytes apart. */
 #include <fintaqush.h>
 #include <inttypes.h>
@@ -136,6 +137,23 @@ static bool ring(uint64_t count, size_t burst) {
     return true;
 }
 
+static bool places(uint64_t count, size_t burst) {
+    struct fq_ring in = FQ_NONE, out = FQ_NONE;
+    static struct fq_packet packets[256];
+    uint64_t put = 0, got = 0;
+    size_t first, claimed = 0, peeked = 0;
+    if (fq_ring_places(&in, &out, 256) != FQ_OK) return false;
+    while (got < count) {
+        if (fq_ring_claim(&in, claimed, burst, &first, &claimed) != FQ_OK || claimed != burst) return false;
+        for (size_t i = 0; i < claimed; i++) packets[first + i] = (struct fq_packet){put++, 60};
+        if (fq_ring_peek(&out, peeked, burst, &first, &peeked) != FQ_OK) return false;
+        got += peeked;
+        if (peeked != 0 && packets[first + peeked - 1].number != got - 1) return false;
+    }
+    printf("packets %" PRIu64 "\n", got);
+    return true;
+}
+
 struct card { /* its ring is a pair of counts */
     uint64_t put, taken;
     bool masked;
@@ -148,6 +166,7 @@ static inline void act(struct card *card, struct fq_todo *todo) {
     case FQ_TODO_UNMASK: card->masked = false; break;
     case FQ_TODO_LOOK: todo->packets = card->put != card->taken; break;
     case FQ_TODO_FETCH:
+        card->masked |= todo->mask;
         todo->packets = card->put - card->taken < todo->most ? (uint32_t)(card->put - card->taken) : todo->most;
         card->taken += todo->packets;
         if (todo->packets == todo->most) break;
@@ -197,9 +216,27 @@ static bool step(uint64_t count, uint32_t burst) {
     return true;
 }
 
+/* The same, with one call that also reports the interrupt. */
+static bool turn(uint64_t count, uint32_t burst) {
+    struct fq_driver driver = FQ_NONE;
+    struct fq_todo todo = FQ_TODO_INIT;
+    struct card card = {0, 0, true};
+    uint64_t interrupts = 0;
+    if (!opens(&driver)) return false;
+    while (card.taken < count) {
+        for (; fq_driver_turn(&driver, interrupts, &todo) == FQ_OK && todo.what != FQ_TODO_SLEEP; act(&card, &todo)) interrupts = 0;
+        if (todo.what != FQ_TODO_SLEEP || card.masked || card.taken != card.put) return false;
+        card.put += burst;
+        interrupts = 1;
+    }
+    printf("packets %" PRIu64 "\n", card.taken);
+    return true;
+}
+
 int main(int words, char **word) {
     if (words != 3) return 64;
-    const size_t burst = strtoul(word[1], NULL, 10);
+    const bool in_places = strncmp(word[1], "places", 6) == 0;
+    const size_t burst = strtoul(word[1] + (in_places ? 6 : 0), NULL, 10);
     const bool is_beside = strcmp(word[1], "beside") == 0, is_apart = strcmp(word[1], "apart") == 0;
     const uint64_t times = strtoull(word[2], NULL, 10), start = now(is_beside || is_apart);
     const bool good = strcmp(word[1], "limits") == 0 ? limits(times)
@@ -207,8 +244,10 @@ int main(int words, char **word) {
                       : strcmp(word[1], "driver64") == 0 ? driver(times, 64)
                       : strcmp(word[1], "step") == 0   ? step(times, 1)
                       : strcmp(word[1], "step64") == 0 ? step(times, 64)
-                      : strcmp(word[1], "turns") == 0 ? turns(times)
-                      : burst != 0 && burst <= 64     ? ring(times, burst)
+                      : strcmp(word[1], "turn") == 0   ? turn(times, 1)
+                      : strcmp(word[1], "turn64") == 0 ? turn(times, 64)
+                      : strcmp(word[1], "turns") == 0  ? turns(times)
+                      : burst != 0 && burst <= 64     ? (in_places ? places : ring)(times, burst)
                       : is_beside || is_apart         ? looks(times, is_beside ? 1 : 128 / sizeof(struct fq_caller))
                                                       : packets(times, strcmp(word[1], "bursts") == 0 ? put_at_once : put_one_by_one);
     fprintf(stderr, "%" PRIu64 " ns\n", now(is_beside || is_apart) - start);

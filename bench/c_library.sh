@@ -1,10 +1,10 @@
 #!/bin/sh
 # Times calls of the C library from C: pairs on a queue limit, compared with the plain C++ fold of bench/limits.cc, which is
 # inlined and has to count the same; cycles of a shared instance by one thread (schedule, hand, take, complete), compared with
-# the same cycles by the typed calls (crates/bench_calls); packets that a driver (fq_driver_new) polls, one or 64 at each
-# interrupt, reported and asked for in two calls or in one; and packets, put one by one and in bursts of 64, and polled 64 at a
-# time, and put and polled in bursts of 1, 8, 32 and 64, compared with DPDK's ring in the same loop, if DPDK is installed (Debian:
-# libdpdk-dev). Three rounds of all in turn; the best time of each is printed, with C's ratio to the other. Then nine rounds of looks by two threads at once, with handles that are adjacent or 128 bytes apart: the
+# the same cycles by the typed calls (crates/benches); packets that a driver (fq_driver_new) polls, one or 64 at each
+# interrupt, reported and asked for in two calls or in one, or in one with the interrupt; and packets, put one by one and in bursts of 64, and polled 64 at a
+# time, and put and polled in bursts of 1, 8, 32 and 64, by copies and without them (fq_ring_places), compared with DPDK's ring in the same
+# loop, if DPDK is installed (Debian: libdpdk-dev). Three rounds of all in turn; the best time of each is printed, with C's ratio to the other. Then nine rounds of looks by two threads at once, with handles that are adjacent or 128 bytes apart: the
 # best and the median time of each.
 #
 # usage: bench/c_library.sh [TIMES]     (10000000 by default; of the cycles and looks a tenth)
@@ -23,7 +23,7 @@ work=$(mktemp -d)
 trap 'rm -rf "$work"' EXIT
 
 "$bench/../scripts/c_library.sh" "$work"
-"$bench/../scripts/build.sh" bench_calls
+"$bench/../scripts/build.sh" benches
 gcc -std=c11 -O2 -pthread -I "$bench/../include" "$bench/c_library.c" "$work/libfintaqush.a" -o "$work/c_library"
 g++ -O2 -o "$work/fold" "$bench/limits.cc"
 has_dpdk=
@@ -34,17 +34,17 @@ has_dpdk=
 for _ in 1 2 3; do
     "$work/fold" "$times" > "$work/fold.line" 2> "$work/spent"
     cut -d ' ' -f 1 "$work/spent" >> "$work/fold.times"
-    for what in limits turns driver driver64 step step64 packets bursts 1 8 32 64; do
+    for what in limits turns driver driver64 step step64 turn turn64 packets bursts 1 8 32 64 places1 places8 places32 places64; do
         count=$times
         [ "$what" != turns ] || count=$turns
         "$work/c_library" "$what" "$count" > "$work/$what.line" 2> "$work/spent"
         cut -d ' ' -f 1 "$work/spent" >> "$work/$what.times"
     done
-    for burst in ${has_dpdk:+1 8 32 64}; do
+    for burst in ${has_dpdk:+1 8 32 64 places1 places8 places32 places64}; do
         "$work/dpdk_ring" "$burst" "$times" > "$work/dpdk.line" 2> "$work/spent"
         cut -d ' ' -f 1 "$work/spent" >> "$work/dpdk$burst.times"
     done
-    "$bench/../crates/bench_calls/out/bench_calls" "$turns" > "$work/typed.line" 2> "$work/spent"
+    "$bench/../crates/benches/out/benches" cycles "$turns" > "$work/typed.line" 2> "$work/spent"
     awk '$1 == "typed" { print $2 }' "$work/spent" >> "$work/typed.times"
     if ! cmp -s "$work/limits.line" "$work/fold.line"; then
         echo 'the library counts otherwise than the fold:' >&2
@@ -79,10 +79,15 @@ show 'a packet of a driver' driver "$times"
 show 'a packet of a driver, 64 at once' driver64 "$times"
 show 'the same, one by one, in steps' step "$times"
 show 'the same, 64 at once, in steps' step64 "$times"
+show 'the same, one by one, in turns' turn "$times"
+show 'the same, 64 at once, in turns' turn64 "$times"
 show 'a packet from C, weight 64' packets "$times"
 show 'a packet from C, in bursts' bursts "$times"
 for burst in 1 8 32 64; do
     show "a packet put and polled, $burst at once" "$burst" "$times" ${has_dpdk:+"dpdk$burst" "DPDK's ring"}
+done
+for burst in 1 8 32 64; do
+    show "the same without copies, $burst at once" "places$burst" "$times" ${has_dpdk:+"dpdkplaces$burst" "DPDK's"}
 done
 for what in beside apart; do
     sort -n "$work/$what.times" | awk -v name="a look of two threads, $what" -v times="$turns" 'NR == 1 { best = $1 } NR == 5 {

@@ -1,4 +1,4 @@
-// The calls of crates/bench_rings on Linux's own queue limit: the same line on standard output, the time on standard error.
+// The calls of crates/benches on Linux's own queue limit: the same line on standard output, the time on standard error.
 #include <stdio.h>
 #include <time.h>
 #include <linux/dynamic_queue_limits.h>

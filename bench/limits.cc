@@ -1,5 +1,5 @@
 // A plain fold over the rules of dynamic queue limits, written from the rules (docs/RULES.md) for comparison: the same calls as
-// crates/bench_rings, the same line on standard output, the time on standard error.
+// crates/benches, the same line on standard output, the time on standard error.
 #include <chrono>
 #include <cstdint>
 #include <cstdio>

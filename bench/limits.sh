@@ -1,5 +1,5 @@
 #!/bin/sh
-# Times pairs of `queued` and `completed`: crates/bench_rings, compared with a plain C++ fold over the same rules, built by g++
+# Times pairs of `queued` and `completed`: crates/benches, compared with a plain C++ fold over the same rules, built by g++
 # -O2 and, if it is installed, by clang++ -O3. Each makes the same calls and prints the same counts, which are compared. Three
 # rounds of all programs in turn; the best time of each is printed.
 #
@@ -16,8 +16,14 @@ is_tool g++
 work=$(mktemp -d)
 trap 'rm -rf "$work"' EXIT
 
-"$bench/../scripts/build.sh" bench_rings
-cp "$bench/../crates/bench_rings/out/bench_rings" "$work/dql_core"
+"$bench/../scripts/build.sh" benches
+# of PROGRAM: makes the pairs with it.
+of() {
+    case $1 in
+        dql_core) "$bench/../crates/benches/out/benches" pairs "$pairs" ;;
+        *) "$work/$1" "$pairs" ;;
+    esac
+}
 programs=dql_core
 g++ -O2 -o "$work/gcc" "$bench/limits.cc"
 programs="$programs gcc"
@@ -28,7 +34,7 @@ fi
 
 for _ in 1 2 3; do
     for program in $programs; do
-        "$work/$program" "$pairs" > "$work/$program.line" 2> "$work/spent"
+        of "$program" > "$work/$program.line" 2> "$work/spent"
         cut -d ' ' -f 1 "$work/spent" >> "$work/$program.times"
         if ! cmp -s "$work/$program.line" "$work/dql_core.line"; then
             echo "$program counts otherwise than dql_core:" >&2

@@ -1,5 +1,6 @@
 /* The receiving machine of napi_machine as a plain program, to compare its speed with: the same options, arrivals (without quotes) and
- * report. tests/machine.sh compares it with napi_machine, and with -DCOUNTED it prints on standard error how often some rules apply. */
+ * report. tests/machine.sh compares it with napi_machine, and with -DCOUNTED it prints on standard error how often some rules apply.
+ * tests/machine_laws.cc includes it, and sees its events. */
 #include <algorithm>
 #include <array>
 #include <cstdint>
@@ -14,10 +15,13 @@ static const uint64_t MOST = UINT64_MAX, LATEST = 1ull << 62;
 static const unsigned DEVICES = 64; // of a processor
 
 #ifdef COUNTED
-static unsigned long rests, agains, batches, gaps;
+static unsigned long rests, agains, batches, gaps, earlies, wakings, arms;
 #define COUNT(rule) rule++
 #else
 #define COUNT(rule)
+#endif
+#ifndef SEE
+#define SEE(event)
 #endif
 
 [[noreturn]] static void stop(int status, const char *format, const char *name = "", unsigned long long row = 0) {
@@ -33,7 +37,7 @@ static uint64_t held_product(uint64_t a, uint64_t b) { return b && a > MOST / b 
 enum Option {
     PROCESSORS, QUEUES, RING, SOCKET, BACKLOG, BUDGET, WEIGHT, WINDOW, TIME_LIMIT, RX_NSECS, RX_FRAMES, DEFER_HARD_IRQS,
     GRO_FLUSH_TIMEOUT, THREADED, APART, APP_WAKE, INTERRUPT, POLL, PACKET, USE, WAKE, RX_GAP, LATCHED, GRO_BATCH, TAKE, HEEDLESS, TIMER,
-    TIMER_WAKE, OPTIONS
+    TIMER_WAKE, EARLY, POLL_WAKE, ARM, OPTIONS
 };
 struct Range {
     const char *name;
@@ -45,7 +49,8 @@ static const Range ranges[OPTIONS] = {{"processors", 1, 64}, {"queues", 1, 64}, 
     {"rx-nsecs", 0, LONGEST}, {"rx-frames", 0, 65535}, {"defer-hard-irqs", 0, 65535}, {"gro-flush-timeout", 0, LONGEST},
     {"threaded", 0, 1}, {"apart", 0, 1}, {"app-wake", 0, LONGEST}, {"interrupt", 0, LONGEST}, {"poll", 0, LONGEST},
     {"packet", 0, LONGEST}, {"use", 0, LONGEST}, {"wake", 0, LONGEST}, {"rx-gap", 0, LONGEST}, {"latched", 0, 2},
-    {"gro-batch", 0, 64}, {"take", 0, LONGEST}, {"heedless", 0, 1}, {"timer", 0, LONGEST}, {"timer-wake", 0, LONGEST}};
+    {"gro-batch", 0, 64}, {"take", 0, LONGEST}, {"heedless", 0, 1}, {"timer", 0, LONGEST}, {"timer-wake", 0, LONGEST},
+    {"early", 0, LONGEST}, {"poll-wake", 0, LONGEST}, {"arm", 0, LONGEST}};
 static uint64_t settings[OPTIONS] = {1, 1, 256, 512, 0, 300, 64, 1024, 8000000, 0, 0, 0, 0, 0, 0, 0, 4000, 1000, 1000, 2000, 0};
 
 /* The number that these digits denote, at most 2^64 - 1; with a divisor its remainder, of any number. */
@@ -84,7 +89,8 @@ static void read_options(int count, char **arguments) {
     if (!given[TIMER]) settings[TIMER] = settings[INTERRUPT];
     if (!given[TIMER_WAKE]) settings[TIMER_WAKE] = settings[WAKE];
     const bool is_coalescing = settings[RX_NSECS] || settings[RX_FRAMES];
-    if (settings[TAKE] > settings[PACKET] || (settings[RX_GAP] && is_coalescing)) stop(64, "usage fault 64\n");
+    if (settings[TAKE] > settings[PACKET] || (settings[RX_GAP] && is_coalescing) || (settings[EARLY] && settings[HEEDLESS]))
+        stop(64, "usage fault 64\n");
 }
 
 // ---- what a processor has
@@ -111,7 +117,8 @@ template <typename Number> class Queue {
 
 class Waits {
   public:
-    uint64_t count = 0;
+    uint64_t count = 0, most = 0;
+    unsigned __int128 sum = 0;
     void add(uint64_t wait) {
         count++;
         sum += wait;
@@ -144,8 +151,6 @@ class Waits {
         }
         return 0;
     }
-    unsigned __int128 sum = 0;
-    uint64_t most = 0;
     std::vector<uint64_t> buckets;
 };
 
@@ -154,6 +159,7 @@ struct Device {
     Queue<uint64_t> ring{settings[RING]};
     Queue<uint64_t> taken{settings[BACKLOG] ? settings[RING] : 0}; // what process_backlog moved out of the ring
     bool is_masked = false, is_caused = false, is_scheduled = false, is_missed = false, met_scheduled = false;
+    bool is_early = false; // its poll found the ring empty, and will complete
     bool has_asserted = false;
     uint64_t asserted = 0; // when the card last asked for an interrupt
     uint64_t frames = 0, deferrals = 0;
@@ -227,11 +233,18 @@ class Processor {
         device.arrived++;
         if (device.ring.size() == settings[RING]) {
             device.dropped++;
+            SEE(arrives(this, at, moment, false));
             return;
         }
+        SEE(arrives(this, at, moment, true));
         device.ring.put(moment);
-        if (settings[LATCHED] && (device.is_masked || raised >> at & 1)) device.is_caused = true;
-        else if (!device.is_masked) notify(device, at, moment);
+        if (settings[LATCHED] && (device.is_masked || raised >> at & 1)) {
+            device.is_caused = true;
+            SEE(latches(this, at));
+        } else if (!device.is_masked) {
+            notify(device, at, moment);
+        }
+        if (settings[EARLY] && device.is_early && !device.is_missed) interrupt_early(device);
         disturb(moment);
     }
     void finish() {
@@ -240,14 +253,14 @@ class Processor {
     }
 
   private:
-    enum Kind { NOTHING, AN_INTERRUPT, A_POLL, A_PACKET, A_TAKE, A_HANDOVER, A_USE } under_way = NOTHING;
+    enum Kind { NOTHING, AN_INTERRUPT, A_POLL, A_PACKET, A_TAKE, A_HANDOVER, AN_ARMING, A_USE } under_way = NOTHING;
     static const unsigned THE_APPLICATION = DEVICES; // among the tasks, after the numbers of devices
     uint64_t began = 0, ends = 0; // the work under way
     uint64_t packet = 0; // when the packet arrived that is polled or used
     unsigned busy = 0; // the device whose interrupt or poll is under way
     uint64_t polled = 0; // packets of this poll
     bool is_timer = false; // the interrupt under way is that of a NAPI timer
-    bool sleeps = true; // the application on the processor that receives
+    bool sleeps = true, is_woken = false; // the application on the processor that receives; a delivery woke it, and no use began since
     Queue<uint64_t> batch{settings[GRO_BATCH]}; // packets that GRO holds
     bool is_last = false; // the poll ends when they are handed over
     uint64_t raised = 0, fired = 0; // sets of devices
@@ -272,6 +285,7 @@ class Processor {
     void expire() {
         const uint64_t time = timers.soonest();
         const unsigned timer = timers.take(), at = timer / 2;
+        SEE(expires(this, at, timer & 1, time, under_way == NOTHING));
         if (timer & 1) {
             fired |= 1ull << at;
             devices[at]->met_scheduled = devices[at]->is_scheduled;
@@ -300,6 +314,7 @@ class Processor {
     }
 
     void assert_interrupt(Device &device, unsigned at, uint64_t time) {
+        SEE(asks(this, at, time));
         raised |= 1ull << at;
         device.has_asserted = true;
         device.asserted = time;
@@ -345,15 +360,21 @@ class Processor {
         switch (kind) {
         case A_USE:
             waits.add(clock - packet);
+            SEE(uses(this, packet, clock));
             if (!socket.size()) sleeps = true;
             break;
         case A_POLL: look(); break;
         case A_PACKET: end_packet(); break;
         case A_TAKE: end_take(); break;
         case A_HANDOVER: end_handover(); break;
+        case AN_ARMING: end_poll(*devices[busy]); break;
         case AN_INTERRUPT:
-            if (settings[BUDGET] == 0) end_interrupt_without_polling();
-            else if (settings[LATCHED] == 2 && !is_timer) devices[busy]->is_caused = false;
+            if (settings[BUDGET] == 0) {
+                end_interrupt_without_polling();
+            } else if (settings[LATCHED] == 2 && !is_timer) {
+                devices[busy]->is_caused = false;
+                SEE(reads(this, busy));
+            }
             break;
         case NOTHING: break;
         }
@@ -377,6 +398,7 @@ class Processor {
         const uint64_t bit = 1ull << busy;
         Device &device = *devices[busy];
         is_timer = fired & bit;
+        SEE(interrupts(this, busy, clock, is_timer, device.met_scheduled));
         if (is_timer) {
             fired ^= bit;
             expired++;
@@ -388,11 +410,23 @@ class Processor {
         timers.unset(2 * busy);
         device.interrupts++;
         interrupts++;
-        if (settings[BUDGET] == 0) return start(AN_INTERRUPT, settings[INTERRUPT] + settings[PACKET]);
+        if (settings[BUDGET] == 0) return start(AN_INTERRUPT, settings[INTERRUPT] + with_waking(settings[PACKET]));
         device.is_masked = true;
         if (device.is_scheduled) device.is_missed = true;
         else schedule(device, busy);
         start(AN_INTERRUPT, settings[INTERRUPT]);
+    }
+
+    /* The driver asked for interrupts before the completion: the instance misses this one, and the work under way ends later. */
+    void interrupt_early(Device &device) {
+        COUNT(earlies);
+        SEE(comes_early(this, busy));
+        device.is_missed = true;
+        device.interrupts++;
+        interrupts++;
+        interrupting = held(interrupting, settings[EARLY]);
+        began = held(began, settings[EARLY]);
+        ends = held(ends, settings[EARLY]);
     }
 
     void schedule(Device &device, unsigned at) {
@@ -428,6 +462,7 @@ class Processor {
             }
         }
         is_running = false;
+        SEE(ends_run(run_work));
         while (list.size()) own.put(list.take());
         while (again.size()) own.put(again.take());
         std::swap(own, list);
@@ -459,7 +494,7 @@ class Processor {
     void use() {
         packet = socket.take();
         start(A_USE, settings[USE] + (sleeps ? settings[APP_WAKE] : 0));
-        sleeps = false;
+        sleeps = is_woken = false;
     }
 
     // ---- a poll
@@ -468,6 +503,7 @@ class Processor {
         busy = at;
         polled = 0;
         devices[at]->polls++;
+        SEE(polls(this, clock));
         start(A_POLL, settings[POLL]);
     }
 
@@ -480,6 +516,7 @@ class Processor {
         Device &device = *devices[busy];
         if (polled == settings[WEIGHT] || !device.ring.size()) {
             is_last = true;
+            device.is_early = settings[EARLY] && polled < settings[WEIGHT];
             return hand_over();
         }
         packet = device.ring.take();
@@ -496,8 +533,8 @@ class Processor {
 
     void hand_over() {
         COUNT(batches);
-        if (batch.size()) return start(A_HANDOVER, settings[PACKET] - settings[TAKE]);
-        if (is_last) end_poll(*devices[busy]);
+        if (batch.size()) return start(A_HANDOVER, with_waking(settings[PACKET] - settings[TAKE]));
+        if (is_last) close_poll(*devices[busy]);
         else next_take();
     }
 
@@ -517,9 +554,21 @@ class Processor {
         if (polled == settings[WEIGHT]) return end_poll(device);
         if (settings[BACKLOG] && !device.taken.size()) std::swap(device.taken, device.ring);
         Queue<uint64_t> &from = settings[BACKLOG] ? device.taken : device.ring;
-        if (!from.size()) return end_poll(device);
+        if (!from.size()) {
+            device.is_early = settings[EARLY];
+            return close_poll(device);
+        }
         packet = from.take();
-        start(A_PACKET, settings[PACKET]);
+        start(A_PACKET, with_waking(settings[PACKET]));
+    }
+
+    /* The poll ends. If its completion starts the NAPI timer, that takes some time first. */
+    void close_poll(Device &device) {
+        const uint64_t deferrals = polled ? settings[DEFER_HARD_IRQS] : device.deferrals;
+        const bool is_started = deferrals && settings[GRO_FLUSH_TIMEOUT] && polled < settings[WEIGHT];
+        if (!settings[ARM] || settings[BACKLOG] || !is_started || (settings[HEEDLESS] && device.is_missed)) return end_poll(device);
+        COUNT(arms);
+        start(AN_ARMING, settings[ARM]);
     }
 
     void end_poll(Device &device) {
@@ -548,10 +597,13 @@ class Processor {
         if (polled) device.deferrals = settings[DEFER_HARD_IRQS];
         const bool defers = device.deferrals && settings[GRO_FLUSH_TIMEOUT];
         if (device.deferrals) device.deferrals--;
-        if (!device.is_missed && defers) timers.set(2 * at + 1, held(clock, settings[GRO_FLUSH_TIMEOUT]));
-        device.is_missed = false;
-        if (defers && !settings[HEEDLESS]) return device.is_scheduled;
-        if (!settings[LATCHED] && !settings[HEEDLESS] && device.ring.size()) {
+        const bool stays_masked = (defers && !settings[HEEDLESS]) || (device.is_early && device.is_missed);
+        const bool finds_packets = !stays_masked && !settings[LATCHED] && !settings[HEEDLESS] && device.ring.size();
+        SEE(completes(this, at, polled, !stays_masked && !finds_packets));
+        if (!device.is_missed && defers) defer(at);
+        device.is_missed = device.is_early = false;
+        if (stays_masked) return device.is_scheduled;
+        if (finds_packets) {
             device.is_scheduled = true;
             return true;
         }
@@ -563,9 +615,24 @@ class Processor {
         return device.is_scheduled;
     }
 
+    void defer(unsigned at) {
+        const uint64_t until = held(clock, settings[GRO_FLUSH_TIMEOUT]);
+        timers.set(2 * at + 1, until);
+        SEE(defers(this, at, until, clock));
+    }
+
+    /* Returns how long a packet takes until it is delivered: the first delivery to an application that sleeps also wakes it. */
+    uint64_t with_waking(uint64_t length) const {
+        if (settings[APART] || !sleeps || is_woken) return length;
+        COUNT(wakings);
+        return length + settings[POLL_WAKE];
+    }
+
     void deliver(Device &device, uint64_t arrived) {
+        is_woken = true;
         if (settings[APART]) go_on(clock);
         device.waits.add(clock - arrived);
+        SEE(delivers(this, busy, arrived, clock, socket.size() == settings[SOCKET]));
         if (socket.size() == settings[SOCKET]) {
             refused++;
             return;
@@ -590,7 +657,10 @@ class Processor {
 
     void go_on(uint64_t moment) {
         while (application.is_awake && application.end <= moment) {
-            if (application.has_packet) waits.add(application.end - application.hand);
+            if (application.has_packet) {
+                waits.add(application.end - application.hand);
+                SEE(uses(this, application.hand, application.end));
+            }
             application.has_packet = application.is_awake = socket.size() > 0;
             if (!application.is_awake) return;
             application.hand = socket.take();
@@ -711,7 +781,8 @@ int main(int count, char **arguments) {
     for (Processor &processor : processors) processor.finish();
     report(processors);
 #ifdef COUNTED
-    std::fprintf(stderr, "rests %lu agains %lu batches %lu gaps %lu\n", rests, agains, batches, gaps);
+    std::fprintf(stderr, "rests %lu agains %lu batches %lu gaps %lu earlies %lu wakings %lu arms %lu\n", rests, agains, batches, gaps, earlies,
+        wakings, arms);
 #endif
     return std::fflush(stdout) ? 4 : 0;
 }

@@ -1,5 +1,5 @@
 // Passes packets from one thread to another through a bounded queue with a mutex and two condition variables, for comparison
-// with crates/bench_calls: the same packets, and the same counts on standard output; the time on standard error.
+// with crates/benches: the same packets, and the same counts on standard output; the time on standard error.
 //
 // usage: pair PACKETS
 #include <array>

@@ -1,6 +1,6 @@
 #!/bin/sh
 # Times packets on their way from one thread to another: through a shared instance, with a request for a poll after each packet,
-# and through a bare ring of `rtrb`, which the second thread reads all the time (crates/bench_calls); and through a queue with a
+# and through a bare ring of `rtrb`, which the second thread reads all the time (crates/benches); and through a queue with a
 # mutex in C++ (bench/pair.cc, g++ -O2), where the second thread waits for a condition. All keep to two processors, and have to
 # count the same; nine rounds of all in turn, the best time of each is printed.
 #
@@ -19,11 +19,11 @@ is_tool taskset
 work=$(mktemp -d)
 trap 'rm -rf "$work"' EXIT
 
-"$top/scripts/build.sh" bench_calls
+"$top/scripts/build.sh" benches
 g++ -std=c++17 -O2 -pthread -o "$work/by_hand" "$top/bench/pair.cc"
 
 for _ in 1 2 3 4 5 6 7 8 9; do
-    pinned 2 "$top/crates/bench_calls/out/bench_calls" 0 "$packets" > "$work/counts" 2>> "$work/times"
+    pinned 2 "$top/crates/benches/out/benches" packets "$packets" > "$work/counts" 2>> "$work/times"
     pinned 2 "$work/by_hand" "$packets" >> "$work/counts" 2>> "$work/times"
     if [ "$(cut -d ' ' -f 2- "$work/counts" | uniq | wc -l)" != 1 ]; then
         echo 'the packets are counted otherwise:' >&2

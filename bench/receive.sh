@@ -1,6 +1,6 @@
 #!/bin/sh
 # Times polls of a receive ring for the weights 1, 16 and 64, compared with a plain loop over the `pop` of `rtrb`: the program
-# of crates/bench_rings, nine runs. All four have to count the same packets; the best time of each is printed.
+# of crates/benches, nine runs. All four have to count the same packets; the best time of each is printed.
 #
 # usage: bench/receive.sh [ROUNDS]     (1000 rounds of 4096 packets by default)
 set -eu
@@ -14,10 +14,10 @@ is_count ROUNDS "$rounds"
 work=$(mktemp -d)
 trap 'rm -rf "$work"' EXIT
 
-"$top/scripts/build.sh" bench_rings
+"$top/scripts/build.sh" benches
 
 for _ in 1 2 3 4 5 6 7 8 9; do
-    "$top/crates/bench_rings/out/bench_rings" 0 "$rounds" > "$work/counts" 2>> "$work/times"
+    "$top/crates/benches/out/benches" polls "$rounds" > "$work/counts" 2>> "$work/times"
     if [ "$(cut -d ' ' -f 2- "$work/counts" | uniq | wc -l)" != 1 ]; then
         echo 'the packets are counted otherwise:' >&2
         cat "$work/counts" >&2

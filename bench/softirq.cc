@@ -1,4 +1,4 @@
-// Runs of the softirq over 16 devices, in plain C++ for comparison with crates/bench_polls: the same rounds of the same
+// Runs of the softirq over 16 devices, in plain C++ for comparison with crates/benches: the same rounds of the same
 // packets, and the same counts on standard output; the times on standard error.
 //
 // usage: softirq ROUNDS

@@ -1,6 +1,6 @@
 #!/bin/sh
 # Times runs of the softirq over 16 devices, for 1, 8, 64 and 256 packets in the ring of each: the program of
-# crates/bench_polls, compared with the same runs in plain C++ (bench/softirq.cc, g++ -O2). Only the runs are timed, not the
+# crates/benches, compared with the same runs in plain C++ (bench/softirq.cc, g++ -O2). Only the runs are timed, not the
 # interrupts that fill the rings. Both have to count the same; nine rounds of both in turn, the best time of each is printed.
 #
 # usage: bench/softirq.sh [ROUNDS]     (2000 rounds by default)
@@ -18,11 +18,11 @@ is_tool taskset
 work=$(mktemp -d)
 trap 'rm -rf "$work"' EXIT
 
-"$top/scripts/build.sh" bench_polls
+"$top/scripts/build.sh" benches
 g++ -std=c++17 -O2 -o "$work/by_hand" "$top/bench/softirq.cc"
 
 for _ in 1 2 3 4 5 6 7 8 9; do
-    pinned 1 "$top/crates/bench_polls/out/bench_polls" "$rounds" > "$work/counts" 2>> "$work/times"
+    pinned 1 "$top/crates/benches/out/benches" runs "$rounds" > "$work/counts" 2>> "$work/times"
     pinned 1 "$work/by_hand" "$rounds" > "$work/by_hand.counts" 2>> "$work/by_hand.times"
     if ! cmp -s "$work/counts" "$work/by_hand.counts"; then
         echo 'the runs are counted otherwise:' >&2

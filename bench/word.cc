@@ -1,4 +1,4 @@
-// Turns of an instance by its state word, written by hand for comparison with crates/bench_calls: schedule, hand to the
+// Turns of an instance by its state word, written by hand for comparison with crates/benches: schedule, hand to the
 // list, take, the context out of its slot and back, complete. The same steps on one word, and the same counts on standard
 // output; times and the rest on standard error.
 //

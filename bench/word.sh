@@ -1,5 +1,5 @@
 #!/bin/sh
-# Times cycles of an instance by its state word: the program of crates/bench_calls, compared with the same cycles in plain C++
+# Times cycles of an instance by its state word: the program of crates/benches, compared with the same cycles in plain C++
 # (bench/word.cc, g++ -O2), with every step sequentially consistent, the same with the loops of compare-exchanges that the
 # toolchain makes from each or and and, and with the kernel's memory orders; and with the context itself in the slot or a
 # pointer to it. Once by one thread, once while a second thread schedules all the time. Then the cycles of one thread by the
@@ -22,13 +22,13 @@ is_tool taskset
 work=$(mktemp -d)
 trap 'rm -rf "$work"' EXIT
 
-"$top/scripts/build.sh" bench_calls
+"$top/scripts/build.sh" benches
 g++ -std=c++17 -O2 -pthread -o "$work/by_hand" "$top/bench/word.cc"
 
 programs='napi_word seq_cst-value seq_cst-pointer loops-value kernel-value kernel-pointer'
 run() {
     case $1 in
-        napi_word) pinned 2 "$top/crates/bench_calls/out/bench_calls" "$turns" > "$work/all.counts"
+        napi_word) pinned 2 "$top/crates/benches/out/benches" cycles "$turns" > "$work/all.counts"
             grep -v '^typed\|^busy' "$work/all.counts" ;;
         *) pinned 2 "$work/by_hand" "${1%-*}" "${1#*-}" "$turns" ;;
     esac

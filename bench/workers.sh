@@ -1,6 +1,6 @@
 #!/usr/bin/env bash
 # Runs packets through sixteen devices with 1, 2, 4 and 8 pollers, each in its own thread as are the devices' workers: the
-# program of crates/bench_polls, three runs each, or RUNS. None may be lost or doubled; the best time of each is printed. Then
+# program of crates/benches, three runs each, or RUNS. None may be lost or doubled; the best time of each is printed. Then
 # the processor time of a run in which all threads wait for a worker that its gate delays for a second: at most 50 ms.
 #
 # usage: bench/workers.sh [PACKETS [RUNS]]     (1000000 by default, at most 1048576)
@@ -20,12 +20,12 @@ is_count RUNS "$runs"
 work=$(mktemp -d)
 trap 'rm -rf "$work"' EXIT
 
-"$top/scripts/build.sh" bench_polls
-program=$top/crates/bench_polls/out/bench_polls
+"$top/scripts/build.sh" benches
+program=$top/crates/benches/out/benches
 
-# run OPTION ..: one run, in which each packet has to be counted once.
+# run DEVICES POLLERS PACKETS MILLISECONDS: one run, in which each packet has to be counted once.
 run() {
-    "$program" 0 "$@" > "$work/counts" 2>> "$work/times"
+    "$program" threads "$@" > "$work/counts" 2>> "$work/times"
     if [ "$(cat "$work/counts")" != "packets $3 lost 0 doubled 0" ]; then
         cat "$work/counts" >&2
         exit 1
@@ -34,7 +34,7 @@ run() {
 
 for pollers in 1 2 4 8; do
     : > "$work/times"
-    for _ in $(seq "$runs"); do run 16 "$pollers" "$packets"; done
+    for _ in $(seq "$runs"); do run 16 "$pollers" "$packets" 0; done
     awk -v pollers="$pollers" -v packets="$packets" '!least || $1 < least { least = $1 }
         END { printf "%d pollers: %.0f ms, %.1f ns a packet\n", pollers, least / 1e6, least / packets }' "$work/times"
 done

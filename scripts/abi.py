@@ -27,7 +27,6 @@ MAP_HEAD = """\
 # The calls of the shared library, by the version that brought each, as include/fintaqush.h says. A call never leaves its version: a
 # program that was linked with it asks for it there. scripts/abi.py writes this file.
 """
-WIDEST = 140
 ROW = 16  # calls in a row of the table of docs/C.md
 
 
@@ -50,7 +49,7 @@ def as_json(read: Mapping[str, Any]) -> str:
 
 def cases(names: Iterable[tuple[str, str]]) -> list[str]:
     """Returns the cases of a switch that returns the text of each number."""
-    return filled((f'case {constant}: return "{text}";' for constant, text in names), "    ", WIDEST)
+    return filled((f'case {constant}: return "{text}";' for constant, text in names), "    ", header.WIDEST)
 
 
 def exports_map(read: Mapping[str, Any]) -> str:
@@ -121,6 +120,9 @@ def all_texts(read: dict[str, Any]) -> dict[Path, str]:
 def main() -> int:
     """Writes, checks or prints, as the arguments say."""
     words = sys.argv[1:]
+    if words == ["--help"]:
+        print(__doc__, end="")
+        return 0
     if words not in ([], ["--check"], ["--calls"], ["--statuses"]):
         print("usage: scripts/abi.py [--check | --calls | --statuses]", file=sys.stderr)
         return 64
@@ -130,6 +132,7 @@ def main() -> int:
         return 0
     is_check = bool(words)
     try:
+        header.check_width()
         if shutil.which("clang"):
             read = header.read_header()
         elif not is_check:

@@ -39,7 +39,7 @@ NOT_RUST = {"fq_card", "fq_word"}  # Rust has a trait, and an atomic
 ALL = "Clone, Copy, Debug, Default, PartialEq, Eq"
 DERIVES = {"fq_handle": "Debug", "fq_dql": "Debug, Default", "fq_napi": "Clone, Debug, PartialEq, Eq"}
 # The results after which nothing has changed, so that they are errors in Rust.
-FAILING = ("FQ_NOT_THERE", "FQ_BUSY", "FQ_FULL", "FQ_STOPPED", "FQ_MORE_THAN_SENT", "FQ_NOT_DUE")
+FAILING = ("FQ_NOT_THERE", "FQ_BUSY", "FQ_FULL", "FQ_STOPPED", "FQ_NOT_DUE")
 CODE = re.compile(r"`[^`]*`|(?P<code>\*?\b(?:\w+->)?\w*_\w*(?:\.\.)?|\*\w+|\w+->\w+|\w+\(\w+\))|(?P<sign>[\[\]<>*])")
 WIDEST = 100  # of a declaration, as rustfmt breaks it
 
@@ -180,7 +180,7 @@ def safe_function(item: Item) -> Iterator[str]:
     call = item["name"][len("fq_") :]
     name = f"{call}_" if call in KEYWORDS else call
     yield from ("", *in_lines(f"pub(crate) fn {name}(", [parameter for parameter, _ in own], f"){result} {{", ""))
-    yield "    // SAFETY: each reference and each slice leads to whole objects, to which no other argument leads."
+    yield "    // SAFETY: the references and slices are valid for their whole types, and a mutable one overlaps no other."
     line = f"    unsafe {{ {item['name']}({', '.join(given)}) }}"
     wider = ["    unsafe {", *in_lines(f"        {item['name']}(", given, ")", "        "), "    }"]
     yield from (*([line] if len(line) <= WIDEST else wider), "}")

@@ -1,5 +1,13 @@
 # shellcheck shell=sh
-# For scripts to source: how they end with an error, and checks of their arguments. A wrong one is rejected with a message and status 64.
+# For scripts to source, before they change to another folder: with --help they print their head, which says how they are called. How they end
+# with an error, and checks of their arguments. A wrong one is rejected with a message and status 64.
+
+case ${1-} in
+    -h | --help)
+        awk 'NR > 1 && !/^#/ { exit } NR > 1 { sub(/^# ?/, ""); print }' "$0"
+        exit 0
+        ;;
+esac
 
 # stop STATUS TEXT ..: ends the script with this status and a message.
 stop() {
@@ -13,7 +21,21 @@ refuse() { stop 64 "$@"; }
 
 # at_most COUNT "$@": the script has at most this many arguments.
 at_most() {
-    [ $(($# - 1)) -le "$1" ] || refuse "more than $1 argument(s); see the head of $0"
+    [ $(($# - 1)) -le "$1" ] || refuse "more than $1 argument(s): --help says how it is called"
+}
+
+# operands LEAST MOST "$@": it has so many arguments, none of them is empty, and none is an option.
+operands() {
+    least=$1
+    most=$2
+    shift 2
+    for operand in "$@"; do
+        case $operand in
+            -?*) refuse "there is no option '$(printf '%s' "$operand" | tr -c '[:print:]' '?')': --help says how it is called" ;;
+            '') refuse 'an argument is empty: --help says how it is called' ;;
+        esac
+    done
+    [ $# -ge "$least" ] && [ $# -le "$most" ] || refuse "it has $# arguments: --help says how it is called"
 }
 
 # is_count NAME VALUE: a number of one to nine digits that isn't 0.
@@ -33,4 +55,17 @@ is_program() {
 # is_tool NAME: a command that the script needs.
 is_tool() {
     command -v "$1" > /dev/null || refuse "it needs $1, which isn't on PATH"
+}
+
+# for_target NAME: what follows is built for this target, arm64, or with an empty name for x86-64. Sets `cross`, with which the names of the
+# compiler and its tools begin.
+for_target() {
+    case $1 in
+        '') cross= ;;
+        arm64) cross=aarch64-linux-gnu- ;;
+        *) refuse "there is no target '$(printf '%s' "$1" | tr -c '[:print:]' '?')', only arm64" ;;
+    esac
+    [ -z "$cross" ] || command -v "${cross}gcc" > /dev/null ||
+        stop 69 "there is no ${cross}gcc, which builds for $1 (Debian: gcc-aarch64-linux-gnu)"
+    export FINTAQUSH_TARGET="$1"
 }

@@ -5,7 +5,8 @@ set -uo pipefail
 unset CDPATH
 top=$(dirname "$(dirname "$(readlink -f "${BASH_SOURCE[0]}")")")
 scratch=$(mktemp -d)
-trap 'rm -rf "$scratch"' EXIT
+# A browser's last process may still write there; and the sums stay the last line.
+trap '{ rm -rf "$scratch" || { sleep 5 && rm -rf "$scratch"; }; } 2> /dev/null' EXIT
 passed=0
 failed=0
 skipped=0

@@ -5,8 +5,8 @@ set -euo pipefail
 unset CDPATH
 top=$(dirname "$(dirname "$(readlink -f "${BASH_SOURCE[0]}")")")
 . "$top/scripts/arguments.sh"
-at_most 1 "$@"
-room=${1:?a folder}
+operands 1 1 "$@"
+room=$1
 mkdir -p "$room/home"
 clone=$room/fintaqush
 if [ -e "$top/.git" ]; then git clone -q --shared "$top" "$clone"; else mkdir "$clone" && git -C "$clone" init -q; fi

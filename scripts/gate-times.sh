@@ -1,6 +1,7 @@
 #!/usr/bin/env bash
 # scripts/gate-times.sh [COMMAND ..]: runs the gate, ./test by default, at the top of the repository, and prints for each crate
-# after how many seconds its proof, its tests and its edits were done, and how much processor time each took. Every line of the
+# after how many seconds its proof, its tests and its edits were done, and how much processor time each took; then the wall and
+# processor time of all proofs, tests, edits and scripts of tests/. What a script proves counts as the script's. Every line of the
 # gate is printed with the second at which it came. Lines and table also go to out/gate-times.log, or to the file LOG. Processor
 # time is read from /proc every half second, so a process that ends between two reads lacks its last moments; the sum at the end
 # is complete. The gate doesn't report when the edits of a crate are done: it is when the last one was seen. Exit status: the
@@ -8,12 +9,12 @@
 set -uo pipefail
 unset CDPATH
 top=$(dirname "$(dirname "$(readlink -f "${BASH_SOURCE[0]}")")")
+. "$top/scripts/arguments.sh"
 log=${LOG:-$top/out/gate-times.log}
 [ $# -gt 0 ] || set -- ./test
 
-. "$top/scripts/arguments.sh"
 cd "$top" || exit 73
-command -v "$1" > /dev/null || refuse "there is no command '${1//[^[:print:]]/?}'"
+command -v -- "$1" > /dev/null || refuse "there is no command '${1//[^[:print:]]/?}'"
 if ! { mkdir -p "$(dirname "$log")" && : > "$log"; } 2> /dev/null; then
     echo "gate-times.sh: the log can't be written: $log" >&2
     exit 73
@@ -30,6 +31,8 @@ declare -A count=() # of a crate: how many edits it has
 declare -A kind=()  # of a process, as `PID START`: the `CRATE PART` that it works for
 declare -A spent=() # of such a process: its processor time in ticks, with that of what it began
 declare -A known=() # the crates of `order`
+declare -A from=()  # of a PART, or scripts: when a process was first seen at work for it, in ms
+declare -A upto=()  # when the last one was
 partial=
 child=
 
@@ -63,10 +66,12 @@ stamp() {
     fi
 }
 
-# Prints the crate for which a process of the prover works, by its command line; nothing for other processes.
+# Prints the crate for which a process of the prover works, by its command line, or `- scripts` for a script of tests/; nothing for
+# other processes.
 work_of() {
     local words name='' is_test='' at
     mapfile -d '' -t words < "/proc/$1/cmdline" || return
+    [[ ${words[0]:-} != *bash || ${words[1]:-} != tests/*.sh ]] || echo '- scripts'
     [[ ${words[0]:-} == */rattle ]] || return
     for ((at = 0; at < ${#words[@]}; at++)); do
         case ${words[at]} in
@@ -81,10 +86,11 @@ work_of() {
     esac
 }
 
-# Reads every process below the gate, and counts its ticks for the nearest process of the prover above it.
+# Reads every process below the gate, and counts its ticks for the topmost process above it that works for something. A process that
+# has ended is in the ticks of its parent.
 look() {
     local -A parent=() ticks=() start=() sum=()
-    local file line fields pid up key
+    local file line fields pid up key part
     look_at_clock
     for file in /proc/[0-9]*/stat; do
         { IFS= read -r line < "$file"; } 2> /dev/null || continue
@@ -106,13 +112,18 @@ look() {
         fi
     done
     for pid in "${!parent[@]}"; do
-        up=$pid
-        while [ "${up:-0}" -gt 1 ] && [ -z "${kind["$up ${start[$up]:-}"]:-}" ]; do up=${parent[$up]:-0}; done
-        [ "${up:-0}" -le 1 ] || sum["$up ${start[$up]}"]=$((${sum["$up ${start[$up]}"]:-0} + ticks[$pid]))
+        key=
+        for ((up = pid; up > 1; up = ${parent[$up]:-0})); do
+            [ -z "${kind["$up ${start[$up]:-}"]:-}" ] || key="$up ${start[$up]}"
+        done
+        [ -z "$key" ] || sum[$key]=$((${sum[$key]:-0} + ticks[$pid]))
     done
     for key in "${!sum[@]}"; do
         [ "${sum[$key]}" -le "${spent[$key]:-0}" ] || spent[$key]=${sum[$key]}
         [[ ${kind[$key]} != *' edits' ]] || seen[${kind[$key]}]=$now
+        part=${kind[$key]##* }
+        from[$part]=${from[$part]:-$now}
+        upto[$part]=$now
     done
 }
 
@@ -140,9 +151,11 @@ tenths() { seconds $(($1 * 1000 / hertz)); }
 # Prints the table, with the crates in the order in which they were done.
 table() {
     local key crate part at line all=0
-    local -A sum=()
+    local -A sum=() parts=()
     for key in "${!spent[@]}"; do
+        part=${kind[$key]##* }
         sum[${kind[$key]}]=$((${sum[${kind[$key]}]:-0} + spent[$key]))
+        parts[$part]=$((${parts[$part]:-0} + spent[$key]))
         all=$((all + spent[$key]))
     done
     printf '\n%-20s %27s %27s %27s\n' '' 'proof: stood, processor' 'tests: stood, processor' 'edits: stood, processor'
@@ -155,6 +168,11 @@ table() {
             line+=$(printf ' %17s %7s s' "$at" "$(tenths "${sum["$crate $part"]:-0}")")
         done
         printf '%s\n' "$line"
+    done
+    printf '\n%-20s %17s %17s %17s\n' '' 'wall' 'from' 'processor'
+    for part in proof tests edits scripts; do
+        [ -z "${upto[$part]:-}" ] || printf '%-20s %15s s %15s s %15s s\n' "${part/%proof/proofs}" "$(seconds $((upto[$part] - from[$part])))" \
+            "$(seconds "${from[$part]}")" "$(tenths "${parts[$part]}")"
     done
     look_at_clock
     echo

@@ -9,11 +9,11 @@ scripts/gate.py uncompiled: tries what must not compile, the edits of each crate
 to stop at the error that the edit's line `error: NAME` names, before any proof.
 
 A function is proved from the contracts of others, never from their bodies. So edits of the bodies of several functions are checked at
-once, and each is refused by what the prover says of its own function; `rt must-fail` checks them one by one, which takes a gate half as
-long again. An edit of which nothing is said so, or which changes more than a body, is tried alone; an edit of a constant names a function
-that it breaks by a line `function: NAME`, so that not the whole crate is proved for it. That the same words prove what is as it was is seen
-at other functions, or, where none was checked, at one of these without its edit. The last line is `N passed, M failed`, the status 1 if any
-did.
+once, the other functions are stubs without a proof, and each edit is refused by what the prover says of its own function; `rt must-fail`
+checks them one by one, which takes a gate half as long again. An edit of which nothing is said so, or which changes more than a body, is
+tried alone, without stubs; an edit of a constant names a function that it breaks by a line `function: NAME`, so that not the whole crate is
+proved for it. That the same words prove what is as it was is seen at another function, or at one of these without its edit. The last line
+is `N passed, M failed`, the status 1 if any did.
 """
 
 from __future__ import annotations
@@ -44,14 +44,22 @@ NOT_ONCE = "its old text doesn't stand once in its file"
 OPEN = "is not proved|found no proof"
 GONE = "has no field|is not in scope|has no `|was not admitted"  # of what an edit takes away, and a proof names
 HEAD = re.compile(r"^( *)(?:pub(?:\([a-z]+\))? )?(?:const |unsafe |extern \"C\" )*fn (\w+)", re.M)
+# a function that no constant calls, up to its body
+WHOLE = r"^( *)(?:pub(?:\([a-z]+\))? )?(?:unsafe |extern \"C\" )*fn \w(?:[^\n]* |(?:(?!\bfn |;\n[\n}]).)*?^\1(?:\)[^\n]* )?)\{\n"
+TYPE = re.compile(r"^(?:pub(?:\([a-z]+\))? )?(?:struct|enum) (\w+)", re.M)
+HOLE = """use Rattle.{}.proofs.{}.Statement as stated
+
+pub {}_spec : {{M : Type 1}} → stated.statement M
+{}_spec = ?
+"""
 
 
 def block_of(text: str) -> str:
-    """Returns the prover's name for the `impl` in which this text ends: its type, its trait, and their type arguments, if these aren't
-    parameters."""
+    """Returns the prover's name for the `impl` in which this text ends: its type, its trait unless that is `Drop`, and their type arguments,
+    if these aren't parameters."""
     generics, head = re.findall(r"^(?:impl|(?:pub )?trait)(<[^{]*?>)? (?=\w)([^{]*) \{$", text, re.M)[-1]
     known = [*re.findall(r"(?:<|, )([A-Z]\w*)", generics.replace("'", "")), "for"]
-    trait, _, of = " ".join(head.split()).rpartition(" for ")
+    trait, _, of = " ".join(head.split()).removeprefix("Drop for ").replace("&", "Ref ").rpartition(" for ")
     words = [[it for it in re.findall(r"(?<!')\b[A-Z]\w*", part) if it not in known] for part in (of, trait)]
     return "+".join(words[0]) + "".join(words[1])
 
@@ -62,9 +70,12 @@ class Function:
     def __init__(self, path: str, text: str, at: int) -> None:
         head = [it for it in HEAD.finditer(text) if it.start() < at][-1]
         first = next(re.finditer(r"(?:^ *#\[.*\n)*\Z", text[: head.start()], re.M)).start()  # with its attributes
-        self.in_body = at >= next(re.compile(rf"(?:^{head[1]}| )\{{$", re.M).finditer(text, head.start())).end()
-        self.end = text.index(f"\n{head[1]}}}\n", head.start())
-        self.path, self.first, self.last = path, text.count("\n", 0, first) + 1, text.count("\n", 0, self.end) + 2
+        opened = re.compile(rf"^{head[1]}(?:\S.* )?\{{\n", re.M)  # a clause that ends so is further in
+        self.indent, self.begin = head[1], next(opened.finditer(text, head.start())).end()
+        self.in_body = at >= self.begin
+        self.end = text.index(f"\n{head[1]}}}\n", head.start()) + 1
+        self.path, self.first, self.last = path, text.count("\n", 0, first) + 1, text.count("\n", 0, self.end) + 1
+        self.place = path, self.first
         of = block_of(text[: head.start()]) if head[1] else path.rpartition("/")[2].removesuffix(".rt")
         self.name = head[2] if of in ("lib", "main") else f"{of}::{head[2]}"
 
@@ -74,7 +85,7 @@ class Function:
         own = f"/{self.name.replace('::', '/')}/"
         for line, file, number in re.findall(r"^((?:note: )?(?:\./)?((?:src|proofs)/\S+?):(\d+):\d+: .*)", said, re.M):
             is_inside = file == self.path and self.first <= int(number) <= self.last
-            is_own = is_inside or file.startswith("proofs/") and own in file
+            is_own = is_inside or file.startswith("proofs/") and own in file.replace("/fn/", "/")  # its closures' too
             if is_own and (re.search(OPEN, line) or ": error: " in line and not re.search(GONE, line)):
                 return str(line)
         return None
@@ -118,7 +129,7 @@ class Edit:
         """Returns the function that the edit changes, if it changes nothing else."""
         found = [function_of(path, texts.get(path, ""), old) for path, old, _ in self.pairs]
         functions = [it for it in found if it]
-        if len(functions) < len(found) or len({(it.path, it.first) for it in functions}) > 1:
+        if len(functions) < len(found) or len({it.place for it in functions}) > 1:
             return None
         return min(functions, key=lambda it: it.in_body)
 
@@ -177,7 +188,7 @@ class Round:
 
     def takes(self, edit: Edit, function: Function) -> bool:
         changed = edit.apply(self.texts)
-        if changed is None or any((it.path, it.first) == (function.path, function.first) for _, it in self.edits):
+        if changed is None or any(it.place == function.place for _, it in self.edits):
             return False
         self.texts, self.edits = changed, [*self.edits, (edit, function)]
         return True
@@ -193,24 +204,52 @@ def round_of(edits: Sequence[Edit], texts: Texts) -> tuple[Round, list[Edit]]:
     return together, alone
 
 
-def check(crate: Crate, texts: Texts, names: Sequence[str], over: str = "") -> tuple[str, bool | None]:
-    """Runs the prover on these functions of the crate, or on all, with these texts. What it proves it keeps in the folder `over`, and
-    what is kept there it doesn't prove again. Returns what it says, and whether it proves them, if it says so."""
+def functions_of(texts: Texts) -> list[Function]:
+    """Returns the functions of these files that no constant calls and whose bodies have lines of their own."""
+    sources = [(path, text) for path, text in texts.items() if path.startswith("src/")]
+    return [Function(path, text, it.end()) for path, text in sources for it in re.finditer(WHOLE, text, re.M | re.S)]
+
+
+def stubbed(crate: Crate, texts: Texts, kept: Sequence[Function]) -> Texts:
+    """Returns the crate's texts with stubs of all functions but these: an endless loop for the body, a hole for the proof. A function is
+    proved from the contracts of others, never from their bodies, so the same is said of it. Lines keep their numbers. A function stays as
+    it is if its proof is a file of its own, or if its `impl` has type arguments."""
+    homes = {name: path for path, text in texts.items() if path.startswith("src/") for name in TYPE.findall(text)}
+    made, gone, places = {**texts}, list[str](), {it.place for it in kept}
+    for it in reversed(functions_of(texts)):
+        of, _, name = it.name.rpartition("::")
+        module = homes.get(of, it.path)[4:-3]
+        module = "" if module in ("lib", "main") else module
+        parts = [part for part in (module, of if it.indent else "", name) if part]
+        at, closures = "/".join(parts), "/".join([*parts[: bool(module)], "fn", *parts[bool(module) :]])
+        if it.place in places or "+" in of or f"proofs/{at}/Proof.antt" in texts:
+            continue
+        text, lines = made[it.path], texts[it.path].count("\n", it.begin, it.end)
+        made[it.path] = f"{text[: it.begin]}{it.indent}    loop {{}}" + "\n" * lines + text[it.end :]
+        made[f"proofs/{at}/Proof.antt"] = HOLE.format(crate.name, at.replace("/", "."), name, name)
+        gone += [f"proofs/{at}/Answers.antt", f"proofs/{at}/Invariants.antt", f"proofs/{closures}/"]
+    return {it: text for it, text in made.items() if not it.startswith(tuple(gone))}
+
+
+def check(crate: Crate, texts: Texts, names: Sequence[str], over: str = "", *more: str) -> tuple[str, bool | None]:
+    """Runs the prover, with more options, on these functions of the crate, or on all, with these texts. What it proves it keeps in the
+    folder `over`, and what is kept there it doesn't prove again. Returns what it says, and whether it proves them, if it says so.
+    """
     with tempfile.TemporaryDirectory(prefix="must-fail-") as room:
         for path, text in texts.items():
             os.makedirs(os.path.dirname(f"{room}/{path}"), exist_ok=True)
             with open(f"{room}/{path}", "w", encoding="utf-8") as file:
                 file.write(text)
-        jobs = 1 + len(names) // 30  # so that others don't wait for a round of so many edits in the end
-        words = [*crate.words("check", jobs), *(word for name in names for word in ("--only", name))]
-        words += ["--incremental", over] if over else []
+        words = [*crate.words("check", 1), *(word for name in names for word in ("--only", name))]
+        words += [*(["--incremental", over] if over else []), *more]
         how: dict[str, Any] = {"stdin": subprocess.DEVNULL, "text": True, "errors": "replace", **BOTH}
         ran = subprocess.run(words, cwd=room, preexec_fn=child, check=False, **how)
     if ran.returncode == 2 and names:
         # the prover has some by other names: the edits of these are tried alone, then with all functions
         unknown = re.findall(r"has no function `([^`]+)`", ran.stdout)
-        return check(crate, texts, [it for it in names if it not in unknown] if {*unknown} & {*names} else [], over)
-    judged = re.match(r"logic=(not-)?proved|only=\d+ proved=\d+", ran.stdout.rstrip("\n").rpartition("\n")[2])
+        known = [it for it in names if it not in unknown] if {*unknown} & {*names} else []
+        return check(crate, texts, known, over, *more)
+    judged = re.match(r"logic=(not-)?proved|only=\d+ (proved|holes)=\d+", ran.stdout.rstrip("\n").rpartition("\n")[2])
     return ran.stdout, None if not judged or ran.returncode > 1 else ran.returncode == 0
 
 
@@ -220,21 +259,30 @@ def texts_of(crate: Crate) -> Texts:
 
 
 def try_round(it: Round, crate: Crate, texts: Texts, over: str) -> list[Tried]:
-    """Tries the edits of a round at once, and then alone those of which nothing is said. A function without an edit has to be proved by the
-    same words."""
-    said, proved = check(crate, it.texts, [function.name for _, function in it.edits], over)
+    """Tries the edits of a round at once, over stubs of the other functions, and then alone those of which nothing is said. Another function,
+    the shortest one, has to be proved by the same words, or one of these without its edit."""
+    functions = [function for _, function in it.edits]
+    places = {function.place for function in functions}
+    others = [it for it in functions_of(texts) if it.place not in places] or functions
+    # what calls a stub isn't said to be proved, so the other function is one that calls nothing, if there is one
+    other = min(others, key=lambda it: ("(" in texts[it.path][it.begin : it.end], it.last - it.first))
+    names = [it.name for it in (*functions, other)]
+    said, proved = check(crate, stubbed(crate, it.texts, [*functions, other]), names, "", "--allow-holes")
+    if proved is None:  # the compiler may want other bodies, as in a cycle of calls
+        said, proved = check(crate, it.texts, names, over)
     lines = [(edit, function.refusal(said) if proved is False else None) for edit, function in it.edits]
     told = [(edit.name, True, f"refused: {line}") for edit, line in lines if line]
-    if not re.search(r"^fn \S+: proved$", said, re.M):
-        said, proved = check(crate, texts, [it.edits[0][1].name], over)
-        text = "proved" if proved else f"NOT PROVED by the same words: {said}"
-        told.append(("a function as it is", proved is True, text))
+    if not re.search(r"^fn \S+: (proved\b|no holes$)", said, re.M):
+        said, _ = check(crate, stubbed(crate, texts, functions[:1]), names[:1], "", "--allow-holes")
+        found = re.search(rf"^fn (\S*::)?{re.escape(names[0])}: (no holes|depends on a hole)", said, re.M)
+        text = "proved" if found else f"NOT PROVED by the same words: {said}"
+        told.append(("a function as it is", found is not None, text))
     return told + [(edit.name, *edit.alone(texts, over)) for edit, line in lines if not line]
 
 
 def try_crate(crate: Crate, kept: Kept) -> list[Tried]:
-    """Tries the edits of the crate: a function is checked with those that it calls, and what the round proved of these, the edits that are
-    tried alone take. Returns for each edit a name, whether it passed, and what to print."""
+    """Tries the edits of the crate: a function is checked with those that it calls, and what one of the edits that are tried alone proves of
+    these, the next ones take. Returns for each edit a name, whether it passed, and what to print."""
     texts, folder = texts_of(crate), f"{crate.folder}/must-fail"
     names, why = sorted(os.listdir(folder)), "BAD EDIT: its name doesn't end in .edit"
     tried = [(it, False, why) for it in names if not it.endswith((".edit", ".md"))]
@@ -242,9 +290,8 @@ def try_crate(crate: Crate, kept: Kept) -> list[Tried]:
     tried += [(it.name, True, text) for it, text in told.items() if text]
     together, alone = round_of([it for it, text in told.items() if not text], texts)
     with tempfile.TemporaryDirectory(prefix="must-fail-") as room:
-        over = room if alone else ""
-        tried += try_round(together, crate, texts, over) if together.edits else []
-        tried += [(it.name, *it.alone(texts, over)) for it in alone]
+        tried += try_round(together, crate, texts, room) if together.edits else []
+        tried += [(it.name, *it.alone(texts, room)) for it in alone]
     return [(f"{crate.name}/{name}", well, text) for name, well, text in tried]
 
 

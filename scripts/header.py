@@ -2,7 +2,7 @@
 scripts/abi.json, so that all others read that file and need no clang.
 
 Its groups begin at a comment `/* ---- NAME: TITLE. MORE`. In a group a comment is about the declarations below it, up to the next comment
-or a blank line; a comment at the end of a declaration's line is a note on it. A comment or a note of a call that ends with `Since 2.1.` says
+or a blank line; a comment at the end of a declaration's line is a note on it. A comment or a note of a call that ends with `Since 3.1.` says
 with which version it came.
 """
 
@@ -22,9 +22,11 @@ Item = dict[str, Any]  # a declaration: its kind, name, text and note, and what 
 
 TOP = Path(__file__).resolve().parent.parent
 HEADER = TOP / "include/fintaqush.h"
+CPLUSPLUS = TOP / "include/fintaqush.hpp"
 ABI = TOP / "scripts/abi.json"
-FIRST = "2.0"  # the version of calls that don't say one
+FIRST = "3.0"  # the version of calls that don't say one
 BANNER = "---- "
+WIDEST = 100  # columns of a line of the headers
 # The names of C's whole numbers in the bindings.
 NUMBERS = {"uint8_t": "u8", "uint16_t": "u16", "uint32_t": "u32", "uint64_t": "u64", "int64_t": "i64"}
 # What isn't part of a declaration's text: macros that say no more than its comment, or that differ by compiler, and a script's marks.
@@ -32,7 +34,8 @@ OMITTED = re.compile(
     r"\b(?:FQ_CHECKED(?:_AT\([^)]*\))?|FQ_NONNULL|FQ_RESTRICT|FQ_NUMBER|static inline) |^ */\* scripts/[^\n]*\n", re.M
 )
 COMMENT_OR_MACRO = re.compile(
-    r"/\*(?P<comment>.*?)\*/|^#define (?P<macro>FQ_\w+) [^\n]*?(?= */\*|$)|(?P<blank>\n[ \t]*(?=\n))", re.S | re.M
+    r"/\*(?P<comment>.*?)\*/|^#define (?P<macro>FQ_\w+) (?:\\\n|[^\n])*?(?= */\*|(?<!\\)$)|(?P<blank>\n[ \t]*(?=\n))",
+    re.S | re.M,
 )
 
 
@@ -62,6 +65,14 @@ def exports(read: Mapping[str, Any]) -> list[Item]:
 
 def digest(header: Path = HEADER) -> str:
     return hashlib.sha256(header.read_bytes()).hexdigest()
+
+
+def check_width() -> None:
+    """Fails if a line of the header, or of the one for C++, is too long."""
+    for path in HEADER, CPLUSPLUS:
+        for number, line in enumerate(path.read_text().splitlines(), 1):
+            if len(line) > WIDEST:
+                raise WrongHeader(f"line {number} of {path.name} has over {WIDEST} columns")
 
 
 def read_header(header: Path = HEADER) -> dict[str, Any]:
@@ -187,7 +198,9 @@ def set_versions(block: dict[str, Any]) -> None:
 
 def set_values(header: Path, macros: Sequence[Item]) -> None:
     """Sets the value of each macro that is a number, and None for the others."""
-    numbers = [item for item in macros if not re.match(r'#define \w+ [{"]', item["text"])]
+    numbers = [
+        item for item in macros if not re.match(r'#define \w+ (?:\\\s+)?(?:[{"]|FQ_PRIVATE_VALUE)', item["text"])
+    ]
     values = "".join(f"    value_of_{item['name']} = {item['name']},\n" for item in numbers)
     nodes = tree(f'#include "{header}"\nenum fq_values {{\n{values}}};\n')
     found = [value for _, value, _ in enumerators("", nodes[-1])]
@@ -208,8 +221,8 @@ def declaration(text: str, node: Node) -> Item:
     if node["kind"] == "EnumDecl":
         return {**item, "kind": "enum", "values": enumerators(text, node)}
     bodies = [begin_of(one) for one in inner if one["kind"] == "CompoundStmt"]
-    if bodies:
-        item["text"] = OMITTED.sub("", text[begin_of(node) : bodies[0]].rstrip()) + ";"
+    whole = text[begin_of(node) : bodies[0]].rstrip() if bodies else whole
+    item["text"] = " ".join(OMITTED.sub("", f"{' '.join(whole.split())} ").split()) + ";"
     return {
         **item,
         "kind": "function",

@@ -1,10 +1,11 @@
 #!/usr/bin/env bash
-# scripts/install.sh [--library] [--python] [--libdir=FOLDER] [--uninstall] PREFIX: installs the C library, static and shared,
+# scripts/install.sh [--library] [--python] [--target arm64] [--libdir=FOLDER] [--uninstall] PREFIX: installs the C library, static and shared,
 # with its headers, its pkg-config and CMake files, its manual pages, its guide and its examples, and the command `fintaqush` and
 # the proved programs with theirs, and completions for bash, zsh and fish. What only `fintaqush` runs goes to
 # PREFIX/lib/fintaqush. What isn't built yet is proved and built first. --library leaves the command and the programs out, which
 # take most of the time. --python puts bindings/python where python3 looks below PREFIX, else into lib/python3/dist-packages.
 # With DESTDIR set, all goes below that folder, for PREFIX on any machine, so that --python always takes lib/python3/dist-packages.
+# --target arm64 builds for that processor, by Debian's cross compiler, and is to be copied there or, with DESTDIR, packed.
 # --libdir is where libraries go below PREFIX, such as lib/x86_64-linux-gnu; without it, lib. --uninstall removes what an install
 # put there, and nothing else. --programs only prints the programs' names. Exit status: 0 done; 64 the arguments are wrong; 69 a
 # program is missing; 70 something couldn't be built; 73 it can't be written there.
@@ -20,22 +21,30 @@ is_library=
 is_python=
 is_uninstall=
 libdir=lib
-usage='usage: scripts/install.sh [--library] [--python] [--libdir=FOLDER] [--uninstall] PREFIX'
+target=${FINTAQUSH_TARGET:-}
+usage='usage: scripts/install.sh [--library] [--python] [--target arm64] [--libdir=FOLDER] [--uninstall] PREFIX'
 
-for word in "$@"; do
+while [ $# -gt 0 ]; do
+    word=$1
+    shift
     case $word in
         --programs) printf '%s\n' "${programs[@]}"; exit 0 ;;
         --library) is_library=yes ;;
         --python) is_python=yes ;;
         --uninstall) is_uninstall=yes ;;
+        --target=*) target=${word#--target=} ;;
+        --target) [ $# -gt 0 ] || stop 64 "$usage"
+            target=$1
+            shift ;;
         --libdir=[!/]*) libdir=${word#--libdir=}
             libdir=${libdir%/} ;;
         /*) [ -z "$prefix" ] || stop 64 'one PREFIX only'
             prefix=${word%/} ;;
-        *) stop 64 "$usage, which begins with /" ;;
+        *) stop 64 "$usage, which begins with /; --help says more" ;;
     esac
 done
 [ -n "$prefix" ] || stop 64 "$usage"
+[ -n "$is_uninstall" ] || for_target "$target"
 to=${DESTDIR:-}$prefix
 version=$(sed -n 's/^#define FQ_VERSION "\([0-9.]*\)"$/\1/p' "$top/include/fintaqush.h")
 major=${version%%.*}
@@ -50,7 +59,7 @@ mapfile -t call_pages < <(python3 -EsSB "$top/scripts/manual.py" --names) # a pa
 library_files+=("${call_pages[@]/#/share/man/man3/}")
 home=lib/fintaqush # where what `fintaqush` runs lies, as in a checkout
 tool_pages=(FORMATS.md OPERATORS.md TOOLS.md) # which --help names
-parts=(fintaqush scripts/start.py docs/usage.txt examples/{bursts,busy-poll,two-packets,two-queues,linux-virtio-limits}.csv
+parts=(fintaqush scripts/start.py web/index.html examples/{bursts,busy-poll,two-packets,two-queues,linux-virtio-limits}.csv
     examples/linux-veth-{bursts,small-budget,tcp}.csv examples/{veth-backlog.rec,veth.sh}) # what pages and `fintaqush try` show
 package=tools/fintaqush_tools
 for file in "$top/$package"/{,commands/}*.{py,html,json,txt,bash,zsh}; do
@@ -80,19 +89,30 @@ if [ -n "$is_uninstall" ]; then
     done
     rm -rf "$to/$home/$package"/{commands/,}__pycache__ # Python's, of these files
     rmdir "$to/$libdir/cmake/Fintaqush" "$to/$guide"/{python/examples,python,examples/c,examples/driver,examples,} "$to/$home/$package"/{commands,} \
-        "$to/$home"/{tools,scripts,programs,docs,examples} "$to/$home" 2> /dev/null || true
+        "$to/$home"/{tools,scripts,web,programs,docs,examples} "$to/$home" 2> /dev/null || true
+    # folders that an install made where there were none; those of the system stay, even if they are empty
+    [[ $prefix != /usr && $prefix != /usr/local ]] || exit 0
+    rmdir -- "$to"/lib/python3*/*-packages "$to"/lib/python3* 2> /dev/null || true
+    for folder in "${library_files[@]}" "${command_files[@]}"; do
+        while [[ $folder = */* ]]; do
+            folder=${folder%/*}
+            rmdir -- "$to/$folder" 2> /dev/null || true
+        done
+    done
+    rmdir -- "$to" 2> /dev/null || true
     exit 0
 fi
 
 scratch=$(mktemp -d)
 trap 'rm -rf "$scratch"' EXIT
-cc=${CC:-cc}
+[ -n "$cross" ] && cc=${cross}gcc || cc=${CC:-cc}
 command -v "$cc" > /dev/null || stop 69 "there is no $cc, which makes the shared library"
 [ -n "$is_library" ] && [ -z "$is_python" ] || command -v python3 > /dev/null ||
     stop 69 "there is no python3, which the command and the package are written in"
 "$top/scripts/c_library.sh" "$scratch" || stop 70 "the C library couldn't be built"
 # only the exports, each with the version that it came with; tables that the loader fills are read-only afterwards
-"$cc" -shared -s -Wl,-soname,"libfintaqush.so.$major" -Wl,--version-script="$top/scripts/exports.map" -Wl,-z,relro,-z,now \
+[ -n "$target" ] || hardened=,-z,shstk # as scripts/c_library.sh marks the code
+"$cc" -shared -s -Wl,-soname,"libfintaqush.so.$major" -Wl,--version-script="$top/scripts/exports.map" "-Wl,-z,relro,-z,now${hardened:-}" \
     -Wl,--whole-archive "$scratch/libfintaqush.a" -Wl,--no-whole-archive -o "$scratch/libfintaqush.so.$version" ||
     stop 70 "the shared library couldn't be made"
 [ -n "$is_library" ] || "$top/scripts/build.sh" "${programs[@]}" || stop 70 "the programs couldn't be built"
@@ -206,7 +226,7 @@ if [ -z "$is_library" ]; then
     for name in "${programs[@]}"; do
         page=$scratch/page
         as_installed "$top/docs/man/$name.1" "$prefix/$home/examples" > "$page" 2> /dev/null || echo '.so man1/napi_replay.1' > "$page"
-        put 755 "$top/crates/$name/out/$name" "$home/programs/$name"
+        put 755 "$top/crates/$name/out/${target:+$target/}$name" "$home/programs/$name"
         [ "$name" = napi_machine ] && input=ARRIVALS.csv || input=TRACE.csv
         sed -e "s|@NAME@|$name|g" -e "s|@INPUT@|$input|g" -e "s|@VERSION@|$version|" "$scratch/program" > "$scratch/named"
         put 755 "$scratch/named" "bin/$name"

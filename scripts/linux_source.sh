@@ -9,6 +9,7 @@ unset CDPATH
 top=$(dirname "$(dirname "$(readlink -f "${BASH_SOURCE[0]}")")")
 # shellcheck source=scripts/arguments.sh
 . "$top/scripts/arguments.sh"
+operands 3 999 "$@"
 version=$1
 folder=$2
 shift 2

@@ -1,8 +1,8 @@
 #!/usr/bin/env python3
 """scripts/options.py [--check]: writes what other languages, tools and the manual page have of the options of
 napi_machine, from the table in crates/machine_model/src/settings.rt: tools/fintaqush_tools/options.json, and in other
-files the lines between two comments. With --check it writes nothing, and prints each file that isn't so. Exit status:
-0; 1 a file isn't so; 64 bad usage.
+files the lines between two comments; in docs/OPERATORS.md those on drivers, from tools/fintaqush_tools/drivers.py. With
+--check it writes nothing, and prints each file that isn't so. Exit status: 0; 1 a file isn't so; 64 bad usage.
 """
 
 from __future__ import annotations
@@ -11,10 +11,15 @@ import ast
 import json
 import re
 import sys
+import textwrap
 from collections.abc import Callable, Iterable, Sequence
 from typing import Any
 
+from header import WIDEST
 from parts import NoPart, TOP, filled, marked, put, with_part
+
+sys.path.insert(0, str(TOP / "tools"))
+from fintaqush_tools.drivers import DRIVERS, GAP, HEEDLESS, NONE, TIMER, UNKNOWN  # noqa: E402
 
 Option = dict[str, Any]  # a row of the table
 
@@ -23,6 +28,12 @@ FIELDS = ("name", "least", "most", "default", "unit", "what")
 MEMBERS = {"use": "use_time"}  # options whose name is a keyword of a language
 UNSET = 2**32 - 1  # the default in the table of an option whose default is the value of another one
 OTHERS = {"timer": "interrupt", "timer-wake": "wake"}  # that other one
+COALESCING = {
+    GAP: "`rx-usecs` is the least time between two interrupts",
+    TIMER: "`rx-usecs` delays the interrupt after a packet",
+    UNKNOWN: "the driver's source doesn't show what `rx-usecs` does",
+    NONE: "there is no `rx-usecs`",
+}
 
 
 def table() -> list[Option]:
@@ -62,10 +73,13 @@ def as_json(options: Sequence[Option]) -> str:
 
 
 def header(options: Sequence[Option]) -> Iterable[str]:
+    """Returns the members, each with a comment."""
     wide = max(len(option["member"]) for option in options) + 1
-    return [
-        f"    uint32_t {option['member'] + ';':{wide}} /* {described(option, 'UINT32_MAX: ')} */" for option in options
-    ]
+    for option in options:
+        front = f"    uint32_t {option['member'] + ';':{wide}} /*"
+        room = WIDEST - len(front) - len("  */")
+        lines = textwrap.wrap(described(option, "UINT32_MAX: "), room, break_on_hyphens=False)
+        yield f"{front} {f'{chr(10)}{front.index(chr(47)) * chr(32)} * '.join(lines)} */"
 
 
 def names(options: Sequence[Option]) -> list[str]:
@@ -83,15 +97,30 @@ def escaped(text: str) -> str:
     return text.replace("\\", "\\e").replace("-", "\\-")
 
 
+def of_drivers(_options: Sequence[Option]) -> Iterable[str]:
+    """Returns the rows of a table of drivers, by what they do."""
+    yield from ("| What is known | Drivers |", "|---|---|")
+    for kind, what in COALESCING.items():
+        yield f"| {what} | {', '.join(sorted(name for name, it in DRIVERS.items() if it.coalescing == kind))} |"
+    early = sorted(name for name, it in DRIVERS.items() if it.early)
+    yield f"| the driver asks for interrupts before `napi_complete_done` | {', '.join(early)} |"
+    heedless = sorted((*HEEDLESS, *(name for name, it in DRIVERS.items() if it.heedless)))
+    yield f"| the driver unmasks whatever `napi_complete_done` returns | {', '.join(heedless)} |"
+
+
 # The files with such a part: how its two comments begin and end, and what makes its lines.
 PARTS: dict[str, tuple[str, str, Callable[[Sequence[Option]], Iterable[str]]]] = {
     "include/fintaqush.h": ("    /* ", " */", header),
     "tests/c/machine.c": ("        /* ", " */", names),
     "docs/man/napi_machine.1": ('.\\" ', "", manual),
+    "docs/OPERATORS.md": ("<!-- ", " -->", of_drivers),
 }
 
 
 def main() -> int:
+    if sys.argv[1:] == ["--help"]:
+        print(__doc__, end="")
+        return 0
     if sys.argv[1:] not in ([], ["--check"]):
         print("usage: scripts/options.py [--check]", file=sys.stderr)
         return 64

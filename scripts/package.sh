@@ -1,11 +1,11 @@
 #!/usr/bin/env bash
-# scripts/package.sh FOLDER: makes the Debian packages of what scripts/install.sh installs, for machines without the kit, by
+# scripts/package.sh [--target arm64] FOLDER: makes the Debian packages of what scripts/install.sh installs, for machines without the kit, by
 # dpkg-deb:
-#   libfintaqush2_VERSION_ARCHITECTURE.deb     the shared library
+#   libfintaqush3_VERSION_ARCHITECTURE.deb     the shared library
 #   libfintaqush-dev_VERSION_ARCHITECTURE.deb  headers, static library, files for pkg-config and CMake, manual pages, guide, examples
 #   python3-fintaqush_VERSION_all.deb          the package for Python
 #   fintaqush_VERSION_ARCHITECTURE.deb         the command, the programs and the tools
-# libfintaqush-dev and python3-fintaqush depend on libfintaqush2.
+# libfintaqush-dev and python3-fintaqush depend on libfintaqush3. The folder is made if necessary.
 # DEBFULLNAME and DEBEMAIL name the maintainer; the date is SOURCE_DATE_EPOCH, else that of the last commit. What isn't built yet
 # is proved and built first. Exit status: 0 done; 64 the arguments are wrong; 69 a program is missing; 70 something couldn't be
 # built; 73 it can't be written there.
@@ -15,8 +15,17 @@ umask 022 # what is made is for all users
 top=$(dirname "$(dirname "$(readlink -f "${BASH_SOURCE[0]}")")")
 . "$top/scripts/arguments.sh"
 
-[ "$#" = 1 ] && [ -n "$1" ] || stop 64 'usage: scripts/package.sh FOLDER'
-[ -d "$1" ] && [ -w "$1" ] || stop 73 "$1: no folder that can be written to"
+target=${FINTAQUSH_TARGET:-}
+case ${1:-} in
+    --target=*) target=${1#--target=}
+        shift ;;
+    --target) [ $# -gt 1 ] || refuse '--target needs a name: --help says how it is called'
+        target=$2
+        shift 2 ;;
+esac
+operands 1 1 "$@"
+for_target "$target"
+mkdir -p -- "$1" 2> /dev/null && [ -w "$1" ] || stop 73 "$1: no folder that can be written to"
 folder=$(cd -- "$1" && pwd)
 for program in dpkg-deb strip; do
     command -v "$program" > /dev/null || stop 69 "there is no $program, which the packages are made by"
@@ -25,8 +34,8 @@ scratch=$(mktemp -d)
 trap 'rm -rf "$scratch" "$folder"/.new-$$-*.deb' EXIT
 trap 'exit 130' INT
 trap 'exit 143' TERM
-architecture=$(dpkg --print-architecture)
-libdir=lib/$(dpkg-architecture -a"$architecture" -qDEB_HOST_MULTIARCH 2> /dev/null || cc -print-multiarch 2> /dev/null || echo "$(uname -m)-linux-gnu")
+architecture=${target:-$(dpkg --print-architecture)}
+libdir=lib/$(dpkg-architecture -a"$architecture" -qDEB_HOST_MULTIARCH 2> /dev/null || "${cross}gcc" -print-multiarch 2> /dev/null || echo "$(uname -m)-linux-gnu")
 version=$(sed -n 's/^#define FQ_VERSION "\([0-9.]*\)"$/\1/p' "$top/include/fintaqush.h")
 major=${version%%.*}
 maintainer="${DEBFULLNAME:-Fintaqush} <${DEBEMAIL:-fintaqush@fintaqush.invalid}>"
@@ -36,7 +45,7 @@ stage=$scratch/stage
 DESTDIR=$stage "$top/scripts/install.sh" --python --libdir="$libdir" /usr
 chmod -R u=rwX,go=rX "$stage"
 find "$stage/usr/share/man" -type f -exec gzip -9n {} +
-strip --strip-unneeded --remove-section=.comment "$stage"/usr/lib/fintaqush/programs/* "$stage/usr/$libdir/libfintaqush.so.$version"
+"${cross}strip" --strip-unneeded --remove-section=.comment "$stage"/usr/lib/fintaqush/programs/* "$stage/usr/$libdir/libfintaqush.so.$version"
 
 # move PACKAGE PATH ..: moves these files to a package, to the same paths.
 move() {
@@ -107,7 +116,7 @@ END
 symbols() {
     echo "libfintaqush.so.$major $1 #MINVER#"
     echo '* Build-Depends-Package: libfintaqush-dev'
-    nm -D --defined-only "$2" | LC_ALL=C sort -k 3 | awk '{
+    "${cross}nm" -D --defined-only "$2" | LC_ALL=C sort -k 3 | awk '{
         split($3, part, "@@"); node = part[2] ? part[2] : part[1]; since = node; sub(/.*_/, "", since)
         print " " part[1] "@" node " " since ".0" }'
 }
@@ -151,7 +160,7 @@ END
 package fintaqush "$architecture" net << END
 Depends: libc6 (>= $(glibc_of "$scratch/fintaqush")), python3 (>= 3.9)
 Recommends: ethtool, iproute2, procps
-Suggests: python3-matplotlib, libjs-dygraphs, tcpdump, parallel
+Suggests: tcpdump, parallel
 Description: replay and prediction of what a receiving Linux machine does
  Programs that replay traces of network devices by the rules of NAPI and byte
  queue limits of Linux 6.6, and tools that record a running machine, predict

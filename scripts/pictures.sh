@@ -1,12 +1,15 @@
 #!/usr/bin/env bash
 # scripts/pictures.sh [--check]: draws docs/pictures/*.dot again, as .svg in the same folder, by Graphviz's dot (Debian: apt
-# install graphviz). Each picture contains the checksum of the text that it was drawn from. With --check nothing is drawn, and
-# dot isn't needed: each picture that is missing, older than its text or without a text is printed, and the status is then 1.
+# install graphviz). Each picture contains the checksum of the text that it was drawn from, and the colours of a dark page (dark.css there).
+# With --check nothing is drawn, and dot isn't needed: each picture that is missing, older than its text or without a text is printed, and
+# the status is then 1.
 set -euo pipefail
 unset CDPATH
-cd "$(dirname "$(dirname "$(readlink -f "${BASH_SOURCE[0]}")")")/docs/pictures"
+top=$(dirname "$(dirname "$(readlink -f "${BASH_SOURCE[0]}")")")
+. "$top/scripts/arguments.sh"
+cd "$top/docs/pictures"
 
-mark_of() { echo "<!-- drawn from $1, sha256 $(sha256sum < "$1" | cut -d' ' -f1) -->"; }
+mark_of() { echo "<!-- drawn from $1, sha256 $(cat "$1" dark.css | sha256sum | cut -d" " -f1) -->"; }
 
 check() {
     local stale=0 file
@@ -38,7 +41,12 @@ case "$#${1:-}" in
 esac
 command -v dot > /dev/null || { echo "pictures.sh: there is no dot, which is Graphviz's" >&2; exit 69; }
 for file in *.dot; do
-    dot -Tsvg "$file" > "${file%.dot}.svg.new"
+    dot -Tsvg -Gbgcolor=transparent "$file" | sed "/^<g id=\"graph0\"/{
+        i <style>
+        r dark.css
+        a </style>
+        N
+    }" > "${file%.dot}.svg.new"
     mark_of "$file" >> "${file%.dot}.svg.new"
     mv "${file%.dot}.svg.new" "${file%.dot}.svg"
 done

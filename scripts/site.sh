@@ -9,7 +9,7 @@ unset CDPATH
 top=$(dirname "$(dirname "$(readlink -f "${BASH_SOURCE[0]}")")")
 . "$top/scripts/arguments.sh"
 
-[ "$#" = 1 ] && [ -n "$1" ] || stop 64 'usage: scripts/site.sh FOLDER'
+operands 1 1 "$@"
 command -v pandoc > /dev/null || stop 69 "there is no pandoc, which makes HTML of the pages"
 site=$(realpath -m -- "$1")
 [ ! -e "$site" ] || [ -d "$site" ] || stop 73 "$site is no folder"
@@ -242,7 +242,6 @@ for page in "${kept[@]}"; do
     linked "$page"
 done | sort -u | while IFS= read -r file; do
     install -D -m 644 -- "$file" "$new/$file" || stop 73 "$file can't be copied"
-    case $file in docs/steps/*) relink < "$file" > "$new/$file" ;; esac
 done
 chmod -R u=rwX,go=rX "$new"
 [ ! -d "$site" ] || rmdir -- "$site"

@@ -4,10 +4,10 @@
 # no such facade.
 set -euo pipefail
 unset CDPATH
-cd "$(dirname "$(dirname "$(readlink -f "${BASH_SOURCE[0]}")")")"
-. scripts/arguments.sh
-
-[ $# = 1 ] || refuse 'usage: scripts/surface.sh FACADE'
+top=$(dirname "$(dirname "$(readlink -f "${BASH_SOURCE[0]}")")")
+. "$top/scripts/arguments.sh"
+operands 1 1 "$@"
+cd "$top"
 [[ $1 =~ ^[a-z_0-9]+$ && -f crates/$1/src/lib.rt ]] || refuse "there is no facade '${1//[^[:print:]]/?}'"
 
 exec python3 -EsSB scripts/surface.py "$1"

@@ -48,7 +48,7 @@ undo() {
     for name in "${put[@]}"; do rm -rf "${home:?}/$name"; done
 }
 
-[ $# = 2 ] || refuse 'usage: scripts/take.sh NAME FOLDER'
+operands 2 2 "$@"
 name=$1
 [ -d "$2" ] || refuse "FOLDER is '$2', which is no folder"
 to=$(readlink -f "$2")

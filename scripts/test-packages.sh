@@ -22,6 +22,7 @@ fetch() {
     "$top/tests/kernel.sh" --fetch || stop 70 'the sources of Linux could not be fetched'
     fetch_image
     "$top/tests/cards.sh" --fetch || stop 70 'the packages of tests/cards.sh could not be fetched'
+    "$top/tests/arm64.sh" --fetch || stop 70 'the packages of tests/arm64.sh could not be fetched'
 }
 
 # depends PACKAGE: prints the packages of Debian's kernel on which it depends.

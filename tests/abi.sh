@@ -44,7 +44,13 @@ new_message_is_written() {
 wrong_header_is_refused() {
     copy_of_sources
     sed -i 's|^FQ_NONNULL uint32_t fq_dql_limit(|FQ_NONNULL uint33_t fq_dql_limit(|' "$scratch/copy/include/fintaqush.h"
-    reports uint33_t "$scratch/copy/scripts/abi.py" --check
+    reports uint33_t "$scratch/copy/scripts/abi.py" --check || return
+    copy_of_sources
+    sed -i "s|^#define FQ_VERSION_PATCH .*|& /* $(printf 'x%.0s' {1..80}) */|" "$scratch/copy/include/fintaqush.h"
+    reports 'of fintaqush.h has over 100 columns' "$scratch/copy/scripts/abi.py" --check || return
+    copy_of_sources
+    echo "// $(printf 'x%.0s' {1..98})" >> "$scratch/copy/include/fintaqush.hpp"
+    reports 'of fintaqush.hpp has over 100 columns' "$scratch/copy/scripts/abi.py" --check
 }
 
 # Without clang, a header that was changed since it was read is reported.

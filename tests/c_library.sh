@@ -4,23 +4,10 @@
 # compared, also under sanitizers and valgrind; and what compilers have to reject. What needs clang or valgrind is skipped
 # without it. The last line is `N passed, M failed, K skipped`.
 . "$(dirname "$(readlink -f "$0")")/../scripts/checks.sh"
+. "$top/tests/c/checks.sh"
+library=$scratch/libfintaqush.a
 examples=$top/examples/c
 header=$top/include/fintaqush.h
-
-# compile COMPILER SOURCE PROGRAM FLAG ..: with all warnings as errors.
-compile() {
-    local compiler=$1 source=$2 program=$3 standard=-std=c11
-    shift 3
-    case $source in *.cpp) standard=-std=c++17 ;; esac
-    "$compiler" "$standard" -Wall -Wextra -Wshadow -Werror -pthread -I "$top/include" "$@" "$source" "$scratch/libfintaqush.a" -o "$program"
-}
-
-# compared STDOUT COMMAND ..: it succeeds, and prints exactly this.
-compared() {
-    local wanted=$1
-    shift
-    timeout 1h "$@" > "$scratch/printed" && diff "$scratch/printed" "$wanted"
-}
 
 refused() {
     local why=$1
@@ -107,86 +94,13 @@ compilers=(gcc g++)
 for compiler in clang clang++; do
     ! has "$compiler" "the examples by $compiler" || compilers+=("$compiler")
 done
-for compiler in "${compilers[@]}"; do
-    case $compiler in *++) language=cpp ;; *) language=c ;; esac
-    for source in "$examples"/*."$language"; do
-        name=$(basename "$source" ".$language")
-        check "$compiler compiles $name.$language" compile "$compiler" "$source" "$scratch/$compiler-$name" -O2
-        check "$compiler: $name.$language" compared "$examples/$name.stdout" "$scratch/$compiler-$name"
-    done
-done
+for compiler in "${compilers[@]}"; do try_examples "$compiler"; done
 
-wraps=-Wl,--wrap=malloc,--wrap=realloc,--wrap=free
-kinds=(limit instance ring transmit shared list any)
-# answered CALLS SEED KIND PROGRAM ..: this many random calls of a kind
-answered() {
-    local calls=$1 seed=$2 kind=$3
-    shift 3
-    echo "$calls calls of $kind, each answered as it has to be" > "$scratch/answered"
-    compared "$scratch/answered" "$@" "$kind" "$calls" "$seed"
-}
-check 'random calls compile' compile gcc "$top/tests/c/random.c" "$scratch/random" -O2 "$wraps"
-for kind in "${kinds[@]}"; do
-    check "random calls: $kind" answered 1000000 1 "$kind" "$scratch/random"
-    check "random calls: $kind, another seed" answered 1000000 "${1:-4711}" "$kind" "$scratch/random"
-done
+# ---- the tests of tests/c
 
-echo 'it tells of itself what the header says' > "$scratch/told"
-check 'told.c compiles' compile gcc "$top/tests/c/told.c" "$scratch/tells" -O2
-check 'what the library tells of itself' compared "$scratch/told" "$scratch/tells"
-
-echo '21 corners, each answered as it has to be' > "$scratch/cornered"
-check 'corners.c compiles' compile gcc "$top/tests/c/corners.c" "$scratch/corners" -O2 "$wraps"
-check 'answers at corners' compared "$scratch/cornered" "$scratch/corners"
-
-echo '18 calls, each of its own size only' > "$scratch/sized"
-check 'sizes.c compiles' compile gcc "$top/tests/c/sizes.c" "$scratch/sizes" -O2
-check 'structs of other sizes are rejected' compared "$scratch/sized" "$scratch/sizes"
-
-check 'bursts in C++ compile' compile g++ "$top/tests/c/bursts.cpp" "$scratch/bursts" -O2
-check 'bursts in C++' "$scratch/bursts"
-
-# ---- a model card
-
-points=-Wl$(printf ',--wrap=fq_caller_%s' schedule schedule_prep hand hand_again take requeue complete complete_done end)
-echo 'the card hangs without a look, by a late mask and by an enable without a request, and never else' > "$scratch/hung"
-check 'the model card compiles' compile gcc "$top/tests/c/card.c" "$scratch/card" -O2 "$points"
-check 'the model card' compared "$scratch/hung" "$scratch/card"
-
-# ---- attempts that another thread makes fail
-
-echo 'attempts fail, and each call repeats them' > "$scratch/repeated"
-check 'repeats.c compiles' compile gcc "$top/tests/c/repeats.c" "$scratch/repeats" -O2
-check 'attempts that fail are repeated' compared "$scratch/repeated" "$scratch/repeats"
-
-# ---- a driver
-
-echo 'a driver never sleeps with work left' > "$scratch/drove"
-check 'driver.c compiles' compile gcc "$top/tests/c/driver.c" "$scratch/drives" -O2
-check 'random calls of drivers' compared "$scratch/drove" "$scratch/drives"
-check 'random calls of drivers, another seed' compared "$scratch/drove" "$scratch/drives" "${1:-4711}"
-
-# ---- a driver, in random orders of calls
-
-echo 'no order hangs, and each mistake does' > "$scratch/ordered"
-check 'orders.c compiles' compile gcc "$top/tests/c/orders.c" "$scratch/orders" -O2
-check 'a driver in random orders' compared "$scratch/ordered" "$scratch/orders" 100000 1
-check 'a driver in random orders, another seed' compared "$scratch/ordered" "$scratch/orders" 100000 "${1:-4711}"
-
-# ---- each allocation fails in turn
-
-echo 'the types answer as they have to' > "$scratch/typed"
-check 'types.cpp compiles' compile g++ "$top/tests/c/types.cpp" "$scratch/types" -O2 "$wraps"
-check 'the types of C++' compared "$scratch/typed" "$scratch/types"
-echo 'each allocation was refused, and told' > "$scratch/refused_all"
-check 'refuse.c compiles' compile gcc "$top/tests/c/refuse.c" "$scratch/refuse" -O2 "$wraps"
-check 'each allocation refused in turn' compared "$scratch/refused_all" "$scratch/refuse"
-
-# ---- what each call that allocates has made, freed in each state
-
-ends_each_box() { timeout 1h "$@" > "$scratch/printed" && grep -qx '[0-9]* cases, and nothing is left' "$scratch/printed"; }
-check 'boxes.c compiles' compile gcc "$top/tests/c/boxes.c" "$scratch/boxes" -O2 "$wraps"
-check 'no box is forgotten' ends_each_box "$scratch/boxes"
+try_each
+try_random 1000000 1
+try_random 1000000 "${1:-4711}"
 
 # The fold of bench/limits.cc was written from the rules, apart from the library.
 as_the_fold() {
@@ -319,7 +233,7 @@ refuses_machine_settings() {
         done
     done < <(python3 -c 'import sys; sys.path.insert(0, sys.argv[1]); from fintaqush_tools import machine
 for name, (least, most, _) in machine.OPTIONS.items(): print(name, least, most)' "$top/tools")
-    [ "$number" = 28 ]
+    [ "$number" = 31 ]
 }
 
 { echo 'ns,device,bytes' && awk 'BEGIN { for (i = 0; i < 20000; i++) print i * 900, i % 7 + 1, i % 1400 + 60 }' OFS=, ; } > "$scratch/arrivals.csv"
@@ -370,24 +284,33 @@ export ASAN_OPTIONS=detect_leaks=1
 mapfile -t threaded < <(grep -lE 'pthread_create|std::thread' "$examples"/*.c "$examples"/*.cpp)
 sanitized_examples 'addresses, leaks and undefined behaviour' -fsanitize=address,undefined "$examples"/*.c "$examples"/*.cpp
 sanitized_examples threads -fsanitize=thread "${threaded[@]}" # the others have one thread, and no race
-sanitize random.c "$scratch/sanitized" "$wraps"
+# two_threads PROGRAM: two threads in one driver are reported, at its handle, and with a lock they aren't.
+two_threads() {
+    "$1" locked && ! "$1" > "$scratch/raced" 2>&1 && grep -q 'WARNING: ThreadSanitizer: data race' "$scratch/raced" && grep -q fq_private_used "$scratch/raced"
+}
+for compiler in gcc clang; do
+    [[ " ${compilers[*]} " == *" $compiler "* ]] || continue
+    check "$compiler: two_threads.c compiles" compile "$compiler" "$top/tests/c/two_threads.c" "$scratch/two_threads" -O1 -g -fsanitize=thread
+    check "$compiler: two threads in one driver are reported" two_threads "$scratch/two_threads"
+done
+sanitize random.c "$scratch/sanitized" "$heap"
 for kind in "${kinds[@]}"; do
     check "sanitized: random calls: $kind" answered 1000000 1 "$kind" "$scratch/sanitized"
 done
-sanitize refuse.c "$scratch/sanitized" "$wraps"
-check 'sanitized: each allocation refused in turn' compared "$scratch/refused_all" "$scratch/sanitized"
-sanitize boxes.c "$scratch/sanitized" "$wraps"
+sanitize refuse.c "$scratch/sanitized" "$heap"
+check 'sanitized: each allocation refused in turn' compared "$scratch/refuse.line" "$scratch/sanitized"
+sanitize boxes.c "$scratch/sanitized" "$heap"
 check 'sanitized: no box is forgotten' ends_each_box "$scratch/sanitized"
 sanitize driver.c "$scratch/sanitized"
-check 'sanitized: random calls of drivers' compared "$scratch/drove" "$scratch/sanitized"
-sanitize corners.c "$scratch/sanitized" "$wraps"
-check 'sanitized: answers at corners' compared "$scratch/cornered" "$scratch/sanitized"
+check 'sanitized: random calls of drivers' compared "$scratch/driver.line" "$scratch/sanitized"
+sanitize corners.c "$scratch/sanitized" "$heap"
+check 'sanitized: answers at corners' compared "$scratch/corners.line" "$scratch/sanitized"
 sanitize sizes.c "$scratch/sanitized"
-check 'sanitized: structs of other sizes are rejected' compared "$scratch/sized" "$scratch/sanitized"
-sanitize types.cpp "$scratch/sanitized" "$wraps"
-check 'sanitized: the types of C++' compared "$scratch/typed" "$scratch/sanitized"
+check 'sanitized: structs of other sizes are rejected' compared "$scratch/sizes.line" "$scratch/sanitized"
+sanitize types.cpp "$scratch/sanitized" "$heap"
+check 'sanitized: the types of C++' compared "$scratch/types.line" "$scratch/sanitized"
 sanitize orders.c "$scratch/sanitized"
-check 'sanitized: a driver in random orders' compared "$scratch/ordered" "$scratch/sanitized" 10000 1
+check 'sanitized: a driver in random orders' compared "$scratch/orders.line" "$scratch/sanitized" 10000 1
 sanitize machine.c "$scratch/machine"
 check 'sanitized: the machine' as_napi_machine "$scratch/arrivals.csv"
 check 'sanitized: the machine on a fault' as_napi_machine "$scratch/falls.csv"
@@ -467,21 +390,53 @@ cat > "$scratch/forgets.c" << 'END'
 int main(void) {
     struct fq_driver driver = FQ_NONE;
     struct fq_todo todo = {0};
-    if (fq_is_error(fq_driver_step(&driver, &todo))) return 1;
+    if (fq_is_error(fq_driver_turn(&driver, 0, &todo))) return 1;
     switch (todo.what) {
     case FQ_TODO_MASK: case FQ_TODO_UNMASK: case FQ_TODO_FETCH: case FQ_TODO_TIMER: case FQ_TODO_ENDED: case FQ_TODO_SLEEP: case FQ_TODO_FAILED: break;
     }
 }
 END
-cat > "$scratch/steps.c" << 'END'
+cat > "$scratch/turns.c" << 'END'
 #include <fintaqush.h>
 int main(void) {
     struct fq_driver driver = FQ_NONE;
     struct fq_todo todo = FQ_TODO_INIT;
-    while (fq_driver_step(&driver, &todo), todo.what != FQ_TODO_SLEEP) {}
+    while (fq_driver_turn(&driver, 0, &todo), todo.what != FQ_TODO_SLEEP) {}
 }
 END
+sed 's/turn(&driver, 0, /step(\&driver, /' "$scratch/turns.c" > "$scratch/steps.c"
+cat > "$scratch/begins.c" << 'END'
+#include <fintaqush.h>
+static struct fq_todo kept;
+int main(void) {
+    struct fq_todo todo = FQ_TODO_INIT, all[2] = {FQ_TODO_INIT, FQ_TODO_INIT};
+    todo = FQ_TODO_INIT;
+    kept = todo;
+    return todo.what == FQ_TODO_SLEEP && sizeof todo == 40 && all[1].number == 0 ? 0 : 1;
+}
+END
+cp "$scratch/begins.c" "$scratch/begins.cpp"
+# begins SOURCE: a todo begins with FQ_TODO_INIT, by each compiler, without a warning.
+begins() {
+    local compiler
+    for compiler in "${compilers[@]}"; do
+        case $1,$compiler in *.c,*++ | *.cpp,gcc | *.cpp,clang) continue ;; esac
+        compile "$compiler" "$1" "$scratch/begins" -Wpedantic && "$scratch/begins" || { echo "$compiler"; return 1; }
+    done
+}
+check 'a todo begins with its macro' begins "$scratch/begins.c"
+check 'and in C++' begins "$scratch/begins.cpp"
+check 'enums of one byte are refused' refused fq_private_enums_have_4_bytes compile gcc "$scratch/begins.c" "$scratch/refused" -fshort-enums
+check 'but not in C++, where each has four' compile g++ "$scratch/begins.cpp" "$scratch/begins" -fshort-enums
 check 'a look that a switch forgets is refused' refused FQ_TODO_LOOK compile gcc "$scratch/forgets.c" "$scratch/refused"
+cat > "$scratch/interrupts.c" << 'END'
+#include <fintaqush.h>
+int main(void) { struct fq_driver driver = FQ_NONE; fq_driver_interrupt(&driver, 1); }
+END
+sed 's/interrupt/timer/' "$scratch/interrupts.c" > "$scratch/timers.c"
+check 'an interrupt whose status nobody reads is refused' refused unused-result compile gcc "$scratch/interrupts.c" "$scratch/refused"
+check 'a timer whose status nobody reads is refused' refused unused-result compile gcc "$scratch/timers.c" "$scratch/refused"
+check 'a turn whose status nobody reads is refused' refused unused-result compile gcc "$scratch/turns.c" "$scratch/refused"
 check 'a step whose status nobody reads is refused' refused unused-result compile gcc "$scratch/steps.c" "$scratch/refused"
 check 'a null handle is refused' refused nonnull compile gcc "$scratch/null.c" "$scratch/refused"
 check 'a ring in place of a list is refused' refused 'incompatible pointer type' compile gcc "$scratch/another.c" "$scratch/refused"

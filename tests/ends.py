@@ -123,7 +123,7 @@ def run(command: list[str | bytes], text: object, ends: tuple[str, str]) -> tupl
             given.seek(0)
         source = {ZEROS: "/dev/zero", FOLDER: "/"}.get(text)
         handles = [os.open(source, os.O_RDONLY) if source else os.dup(given.fileno()), end_of(ends[0], out), end_of(ends[1], errors)]
-        done = subprocess.run(command, stdin=handles[0], stdout=handles[1], stderr=handles[2], check=False, timeout=600,
+        done = subprocess.run(command, stdin=handles[0], stdout=handles[1], stderr=handles[2], check=False, timeout=3600,
                               preexec_fn=lambda: prepare(closes, text is ZEROS))
         for handle in handles:
             os.close(handle)

@@ -1,7 +1,8 @@
 #!/usr/bin/env bash
 # scripts/gate.py on a crate of two functions and four must-fail edits: one that is rejected, one that its contract accepts, one
-# of the same function, and one that doesn't compile; on a crate with one of each and a misnamed one; and on what stops `rt ci`:
-# a crate that isn't listed, and a link. The last line is `N passed, M failed, K skipped`.
+# of the same function, and one that doesn't compile; on a crate with one of each and a misnamed one; on one whose edited function calls
+# another that isn't proved; and on what stops `rt ci`: a crate that isn't listed, and a link. The last line is `N passed, M failed,
+# K skipped`.
 . "$(dirname "$(readlink -f "$0")")/../scripts/checks.sh"
 export XDG_CACHE_HOME=$scratch/cache
 
@@ -49,6 +50,68 @@ check 'a block with a head of two lines has its name' names "impl Other {
 impl<'t, R: Wait + Copy + Drop, D: Device + Drop> Task
     for Worker<'t, R, D> {
 " WorkerTask
+check 'a Drop has the name of its type' names "impl<R: Wait + Drop, T> Drop for DropBomb<R, T> {
+" DropBomb
+check 'a reference has a name' names "impl<G: Gate> Gate for &G {
+" RefGate
+# Functions of a type in another module than the type, of a trait, and with a closure; one with an edit, one with a proof of its own.
+cat > "$scratch/stubs.py" << 'END'
+import sys
+
+sys.path.insert(0, sys.argv[1])
+import gate
+
+lib = """pub struct Pair(u32, u32);
+
+impl Pair {
+    pub fn sum(&self) -> u32
+        ensures { result ≡ record {
+            n = 1;
+        } }
+    {
+        let all = self.0;
+        all + self.1
+    }
+
+    fn kept(&self) -> u32 {
+        self.0
+    }
+}
+
+pub fn edited() -> u32 {
+    1
+}
+
+const fn zero() -> u32 {
+    0
+}
+"""
+far = """impl Pair {
+    pub fn any(&self) -> bool {
+        [1, 2].iter().any(|it| it > self.0)
+    }
+}
+
+impl fmt::Debug for Pair {
+    fn fmt(&self);
+
+    fn all(&self) {
+        ()
+    }
+}
+"""
+texts = {"src/lib.rt": lib, "src/more/far.rt": far, "specs/Lib.antt": "", "proofs/Pair/kept/Proof.antt": ""}
+texts |= {f"proofs/{it}.antt": "" for it in ("Pair/sum/Answers", "Pair/sum/Invariants", "fn/Pair/any/any/Answers", "edited/Answers")}
+edited = gate.Function("src/lib.rt", lib, lib.index("    1"))
+made = gate.stubbed(next(it for it in gate.all_crates() if it.name == "low"), texts, [edited])
+loop = "        loop {}\n"
+assert made["src/lib.rt"] == lib.replace("        let all = self.0;\n        all + self.1\n", f"{loop}\n"), made["src/lib.rt"]
+assert made["src/more/far.rt"].count(loop) == 2 and made["src/more/far.rt"].count("\n") == far.count("\n"), made["src/more/far.rt"]
+here = ["Pair/any/Proof", "Pair/kept/Proof", "Pair/sum/Proof", "edited/Answers", "more/far/PairDebug/all/Proof"]
+assert sorted(it for it in made if it.startswith("proofs/")) == [f"proofs/{it}.antt" for it in here], sorted(made)
+assert made["proofs/more/far/PairDebug/all/Proof.antt"].startswith("use Rattle.low.proofs.more.far.PairDebug.all.Statement as")
+END
+check 'stubs have loops and holes, by the names that the prover has' python3 -EsSB "$scratch/stubs.py" "$scratch/low/scripts"
 gate --help
 check 'its help is printed, and nothing is proved' grep -q '^scripts/gate.py proofs ROOM' "$scratch/out"
 check 'it has to know what to do' is_refused
@@ -82,6 +145,18 @@ check 'it is tried again if one asks for it' edits 'refused: note: src/lib.rt:7:
 echo 'fn' >> "$scratch/low/crates/one/src/lib.rt"
 check 'and if its crate has changed, here to one that does not compile' edits 'BAD EDIT'
 sed -i '$d' "$scratch/low/crates/one/src/lib.rt"
+# Of `two`, the function without an edit isn't proved.
+mkdir -p "$scratch/low/crates/two/"{src,must-fail}
+{
+    head -n 9 "$scratch/low/crates/one/src/lib.rt" && printf '%s\n' '    if a < b { b } else { a }' '}' '' '/// The least one.'
+    printf '%s\n' 'pub fn least(a: u32, b: u32, c: u32) -> u32' '    ensures { result ≤ c }' '{' '    lesser(lesser(a, b), c)' '}'
+} > "$scratch/low/crates/two/src/lib.rt"
+edit two/must-fail/without-the-last 'lesser(lesser(a, b), c)' 'lesser(a, b)'
+echo 'two:' >> "$scratch/low/crates.txt"
+gate edits two
+check 'an edit is refused whatever the bodies of other functions' grep -q '^must-fail two/without-the-last: refused: note: src/lib.rt:1[3-6]:' "$scratch/out"
+check 'and so proved without it' grep -qx 'must-fail two/a function as it is: proved' "$scratch/out"
+rm -rf "$scratch/low/crates/two" && sed -i '$d' "$scratch/low/crates.txt"
 # in the copy, there is only what stops `rt ci`
 stops() {
     rm -rf "$scratch/room" && mkdir "$scratch/room"

@@ -26,6 +26,9 @@ needs() { readelf -d "$1" | grep -q "NEEDED.*\[$2\]"; }
 
 needs_libc_alone() { [ "$(readelf -d "$1" | grep -c NEEDED)" = 1 ] && needs "$1" libc.so.6; }
 
+# shadow_stacks FILE: all of its code is marked for them (CET).
+shadow_stacks() { readelf -n "$1" | grep -q 'x86 feature: .*SHSTK'; }
+
 # a shared library exports what the header declares, each call with the version that it came with, none later than the header's
 exports_calls_alone() {
     nm -D --defined-only "$1" | awk '$2 != "A" { print $3 }' > "$scratch/exported"
@@ -34,9 +37,9 @@ exports_calls_alone() {
             NF != 3 || $2 != now[1] || $3 + 0 > now[2] + 0 { print; wrong = 1 } END { exit wrong }' "$scratch/exported"
 }
 
-# What came with 2.0 stays there: a program that was linked then asks for it by that version.
+# What came with 3.0 stays there: a program that was linked then asks for it by that version.
 stays_in_its_version() {
-    [ "$(grep -c '@@FINTAQUSH_2\.0$' "$scratch/exported")" -ge 65 ] && grep -q '^fq_caller_poll@@FINTAQUSH_2\.0$' "$scratch/exported"
+    [ "$(grep -c '@@FINTAQUSH_3\.0$' "$scratch/exported")" -ge 65 ] && grep -q '^fq_caller_poll@@FINTAQUSH_3\.0$' "$scratch/exported"
 }
 
 # by_a_prefix_with_spaces: pkg-config prints it so that a shell can read it.
@@ -46,7 +49,7 @@ by_a_prefix_with_spaces() {
         words=$(PKG_CONFIG_PATH=$spaced/lib/here/pkgconfig pkg-config --cflags --libs fintaqush) &&
         eval "cc '$spaced/share/doc/fintaqush/examples/c/limit.c' $words -o '$scratch/limit'" &&
         LD_LIBRARY_PATH=$spaced/lib/here "$scratch/limit" | diff - "$top/examples/c/limit.stdout" &&
-        "$top/scripts/install.sh" --libdir=lib/here --uninstall "$spaced" && is_empty_of_files "$spaced"
+        "$top/scripts/install.sh" --libdir=lib/here --uninstall "$spaced" && [ ! -e "$spaced" ]
 }
 
 # links_lead_somewhere FOLDER: the links of its pages are files there.
@@ -90,12 +93,15 @@ page_of_the_driver() {
     done
 }
 
-# each_call_has_a_page FOLDER: also those that the header has inline.
+# each_call_has_a_page FOLDER: also those that the header has inline. It is a short one, perhaps that of other calls with the same comment.
 each_call_has_a_page() {
-    local call
-    for call in $(grep -oE '\bfq_[a-z_]+\(' "$top/include/fintaqush.h" | tr -d '(' | sort -u); do
-        [ -e "$1/share/man/man3/$call.3" ] || { echo "$call has no manual page"; return 1; }
+    local call page
+    for call in $(grep -oE '\bfq_[a-z_]+\(' "$top/include/fintaqush.h" | tr -d '(' | grep -v '^fq_private_' | sort -u); do
+        page=$(sed -n '1s,^\.so man3/,,p' "$1/share/man/man3/$call.3")
+        page=$1/share/man/man3/${page:-$call.3}
+        grep -q "\b$call(" "$page" && [ "$(wc -l < "$page")" -le 80 ] || { echo "$call has no short manual page"; return 1; }
     done
+    grep -qxF '.BR FQ_BAD_WORK " (" 119 )' "$1/share/man/man3/fq_driver_step.3"
 }
 
 by_cmake() {
@@ -105,7 +111,7 @@ by_cmake() {
 cmake_minimum_required(VERSION 3.10)
 project(limits C CXX)
 set(CMAKE_CXX_STANDARD 17)
-find_package(Fintaqush 2.0 REQUIRED)
+find_package(Fintaqush 3.0 REQUIRED)
 add_executable(limit limit.c)
 target_link_libraries(limit Fintaqush::fintaqush)
 add_executable(limit_static limit.cpp)
@@ -159,25 +165,24 @@ names_nothing_else() { [ "$(ls "$1/bin" | paste -s -d ' ')" = 'fintaqush napi_ma
 # shellcheck disable=SC2046,SC2086,SC2128,SC2178 # words
 subcommands_work() {
     local trace=$top/examples/linux-veth-bursts.csv words='--budget 16 --weight 8' f=$1/fintaqush
-    "$f" raise "$trace" $words > raised.csv && "$1/napi_serial" $words < raised.csv | grep '^total .* work 15245 ' &&
-        "$f" compare "$trace" --raise $words -- --budget 300 > table && "$f" plot "$trace" --json | grep -q '^{' &&
+    "$f" series "$trace" --raise --rows $words > raised.csv && "$1/napi_serial" $words < raised.csv | grep '^total .* work 15245 ' &&
+        "$f" compare "$trace" --raise $words -- --budget 300 > table && "$f" plot "$trace" --out plot.html &&
         "$f" steps "$top/examples/two-packets.csv" --out page.html && "$f" sweep "$top/examples/bursts.csv" --out rows.csv &&
-        "$1/napi_replay" < "$trace" | "$f" json > report.json && "$f" compare-recording "${trace%.csv}" > compared &&
+        "$f" replay "$trace" --json > report.json && "$f" replay "$trace" --raise $words | grep '^total .* work 15245 ' &&
         "$f" from-ftrace "$top/tests/tools/soft-tcp.txt" made $(printf -- '--pair va%d:vb%d ' 1 1 2 2 3 3 4 4 5 5 6 6) &&
         diff made.csv "$top/tests/tools/soft-tcp.csv" && "$f" traffic | "$1/napi_serial" > report &&
         echo '1.000000 02:00:00:00:00:02 > 02:00:00:00:00:01, ethertype IPv4 (0x0800), length 60: UDP' | "$f" from-pcap - captured &&
         "$f" costs "$top/tests/tools/soft-gso-23.txt" --words > words && "$f" costs "$top/tests/tools/recorded-apart.rec" --json > json && "$f" traffic --arrivals > arrivals &&
-        [ "$("$f" what-if arrivals --budget 16,64 | wc -l)" = 3 ] && { "$f" raise "$trace" --buget 3; [ "$?" = 64 ]; }
+        [ "$("$f" what-if arrivals --budget 16,64 | wc -l)" = 3 ] && { "$f" costs "$trace" --buget 3; [ "$?" = 64 ]; }
 }
 
 # programs_work BIN: subcommands that are programs print what these do, and replay explains an error, like the launcher of a
 # checkout.
 programs_work() {
     local f=$1/fintaqush bursts=$top/examples/bursts.csv
-    "$f" traffic --arrivals > arrivals && cmp <("$f" replay "$bursts" --budget 64) <("$1/napi_serial" --budget 64 < "$bursts") &&
+    cmp <("$f" replay "$bursts" --budget 64) <("$1/napi_serial" --budget 64 < "$bursts") &&
         cmp <("$f" replay --mode shared < "$bursts") <("$1/napi_replay" --mode shared < "$bursts") &&
         cmp <("$f" series "$bursts" --every 10) <("$1/napi_series" --every 10 < "$bursts") &&
-        cmp <("$f" machine arrivals --budget 16) <("$1/napi_machine" --budget 16 < arrivals) &&
         "$f" replay --json "$bursts" | grep -q '"line": "total"' && "$f" replay --build &&
         printf 'moment,device,event,value\n0,1,Rx,9\n' > bad.csv && ends_with 2 "$f" replay bad.csv 2> err &&
         grep "^fintaqush replay: bad.csv line 2, '0,1,Rx,9': the event is none of" err &&
@@ -226,13 +231,15 @@ check 'installs' install --python "$prefix"
 export PKG_CONFIG_PATH=$prefix/lib/pkgconfig
 if has pkg-config 'programs by pkg-config'; then
     check 'a program by pkg-config' linked
-    check 'its library is the shared one' needs "$scratch/threads" libfintaqush.so.2
+    check 'its library is the shared one' needs "$scratch/threads" libfintaqush.so.3
     check 'a static program by pkg-config' linked -static
     check 'by a prefix with spaces' by_a_prefix_with_spaces
     check 'the programs of the guide' guide_programs_run "$prefix/share/doc/fintaqush"
     check 'the version' [ "$(pkg-config --modversion fintaqush)" = "$version" ]
 fi
 check 'the shared library needs libc alone' needs_libc_alone "$prefix/lib/libfintaqush.so"
+check 'the shared library is marked for shadow stacks' shadow_stacks "$prefix/lib/libfintaqush.so"
+check 'and so is the archive' shadow_stacks "$prefix/lib/libfintaqush.a"
 check 'the shared library gives the calls alone, each of its version' exports_calls_alone "$prefix/lib/libfintaqush.so"
 check 'a call stays in its version' stays_in_its_version
 check 'links of the installed pages' links_lead_somewhere "$prefix/share/doc/fintaqush"
@@ -256,7 +263,7 @@ check 'the subcommands work' there subcommands_work "$prefix/bin"
 check 'the subcommands that are programs' there programs_work "$prefix/bin"
 check 'the tour' there tries "$prefix/bin"
 ln -s "$prefix/bin/fintaqush" "$scratch/linked"
-check 'by a symbolic link' there [ "$("$scratch/linked" --version)" = "fintaqush of Fintaqush $version" ]
+check 'by a symbolic link' there [ "$("$scratch/linked" --version)" = "Fintaqush $version" ]
 check 'the package for Python' there python_replays "$prefix"
 ! has man 'manual pages' || check 'manual pages' pages_are_whole "$prefix"
 touch "$prefix/lib/another"
@@ -308,7 +315,7 @@ if has dpkg-deb 'the Debian packages'; then
     packages=("$scratch"/{"libfintaqush$major","libfintaqush-dev",fintaqush}_"${version}_$architecture.deb" "$scratch/python3-fintaqush_${version}_all.deb")
     mkdir -p "$scratch/root/var/lib/dpkg"/{info,updates}
     : > "$scratch/root/var/lib/dpkg/status"
-    check 'a folder that is missing is refused' ends_with 73 "$top/scripts/package.sh" "$scratch/none"
+    check 'a folder that cannot be made is refused' ends_with 73 "$top/scripts/package.sh" /dev/null/none
     check 'packages' "$top/scripts/package.sh" "$scratch"
     check 'the library by itself' has_files "libfintaqush$major" "usr/lib/[^/]*-linux-gnu/libfintaqush.so.$version"
     check 'what programs are built with' has_files libfintaqush-dev 'usr/include/fintaqush.h' 'usr/lib/[^/]*-linux-gnu/libfintaqush.a' \
@@ -330,7 +337,7 @@ if has dpkg-deb 'the Debian packages'; then
     for name in $("$top/fintaqush" --names); do
         check "fintaqush $name of the package alone" there subcommand_starts "$root/usr/bin" "$name"
     done
-    check 'the version of the package alone' [ "$("$root/usr/bin/fintaqush" --version)" = "fintaqush of Fintaqush $version" ]
+    check 'the version of the package alone' [ "$("$root/usr/bin/fintaqush" --version)" = "Fintaqush $version" ]
     check 'the subcommands of the package alone' there subcommands_work "$root/usr/bin"
     check 'its subcommands that are programs, alone' there programs_work "$root/usr/bin"
     root=$(alone python3-fintaqush)

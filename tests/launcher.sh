@@ -27,7 +27,7 @@ judged() { PYTHONPATH=$top/tools python3 -Bc 'import sys; from fintaqush_tools i
 built() { replay trace.csv "$@" > made 2>&1; }
 on_terminal() { python3 -c 'import os, pty, sys; sys.exit(os.waitstatus_to_exitcode(pty.spawn(sys.argv[1:])))' "$@" < /dev/null; }
 as_nobody() { if [ "$(id -u)" = 0 ]; then setpriv --reuid=65534 --regid=65534 --clear-groups "$@"; else "$@"; fi; }
-comes() { for _ in $(seq 3000); do "$@" > /dev/null && return; sleep 0.02; done; return 1; }
+comes() { for _ in $(seq 30000); do "$@" > /dev/null && return; sleep 0.02; done; return 1; }
 # began: the crates that were started since the last call.
 began() { sed -n 's/^begin //p' rt.log | sort | paste -s -d ' '; : > rt.log; }
 change() { echo >> "$small/crates/${1:-low}/src/lib.rt"; }
@@ -46,16 +46,15 @@ signalled() {
     return "$status"
 }
 
-# small_checkout [ROW ..]: of crates by their rows of crates.txt; of seven where none are named, of which `wide` is only below the
-# program of all modes, and `apart` none of the replay's. Its `rattle` writes down when each begins and ends, and does what PROVES says
-# meanwhile; the program does what DOES says, first; TRIES are more words of an unproved run, which
-# does what LOOKS says before. No memory is counted for a check: how many run at once doesn't depend on what is free here.
+# small_checkout [ROW ..]: makes a checkout with crates of these rows of crates.txt. Without rows it has seven crates: only the program of
+# all modes needs `wide`, and no program of the replay needs `apart`. Its `rattle` logs when each check begins and ends, and runs PROVES
+# in between. The program runs DOES first. An unproved run runs LOOKS first, and has the arguments TRIES. A check counts as needing no
+# memory, so that the free memory of this machine doesn't limit how many run at once.
 small_checkout() {
     rm -rf "$small" bin
-    mkdir -p "$small"/{.git,docs,include} bin
+    mkdir -p "$small"/{.git,include} bin
     cp -r "$top/replay" "$top/scripts" "$top/tools" "$small/"
     sed -i 's/free \/\/ 2_500_000/free/' "$small/tools/fintaqush_tools/builds.py"
-    cp "$top/docs/usage.txt" "$small/docs"
     cp "$top/include/fintaqush.h" "$small/include"
     [ $# != 0 ] || set -- low: side: 'high: low  # a note' wide:low apart:low 'napi_serial: high side csv' 'napi_replay: high side wide'
     printf '%s\n' "$@" > "$small/crates.txt"
@@ -89,6 +88,16 @@ END
     chmod +x bin/* "$small/program"; truncate -s 0 rt.log KIT-ID
 }
 
+# with_module: the small checkout has a program of a module, which was made from its sources, and a node that is new enough.
+with_module() {
+    mkdir -p "$small/web"
+    cp "$small/program" "$small/web/napi_serial"
+    PYTHONPATH=$small/tools python3 -Bc 'from fintaqush_tools.builds import sum_below; print("napi_serial", sum_below("napi_serial"))' > "$small/web/fintaqush.sum"
+    printf '#!/bin/sh\necho "${NODE:-v18.0.0}"\n' > bin/node
+    chmod +x bin/node
+    rm -rf by_node && cp -r few by_node && cp bin/node by_node/
+}
+
 header=moment,device,event,value
 echo "$header" > trace.csv
 printf '%s\n0,1,Rx,9\n' "$header" | tee bad.csv > $'bad\e[31m\u202e.csv'
@@ -109,11 +118,10 @@ sends.setsockopt(socket.SOL_SOCKET, socket.SO_LINGER, b"\1\0\0\0\0\0\0\0")
 sends.close()
 sys.exit(subprocess.run([sys.argv[1]], stdin=reads, check=False).returncode)
 END
-events='the event is none of open rx tx done softirq kthread disable enable threaded, and busy in version 2, '\
-'in lower case and without spaces'
+events="the event is none of $(python3 -B "$top/tests/events.py"), in lower case and without spaces"
 number='moment, device and value are one to twenty digits, without sign, space or fraction'
 empty='the empty lines above it are no rows' fields='a row has four fields, and this one has' h="$header\\n"
-all='--mode --pollers --budget --weight --window --unproved --json --build --version --help'
+all='--mode --pollers --budget --weight --window --raise --fail-if --unproved --json --build --version --help'
 two=$top/examples/two-packets.csv
 version=$(sed -n 's/^#define FQ_VERSION "\(.*\)"$/\1/p' "$top/include/fintaqush.h")
 
@@ -147,19 +155,22 @@ ${h}0,1,open,4\n1,1,busy,9\n% 4 BadEvent row 2| line 3, '1,1,busy,9': a busy row
 $header,2\n0,1,open,4\n1,1,busy,0\n% 5 OutOfRange row 2| line 3, '1,1,busy,0': \
 busy has a device of 1..=16 and a value of 1..=65535 rounds
 ${h}0,1,open,4\n1,17,open,4\n% 5 OutOfRange row 2| line 3, '1,17,open,4': open has a device of 1..=16 and a value of 1..=65536, its places
-${h}0,1,open,4\n1,1,kthread,1\n% 5 OutOfRange row 2| line 3, '1,1,kthread,1': it has a device of 1..=16 and the value 0
+${h}0,1,open,4\n1,1,enable,1\n% 5 OutOfRange row 2| line 3, '1,1,enable,1': it has a device of 1..=16 and the value 0
 ${h}0,1,open,4\n1,1,open,4\n% 7 OpenTwice row 2| line 3, '1,1,open,4': the device was opened by a row before this one
 ${h}0,1,open,4\n1,1,enable,0\n% 8 WrongState row 2| line 3, '1,1,enable,0': a disable follows an open or an enable of its device*
 ${h}0\t1\topen\t4\n% 2 BadFields row 1| line 2, '0?1?open?4': a row has four fields with commas between them, not tabs
-${h}0,1,open,4\n1,1,rx,9\n1,1,disable,0\n1,1,enable,0\n% 12 Pending row 4| line 5, '1,1,enable,0': \
-the disable is pending still: a softirq or kthread row has to finish the polling before the enable
+${h}0,1,open,4\n1,1,rx,9\n1,1,disable,0\n1,1,enable,0\n% 12 Pending row 4| line 5, '1,1,enable,0': the disable is pending still: *
 END
 tries << END
 words that the program refuses % replay --budget 0 $two % 64 usage fault 64|replay: --budget '0': its value is \
 a whole number, 1..=65535 (see ./replay --help)
 a closed output % $launcher $two >&- % 4 output fault 15 OutputFailed
 a full one % $launcher --json $two 2>&1 > /dev/full | tail -n 1; (exit \${PIPESTATUS[0]}) % 4 replay: the report couldn't be written as JSON
-a report as JSON % $launcher --json $two | cmp - <($launcher $two | $top/fintaqush json) % 0 
+a report as JSON % $launcher --json $two | head -n 1 % 0 {"version": 1, "tool": "replay", "line": "softirq", *
+a limit % $launcher --fail-if 'polls>0' $two > /dev/null % 3 replay: --fail-if 'polls>0': polls is *
+one that holds % $launcher --fail-if 'dropped>0' $two > /dev/null % 0 
+a limit of nothing % $launcher --fail-if 'drop>0' $two % 64 replay: --fail-if: 'drop>0' isn't of a result; these are: *
+runs that aren't a number % $launcher --raise=x $two % 64 replay: --raise='x': it is a number of runs, 0..=99999
 the kernel's log ends in a line % replay /proc/kmsg % *@(trace fault 1 BadHeader row 0*|replay: /proc/kmsg: a read of it failed|\
 replay: /proc/kmsg: it can't be read: operation not permitted)
 END
@@ -169,7 +180,10 @@ launcher=$small/replay PATH=$scratch/bin:$PATH
 fault="trace fault 4 BadEvent row 1|replay: bad.csv line 2, '0,1,Rx,9': $events"
 answer="napi_serial |$header"
 kept='; each crate that was proved is kept'
-no_rt="69 *replay: there is no rt on PATH, which proves and builds the program: see 'What it needs' in README.md"
+no_rt="69 *replay: there is no rt on PATH (the kit), which proves and builds the program; without it only an installed program runs, \
+or one of web/fintaqush.wasm by node 18 or later: see 'What it needs' in README.md"
+not_proved="replay: napi_serial isn't proved here, which takes the kit: this is"
+module="web/fintaqush.wasm, compiled from the proved sources in a way that the kit doesn't offer"
 first='replay: the program is to be proved and built: meanwhile the answer of an UNPROVED run, in up to a minute'
 unproved='replay: this was an UNPROVED run; the proof goes on. Ctrl-C leaves what is proved by then, and the next call goes on from there'
 # A proof that waits for the answer of the unproved run, for a second one, or for a second build.
@@ -210,6 +224,9 @@ one that is killed for memory is begun once more % change c; PROVES='$c_is_kille
 an archive for another processor has a folder of its own % small_checkout low: 'arch staticlib:low'; FINTAQUSH_CPU=x86-64 PROVES='echo "\$*"' \
 $small/scripts/build.sh arch 2> made; ls $small/crates/arch/out; grep -ohe '--cpu [^ ]*' $small/.git/built/{low,arch}.log; rm -r $small/crates/arch/out % \
 0 x86-64|--cpu x86-64
+one for arm64 too, and only what is no library is built for it % FINTAQUSH_TARGET=arm64 PROVES='echo "\$*"' $small/scripts/build.sh arch 2> made; \
+ls $small/crates/arch/out; grep -ohe '--target [^ ]*' $small/.git/built/{low,arch}.log; rm -r $small/crates/arch/out % 0 arm64|--target aarch64-unknown-linux-gnu
+there is no other target % FINTAQUSH_TARGET=arm $small/scripts/build.sh arch % 64 replay: there is no target 'arm', only arm64
 what is no clone is built where caches are % small_checkout one: 'napi_serial: one'; built; rm -rf $small/.git; change one; XDG_CACHE_HOME=$scratch/cache built; tail -n 2 made; \
 ls cache/fintaqush/*/one.rlib % 0 $answer|format
 and not beside it % ls -d $small/.git % 2 *
@@ -227,7 +244,16 @@ a build replays nothing % replay --build trace.csv % 64 replay: --build replays 
 
 without rt it says so at once % small_checkout; PATH=few $launcher trace.csv % $no_rt
 for an unproved run too % PATH=few $launcher --unproved trace.csv % $no_rt
-a checkout that is not built and cannot be written to % chmod -R a-w $small; as_nobody $launcher trace.csv; s=\$?; chmod -R u+w $small; \
+by node the module replays then, which is said % with_module; PATH=by_node $launcher trace.csv % 0 $not_proved $module|$answer
+its error has an explanation % DOES=\$fails PATH=by_node $launcher bad.csv % 2 $not_proved $module|$fault
+its words are judged by it % DOES='echo usage fault 64 >&2; exit 64' PATH=by_node $launcher -x trace.csv % 64 $not_proved *|usage fault 64|replay: '-x' is no option: *
+it has serial mode alone % PATH=by_node $launcher --mode shared trace.csv % $no_rt
+a node that is too old runs nothing % NODE=v16.20.2 PATH=by_node $launcher trace.csv % $no_rt
+one that was made from other sources says so % change; PATH=by_node $launcher trace.csv % 0 $not_proved web/fintaqush.wasm, compiled from OTHER sources, *|$answer
+an installed program is before it % cp -r by_node installed; sed 's/^cat/echo installed; &/' $small/program > installed/napi_serial; chmod +x installed/napi_serial; \
+PATH=installed $launcher trace.csv % 0 $not_proved the installed installed/napi_serial|napi_serial |installed|$header
+and the one that was proved here before both % built; PATH=installed $launcher trace.csv % 0 $answer
+a checkout that is not built and cannot be written to % small_checkout; chmod -R a-w $small; as_nobody $launcher trace.csv; s=\$?; chmod -R u+w $small; \
 (exit \$s) % 73 replay: the program is to be built, and small/* can't be written: build in a checkout of your own
 a proof that fails ends the build, with what rt said and where the rest stands % built; change; PROVES='$high_fails' replay trace.csv % \
 70 *|replay: high couldn't be built, status 1; small/.git/built/high.log has all that was said:|error: not proved
@@ -293,7 +319,13 @@ on a terminal an unproved answer comes first, once, and the proof of it then; th
 napi_serial --weight 4|$header|*rt: a hint|*$unproved|*crate 3 of 3*proved and built, in * s|replay: the proved program gives the same bytes
 where the proof is sooner there, it alone counts % change; LOOKS='exec sleep 600' on_terminal $launcher trace.csv % 0 \
 $first|*proved and built, in * s|$answer
-the next call replays % on_terminal $launcher trace.csv % 0 $answer
+the module of these sources answers in place of the unproved run % change; with_module; PROVES="comes grep 'offer; the proof' $scratch/out" \
+on_terminal $launcher trace.csv --weight 4 % 0 replay: the program is to be proved and built: meanwhile the answer of $module|replay: proving and *\
+napi_serial --weight 4|$header|replay: this was $module; the proof goes on*proved and built, in * s|replay: the proved program gives the same bytes
+where its bytes are others they are told of % change; with_module; echo 'echo more' >> $small/web/napi_serial; PROVES="comes grep 'offer; the proof' $scratch/out" \
+on_terminal $launcher trace.csv % 0 *$answer|more|*gives OTHER bytes, *|$answer
+one of other sources doesn't % change; PROVES=\$slow on_terminal $launcher trace.csv % 0 *$answer|*UNPROVED run*gives the same bytes
+the next call replays % rm $small/web/napi_serial; on_terminal $launcher trace.csv % 0 $answer
 so it does for a trace through a pipe % change; PROVES=\$slow on_terminal bash -c '$launcher <(cat trace.csv)' % 0 *$answer|*gives the same bytes
 one too long to be kept is replayed once % change; DOES='wc -c; exit' on_terminal bash -c 'head -c 70000000 /dev/zero | $launcher' % \
 0 replay: proving and *proved and built, in * s|70000000

@@ -1,14 +1,16 @@
 #!/usr/bin/env python3
-"""modes.py PROGRAM SERIAL WORKERS: compares the three modes of the replay with one another, and measures the processor time of
-runs that wait, WORKERS (bench_polls) among them, and of one that is made to spin. The last line is `N passed, M failed`.
+"""modes.py PROGRAM SERIAL WORKERS MODES: compares the three modes of the replay with one another, and measures the processor time of
+runs that wait, WORKERS (benches) among them, and of one that is made to spin. The last line is `N passed, M failed`.
 
-Serial mode is the reference for shared mode, and for SERIAL, which has only serial mode: on the runs of runs.txt, and on random
-traces of both versions with several settings. For a trace that is cut off anywhere, the rules of docs/FORMATS.md, implemented
-here again, say whether it has an error, and which. And a trace is read in each way in which its records may be written."""
+Serial mode is the reference for shared mode, on the runs of runs.txt, the examples, and, by MODES (mode_tests), small and random
+traces; and for SERIAL, which has only serial mode, on the runs and on random traces. For a trace that is cut off anywhere, the rules
+of docs/FORMATS.md, implemented here again, say whether it has an error, and which. And a trace is read in each way in which its
+records may be written."""
 
 from __future__ import annotations
 
 import os
+import pathlib
 import re
 import subprocess
 import sys
@@ -17,18 +19,15 @@ import time
 from collections.abc import Callable, Iterator
 from typing import IO
 
+from events import events_of
 from judging import Judged, judge
 from runs import runs
 
 sys.path.append(os.path.join(os.path.dirname(os.path.abspath(__file__)), "../bench"))
 from random_trace import Trace  # noqa: E402
 
-PROGRAM, SERIAL, WORKERS = sys.argv[1:]
-RANGES = {
-    "open": (1, 16, 1, 65536), "rx": (1, 16, 1, 65535), "tx": (1, 16, 1, 65535), "done": (1, 16, 0, 65536),
-    "softirq": (0, 0, 0, 0), "kthread": (1, 16, 0, 0), "disable": (1, 16, 0, 0), "enable": (1, 16, 0, 0),
-    "threaded": (1, 16, 0, 1), "busy": (1, 16, 1, 65535),
-}
+PROGRAM, SERIAL, WORKERS, MODES = sys.argv[1:]
+RANGES = events_of(1)
 # Six devices, each event, both ways of polling, a disable that waits and one that doesn't.
 SIX_DEVICES = "\n".join(
     ["moment,device,event,value"]
@@ -109,7 +108,7 @@ def row_fault(fields: list[str], states: dict[int, bool]) -> tuple[int, str] | N
     if not all(re.fullmatch("[0-9]{1,20}", field) for field in numbers):
         return 3, "BadNumber"
     event = fields[2]
-    if event not in RANGES or event == "busy":
+    if event not in RANGES:
         return 4, "BadEvent"
     moment, device, value = map(int, numbers)
     low, high, least, most = RANGES[event]
@@ -179,9 +178,10 @@ def without_pollers(words: list[str]) -> list[str]:
 
 
 def worked_runs() -> Iterator[Judged]:
-    """Each run without a mode of its own also in shared mode; each with threads also with 1, 2 and 8 pollers; each that names
-    no other mode also by the program of serial mode."""
-    for name, words, text in runs():
+    """Each run without a mode of its own, and each example, also in shared mode; each with threads also with 1, 2 and 8 pollers;
+    each that names no other mode also by the program of serial mode."""
+    examples = [(path.name, list[str](), path.read_bytes()) for path in sorted(pathlib.Path(__file__).parent.parent.glob("examples/*.csv"))]
+    for name, words, text in [*runs(), *examples]:
         if not {"shared", "threads", "--mode=shared", "--mode=threads"} & set(words):
             yield check("%s by serial mode's program" % name, play(text, words) == play(text, words, SERIAL))
         if not any(word.startswith("--mode") or word in ("--help", "--version") for word in words):
@@ -192,19 +192,20 @@ def worked_runs() -> Iterator[Judged]:
             yield check("%s with 1, 2 and 8 pollers" % name, answers[0] == answers[1] == answers[2] == play(text, words))
 
 
+def small_traces() -> Iterator[Judged]:
+    """All traces of up to five rows, and 20000 random ones, in one process, which also finds its planted mistakes."""
+    run = subprocess.run([MODES, "5", "20000"], capture_output=True, text=True)
+    compared = run.stdout.splitlines()[5:7] == ["100000 traces of 5 rows are the same", "20000 random traces are the same"]
+    yield check("small traces", run.returncode == 0 and compared, run.stdout + run.stderr)
+
+
 def random_traces(count: int) -> Iterator[Judged]:
-    """Random traces of both versions, with settings in turn: shared mode's bytes, message and status are serial mode's."""
+    """Random traces of both versions, with settings in turn: bytes, message and status of the program of serial mode."""
     settings: list[list[str]] = [[], ["--budget", "1"], ["--budget", "64", "--weight", "1"], ["--weight", "63", "--window", "2"], ["--window", "1"]]
     for version in (1, 2):
-        reports = 0
         for seed in range(1, count + 1):
             text, words = Trace(seed, version).text().encode(), settings[seed % len(settings)]
-            serial = play(text, words)
-            reports += serial[0] == 0
-            name = f"random trace {seed} of version {version} {words}"
-            yield check(name, serial == play(text, words + ["--mode", "shared"]))
-            yield check(f"{name} by serial mode's program", serial == play(text, words, SERIAL))
-        yield check(f"random traces of version {version} have reports", reports > count // 2)
+            yield check(f"random trace {seed} of version {version} {words}", play(text, words) == play(text, words, SERIAL))
 
 
 def version_2() -> Iterator[Judged]:
@@ -260,10 +261,6 @@ def disables_often(trace: IO[bytes]) -> None:
     trace.write(("moment,device,event,value\n0,1,open,65536\n" + rows).encode())
 
 
-def has_no_trace(_trace: IO[bytes]) -> None:
-    pass
-
-
 def yields(room: str, how: str) -> tuple[int, int]:
     """The status of a run whose disables wait, and how often it yields the processor, by a replacement of that call in `room`."""
     status, _ = on_one_processor(PROGRAM, ["--mode", "threads"], disables_often, LD_PRELOAD=f"{room}/yield.so", COUNT=f"{room}/count", YIELDS=how)
@@ -288,7 +285,7 @@ def idle() -> Iterator[Judged]:
     waiting: list[tuple[str, list[str], Callable[[IO[bytes]], None]]] = [
         *((PROGRAM, mode, waits_for_the_trace) for mode in modes),
         (SERIAL, [], waits_for_the_trace),
-        (WORKERS, ["0", "16", "8", "2000", "3000"], has_no_trace),
+        (WORKERS, ["threads", "16", "8", "2000", "3000"], IO.close),
         (PROGRAM, ["--mode", "threads"], disables_often),
     ]
     for program, words, feed in waiting:
@@ -298,7 +295,7 @@ def idle() -> Iterator[Judged]:
 
 
 def checks() -> Iterator[Judged]:
-    for each in (cut_traces(), idle(), spins(), worked_runs(), version_2(), ways_of_writing(), random_traces(150)):
+    for each in (cut_traces(), idle(), spins(), worked_runs(), small_traces(), version_2(), ways_of_writing(), random_traces(150)):
         yield from each
 
 

@@ -4,8 +4,8 @@
 set -u
 tests=$(cd "$(dirname "$(readlink -f "$0")")" && pwd)
 crates=$tests/../crates
-if ! "$tests/../scripts/build.sh" napi_serial napi_replay bench_polls || ! command -v python3 > /dev/null; then
+if ! "$tests/../scripts/build.sh" napi_serial napi_replay benches mode_tests || ! command -v python3 > /dev/null; then
     echo "0 passed, 1 failed"
     exit 1
 fi
-exec python3 -B "$tests/modes.py" "$crates/napi_replay/out/napi_replay" "$crates/napi_serial/out/napi_serial" "$crates/bench_polls/out/bench_polls"
+exec python3 -B "$tests/modes.py" "$crates/napi_replay/out/napi_replay" "$crates/napi_serial/out/napi_serial" "$crates/benches/out/benches" "$crates/mode_tests/out/mode_tests"

@@ -14,7 +14,7 @@ import sys
 from collections.abc import Iterator
 
 TOP = pathlib.Path(__file__).resolve().parent.parent
-# How scripts name what they need: the unquoted words after these.
+# Patterns by which scripts name what they need.
 NAMED = {
     "*.sh": (r"\bskip (?:'[^']*'|\"[^\"]*\") ([\w/.+= -]+)", r"(?:if|!|\|\||&&) has ([\w.+-]+) ", r"(?:\|\||^ +) ?over ([\w/.+-]+)",
              r"this needs ([\w/.+-]+)", r"\bfor program in ([\w+ -]+); do\n +(?:command -v|has) \"\$program\"", r"^ *kernel=([\w/]+)$",
@@ -37,12 +37,8 @@ def packages() -> dict[str, list[str]]:
 
 @functools.lru_cache(None)
 def is_here(need: str) -> bool:
-    """Whether a program is on PATH, or a library is where the tools look for it."""
-    ends = {"matplotlib": "x.png", "dygraphs": "x.html"}
-    if need not in ends:
-        return shutil.which(need) is not None
-    look = f"import sys; sys.path.insert(0, {str(TOP / 'tools')!r}); from fintaqush_tools import pictures; pictures.check_library({ends[need]!r})"
-    return subprocess.run([sys.executable, "-BES", "-c", look], capture_output=True, check=False).returncode == 0
+    """Whether a program is on PATH."""
+    return shutil.which(need) is not None
 
 
 def skipped(test: str, what: str, need: str) -> str:

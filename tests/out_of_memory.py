@@ -16,7 +16,7 @@ from collections.abc import Iterator
 from judging import Judged, judge
 
 TOP = pathlib.Path(__file__).resolve().parent.parent
-# How many places a file has, and which allocation failed.
+# In how many places each file returns out of memory, and which allocations failed there.
 PLACES = {
     "device_rows/src/fault.rt": (2, "`From<AllocError>`: the growth that `?` passes on; `ReadError::OutOfMemory` of the reader"),
     "device_rows/src/source.rt": (2, "`From<AllocError>`; a read with `ErrorKind::OutOfMemory`, of the reader's own buffer"),
@@ -30,6 +30,7 @@ PLACES = {
     "napi_c/src/driver.rt": (1, "the driver, or its box"),
     "napi_c/src/ends.rt": (1, "a box"),
     "napi_c/src/list.rt": (2, "a box, the list"),
+    "napi_c/src/places.rt": (3, "the ring, two boxes"),
     "napi_c/src/ring.rt": (2, "a box, the ring"),
     "napi_c/src/shared.rt": (4, "boxes, the list of callers, the instance"),
     "napi_c/src/transmit.rt": (2, "the transmit ring, a box"),
@@ -48,6 +49,7 @@ PLACES = {
     "text_io/src/args.rt": (1, "`From<AllocError>`"),
     "rx_ring/src/pair.rt": (2, "the ring's box, its places"),
     "tx_ring/src/ring.rt": (1, "the ring's places"),
+    "place_ring/src/pair.rt": (1, "the ring"),
 }
 NAME = re.compile(r"\b(?:\w+::)*(?:AllocError|TableBack|OutOfMemory|OUT_OF_MEMORY)\b")
 TEXT = re.compile(r"""//[^\n]*|b?"(?:[^"\\]|\\.)*\"""")

@@ -2,7 +2,7 @@
 
 A command of a page is a line of a block that begins with a program's name, a line `$ COMMAND` with its output below it, or code
 of at least two words, of which the first one is a program's name. Text after three spaces, or after `#`, is a remark. A synopsis,
-such as `./fintaqush raise TRACE WORD ..`, is compared with the program's usage text. Commands that prove, measure or install are
+such as `./fintaqush replay TRACE WORD ..`, is compared with the program's usage text. Commands that prove, measure or install are
 run by hand: the command has to exist.
 """
 
@@ -185,7 +185,7 @@ def synopsis(command: str) -> Iterator[str]:
         text = parser_of(module.__doc__, module.add_options).format_help()
         yield from (f"{command}: {name} tells nothing of {option}" for option in re.findall(r"--[\w-]+", command) if option not in text)
         return
-    path = TOP / ("docs/usage.txt" if name == "replay" or name.startswith("napi_") else name)
+    path = TOP / ("tools/fintaqush_tools/replay.txt" if name == "replay" or name.startswith("napi_") else name)
     if name != "rt" and not path.is_file():
         yield f"{command}: there is no {name}"
     elif name != "rt":

@@ -23,17 +23,17 @@ from page_commands import SKIPPED, is_missing, listed
 
 TOP = pathlib.Path(__file__).resolve().parent.parent
 PageJudged = tuple[pathlib.Path, Iterable[str]]  # a file, and what is wrong with it
-DOORS = "napi_model dql_core rx_ring tx_ring napi_word napi_calls poll_engine driver_core device_model replay machine".split()
+DOORS = "napi_model dql_core rx_ring tx_ring place_ring napi_word napi_calls poll_engine driver_core device_model replay machine".split()
 README_WORDS = 700
 # What is generated, or is in another folder than the repository's.
 MADE = re.compile(r"(^|/)out(/|$)|include/linux/|crates/first|NAME|FOLDER|FILE|PROGRAM|TRACE|DOOR|\.\.\./|^\.\.?/\.\./|[*<>{}$]|^/")
 # Crates that use the library's facades, apart from those named for tests.
-USERS = ("bench_", "example_", "test_", "uses_")
+USERS = ("benches", "example_", "uses_")
 # Words in code that come from elsewhere: from the kernel, a file format, an instruction set; and names that stand for a file.
 OUTSIDE = {"__do_softirq", "time_after", "softnet_stat", "virtio_net", "sysexits", "btr", "mb", "MACHINES", "enqueue_to_backlog",
            "rps_trigger_softirq", "nstat", "UdpRcvbufErrors", "no_std", "num_queued", "num_completed",
            "virtqueue_napi_complete", "mlx5e_trigger_napi_sched", "mlx5e_trigger_napi_icosq", "ethernet", "skb_flow_limit", "__qdisc_run",
-           "napi_weight", "rx_weight", "MAX_SOFTIRQ_TIME", "handle_softirqs", "libfintaqush2"}
+           "napi_weight", "rx_weight", "MAX_SOFTIRQ_TIME", "handle_softirqs", "libfintaqush3"}
 # The crates that may have unsafe code: those that export C functions.
 EXPORTING = {"c_handles", "napi_c", "files_c"}
 SENT = "unsafe impl<A> Send for Trail<A> {}"  # the one other line of unsafe code
@@ -59,7 +59,7 @@ def links(page: pathlib.Path) -> Iterator[str]:
         there = page.parent / name if name else page
         if not re.match(r"[a-z]+:", name) and not there.exists():
             yield f"there is no {name}"
-        elif there.is_file() and anchor and anchor not in headings(there):
+        elif there.suffix == ".md" and there.is_file() and anchor and anchor not in headings(there):
             yield f"{name} has no heading #{anchor}"
 
 
@@ -134,12 +134,12 @@ def speeds(page: pathlib.Path) -> Iterator[str]:
 
 
 def durations(page: pathlib.Path) -> Iterator[str]:
-    """How long the first proof and all tests take is the same on each page, and lies around what DECISIONS.md has measured."""
+    """Each page states the same durations of the first proof and of all tests: from the shortest to the longest that DECISIONS.md has."""
     measured = (TOP / "docs/DECISIONS.md").read_text()
-    first = [int(seconds) / 60 for seconds in re.findall(r"(\d+)(?: to \d+)? s on 4 idle cores", measured)]
+    first = [int(seconds) / 60 for seconds in re.findall(r"(\d+) s\b", group_in(r"The first proved report took (.*?)\. ", measured))]
     whole = [int(minutes) for minutes in re.findall(r"`\./test` took (\d+) minutes", measured)]
     stated = re.findall(r"(\d+) to (\d+) minutes on 4 cores", page.read_text())
-    wanted = [(str(int(min(first))), str(int(max(first)) + 1))] * (page.name != "WORKING.md") + [(str(min(whole)), str(max(whole)))]
+    wanted = [(str(int(min(first))), str(int(max(first)) + 1)), (str(min(whole)), str(max(whole)))]
     if stated != wanted:
         yield f"it states {stated} minutes for the first proof and for all tests, and DECISIONS.md has {wanted}"
 
@@ -203,8 +203,8 @@ def door_page(page: pathlib.Path) -> Iterator[str]:
 
 
 def door_rules(_page: pathlib.Path) -> Iterator[str]:
-    """An internal crate has the prefix of its facade's name; tests, examples, benches and users name none, except the one with
-    which programs end; and each file of `uses_facades` is of one facade, except `names.rt`."""
+    """An internal crate has the prefix of its facade's name. Tests, examples, benches and users of facades name no internal crate. Each
+    file of `uses_facades` uses one facade, except `names.rt` and `run_names.rt`."""
     needs, door = needs_of_crates(), door_of()
     yield from (f"{name} hasn't the prefix of {door[name]}" for name in door if name.split("_")[0] != door[name].split("_")[0])
     for name in needs:
@@ -213,7 +213,7 @@ def door_rules(_page: pathlib.Path) -> Iterator[str]:
     for user in sorted((TOP / "crates/uses_facades/src").glob("[!l]*.rt")):
         text = user.read_text()
         named = {*re.findall(r"^(?:ghost )?use (?:Rattle\.)?(\w+)", text, re.M)} - {"std", "mathlib", "crate", "uses_facades"}
-        if user.name != "names.rt" and re.findall(r"\A//! A program that uses only `(\w+)`:", text) != [*named]:
+        if not user.name.endswith("names.rt") and re.findall(r"\A//! A program that uses only `(\w+)`:", text) != [*named]:
             yield f"{user.name} isn't of one facade: it names {', '.join(sorted(named))}"
 
 
@@ -240,9 +240,11 @@ def of_theorem(page: pathlib.Path) -> Iterator[str]:
     if not said or (int(said[2]), int(said[3])) != (sum(wanted.values()), len(wanted)):
         yield f"the theorem cites {sum(wanted.values())} lines in {len(wanted)} files, and the page says {said and said[0]}"
         return
+    for lines, call in re.findall(r"^ *(\d+) of (\w+)$", told, re.M):
+        if not any(abs(int(it) - int(lines)) * 10 <= int(lines) for it in re.findall(rf"`{call}` (\d+) lines", page.read_text())):
+            yield f"the contract of {call} cites {lines} lines, which the page doesn't say"
     first = re.findall(r"`([^`]+)`", " ".join(rows[: numbers.index(said[1]) + 1]))
-    yield from (f"its first {said[1]} rows lack {name}, which the theorem cites" for name in sorted(set(wanted) - set(first)))
-    yield from (f"its first {said[1]} rows have {name}, which the theorem doesn't cite" for name in sorted(set(first) - set(wanted)))
+    yield from (f"only its first {said[1]} rows or only the theorem has {name}" for name in sorted(set(wanted) ^ set(first)))
 
 
 def assurance(page: pathlib.Path) -> Iterator[str]:
@@ -323,8 +325,8 @@ def options_of_linux() -> list[str]:
     """Each option in OPERATORS' table of Linux's settings exists; and each that sets what Linux sets is there: all but the sizes of the
     machine, what its driver does, the costs, and the window, which Linux doesn't have."""
     known = {f"--{option['name']}" for option in json.loads((TOP / "tools/fintaqush_tools/options.json").read_text())}
-    own = {"--processors", "--socket", "--window", "--heedless", "--latched", "--app-wake", "--interrupt", "--poll", "--packet", "--use", "--wake",
-           "--timer", "--timer-wake"}
+    own = {"--processors", "--socket", "--window", "--heedless", "--early", "--latched", "--app-wake", "--interrupt", "--poll", "--packet", "--use", "--wake",
+           "--timer", "--timer-wake", "--poll-wake", "--arm"}
     table = (TOP / "docs/OPERATORS.md").read_text().partition("## Which setting does what")[2].partition("\n## ")[0]
     named = {option for row in table.splitlines() for option in re.findall(r"`(--[\w-]+)[ `]", row.rpartition(" | ")[2])}
     return [f"no option {option}" for option in sorted(named - known)] + [f"no row with {option}" for option in sorted(known - own - named)]
@@ -341,8 +343,7 @@ def checks() -> Iterator[PageJudged]:
         yield TOP / name, versions(TOP / name)
     for name in ("README.md", "docs/LIMITS.md", "docs/COMPARISON.md", "docs/C.md", "docs/GUIDE.md"):
         yield TOP / name, speeds(TOP / name)
-    for name in ("README.md", "docs/WORKING.md"):
-        yield TOP / name, durations(TOP / name)
+    yield TOP / "README.md", durations(TOP / "README.md")
     for door in DOORS:
         yield TOP / "crates" / door / "README.md", door_page(TOP / "crates" / door / "README.md")
     yield TOP / "crates/napi_c/claims.txt", claims.judge(TOP / "crates/napi_c/claims.txt", ["napi_c", "c_handles", "files_c"])

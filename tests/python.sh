@@ -33,14 +33,14 @@ except ImportError as fault:
 # A library with the header's names, which does nothing.
 of_another_version() {
     grep -oE '\bfq_\w+\(' "$top/include/fintaqush.h" | sort -u | sed 's/\(.*\)(/long \1(void) { return 0; }/' > other.c &&
-        cc -w -shared -fPIC other.c -o libfintaqush.so.2 && FINTAQUSH_LIB=$scratch said_in_a_line 'another version'
+        cc -w -shared -fPIC other.c -o libfintaqush.so.3 && FINTAQUSH_LIB=$scratch said_in_a_line 'another version'
 }
 
 of_no_call() {
-    echo 'int fq_none;' > other.c && cc -shared -fPIC other.c -o libfintaqush.so.2 && FINTAQUSH_LIB=$scratch said_in_a_line "hasn't fq_struct_size"
+    echo 'int fq_none;' > other.c && cc -shared -fPIC other.c -o libfintaqush.so.3 && FINTAQUSH_LIB=$scratch said_in_a_line "hasn't fq_struct_size"
 }
 
-no_library_at_all() { echo text > libfintaqush.so.2 && FINTAQUSH_LIB=$scratch said_in_a_line 'file too short'; }
+no_library_at_all() { echo text > libfintaqush.so.3 && FINTAQUSH_LIB=$scratch said_in_a_line 'file too short'; }
 
 limits() { python3 "$package/examples/limit.py" | diff - "$top/examples/c/limit.stdout"; }
 
@@ -53,7 +53,7 @@ export PYTHONPATH
 check 'its tests, as it is installed' tested
 check 'its example' simulates
 check 'the example limit, as in C' limits
-FINTAQUSH_LIB=$scratch/none check 'a library that is missing' said_in_a_line "$scratch/none/libfintaqush.so.2: cannot open"
+FINTAQUSH_LIB=$scratch/none check 'a library that is missing' said_in_a_line "$scratch/none/libfintaqush.so.3: cannot open"
 check 'one that has no call' of_no_call
 check 'one of another version' of_another_version
 check 'one that is none' no_library_at_all

@@ -9,7 +9,10 @@ version=$(sed -n 's/^#define FQ_VERSION "\(.*\)"$/\1/p' "$top/include/fintaqush.
 name=fintaqush-$version-$(uname -m)
 release=$scratch/release
 packages=(fintaqush libfintaqush-dev "libfintaqush${version%%.*}")
+files=()
+! has aarch64-linux-gnu-gcc 'a release for arm64' || files=("${packages[@]/%/_${version}_arm64.deb}" "fintaqush-$version-aarch64.tar.gz")
 packages=("${packages[@]/%/_${version}_$(dpkg --print-architecture).deb}" "python3-fintaqush_${version}_all.deb")
+files+=("${packages[@]}" "$name.tar.gz" CHANGES)
 
 # without_kit COMMAND ..: without this shell's environment.
 without_kit() { env -i PATH=/usr/bin:/bin LC_ALL=C.UTF-8 HOME="$scratch" "$@"; }
@@ -21,7 +24,7 @@ program_runs() {
     without_kit "$1/$2" "${words[@]}" < "$top/crates/$2/stdin" | diff - "$top/crates/$2/stdout"
 }
 
-tool_starts() { [ "$(without_kit "$1/$2" --version)" = "$2 of Fintaqush $version" ]; }
+tool_starts() { [[ $(without_kit "$1/$2" --version) =~ ^("$2 of ")?Fintaqush\ $version$ ]]; }
 
 links() { cc -pthread -I "$1/include" "$top/examples/c/limit.c" "$(find "$1/lib" -name libfintaqush.a)" -o "$scratch/limit" && "$scratch/limit" | diff - "$top/examples/c/limit.stdout"; }
 
@@ -70,10 +73,10 @@ depends_on_what_it_needs() {
     [ "$(cat "$scratch/needed")" = "$(dpkg-deb -f "$release/$package" Depends | grep -o 'libc6 ([^)]*)')" ] || { cat "$scratch/needed"; return 1; }
 }
 
-# asks_for_what_it_calls: a program that calls what came with 2.0 depends on the library of that version or later.
+# asks_for_what_it_calls: a program that calls what came with 3.0 depends on the library of that version or later.
 asks_for_what_it_calls() {
     cc -I "$scratch/root/usr/include" "$top/examples/c/limit.c" "$(find "$scratch/root/usr/lib" -name 'libfintaqush.so.?')" -o "$scratch/linked/limit" &&
-        (cd "$scratch/linked" && dpkg-shlibdeps -O limit 2> /dev/null) | grep -F "libfintaqush${version%%.*} (>= 2.0.0)"
+        (cd "$scratch/linked" && dpkg-shlibdeps -O limit 2> /dev/null) | grep -F "libfintaqush${version%%.*} (>= 3.0.0)"
 }
 
 # has_symbols: the package of the library lists each call.
@@ -122,10 +125,9 @@ bare_runs() {
     [ "$(id -u)" != 0 ] || { chown 65534 . && user='setpriv --reuid=65534 --regid=65534 --clear-groups'; }
     # shellcheck disable=SC2016,SC2086 # expanded by that shell; words, or none
     $user env -i PATH=/usr/sbin:/usr/bin:/sbin:/bin LC_ALL=C ${2:-A=b} sh -ec '
-        "$1/fintaqush" replay "$2/bursts.csv" > "a report"
-        "$1/fintaqush" json < "a report" > "a report.json"
+        "$1/fintaqush" replay --json "$2/bursts.csv" > "a report.json"
         "$1/fintaqush" steps "$2/busy-poll.csv" --out "a page.html"
-        "$1/fintaqush" plot "$2/bursts.csv" --json > "a picture"
+        "$1/fintaqush" plot "$2/bursts.csv" --out "a picture.html"
         "$1/fintaqush" what-if --traffic "--kind poisson --rate 100000" --threaded 0,1 > "a table"' sh "$1" "$examples" > log 2>&1
     local status=$?
     cat log
@@ -135,14 +137,17 @@ bare_runs() {
 check 'no folder is refused' status_of 64 "$top/scripts/release.sh"
 # shellcheck disable=SC2046 # words
 check 'what it has is built' "$top/scripts/build.sh" napi_c files_c $("$top/scripts/install.sh" --programs)
+# shellcheck disable=SC2046 # words
+! command -v aarch64-linux-gnu-gcc > /dev/null ||
+    check 'and for arm64' env FINTAQUSH_TARGET=arm64 "$top/scripts/build.sh" napi_c files_c $("$top/scripts/install.sh" --programs)
 check 'a release is made' "$top/scripts/release.sh" "$release"
 check 'without a warning' [ -z "$(grep -v '^[a-z]*\.sh: ' "$scratch/log")" ]
 check 'a folder that is filled is refused' status_of 73 "$top/scripts/release.sh" "$release"
-check 'it has these files' diff <(ls "$release") <(printf '%s\n' "${packages[@]}" "$name.tar.gz" CHANGES SHA256SUMS | LC_ALL=C sort)
-check 'with their checksums' sh -c 'cd "$1" && sha256sum --quiet -c SHA256SUMS && [ "$(wc -l < SHA256SUMS)" = 6 ]' sh "$release"
+check 'it has these files' diff <(ls "$release") <(printf '%s\n' "${files[@]}" SHA256SUMS | LC_ALL=C sort)
+check 'with their checksums' sh -c 'cd "$1" && sha256sum --quiet -c SHA256SUMS && [ "$(wc -l < SHA256SUMS)" = "$2" ]' sh "$release" "${#files[@]}"
 check 'the changes are those of the version' grep -q "^## $version" "$release/CHANGES"
 check 'the same sources give the same packages' again
-check 'the tarball has the time of the sources' of_one_time "$release/$name.tar.gz"
+for file in "$release"/*.tar.gz; do check "the files of ${file##*/} have the time of the sources" of_one_time "$file"; done
 for package in "${packages[@]}"; do
     check "$package is unpacked" dpkg-deb -x "$release/$package" "$scratch/root"
     check "$package belongs to root" is_of_root "$release/$package"

@@ -32,10 +32,28 @@ refuses scripts/release.sh
 refuses scripts/release.sh a b
 check 'a refused script makes nothing' [ ! -e "$scratch/traces" ]
 
+# Each script that can be called says how, makes nothing, and rejects an option that it doesn't have.
+# helps SCRIPT: prints its head, which begins with how it is called, and succeeds.
+helps() {
+    (cd "$scratch/empty" && timeout 1h "$top/$1" --help) > "$scratch/out" 2> "$scratch/err" && [ ! -s "$scratch/err" ] &&
+        [ -z "$(ls -A "$scratch/empty")" ] && [[ $(head -n 1 "$scratch/out") =~ ^(scripts|\.)/${1##*/}[\ :] ]]
+}
+# knows_its_options SCRIPT: an unknown one ends with a line and status 64.
+knows_its_options() {
+    local status=0
+    (cd "$scratch/empty" && timeout 1h "$top/$1" --no-such-option) > "$scratch/out" 2>&1 || status=$?
+    [ "$status $(wc -l < "$scratch/out") $(ls -A "$scratch/empty")" = '64 1 ' ]
+}
+mkdir "$scratch/empty"
+for script in test $(cd "$top" && find scripts -type f -perm -u+x | sort); do
+    check "$script --help" helps "$script"
+    check "$script --no-such-option" knows_its_options "$script"
+done
+
 # ./test on a repository of five scripts: three skip something, and two of these say so in a form that doesn't count.
 mkdir -p "$scratch/low/scripts" "$scratch/low/tests"
 cp "$top/test" "$scratch/low"
-cp "$top/scripts/checks.sh" "$scratch/low/scripts"
+cp "$top"/scripts/{arguments,checks}.sh "$scratch/low/scripts"
 printf '%s\n' '# needs' 'spin spin' 'root -' 'cc gcc libc6-dev' > "$scratch/low/tests/needs.txt"
 # script NAME LINE ..: a script that counts two checks, with these lines between them.
 script() {
@@ -48,6 +66,7 @@ script part "skip 'the search' spin cc" "skip 'the card' root"
 script unknown "skip 'the search' none"
 script uncounted "echo 'skipped: the search needs spin'"
 script broken 'check three false'
+script building "scripts/build.sh napi_serial || check three false"
 # sums STATUS LINE NAME ..: ./test on these scripts ends like this.
 sums() {
     local status=0
@@ -62,6 +81,17 @@ check 'and how to install them' grep -q 'scripts/test-packages.sh installs the p
 sums 1 '2 passed, 1 failed, 0 skipped' unknown
 sums 1 '2 passed, 1 failed, 0 skipped' uncounted
 sums 1 '4 passed, 1 failed, 2 skipped' part broken
+# without_rt: a folder with what is on PATH, but for rt
+without_rt() {
+    local folder
+    mkdir "$scratch/bin"
+    for folder in ${PATH//:/ }; do ln -s "$folder"/* "$scratch/bin" 2> /dev/null; done
+    rm -f "$scratch/bin/rt"
+    ! PATH=$scratch/bin command -v rt
+}
+check 'a PATH without rt' without_rt
+PATH=$scratch/bin sums 0 '2 passed, 0 failed, 1 skipped' whole building
+check 'what builds is skipped without rt, by its name' grep -qxF '    building: all of it needs rt' "$scratch/out"
 check 'tests/needs.txt has what tests need, and nothing else' python3 -B "$top/tests/needs.py"
 check 'scripts/test-packages.sh lists the packages' grep -qx python3-matplotlib <("$top/scripts/test-packages.sh" --list)
 check 'and what each gives' grep -qx 'spin: the search of the models' <("$top/scripts/test-packages.sh" --gives)
@@ -97,7 +127,7 @@ fetches() {
     rm -rf "$scratch/fetched"
     mkdir -p "$home" "$scratch/fetched"/{scripts,tests} "$scratch/debs"
     cp "$top"/scripts/{test-packages,arguments}.sh "$scratch/fetched/scripts"
-    for name in kernel cards; do printf '#!/bin/sh\n' > "$scratch/fetched/tests/$name.sh"; done
+    for name in kernel cards arm64; do printf '#!/bin/sh\n' > "$scratch/fetched/tests/$name.sh"; done
     chmod +x "$scratch/fetched/tests"/*.sh
     PATH=$scratch/apt:$PATH HOME=$home "$scratch/fetched/scripts/test-packages.sh" --fetch &&
         PATH=/none:/bin:/usr/bin HOME=$home "$scratch/fetched/scripts/test-packages.sh" --fetch &&
@@ -130,18 +160,18 @@ printf '#!/bin/sh\nexec sleep 600\n' > "$scratch/kit/bin/rattle"
 : > "$scratch/kit/KIT-ID"
 chmod +x "$scratch/kit/bin"/*
 # comes COMMAND ..: waits for it, at most some minutes.
-comes() { for _ in $(seq 3000); do "$@" > /dev/null 2>&1 && return; sleep 0.05; done; return 1; }
+comes() { for _ in $(seq 30000); do "$@" > /dev/null 2>&1 && return; sleep 0.05; done; return 1; }
 says_that_it_builds() {
-    "$top/scripts/fresh_clone.sh" "$scratch/clone" && rm -f "$scratch"/clone/fintaqush/crates/*/out/*
-    (cd "$scratch/clone/fintaqush" && cp tests/tools/soft-tcp.csv mine.csv && cp tests/tools/soft-tcp.work mine.work &&
-        exec env -i PATH="$scratch/kit/bin:$PATH" HOME="$scratch/clone/home" ./fintaqush compare-recording mine --budget 300) > "$scratch/out" 2>&1 &
+    "$top/scripts/fresh_clone.sh" "$scratch/clone" && rm -f "$scratch"/clone/fintaqush/{crates/*/out/*,web/napi_*}
+    (cd "$scratch/clone/fintaqush" && cp tests/tools/soft-tcp.csv mine.csv &&
+        exec env -i PATH="$scratch/kit/bin:$PATH" HOME="$scratch/clone/home" ./fintaqush compare mine.csv --budget 300 --) > "$scratch/out" 2>&1 &
     comes grep 'proving and building napi_serial' "$scratch/out"
     local status=$?
     kill $!
     wait $!
     return "$status"
 }
-check 'compare-recording without a built program says that it builds' says_that_it_builds
+check 'compare without a built program says that it builds' says_that_it_builds
 
 # The launcher with too few descriptors doesn't say that python3 is missing; interrupted, or out of memory, while it starts it
 # ends with a message: csv.py is imported then.
@@ -162,7 +192,8 @@ check 'it is out of memory as it begins' ends_in_a_line 'raise MemoryError' "the
 
 # A gate of one crate, whose prover is a shell with the prover's name. It ends after the processes were read again: that is before a line
 # that follows two lines over half a second apart.
-mkdir -p "$scratch/rt-edit-x"
+mkdir -p "$scratch/rt-edit-x/tests"
+echo 'eval "$work"' > "$scratch/rt-edit-x/tests/one.sh"
 cat > "$scratch/gate" << 'END'
 #!/usr/bin/env bash
 export work='for ((i = 0; i < 300000; i++)); do :; done
@@ -171,6 +202,8 @@ prove() { bash -c 'exec -a /x/rattle bash -c "$work" "$@"' '' "$@"; }
 prove check --crate-name low && echo 'rt: low proved'
 prove check --crate-name low --test && echo 'rt: low: its tests are proved'
 cd "$1" && prove check --crate-name low
+bash tests/one.sh
+bash tests/one.sh
 printf 'must-fail low/%s: refused\n' one two
 echo '3 passed, 1 failed'
 exit 1
@@ -182,6 +215,8 @@ check "the gate's status is the script's" [ "$status" = 1 ]
 check 'its lines have their seconds' grep -q '^ *[0-9]*\.[0-9]  rt: low proved$' "$scratch/out"
 check 'a crate has its row' grep -q '^low  *[0-9.]* s  *[0-9.]* s  *[0-9.]* s  *[0-9.]* s  *2: [0-9.]* s  *[0-9.]* s$' "$scratch/out"
 check 'with processor time in each place' [ "$(awk '/^low/ { print ($4 > 0), ($8 > 0), ($13 > 0) }' "$scratch/out")" = '1 1 1' ]
+parts() { awk '/^(proofs|tests|edits|scripts) / { print $1, ($6 > 0), ($2 > 0.5 || $1 != "scripts") }' "$scratch/out" | xargs; }
+check 'each part has its wall and processor time' [ "$(parts)" = 'proofs 1 1 tests 1 1 edits 1 1 scripts 1 1' ]
 check 'and all that is in the log' cmp "$scratch/out" "$scratch/gate.log"
 status=0
 LOG=/proc/none/log "$top/scripts/gate-times.sh" true 2> "$scratch/out" || status=$?

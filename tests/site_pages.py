@@ -72,7 +72,7 @@ def references(made: pathlib.Path, texts: dict[pathlib.Path, str]) -> Iterator[s
     """What the references of all calls lack: a call of the header, a class of fintaqush.hpp, a public type of the Rust crate, a facade, and a
     name that a clause cites, with its definition."""
     header = (TOP / "include/fintaqush.h").read_text()
-    calls = set(re.findall(r"\b(fq_\w+)\(", header))
+    calls = set(re.findall(r"\b(fq_(?!private_)\w+)\(", header))
     if not is_missing("doxygen", "the reference of C and C++ in the site") and not (made / "reference/c").is_dir():
         yield "there is no reference/c"
     if not is_missing("cargo", "the reference of Rust in the site") and not (made / "reference/rust").is_dir():

@@ -126,6 +126,6 @@ fn main(rt: HostRuntime) -> Result<()> {
     Ok(())
 }
 END
-check 'a program over tx_ring is proved there' prints_when_proved sends '[true, true, false], -200 available'
+! has rt 'a program over what was taken' || check 'a program over tx_ring is proved there' prints_when_proved sends '[true, true, false], -200 available'
 
 sum_up

@@ -1,6 +1,6 @@
 #!/usr/bin/env bash
-# tests/tools.sh: tries the tools of tools/, and napi_series on whole runs, by tests/tools/test_*.py. What needs matplotlib, dygraphs, GNU
-# parallel, tcpdump, Chromium or a slurmd is skipped without it. PROGRAM=FILE, SERIES=FILE and MACHINE=FILE name
+# tests/tools.sh: tries the tools of tools/, and napi_series on whole runs, by tests/tools/test_*.py. What needs GNU
+# parallel, tcpdump, node or a slurmd is skipped without it. PROGRAM=FILE, SERIES=FILE and MACHINE=FILE name
 # other builds of napi_replay, napi_series and napi_machine. RAISED=N tries that many random traces with added runs (300).
 # The last line is `N passed, M failed, K skipped`.
 set -u

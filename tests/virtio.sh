@@ -13,8 +13,9 @@ if build plain; then
     printed_table 'examples/virtio/compare.sh' 10 '[a-z0-9, ]+ (driver|kernel) +[1-9][0-9]*( +[0-9]+){4}'
     # a wrong order of some nanoseconds is stretched to a millisecond, so that each run shows it
     mistake 'no look behind the unmask' 'nothing lies in the queues' virtio/virtio.c \
-        'case FQ_TODO_UNMASK: queue_unmask(side->queue); break;' 'case FQ_TODO_UNMASK: usleep(1000), queue_unmask(side->queue); break;' \
-        'case FQ_TODO_LOOK: todo.packets = queue_back(side->queue); break;' 'case FQ_TODO_LOOK: todo.packets = 0; break;'
+        'if (todo->packets == todo->most) return;' 'if (todo->packets == todo->most) return;
+    usleep(1000);' \
+        'todo->rearm = queue_back(side->queue) ? FQ_REARM_MORE : FQ_REARM_EMPTY;' 'todo->rearm = FQ_REARM_EMPTY;'
     mistake 'a mask that comes too late' 'nothing lies in the queues' virtio/virtio.c \
         'case FQ_TODO_UNMASK: queue_unmask(side->queue); break;' 'case FQ_TODO_UNMASK: queue_unmask(side->queue), queue_mask(side->queue); break;'
     mistake 'a completion told twice' 'no answer waits or is in flight' virtio/virtio.c \

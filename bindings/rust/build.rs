@@ -22,8 +22,9 @@ fn main() {
 }
 
 fn archive() -> Result<PathBuf, String> {
-    if env::var("CARGO_CFG_TARGET_ARCH").as_deref() != Ok("x86_64") {
-        return Err(format!("{NAME} is for x86-64 alone"));
+    let machine = env::var("CARGO_CFG_TARGET_ARCH").unwrap_or_default();
+    if machine != "x86_64" && machine != "aarch64" {
+        return Err(format!("{NAME} is for x86-64 and arm64 alone"));
     }
     let (folder, cure) = match env::var_os("FINTAQUSH_LIB") {
         Some(named) => (

@@ -26,27 +26,23 @@ static void *receive(void *none) {
     return none;
 }
 
-/* Takes packets from a card, at most this many. */
-static uint32_t fetch(struct card *card, uint32_t most) {
-    uint32_t count = 0;
-    for (; count < most && card->polled != card->arrived; count++) card->polled++;
-    return count;
-}
-
-static void report_interrupts(void) {
-    for (uint64_t bits = fq_word_take(&interrupts); bits; bits &= bits - 1)
-        must(!fq_is_error(fq_driver_interrupt(&driver, (uint32_t)__builtin_ctzll(bits))));
+/* Takes packets from a card. If it has no more, unmasks it and then looks at it, which saves two turns. */
+static void fetch(struct card *card, struct fq_todo *todo) {
+    for (; todo->packets < todo->most && card->polled != card->arrived; todo->packets++) card->polled++;
+    if (todo->packets == todo->most) return;
+    card->masked = 0;
+    todo->rearm = card->arrived != card->polled ? FQ_REARM_MORE : FQ_REARM_EMPTY;
 }
 
 /* Does what the driver asks for until there is nothing to do: from then on each packet that arrives raises an interrupt. */
 static void work(void) {
     struct fq_todo todo = FQ_TODO_INIT;
-    while (report_interrupts(), must(!fq_is_error(fq_driver_step(&driver, &todo))), todo.what != FQ_TODO_SLEEP) {
+    while (must(fq_driver_turn(&driver, fq_word_take(&interrupts), &todo) == FQ_OK), todo.what != FQ_TODO_SLEEP) {
         struct card *card = &cards[todo.device];
-        if (todo.what == FQ_TODO_MASK) card->masked = 1;
-        else if (todo.what == FQ_TODO_UNMASK) card->masked = 0;
-        else if (todo.what == FQ_TODO_LOOK) todo.packets = card->arrived != card->polled;
-        else if (todo.what == FQ_TODO_FETCH) todo.packets = fetch(card, todo.most);
+        if (todo.mask || todo.what == FQ_TODO_MASK) card->masked = 1;
+        if (todo.what == FQ_TODO_UNMASK) card->masked = 0;
+        if (todo.what == FQ_TODO_LOOK) todo.packets = card->arrived != card->polled;
+        if (todo.what == FQ_TODO_FETCH) fetch(card, &todo);
         if (stops < STOPS && cards[0].polled >= (stops + 1) * BETWEEN && fq_driver_stop(&driver, 0) == FQ_OK) stops++;
     }
 }

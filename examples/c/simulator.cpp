@@ -28,17 +28,17 @@ struct Machine {
     unsigned interrupts = 0, timers = 0, polled = 0, dropped = 0, runs = 0, squeezed = 0;
 
     void work(Time time) { busy = true, events.emplace(now + time, WORKED, 0); }
-
+    static void must(bool holds) { if (!holds) std::abort(); }
     // The processor is free: it handles an interrupt or a timer, unless a poll has to be completed first, or does what else is due.
     void begin() {
         const bool completes = todo.what == FQ_TODO_UNMASK || (todo.what == FQ_TODO_FETCH && todo.packets < todo.most);
         const auto asks = std::find_if(cards.begin(), cards.end(), [=](auto &card) { return !completes && (card.raised || card.expired); });
         if (asks != cards.end() && asks->expired) {
-            asks->expired = false, timers++, driver.timer(unsigned(asks - cards.begin()));
+            asks->expired = false, timers++, must(!fq_is_error(driver.timer(unsigned(asks - cards.begin()))));
             return todo.what = FQ_TODO_SLEEP, work(INTERRUPT);
         }
-        if (asks != cards.end()) asks->raised = false, driver.interrupt(unsigned(asks - cards.begin()));
-        todo = driver.next(), runs += todo.run.polls > 0, squeezed += todo.run.squeezed;
+        if (asks != cards.end()) asks->raised = false, must(!fq_is_error(driver.interrupt(unsigned(asks - cards.begin()))));
+        todo = driver.next(), runs += todo.run().polls > 0, squeezed += todo.squeezed;
         Card &card = cards[todo.device];
         switch (todo.what) {
         case FQ_TODO_MASK: card.masked = true, interrupts++, work(INTERRUPT); break;
@@ -56,7 +56,7 @@ struct Machine {
         Card &card = cards[todo.device];
         if (todo.what == FQ_TODO_FETCH && todo.packets < todo.most && !card.ring.empty())
             return waited += now + PACKET - card.ring.front(), card.ring.pop(), todo.packets++, polled++, work(PACKET);
-        if (todo.what != FQ_TODO_SLEEP && driver.done(todo) != FQ_OK) std::abort();
+        must(todo.what == FQ_TODO_SLEEP || driver.done(todo) == FQ_OK);
         busy = false, begin();
     }
     void arrived(unsigned device) {

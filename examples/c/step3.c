@@ -8,7 +8,7 @@ static struct fq_driver driver;
 static struct fq_tx tx;
 static uint64_t now_ms;
 static unsigned arrived, polled, answered, sent, stopped; /* sent: the packets that the card has sent and not reported yet */
-static bool masked = true;
+static bool masked = true, interrupts;
 static void must(bool holds) { if (!holds) abort(); }
 
 /* Passes answers to the card, which sends them (netdev_tx_sent_queue). */
@@ -21,23 +21,27 @@ static void send_answers(void) {
     }
 }
 
-/* The driver completes what the card has sent (netdev_tx_completed_queue), and takes packets from it. */
-static uint32_t fetch(uint32_t most) {
-    const unsigned there = arrived - polled, count = there < most ? there : most;
+/* The driver completes what the card has sent (netdev_tx_completed_queue), and takes packets from it. If there is no more of either, it unmasks the
+ * card and then looks at it. */
+static void fetch(struct fq_todo *todo) {
+    const unsigned there = arrived - polled;
     must(fq_tx_done(&tx, sent, now_ms) == FQ_OK);
     sent = 0;
-    polled += count;
+    todo->packets = there < todo->most ? there : todo->most;
+    polled += todo->packets;
     send_answers();
-    return count;
+    if (todo->packets == todo->most) return;
+    masked = false;
+    todo->rearm = arrived - polled + sent > 0 ? FQ_REARM_MORE : FQ_REARM_EMPTY; /* MORE also if there is something to complete */
 }
 
 static void work(void) {
     struct fq_todo todo = FQ_TODO_INIT;
-    while (must(!fq_is_error(fq_driver_step(&driver, &todo))), todo.what != FQ_TODO_SLEEP) {
-        if (todo.what == FQ_TODO_MASK) masked = true;
-        else if (todo.what == FQ_TODO_UNMASK) masked = false;
-        else if (todo.what == FQ_TODO_LOOK) todo.packets = arrived - polled + sent; /* or if there is something to complete */
-        else if (todo.what == FQ_TODO_FETCH) todo.packets = fetch(todo.most);
+    while (must(fq_driver_turn(&driver, interrupts, &todo) == FQ_OK), interrupts = false, todo.what != FQ_TODO_SLEEP) {
+        if (todo.mask || todo.what == FQ_TODO_MASK) masked = true;
+        if (todo.what == FQ_TODO_UNMASK) masked = false;
+        if (todo.what == FQ_TODO_LOOK) todo.packets = arrived - polled + sent;
+        if (todo.what == FQ_TODO_FETCH) fetch(&todo);
     }
 }
 
@@ -46,7 +50,7 @@ int main(void) {
     must(fq_tx_new(&tx, 256, 0, 1879048192, 1000, 0) == FQ_OK);
     for (work(); now_ms < BURSTS; now_ms++, work()) {
         arrived += BURST;
-        if (!masked) must(fq_driver_interrupt(&driver, 0) == FQ_GRANTED);
+        interrupts = !masked; /* bit 0, of device 0 */
     }
     printf("%u packets, %u answers, the limit stopped the queue: %s\n", polled, answered, stopped ? "yes" : "no");
     must(fq_driver_stop(&driver, 0) == FQ_OK);

@@ -1,8 +1,8 @@
 /* What the drivers of examples/xdp and examples/dpdk share, whatever their card is: events, the library's driver, the queue limit, open
  * and stop.
  *
- * The interrupt thread waits for the cards' events, and raises the bits of their devices. The poller reports these to the library's
- * driver, and does what that asks for; with one thread it also waits for the events. Each count is written by only one thread. */
+ * The interrupt thread waits for the cards' events, and raises the bits of their devices. The poller passes these to the library's
+ * driver in each turn, and does what that asks for; with one thread it also waits for the events. Each count is written by only one thread. */
 #ifndef DRIVER_H
 #define DRIVER_H
 
@@ -33,7 +33,7 @@ struct device {
     alignas(APART) unsigned long interrupts; /* the fields from here on are written by the interrupt thread */
     alignas(APART) struct fq_tx limit;   /* the fields from here on are written by the poller */
     struct fq_tx_watchdog watchdog;
-    unsigned long granted, missed, disabled, polls, packets, full, answered, sent, done, held;
+    unsigned long polls, packets, full, answered, sent, done, held;
 };
 
 static struct device *devices[DEVICES];
@@ -120,22 +120,13 @@ static inline void watch(struct device *device) {
 
 /* ---- Polls. */
 
-static inline void report_interrupts(void) {
-    for (uint64_t bits = fq_word_take(&interrupted); bits; bits &= bits - 1) {
-        struct device *device = devices[__builtin_ctzll(bits)];
-        const uint32_t said = fq_driver_interrupt(&driver, device->id);
-        device->granted += said == FQ_GRANTED, device->missed += said == FQ_MISSED, device->disabled += said == FQ_DISABLED;
-        if (said != FQ_MISSED && said != FQ_DISABLED) must("interrupt", said, FQ_GRANTED);
-    }
-}
-
 static inline uint32_t take_from(struct device *device, uint32_t most) {
     const uint32_t count = device->fetch(device, most);
     device->polls++, device->packets += count, device->full += count == most;
     return count;
 }
 
-/* Fetches from a device. If it has no more, the card is unmasked and then looked at, which saves two steps. */
+/* Fetches from a device. If it has no more, the card is unmasked and then looked at, which saves two turns. */
 static inline void fetch_from(struct device *device, struct fq_todo *todo) {
     todo->packets = take_from(device, todo->most);
     if (todo->packets == todo->most) return;
@@ -146,19 +137,21 @@ static inline void fetch_from(struct device *device, struct fq_todo *todo) {
 /* Does what the driver asks for until a run ends; returns false if there is nothing to do. */
 static inline bool run(void) {
     struct fq_todo todo = FQ_TODO_INIT;
-    while (report_interrupts(), !fq_is_error(fq_driver_step(&driver, &todo)) && todo.what != FQ_TODO_SLEEP) {
+    enum fq_status said;
+    while ((said = fq_driver_turn(&driver, fq_word_take(&interrupted), &todo)) == FQ_OK && todo.what != FQ_TODO_SLEEP) {
         struct device *device = devices[todo.device];
+        if (todo.mask) device->mask(device);
         switch (todo.what) {
         case FQ_TODO_MASK: device->mask(device); break;
         case FQ_TODO_UNMASK: device->unmask(device); break;
         case FQ_TODO_LOOK: todo.packets = device->look(device); break;
         case FQ_TODO_FETCH: fetch_from(device, &todo); break;
-        case FQ_TODO_ENDED: return runs++, squeezed += todo.run.squeezed, true;
+        case FQ_TODO_ENDED: return runs++, squeezed += todo.squeezed, true;
         case FQ_TODO_TIMER: case FQ_TODO_SLEEP: case FQ_TODO_FAILED: break;
         }
     }
-    must("step", todo.status, FQ_OK);
-    runs += todo.run.polls > 0;
+    must("turn", said, FQ_OK);
+    runs += fq_todo_run(&todo).polls > 0;
     return false;
 }
 
@@ -230,8 +223,8 @@ static inline void open_device(struct device *device, uint32_t frames, uint32_t 
 static inline void close_device(struct device *device) {
     struct fq_tx_shown shown;
     must("state", fq_tx_state(&device->limit, &shown), FQ_OK);
-    printf("interrupts %lu granted %lu missed %lu disabled %lu | packets %lu polls %lu full %lu runs %lu squeezed %lu\n", device->interrupts,
-        device->granted, device->missed, device->disabled, device->packets, device->polls, device->full, runs, squeezed);
+    printf("interrupts %lu | packets %lu polls %lu full %lu runs %lu squeezed %lu\n", device->interrupts, device->packets, device->polls, device->full,
+        runs, squeezed);
     printf("answered %lu sent %lu done %lu held %lu limit %u in_flight %u\n", device->answered, device->sent, device->done, device->held, shown.limit,
         shown.queued - shown.completed);
     must("free", fq_free(&device->limit.handle), FQ_OK);

@@ -67,7 +67,8 @@ static void report(struct queue *queue) {
     if (said != FQ_MISSED && said != FQ_DISABLED) must("interrupt", said, FQ_GRANTED);
 }
 
-/* Handles an interrupt. With one thread, it is reported at once; otherwise the card thread sets a bit and wakes the poller. */
+/* Handles an interrupt. With one thread, it is reported at once, so that each is counted; otherwise the card thread sets a bit, which the poller
+ * passes to the driver's next turn, and wakes the poller. */
 static void interrupt(struct queue *queue) {
     if (set.one) report(queue);
     else if (fq_word_raise(&interrupted, (uint32_t)queue->number)) raise_event(wake);
@@ -122,30 +123,40 @@ static size_t poll_ring(struct queue *queue, size_t most) {
     return count;
 }
 
-/* Makes a poll; if an interrupt was missed, another poll follows. */
-static uint32_t fetch(struct queue *queue, uint32_t most) {
-    struct fq_device_shown shown;
-    must("show", fq_driver_show(&driver, (uint32_t)queue->number, &shown), FQ_OK);
-    const size_t count = set.direct ? read_all(queue, most) : poll_ring(queue, most);
-    queue->polls++;
-    queue->again += shown.missed && (count < most || shown.state == FQ_DEVICE_STOPPING);
-    return (uint32_t)count;
+static void unmask(struct queue *queue) {
+    if (set.mask) arm(queue, EPOLL_CTL_MOD);
 }
 
-/* Does what the driver asks for until a run ends; returns false if there is nothing to do. Frames that are still in the device
- * are reported by epoll when it is armed. A trace has no row for a look, so packets that arrived while a queue was stopped are
- * polled after the next packet there. */
+/* Looks whether there are packets. Frames that are still in the device are reported by epoll when it is armed. A trace has no row for a look, so
+ * packets that arrived while a queue was stopped are polled after the next packet there. */
+static bool look(const struct queue *queue) { return queue->put != queue->taken && !trace.file; }
+
+/* Makes a poll; if an interrupt was missed, another poll follows. If there is no more, the device is unmasked and looked at, which saves two
+ * turns. */
+static void fetch(struct queue *queue, struct fq_todo *todo) {
+    struct fq_device_shown shown;
+    must("show", fq_driver_show(&driver, (uint32_t)queue->number, &shown), FQ_OK);
+    todo->packets = (uint32_t)(set.direct ? read_all(queue, todo->most) : poll_ring(queue, todo->most));
+    queue->polls++;
+    queue->again += shown.missed && (todo->packets < todo->most || shown.state == FQ_DEVICE_STOPPING);
+    if (todo->packets == todo->most) return;
+    unmask(queue);
+    todo->rearm = look(queue) ? FQ_REARM_MORE : FQ_REARM_EMPTY;
+}
+
+/* Does what the driver asks for until a run ends; returns false if there is nothing to do. There is nothing to mask: epoll has reported a device
+ * once. */
 static bool run(void) {
     struct fq_todo todo = FQ_TODO_INIT;
-    for (uint64_t bits = fq_word_take(&interrupted); bits; bits &= bits - 1) report(&queues[__builtin_ctzll(bits)]);
-    while (!fq_is_error(fq_driver_step(&driver, &todo)) && todo.what != FQ_TODO_SLEEP && todo.what != FQ_TODO_ENDED) {
+    enum fq_status said;
+    while ((said = fq_driver_turn(&driver, fq_word_take(&interrupted), &todo)) == FQ_OK && todo.what != FQ_TODO_SLEEP && todo.what != FQ_TODO_ENDED) {
         struct queue *queue = &queues[todo.device];
-        if (todo.what == FQ_TODO_FETCH) todo.packets = fetch(queue, todo.most);
-        if (todo.what == FQ_TODO_UNMASK && set.mask) arm(queue, EPOLL_CTL_MOD);
-        if (todo.what == FQ_TODO_LOOK) todo.packets = queue->put != queue->taken && !trace.file;
+        if (todo.what == FQ_TODO_FETCH) fetch(queue, &todo);
+        if (todo.what == FQ_TODO_UNMASK) unmask(queue);
+        if (todo.what == FQ_TODO_LOOK) todo.packets = look(queue);
     }
-    must("step", todo.status, FQ_OK);
-    if (todo.run.polls > 0) row(&trace, now_ms(), 0, "softirq", 0), runs++, squeezed += todo.run.squeezed;
+    must("turn", said, FQ_OK);
+    if (fq_todo_run(&todo).polls > 0) row(&trace, now_ms(), 0, "softirq", 0), runs++, squeezed += todo.squeezed;
     for (size_t i = 0; i < set.queues; i++) send_answers(&queues[i]);
     return todo.what == FQ_TODO_ENDED;
 }
@@ -255,8 +266,8 @@ static void print(void) {
         sum.drained += queue->drained, sum.sender.answered += queue->sender.answered, sum.sender.sent += queue->sender.sent;
         sum.sender.failed += queue->sender.failed, sum.sender.dropped += queue->sender.dropped, sum.sender.held += queue->sender.held;
     }
-    printf("read %lu full %lu granted %lu missed %lu disabled %lu | packets %lu polls %lu again %lu drained %lu\n", sum.read, sum.full, sum.granted,
-        sum.missed, sum.disabled, sum.packets, sum.polls, sum.again, sum.drained);
+    if (set.one) printf("granted %lu missed %lu disabled %lu | ", sum.granted, sum.missed, sum.disabled);
+    printf("read %lu full %lu | packets %lu polls %lu again %lu drained %lu\n", sum.read, sum.full, sum.packets, sum.polls, sum.again, sum.drained);
     printf("runs %lu squeezed %lu | answered %lu sent %lu failed %lu dropped %lu held %lu limit %u in_flight %u\n", runs, squeezed, sum.sender.answered,
         sum.sender.sent, sum.sender.failed, sum.sender.dropped, sum.sender.held, limit, in_flight);
 }

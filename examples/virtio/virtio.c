@@ -21,7 +21,7 @@ enum wanted { ON, OFF, END };
 struct side {
     struct queue *queue;
     alignas(128) atomic_ulong interrupts; /* written by the interrupt thread */
-    alignas(128) unsigned long granted, missed, disabled, polls, packets, full; /* written by the poller */
+    alignas(128) unsigned long polls, packets, full; /* written by the poller */
 };
 
 static struct card card;
@@ -60,15 +60,6 @@ static void interrupt(struct side *side) {
     if (read(side->queue->event, &count, 8) != 8) return;
     side->interrupts += count;
     if (fq_word_raise(&interrupted, side->queue->number)) raise_event(wake);
-}
-
-static void report_interrupts(void) {
-    for (uint64_t bits = fq_word_take(&interrupted); bits; bits &= bits - 1) {
-        struct side *side = &sides[__builtin_ctzll(bits)];
-        const uint32_t said = fq_driver_interrupt(&driver, side->queue->number);
-        side->granted += said == FQ_GRANTED, side->missed += said == FQ_MISSED, side->disabled += said == FQ_DISABLED;
-        if (said != FQ_MISSED && said != FQ_DISABLED) must("interrupt", said, FQ_GRANTED);
-    }
 }
 
 static void *interrupts(void *at) {
@@ -135,29 +126,34 @@ static uint32_t complete(struct queue *queue) {
     return count;
 }
 
-static uint32_t fetch(struct side *side) {
-    const uint32_t count = side->queue->number == RX ? receive(side->queue) : complete(side->queue);
+/* If the card has no more, it is unmasked and then looked at, which saves two turns. */
+static void fetch(struct side *side, struct fq_todo *todo) {
+    todo->packets = side->queue->number == RX ? receive(side->queue) : complete(side->queue);
     send_answers(sides[TX].queue);
-    side->polls++, side->packets += count, side->full += count == WEIGHT;
-    return count;
+    side->polls++, side->packets += todo->packets, side->full += todo->packets == WEIGHT;
+    if (todo->packets == todo->most) return;
+    queue_unmask(side->queue);
+    todo->rearm = queue_back(side->queue) ? FQ_REARM_MORE : FQ_REARM_EMPTY;
 }
 
 /* Does what the driver asks for until a run ends; returns false if there is nothing to do. */
 static bool run(void) {
     struct fq_todo todo = FQ_TODO_INIT;
-    while (report_interrupts(), !fq_is_error(fq_driver_step(&driver, &todo)) && todo.what != FQ_TODO_SLEEP) {
+    enum fq_status said;
+    while ((said = fq_driver_turn(&driver, fq_word_take(&interrupted), &todo)) == FQ_OK && todo.what != FQ_TODO_SLEEP) {
         struct side *side = &sides[todo.device];
+        if (todo.mask) queue_mask(side->queue);
         switch (todo.what) {
         case FQ_TODO_MASK: queue_mask(side->queue); break;
         case FQ_TODO_UNMASK: queue_unmask(side->queue); break;
         case FQ_TODO_LOOK: todo.packets = queue_back(side->queue); break;
-        case FQ_TODO_FETCH: todo.packets = fetch(side); break;
-        case FQ_TODO_ENDED: return runs++, squeezed += todo.run.squeezed, true;
+        case FQ_TODO_FETCH: fetch(side, &todo); break;
+        case FQ_TODO_ENDED: return runs++, squeezed += todo.squeezed, true;
         case FQ_TODO_TIMER: case FQ_TODO_SLEEP: case FQ_TODO_FAILED: break;
         }
     }
-    must("step", todo.status, FQ_OK);
-    runs += todo.run.polls > 0;
+    must("turn", said, FQ_OK);
+    runs += fq_todo_run(&todo).polls > 0;
     return false;
 }
 
@@ -182,8 +178,8 @@ static void print(void) {
     must("state", fq_tx_state(&tx, &state), FQ_OK);
     for (int i = 0; i < QUEUES; i++) {
         const struct side *side = &sides[i];
-        printf("%s interrupts %lu granted %lu missed %lu disabled %lu polls %lu packets %lu full %lu left %u\n", i == RX ? "rx" : "tx",
-            side->interrupts, side->granted, side->missed, side->disabled, side->polls, side->packets, side->full, queue_back(side->queue));
+        printf("%s interrupts %lu polls %lu packets %lu full %lu left %u\n", i == RX ? "rx" : "tx", side->interrupts, side->polls, side->packets,
+            side->full, queue_back(side->queue));
     }
     printf("all runs %lu squeezed %lu answered %lu waiting %lu sent %lu dropped %lu held %lu disorder %lu limit %u in_flight %u\n", runs, squeezed,
         behind, behind - given, first, dropped, held, disorder, state.limit, state.queued - state.completed);

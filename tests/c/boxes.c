@@ -77,6 +77,18 @@ static void rings(void) {
             }
         }
     }
+    for (size_t i = 0; i < CAPACITIES; i++) {
+        for (int how = 0; how < 4; how++) {
+            size_t first, got;
+            want(fq_ring_places(&ring, &out, capacities[i]) == FQ_OK, "a ring of places");
+            stays(fq_ring_places(&ring, &moved, 4), FQ_IN_USE, blocks, "a ring of places in its place");
+            want(fq_ring_claim(&ring, 0, 64, &first, &got) == FQ_OK && fq_ring_claim(&ring, got, 64, &first, &got) == FQ_OK, "a claim");
+            want(fq_ring_peek(&out, 0, 64, &first, &got) == FQ_OK && got > 0, "a peek");
+            ended(how < 2 ? &ring.handle : &out.handle, how % 2 ? ABANDON : FREE, "the first end");
+            ended(how < 2 ? &out.handle : &ring.handle, how % 2 ? ABANDON : FREE, "the second end");
+            nothing_is_left("of a ring of places");
+        }
+    }
     stays(fq_ring_new(&ring, 0), FQ_BAD_CAPACITY, 0, "a ring of no place");
     stays(fq_ring_new(&ring, 65537), FQ_BAD_CAPACITY, 0, "a ring of too many");
     want(fq_ring_new(&ring, 4) == FQ_OK && fq_ring_new(&out, 4) == FQ_OK, "two rings");

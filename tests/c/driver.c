@@ -1,8 +1,8 @@
 /* driver: a driver as C uses it. Random calls, also under wrong numbers and sizes, beside cards that lose each interrupt while they are
  * masked, and packets that arrive at any time: whenever the driver says to sleep, each open card is unmasked and has no packets, or an
  * interrupt that wasn't reported, or is masked and its timer is set; each closed one is masked, and what returns FQ_NOT_DUE or an error has changed nothing. The same by
- * fq_driver_step, beside a driver that gets fq_driver_done and fq_driver_next in place of each step. And driver programs, by steps and
- * by reports, which poll all packets in order. It exits with 9 if something is wrong. */
+ * fq_driver_step, and by fq_driver_turn, compared with a driver that gets fq_driver_done, fq_driver_interrupt and fq_driver_next in their place. And driver
+ * programs, by turns, by steps and by reports, which poll all packets in order. It exits with 9 if something is wrong. */
 #include "any.h"
 #include <stdio.h>
 #include <stdlib.h>
@@ -39,6 +39,7 @@ static void arrives(struct card *card) {
 /* Does what *todo says, at the card. */
 static void act(struct fq_todo *todo) {
     struct card *const card = &cards[todo->device];
+    if (todo->mask) card->masked = true;
     switch (todo->what) {
     case FQ_TODO_MASK: card->masked = true; break;
     case FQ_TODO_UNMASK: card->masked = false; break;
@@ -74,16 +75,18 @@ static bool same_shown(struct fq_device_shown a, struct fq_device_shown b) {
     return a.state == b.state && a.scheduled == b.scheduled && a.missed == b.missed && a.polls == b.polls && a.packets == b.packets;
 }
 
-static bool same_todo(const struct fq_todo *a, const struct fq_todo *b) {
-    return a->size == b->size && a->number == b->number && a->what == b->what && a->device == b->device && a->most == b->most && a->packets == b->packets &&
-           a->run.polls == b->run.polls && a->run.work == b->run.work && a->run.squeezed == b->run.squeezed && a->status == b->status && a->rearm == b->rearm &&
-           a->nanoseconds == b->nanoseconds;
+static bool same_but_number(const struct fq_todo *a, const struct fq_todo *b) {
+    return a->what == b->what && a->device == b->device && a->most == b->most && a->packets == b->packets && a->nanoseconds == b->nanoseconds &&
+           a->status == b->status && a->rearm == b->rearm && a->mask == b->mask && a->squeezed == b->squeezed && (a->number == 0) == (b->number == 0);
 }
+
+static bool same_todo(const struct fq_todo *a, const struct fq_todo *b) { return same_but_number(a, b) && a->number == b->number; }
 
 /* Whether a call has failed with this status: there is nothing to do, and nothing to report. */
 static bool is_failed(const struct fq_todo *todo, enum fq_status status) {
-    return todo->what == FQ_TODO_FAILED && todo->status == status && todo->number == 0 && todo->device == 0 && todo->most == 0 &&
-           todo->packets == 0 && todo->rearm == FQ_REARM_NO && todo->nanoseconds == 0 && todo->run.polls == 0 && todo->run.work == 0 && !todo->run.squeezed;
+    struct fq_todo failed = FQ_TODO_INIT;
+    failed.what = FQ_TODO_FAILED, failed.status = (uint16_t)status;
+    return same_todo(todo, &failed);
 }
 
 /* Nothing that is refused changes what is due, or the device. */
@@ -111,7 +114,18 @@ static void tries_what_is_refused(struct fq_driver *driver, uint32_t devices, co
     refused(driver, device, fq_driver_timer(driver, devices), FQ_BAD_DEVICE, due, before);
     refused(driver, device, fq_driver_set(driver, devices, plain), FQ_BAD_DEVICE, due, before);
     refused(driver, device, fq_driver_set(driver, device, (struct fq_device_settings){0, 65, 0, 0, 0}), FQ_BAD_WEIGHT, due, before);
-    if (before.state != FQ_DEVICE_CLOSED) refused(driver, device, fq_driver_set(driver, device, plain), FQ_NOT_DUE, due, before);
+    refused(driver, device, fq_driver_set(driver, device, (struct fq_device_settings){0, 1, 1, 0, 0}), FQ_BAD_SETTING, due, before);
+    if (before.state != FQ_DEVICE_CLOSED) refused(driver, device, fq_driver_set(driver, device, plain), FQ_NOT_ALLOWED, due, before);
+    if (devices < 64) {
+        struct fq_todo far = *due;
+        refused(driver, device, fq_driver_turn(driver, UINT64_C(1) << devices, &far), FQ_BAD_DEVICE, due, before);
+        want(is_failed(&far, FQ_BAD_DEVICE), "what a turn with a bit too far sets");
+    }
+    for (int i = 0; i < 4 && due->number != 0; i++) {
+        struct fq_todo lost = i < 2 ? old : FQ_TODO_INIT;
+        refused(driver, device, i % 2 ? fq_driver_turn(driver, 0, &lost) : fq_driver_step(driver, &lost), FQ_NOT_REPORTED, due, before);
+        want(is_failed(&lost, FQ_NOT_REPORTED), "what a lost report sets");
+    }
     if (before.state != FQ_DEVICE_OPEN || before.scheduled) refused(driver, device, fq_driver_timer(driver, device), FQ_NOT_DUE, due, before);
     refused(driver, device, fq_driver_show(driver, devices, &none), FQ_BAD_DEVICE, due, before);
     if (before.state != FQ_DEVICE_CLOSED) refused(driver, device, fq_driver_open(driver, device), FQ_NOT_DUE, due, before);
@@ -122,6 +136,9 @@ static void tries_what_is_refused(struct fq_driver *driver, uint32_t devices, co
         refused(driver, device, fq_driver_done(driver, &many), FQ_BAD_WORK, due, before);
         refused(driver, device, fq_driver_step(driver, &many), FQ_BAD_WORK, due, before);
         want(is_failed(&many, FQ_BAD_WORK), "what a step of too many packets sets");
+        many = *due, many.packets = UINT32_MAX;
+        refused(driver, device, fq_driver_turn(driver, 0, &many), FQ_BAD_WORK, due, before);
+        want(is_failed(&many, FQ_BAD_WORK), "what a turn of too many packets sets");
     }
 }
 
@@ -145,11 +162,16 @@ static void expires(struct fq_driver *driver, uint32_t device) {
 /* What the driver says is done and reported, perhaps after other calls, or forgotten. */
 static bool one_thing(struct fq_driver *driver, uint32_t devices) {
     struct fq_todo todo = FQ_TODO_INIT;
-    want(fq_driver_next(driver, &todo) == FQ_OK && todo.device < devices && todo.packets == (todo.what == FQ_TODO_LOOK), "what is said");
-    want(todo.status == FQ_OK, "no error");
+    want(fq_driver_next(driver, &todo) == FQ_OK && todo.device < devices && todo.status == FQ_OK, "what is said");
+    want(todo.number == 0 || todo.packets == (todo.what == FQ_TODO_LOOK), "its packets");
     want((todo.number == 0) == (todo.what == FQ_TODO_SLEEP || todo.what == FQ_TODO_ENDED), "what has a number");
     if (below(8) == 0) tries_what_is_refused(driver, devices, &todo);
     if (below(16) == 0) return todo.what != FQ_TODO_SLEEP;
+    if (todo.number != 0 && below(8) == 0) { /* it is returned again, and a fetch then masks again */
+        struct fq_todo again = todo;
+        todo.mask = todo.what == FQ_TODO_FETCH;
+        want(fq_driver_next(driver, &again) == FQ_OK && same_todo(&again, &todo), "the same action again");
+    }
     act(&todo);
     if (todo.what == FQ_TODO_FETCH && below(2)) rearms(&todo);
     const uint32_t device = below(4) ? todo.device : below(devices);
@@ -221,73 +243,132 @@ static void random_calls(uint32_t devices, uint32_t budget, uint32_t weight, uin
     want(fq_free(&driver.handle) == FQ_OK, "the end");
 }
 
-/* ---- the same by steps, beside a driver that reports and asks */
+/* ---- the same by steps and turns, beside a driver that reports and asks */
 
-/* A step returns what the report returns, and sets *todo to what is due then, or to the error. */
-static uint32_t steps(struct fq_driver *driver, struct fq_driver *twin, struct fq_todo *todo) {
-    struct fq_todo other = *todo;
-    const enum fq_status wanted = fq_driver_done(twin, &other);
-    if (!fq_is_error(wanted)) want(fq_driver_next(twin, &other) == FQ_OK, "what is due at the twin");
-    want(fq_driver_step(driver, todo) == wanted, "what a step returns");
-    want(fq_is_error(wanted) ? is_failed(todo, wanted) : same_todo(todo, &other), "what a step sets");
-    return wanted;
+/* Two drivers that get the same calls: one by steps or turns, and its twin by reports and questions. A turn may join two actions of the twin, whose
+ * numbers then differ. */
+static struct pair {
+    struct fq_driver driver, twin;
+    struct fq_todo todo, other; /* what each has to do now */
+    bool by_turns, in_run;
+    uint32_t devices;
+    long made[FQ_NOT_REPORTED + 1], joined, stale;
+} of;
+
+/* What the twin reports, gets as interrupts and has to do then; returns what a step or a turn has to return. */
+static uint32_t twin_does(const struct fq_todo *report, uint64_t interrupts) {
+    const enum fq_status said = fq_driver_done(&of.twin, report);
+    for (uint32_t i = 0; i < of.devices; i++)
+        if (interrupts >> i & 1) want(!fq_is_error(fq_driver_interrupt(&of.twin, i)), "an interrupt of the twin");
+    if (fq_is_error(said)) return said;
+    want(fq_driver_next(&of.twin, &of.other) == FQ_OK, "what is due at the twin");
+    if (of.todo.what == FQ_TODO_FETCH && of.todo.mask) { /* the fetch begins with the mask */
+        want(!of.in_run && of.other.what == FQ_TODO_MASK && of.other.device == of.todo.device, "a mask that is joined");
+        want(fq_driver_done(&of.twin, &of.other) == FQ_OK && fq_driver_next(&of.twin, &of.other) == FQ_OK, "a mask at the twin");
+        of.other.mask = true, of.joined++;
+    } else if (of.by_turns && of.devices == 1 && of.other.what == FQ_TODO_MASK) {
+        want(of.in_run || shown_of(&of.twin, 0).state == FQ_DEVICE_STOPPING, "a mask of the only device is joined");
+    }
+    of.other.status = (uint16_t)said;
+    return FQ_OK;
 }
 
-/* One step, sometimes with a report that is wrong, or that was forgotten. */
-static uint32_t one_step(struct fq_driver *driver, struct fq_driver *twin, struct fq_todo *todo) {
-    const struct fq_todo kept = *todo;
-    const uint32_t wrong = below(16);
-    if (wrong == 1) todo->number += 1 + below(3);
-    if (wrong == 2) *todo = (struct fq_todo)FQ_TODO_INIT;
-    if (wrong == 3 && todo->what == FQ_TODO_FETCH) todo->packets = todo->most + 1 + below(9);
-    const uint32_t said = steps(driver, twin, todo);
-    want(said == FQ_OK || said == FQ_NOT_DUE || (wrong == 3 && said == FQ_BAD_WORK), "a step");
-    if (fq_is_error(said)) *todo = kept;
-    else act(todo);
+/* One step or turn with this report. */
+static uint32_t goes(const struct fq_todo *report, const struct fq_todo *of_twin, uint64_t interrupts) {
+    const struct fq_todo twins = *of_twin; /* it may be of.other, which the twin sets */
+    of.todo = *report;
+    const uint32_t said = of.by_turns ? fq_driver_turn(&of.driver, interrupts, &of.todo) : fq_driver_step(&of.driver, &of.todo);
+    want(twin_does(&twins, interrupts) == said, "what a step or a turn returns");
+    if (said == FQ_OK) {
+        want(of.by_turns ? same_but_number(&of.todo, &of.other) : same_todo(&of.todo, &of.other), "what a step or a turn sets");
+        of.in_run = of.todo.what == FQ_TODO_FETCH || (of.in_run && of.todo.number != 0);
+        of.stale += of.todo.status == FQ_NOT_DUE;
+    } else {
+        want(is_failed(&of.todo, said), "what a failed step or turn sets");
+    }
     return said;
 }
 
-static void other_calls(struct fq_driver *driver, struct fq_driver *twin, uint32_t devices) {
-    const uint32_t device = below(devices);
+/* One step or turn, sometimes with a report that is wrong, or that was forgotten. */
+static void one_step(uint64_t interrupts) {
+    const struct fq_todo kept = of.todo, others = of.other;
+    struct fq_todo report = kept, of_twin = others;
+    const uint32_t wrong = below(16);
+    if (wrong == 3 && kept.what == FQ_TODO_FETCH) report.packets = of_twin.packets = kept.most + 1 + below(9);
+    else if (wrong == 1 || wrong == 2) { /* both are asked before, so that an action waits for its report */
+        want(fq_driver_next(&of.driver, &of.todo) == FQ_OK && fq_driver_next(&of.twin, &of.other) == FQ_OK, "two questions");
+        want(same_but_number(&of.todo, &of.other), "what is due at both");
+        of.in_run = of.todo.what == FQ_TODO_FETCH || (of.in_run && of.todo.number != 0);
+        if (of.todo.number == 0) return;
+        act(&of.todo), of.other.packets = of.todo.packets;
+        report = of.todo, report.number = wrong == 1 ? report.number + 1 + below(3) : 0;
+        const struct fq_todo due = of.todo;
+        const uint32_t said = of.by_turns ? fq_driver_turn(&of.driver, 0, &report) : fq_driver_step(&of.driver, &report);
+        want(said == FQ_NOT_REPORTED && is_failed(&report, FQ_NOT_REPORTED), "a lost report");
+        of.made[said]++;
+        of.todo = due;
+        return;
+    }
+    of_twin.packets = report.packets, of_twin.rearm = report.rearm;
+    const uint32_t said = goes(&report, &of_twin, interrupts);
+    want(said == FQ_OK || (wrong == 3 && said == FQ_BAD_WORK), "a step or a turn");
+    of.made[said]++;
+    if (said == FQ_OK) act(&of.todo);
+    else of.todo = kept, of.other = others;
+    if (said == FQ_OK && of.todo.what == FQ_TODO_FETCH && below(2)) rearms(&of.todo);
+    of.other.packets = of.todo.packets, of.other.rearm = of.todo.rearm;
+}
+
+/* The interrupts that came; some are reported later, and some come without a packet. */
+static uint64_t taken_interrupts(void) {
+    uint64_t bits = 0;
+    for (uint32_t i = 0; i < of.devices; i++) {
+        if ((cards[i].interrupting && below(2)) || below(64) == 0) bits |= UINT64_C(1) << i;
+        if (bits >> i & 1) cards[i].interrupting = false;
+    }
+    return bits;
+}
+
+static void other_calls(void) {
+    const uint32_t device = below(of.devices);
     if (below(2) == 0) arrives(&cards[device]);
     if (below(2) == 0 && cards[device].interrupting) {
-        want(fq_driver_interrupt(driver, device) == fq_driver_interrupt(twin, device), "an interrupt of two drivers");
+        want(fq_driver_interrupt(&of.driver, device) == fq_driver_interrupt(&of.twin, device), "an interrupt of two drivers");
         cards[device].interrupting = false;
     }
     if (below(2) == 0 && cards[device].timer) {
-        want(fq_driver_timer(driver, device) == fq_driver_timer(twin, device), "a timer of two drivers");
+        want(fq_driver_timer(&of.driver, device) == fq_driver_timer(&of.twin, device), "a timer of two drivers");
         cards[device].timer = false;
     }
-    if (below(16) == 0) want(fq_driver_open(driver, device) == fq_driver_open(twin, device), "an open of two drivers");
-    if (below(16) == 0) want(fq_driver_end_run(driver) == fq_driver_end_run(twin), "an end of two runs");
-    if (below(64) == 0) want(fq_driver_stop(driver, device) == fq_driver_stop(twin, device), "a stop of two drivers");
-    want(same_shown(shown_of(driver, device), shown_of(twin, device)), "a device of two drivers");
+    if (below(16) == 0) want(fq_driver_open(&of.driver, device) == fq_driver_open(&of.twin, device), "an open of two drivers");
+    if (below(16) == 0) want(fq_driver_end_run(&of.driver) == fq_driver_end_run(&of.twin), "an end of two runs");
+    if (below(64) == 0) want(fq_driver_stop(&of.driver, device) == fq_driver_stop(&of.twin, device), "a stop of two drivers");
+    want(same_shown(shown_of(&of.driver, device), shown_of(&of.twin, device)), "a device of two drivers");
 }
 
-static void random_steps(uint32_t devices, uint32_t budget, uint32_t weight, uint32_t window) {
-    struct fq_driver driver = FQ_NONE, twin = FQ_NONE;
-    struct fq_todo todo = FQ_TODO_INIT;
-    long made[FQ_BAD_WORK + 1] = {0};
-    want(fq_driver_new_salted(&driver, devices, budget, weight, window, 7) == FQ_OK, "a driver");
-    want(fq_driver_new_salted(&twin, devices, budget, weight, window, 7) == FQ_OK, "a driver with the same numbers");
-    set_devices(&driver, devices, weight), set_devices(&twin, devices, weight);
+static void random_steps(bool by_turns, uint32_t devices, uint32_t budget, uint32_t weight, uint32_t window) {
+    of = (struct pair){.by_turns = by_turns, .devices = devices};
+    want(fq_driver_new_salted(&of.driver, devices, budget, weight, window, 7) == FQ_OK, "a driver");
+    want(fq_driver_new_salted(&of.twin, devices, budget, weight, window, 7) == FQ_OK, "a driver with the same numbers");
+    set_devices(&of.driver, devices, weight), set_devices(&of.twin, devices, weight);
     for (uint32_t i = 0; i < DEVICES; i++) cards[i] = (struct card){true, false, 0, 0, false};
     for (calls = 0; calls < 200000; calls++) {
-        if (below(3) == 0) other_calls(&driver, &twin, devices);
-        else made[one_step(&driver, &twin, &todo)]++;
-        if (below(32) == 0) rests(&driver, devices), rests(&twin, devices);
+        if (below(3) == 0) other_calls();
+        else one_step(by_turns ? taken_interrupts() : 0);
     }
-    want(made[FQ_OK] > 0 && made[FQ_NOT_DUE] > 0 && made[FQ_BAD_WORK] > 0, "a step has returned each status");
-    want(fq_free(&driver.handle) == FQ_OK && fq_free(&twin.handle) == FQ_OK, "the end of two drivers");
+    want(of.made[FQ_OK] > 0 && of.stale > 0 && of.made[FQ_BAD_WORK] > 0 && of.made[FQ_NOT_REPORTED] > 0, "a step has returned each status");
+    want((of.joined > 0) == by_turns, "masks are joined");
+    want(fq_free(&of.driver.handle) == FQ_OK && fq_free(&of.twin.handle) == FQ_OK, "the end of two drivers");
 }
 
-/* ---- driver programs: by one call, and by a report and a question */
+/* ---- driver programs: by turns, by steps, and by a report and a question */
 
 static void reports_and_asks(struct fq_driver *driver, struct fq_todo *todo) {
     want(!fq_is_error(fq_driver_done(driver, todo)) && fq_driver_next(driver, todo) == FQ_OK, "a report and a question");
 }
 
-static void goes_on(struct fq_driver *driver, struct fq_todo *todo) { want(!fq_is_error(fq_driver_step(driver, todo)), "a step"); }
+static void goes_on(struct fq_driver *driver, struct fq_todo *todo) { want(fq_driver_step(driver, todo) == FQ_OK, "a step"); }
+static void turns(struct fq_driver *driver, struct fq_todo *todo) { want(fq_driver_turn(driver, 0, todo) == FQ_OK, "a turn"); }
 
 static void program(void (*go)(struct fq_driver *driver, struct fq_todo *todo)) {
     uint64_t fetched_next = 0, polled_in_all = 0;
@@ -301,9 +382,9 @@ static void program(void (*go)(struct fq_driver *driver, struct fq_todo *todo)) 
     while (go(&driver, &todo), todo.what != FQ_TODO_SLEEP) {
         act(&todo);
         if (todo.what == FQ_TODO_FETCH) fetched_next += todo.packets;
-        if (todo.what == FQ_TODO_ENDED) runs++, squeezed += todo.run.squeezed, polled_in_all += todo.run.work;
+        if (todo.what == FQ_TODO_ENDED) runs++, squeezed += todo.squeezed, polled_in_all += fq_todo_run(&todo).work;
     }
-    runs += todo.run.polls > 0, polled_in_all += todo.run.work;
+    runs += fq_todo_run(&todo).polls > 0, polled_in_all += fq_todo_run(&todo).work;
     const struct fq_device_shown shown = shown_of(&driver, 1);
     want(fetched_next == 1000 && polled_in_all == 1000 && shown.packets == 1000 && shown.polls == 16, "each packet once");
     want(runs == 16 && squeezed == 15 && shown.state == FQ_DEVICE_OPEN && !shown.scheduled && !cards[1].masked, "its runs");
@@ -320,12 +401,14 @@ static void without_a_driver(void) {
     want(fq_list_new(&list.list) == FQ_OK, "a list");
     for (int i = 0; i < 2; i++) {
         struct fq_driver *const handle = i ? &list.driver : &none.driver;
-        const struct fq_todo fetch = {sizeof fetch, 7, FQ_TODO_FETCH, 1, 2, 3, FQ_OK, FQ_REARM_NO, 0, {sizeof fetch.run, 4, 5, true}};
+        const struct fq_todo fetch = {.number = 7, .what = FQ_TODO_FETCH, .device = 1, .most = 2, .packets = 3, .mask = true};
         todo = fetch;
         want(fq_driver_done(handle, &todo) == FQ_BAD_HANDLE && same_todo(&todo, &fetch), "a report without a driver");
         want(fq_driver_next(handle, &todo) == FQ_BAD_HANDLE && is_failed(&todo, FQ_BAD_HANDLE), "it fails");
         todo = fetch;
         want(fq_driver_step(handle, &todo) == FQ_BAD_HANDLE && is_failed(&todo, FQ_BAD_HANDLE), "a step fails");
+        todo = fetch;
+        want(fq_driver_turn(handle, UINT64_MAX, &todo) == FQ_BAD_HANDLE && is_failed(&todo, FQ_BAD_HANDLE), "a turn fails");
         want(fq_driver_open(handle, 0) == FQ_BAD_HANDLE && fq_driver_stop(handle, 0) == FQ_BAD_HANDLE, "an open without a driver");
         want(fq_driver_timer(handle, 0) == FQ_BAD_HANDLE && fq_driver_set(handle, 0, plain) == FQ_BAD_HANDLE, "a timer");
         want(fq_driver_interrupt(handle, 0) == FQ_BAD_HANDLE && fq_driver_show(handle, 0, &shown) == FQ_BAD_HANDLE, "an interrupt");
@@ -346,8 +429,12 @@ static void first_named(void) {
     want(fq_driver_new(&driver, 1, 300, 8, 1024) == FQ_OK && fq_driver_open(&driver, 0) == FQ_OK, "a driver");
     while (fq_driver_step(&driver, &todo) == FQ_OK && todo.what != FQ_TODO_FETCH) {} /* a look that isn't answered leads to a poll */
     todo.packets = 9, todo.number++;
-    want(fq_driver_done(&driver, &todo) == FQ_NOT_DUE && fq_driver_step(&driver, &todo) == FQ_NOT_DUE, "an old number, and too many packets");
-    want(todo.what == FQ_TODO_FETCH && todo.packets == 0 && fq_free(&driver.handle) == FQ_OK, "the fetch is due");
+    struct fq_todo far = todo, lost = todo;
+    want(fq_driver_turn(&driver, 2, &far) == FQ_BAD_DEVICE && is_failed(&far, FQ_BAD_DEVICE), "a bit too far, and an old number");
+    want(fq_driver_turn(&driver, 1, &lost) == FQ_NOT_REPORTED && is_failed(&lost, FQ_NOT_REPORTED), "an old number, and too many packets");
+    want(shown_of(&driver, 0).missed, "the interrupt of a turn that fails so is reported");
+    want(fq_driver_done(&driver, &todo) == FQ_NOT_DUE && fq_driver_step(&driver, &todo) == FQ_NOT_REPORTED, "the same by a report and a step");
+    want(fq_driver_next(&driver, &todo) == FQ_OK && todo.what == FQ_TODO_FETCH && todo.mask && fq_free(&driver.handle) == FQ_OK, "the fetch is due");
 }
 
 /* A struct of zeros is no action, and an action of one driver is none of another. */
@@ -356,10 +443,14 @@ static void mistakes(void) {
     struct fq_todo todo = {0};
     want(fq_driver_new(&one, 1, 300, 64, 1024) == FQ_OK && fq_driver_new(&other, 1, 300, 64, 1024) == FQ_OK, "two drivers");
     want(fq_driver_open(&one, 0) == FQ_OK && fq_driver_open(&other, 0) == FQ_OK, "two opens");
-    want(fq_driver_step(&one, &todo) == FQ_OK && todo.what == FQ_TODO_UNMASK && todo.size == sizeof todo, "a struct of zeros");
+    want(fq_driver_step(&one, &todo) == FQ_OK && todo.what == FQ_TODO_UNMASK, "a struct of zeros");
     const struct fq_todo unmask = todo;
     want(fq_driver_next(&other, &todo) == FQ_OK && todo.what == FQ_TODO_UNMASK && todo.number != unmask.number, "two numbers");
     want(fq_driver_done(&other, &unmask) == FQ_NOT_DUE && fq_driver_done(&one, &todo) == FQ_NOT_DUE, "another driver's action");
+    for (int i = 0; i < 2; i++) {
+        struct fq_todo anothers = i ? unmask : todo;
+        want(fq_driver_turn(i ? &other : &one, 0, &anothers) == FQ_NOT_REPORTED && is_failed(&anothers, FQ_NOT_REPORTED), "the same by a turn");
+    }
     want(fq_driver_done(&one, &unmask) == FQ_OK && fq_driver_done(&other, &todo) == FQ_OK, "its own");
     want(fq_free(&one.handle) == FQ_OK && fq_driver_next(&one, &todo) == FQ_BAD_HANDLE, "a driver that was freed");
     want(is_failed(&todo, FQ_BAD_HANDLE) && fq_free(&other.handle) == FQ_OK, "all of the struct");
@@ -376,10 +467,10 @@ static void an_ended_run(void) {
     for (; fq_driver_step(&driver, &todo) == FQ_OK && todo.what != FQ_TODO_FETCH; act(&todo)) {}
     want(todo.device == 0 && fq_driver_end_run(&driver) == FQ_OK && fq_driver_end_run(&driver) == FQ_OK, "the end of a run, twice");
     act(&todo);
-    want(fq_driver_step(&driver, &todo) == FQ_OK && todo.what == FQ_TODO_ENDED && todo.run.squeezed, "the run's end");
-    want(todo.run.polls == 1 && todo.run.work == 64 && fq_driver_end_run(&driver) == FQ_NOT_DUE, "its report");
+    want(fq_driver_step(&driver, &todo) == FQ_OK && todo.what == FQ_TODO_ENDED && fq_todo_run(&todo).squeezed, "the run's end");
+    want(fq_todo_run(&todo).polls == 1 && fq_todo_run(&todo).work == 64 && fq_driver_end_run(&driver) == FQ_NOT_DUE, "its report");
     want(fq_driver_step(&driver, &todo) == FQ_OK && todo.what == FQ_TODO_FETCH && todo.device == 1, "the other device's turn");
-    for (act(&todo); fq_driver_step(&driver, &todo) == FQ_OK && todo.what != FQ_TODO_SLEEP; act(&todo)) want(!todo.run.squeezed, "whole runs");
+    for (act(&todo); fq_driver_step(&driver, &todo) == FQ_OK && todo.what != FQ_TODO_SLEEP; act(&todo)) want(!todo.squeezed, "whole runs");
     want(cards[0].taken == 100 && cards[1].taken == 100 && fq_free(&driver.handle) == FQ_OK, "all packets");
 }
 
@@ -398,7 +489,7 @@ static void a_deferred_interrupt(void) {
     cards[0] = (struct card){true, false, 9, 0, false};
     want(fq_driver_new(&driver, 1, 300, 64, 1024) == FQ_OK, "a driver");
     want(fq_driver_set(&driver, 0, (struct fq_device_settings){0, 8, 2, 5000, 0}) == FQ_OK && fq_driver_open(&driver, 0) == FQ_OK, "a weight");
-    want(fq_driver_set(&driver, 0, plain) == FQ_NOT_DUE, "it is open");
+    want(fq_driver_set(&driver, 0, plain) == FQ_NOT_ALLOWED, "it is open");
     while (acts(&driver, &todo) != FQ_TODO_FETCH) {}
     want(todo.most == 8 && acts(&driver, &todo) == FQ_TODO_ENDED && acts(&driver, &todo) == FQ_TODO_FETCH, "a whole weight");
     want(acts(&driver, &todo) == FQ_TODO_TIMER && todo.nanoseconds == 5000, "the first timer");
@@ -442,15 +533,17 @@ static void a_moved_device(void) {
     want(fq_driver_stop(&from, 0) == FQ_OK && acts(&from, &todo) == FQ_TODO_SLEEP, "it is stopped during a poll");
     want(shown_of(&from, 0).state == FQ_DEVICE_CLOSED && cards[0].masked && cards[0].taken == 64 && cards[0].packets == 136, "it is closed");
     want(fq_driver_open(&to, 0) == FQ_OK, "a device of the second");
-    for (todo = (struct fq_todo)FQ_TODO_INIT; acts(&to, &todo) != FQ_TODO_SLEEP;) {}
+    for (todo = FQ_TODO_INIT; acts(&to, &todo) != FQ_TODO_SLEEP;) {}
     want(cards[0].taken == 200 && !cards[0].masked && shown_of(&to, 0).packets == 136, "the packets that were left");
-    for (arrives(&cards[0]), fq_driver_interrupt(&to, 0); acts(&to, &todo) != FQ_TODO_SLEEP;) {}
+    arrives(&cards[0]);
+    want(fq_driver_interrupt(&to, 0) == FQ_GRANTED, "an interrupt after the move");
+    while (acts(&to, &todo) != FQ_TODO_SLEEP) {}
     want(cards[0].taken == 201, "a packet after the move");
     want(acts(&from, &todo) == FQ_TODO_SLEEP && fq_free(&from.handle) == FQ_OK && fq_free(&to.handle) == FQ_OK, "nothing is left");
 }
 
-/* A packet at each interrupt takes four calls: the interrupt, and steps to mask, to fetch, and to sleep. */
-static void four_calls(void) {
+/* A packet at each interrupt takes two turns: to mask and fetch, and to sleep; or four calls, the interrupt, and steps to mask, to fetch and to sleep. */
+static void calls_of_a_packet(bool by_turns) {
     struct fq_driver driver = FQ_NONE;
     struct fq_todo todo = FQ_TODO_INIT;
     memset(cards, 0, sizeof cards);
@@ -459,17 +552,41 @@ static void four_calls(void) {
     while (fq_driver_step(&driver, &todo) == FQ_OK && todo.what != FQ_TODO_SLEEP) act(&todo);
     for (int i = 0; i < 100; i++) {
         arrives(&cards[0]);
-        want(cards[0].interrupting && fq_driver_interrupt(&driver, 0) == FQ_GRANTED, "an interrupt");
+        want(cards[0].interrupting, "an interrupt");
         cards[0].interrupting = false;
-        want(fq_driver_step(&driver, &todo) == FQ_OK && todo.what == FQ_TODO_MASK, "a mask");
-        act(&todo);
-        want(fq_driver_step(&driver, &todo) == FQ_OK && todo.what == FQ_TODO_FETCH && todo.rearm == FQ_REARM_NO, "a fetch");
+        if (by_turns) {
+            want(fq_driver_turn(&driver, 1, &todo) == FQ_OK, "an interrupt in a turn");
+        } else {
+            want(fq_driver_interrupt(&driver, 0) == FQ_GRANTED && fq_driver_step(&driver, &todo) == FQ_OK && todo.what == FQ_TODO_MASK, "a mask");
+            act(&todo);
+            want(fq_driver_step(&driver, &todo) == FQ_OK, "a step");
+        }
+        want(todo.what == FQ_TODO_FETCH && todo.mask == by_turns && todo.rearm == FQ_REARM_NO && todo.most == 64 && todo.packets == 0, "a fetch");
         act(&todo);
         cards[0].masked = false, todo.rearm = FQ_REARM_EMPTY;
-        want(fq_driver_step(&driver, &todo) == FQ_OK && todo.what == FQ_TODO_SLEEP, "a sleep");
-        want(todo.run.polls == 1 && todo.run.work == 1 && !todo.run.squeezed, "the report of its run");
+        want((by_turns ? fq_driver_turn(&driver, 0, &todo) : fq_driver_step(&driver, &todo)) == FQ_OK && todo.what == FQ_TODO_SLEEP, "a sleep");
+        const struct fq_run_report run = fq_todo_run(&todo);
+        want(run.polls == 1 && run.work == 1 && !run.squeezed && run.size == sizeof run, "the report of its run");
     }
     want(cards[0].taken == 100 && fq_free(&driver.handle) == FQ_OK, "all packets");
+}
+
+/* A full fetch may unmask the card too: then it isn't polled again unless it had more packets. */
+static void full_fetches_that_rearm(void) {
+    struct fq_driver driver = FQ_NONE;
+    struct fq_todo todo = FQ_TODO_INIT;
+    uint32_t fetches = 0;
+    memset(cards, 0, sizeof cards);
+    cards[0] = (struct card){true, false, 128, 0, false};
+    want(fq_driver_new(&driver, 1, 300, 64, 1024) == FQ_OK && fq_driver_open(&driver, 0) == FQ_OK, "a driver");
+    while (turns(&driver, &todo), todo.what != FQ_TODO_SLEEP) {
+        act(&todo);
+        if (todo.what != FQ_TODO_FETCH) continue;
+        want(todo.packets == 64, "a full fetch");
+        cards[0].masked = false, fetches++;
+        todo.rearm = cards[0].packets > 0 ? FQ_REARM_MORE : FQ_REARM_EMPTY;
+    }
+    want(fetches == 2 && cards[0].taken == 128 && !cards[0].masked && fq_free(&driver.handle) == FQ_OK, "no empty poll");
 }
 
 int main(int argc, char **argv) {
@@ -478,10 +595,13 @@ int main(int argc, char **argv) {
     first_named();
     mistakes();
     an_ended_run();
-    four_calls();
+    calls_of_a_packet(false);
+    calls_of_a_packet(true);
+    full_fetches_that_rearm();
     a_deferred_interrupt();
     busy_polling();
     a_moved_device();
+    program(turns);
     program(goes_on);
     program(reports_and_asks);
     random_calls(1, 3, 2, 2);
@@ -489,9 +609,11 @@ int main(int argc, char **argv) {
     random_calls(3, 300, 64, 10);
     random_calls(DEVICES, 300, 64, 10);
     random_calls(DEVICES, 1, 1, 1);
-    random_steps(1, 3, 2, 2);
-    random_steps(3, 300, 64, 10);
-    random_steps(DEVICES, 300, 64, 1024);
+    for (int by_turns = 0; by_turns < 2; by_turns++) {
+        random_steps(by_turns != 0, 1, 3, 2, 2);
+        random_steps(by_turns != 0, 3, 300, 64, 10);
+        random_steps(by_turns != 0, DEVICES, 300, 64, 1024);
+    }
     puts("a driver never sleeps with work left");
     return 0;
 }

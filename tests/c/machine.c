@@ -27,7 +27,8 @@ static void set(struct fq_machine_settings *settings, const char *word) {
         /* scripts/options.py: begin */
         "processors", "queues", "ring", "socket", "backlog", "budget", "weight", "window", "time-limit", "rx-nsecs",
         "rx-frames", "defer-hard-irqs", "gro-flush-timeout", "threaded", "apart", "app-wake", "interrupt", "poll",
-        "packet", "use", "wake", "heedless", "rx-gap", "timer", "timer-wake", "latched", "gro-batch", "take",
+        "packet", "use", "wake", "heedless", "rx-gap", "timer", "timer-wake", "latched", "gro-batch", "take", "early",
+        "poll-wake", "arm",
         /* scripts/options.py: end */
     };
     const size_t length = strcspn(word, "=");

@@ -1,8 +1,8 @@
 /* A driver over model cards whose interrupts are edges: a packet that arrives while its card is masked causes none. Packets, interrupts
- * (also late ones, and some without a packet), opens, stops, steps, and reports (also late ones, twice, and of what the driver never
+ * (also late ones, and some without a packet), opens, stops, steps, turns, and reports (also late ones, twice, and of what the driver never
  * asked for) come in random order. Whenever the driver says to sleep, and no interrupt is on its way, each open card is empty and unmasked, and each
  * closed one masked. With each of three mistakes of the caller some order hangs. A device that always has packets doesn't keep another one from
- * being polled, if interrupts are reported before each step. usage: orders ORDERS SEED */
+ * being polled, if its interrupts are passed to each turn. usage: orders ORDERS SEED */
 #include <fintaqush.h>
 #include <stdio.h>
 #include <stdlib.h>
@@ -34,9 +34,14 @@ static void packet(struct card *card) {
     card->raised |= !card->masked;
 }
 
-static void interrupt(uint32_t device) {
+/* Takes the interrupt of a card, and returns whether it is reported. */
+static bool taken(uint32_t device) {
     cards[device].raised = false;
-    if (mistake == NO_INTERRUPT && any(8) == 0) return;
+    return mistake != NO_INTERRUPT || any(8) != 0;
+}
+
+static void interrupt(uint32_t device) {
+    if (!taken(device)) return;
     const enum fq_status said = fq_driver_interrupt(&driver, device);
     must(said == FQ_GRANTED || said == FQ_MISSED || said == FQ_DISABLED, "an interrupt");
 }
@@ -51,12 +56,12 @@ static uint32_t fetch(struct card *card, uint32_t most) {
 /* Does what *todo says, at the card. */
 static void act(struct fq_todo *todo) {
     struct card *card = &cards[todo->device];
+    if (todo->mask || todo->what == FQ_TODO_MASK) card->late = mistake == LATE_MASK, card->masked |= !card->late;
     switch (todo->what) {
-    case FQ_TODO_MASK: card->late = mistake == LATE_MASK, card->masked |= !card->late; break;
     case FQ_TODO_UNMASK: card->masked = false; break;
     case FQ_TODO_LOOK: todo->packets = mistake == NO_LOOK ? 0 : card->waiting; break;
     case FQ_TODO_FETCH: todo->packets = fetch(card, todo->most); break;
-    case FQ_TODO_TIMER: case FQ_TODO_ENDED: case FQ_TODO_SLEEP: case FQ_TODO_FAILED: break;
+    case FQ_TODO_MASK: case FQ_TODO_TIMER: case FQ_TODO_ENDED: case FQ_TODO_SLEEP: case FQ_TODO_FAILED: break;
     }
 }
 
@@ -73,11 +78,16 @@ static void report(const struct fq_todo *todo) {
     must(said == FQ_OK || said == FQ_NOT_DUE, "a report");
 }
 
-/* Reports what was done, and does what is due then. */
+/* Reports what was done, perhaps with interrupts, and does what is due then. If that wasn't what the driver waits for, it is asked. */
 static void step(struct fq_todo *todo) {
-    const enum fq_status said = fq_driver_step(&driver, todo);
-    must(said == FQ_OK || said == FQ_NOT_DUE, "a step");
-    act(todo);
+    const bool turns = any(2) == 0;
+    uint64_t interrupts = 0;
+    for (uint32_t i = 0; i < DEVICES && turns; i++)
+        if (cards[i].raised && any(2) && taken(i)) interrupts |= UINT64_C(1) << i;
+    const enum fq_status said = turns ? fq_driver_turn(&driver, interrupts, todo) : fq_driver_step(&driver, todo);
+    must(said == FQ_OK || (said == FQ_NOT_REPORTED && todo->what == FQ_TODO_FAILED), "a step");
+    if (said == FQ_OK) act(todo);
+    else *todo = ask();
 }
 
 /* A report of what was due earlier, or never, and calls whose numbers are wrong. */
@@ -88,8 +98,7 @@ static void stray(void) {
     const enum fq_status said = fq_driver_done(&driver, &todo);
     must(said == FQ_NOT_DUE || (number == 0 && said == FQ_OK), "a stray report");
     must(fq_driver_interrupt(&driver, DEVICES + any(9)) == FQ_BAD_DEVICE, "no device");
-    todo.size = any(8);
-    must(fq_driver_next_sized(&driver, &todo) == FQ_BAD_SIZE && fq_driver_step_sized(&driver, &todo) == FQ_BAD_SIZE, "a bad size");
+    must(fq_driver_turn(&driver, UINT64_C(1) << (DEVICES + any(9)), &todo) == FQ_BAD_DEVICE, "no device");
 }
 
 /* One call or event. */
@@ -115,8 +124,7 @@ static bool hangs(void) {
     bool hung = false, raised = true;
     for (unsigned turns = 0; raised; turns++) {
         must(turns < SETTLED, "it never sleeps");
-        struct fq_todo todo = FQ_TODO_INIT;
-        while (step(&todo), todo.what != FQ_TODO_SLEEP) must(turns++ < SETTLED, "it never sleeps");
+        for (struct fq_todo todo = ask(); todo.what != FQ_TODO_SLEEP; step(&todo)) must(turns++ < SETTLED, "it never sleeps");
         raised = false;
         for (uint32_t i = 0; i < DEVICES; i++) {
             if (cards[i].late) cards[i].masked = true, cards[i].late = false;
@@ -137,7 +145,7 @@ static bool some_hangs(enum mistake which, unsigned long orders) {
     mistake = which;
     for (unsigned long order = 0; order < orders && !hung; order++) {
         must(fq_driver_new(&driver, DEVICES, 1 + any(40), 1 + any(8), 1 + any(9)) == FQ_OK, "a new driver");
-        kept = (struct fq_todo)FQ_TODO_INIT;
+        kept = FQ_TODO_INIT;
         for (uint32_t i = 0; i < DEVICES; i++) cards[i] = (struct card){.masked = true};
         for (unsigned steps = 0; steps < STEPS && !hung; steps++) {
             event();
@@ -152,8 +160,8 @@ static bool some_hangs(enum mistake which, unsigned long orders) {
 }
 
 /* Device 0 has packets all the time; when it was fetched ten times, device 1 gets one. Returns how often device 0 is fetched until device 1
- * is, or ENDLESS, if interrupts are reported before each step or only when the driver sleeps. */
-static unsigned fetches_until_other(bool before_each_step) {
+ * is, or ENDLESS, if interrupts are passed to each turn or only when the driver sleeps. */
+static unsigned fetches_until_other(bool to_each_turn) {
     struct fq_todo todo = FQ_TODO_INIT;
     unsigned fetches = 0;
     mistake = NONE;
@@ -165,8 +173,9 @@ static unsigned fetches_until_other(bool before_each_step) {
     while (fetches < ENDLESS + 10 && !(todo.what == FQ_TODO_FETCH && todo.device == 1)) {
         cards[0].waiting = 1000;
         if (fetches == 10 && cards[1].waiting == 0) packet(&cards[1]);
-        if (cards[1].raised && (before_each_step || todo.what == FQ_TODO_SLEEP)) interrupt(1);
-        step(&todo);
+        const bool interrupts = cards[1].raised && (to_each_turn || todo.what == FQ_TODO_SLEEP) && taken(1);
+        must(fq_driver_turn(&driver, interrupts ? 2 : 0, &todo) == FQ_OK, "a turn");
+        act(&todo);
         fetches += todo.what == FQ_TODO_FETCH && todo.device == 0;
     }
     must(fq_free(&driver.handle) == FQ_OK, "the end");

@@ -278,7 +278,7 @@ static bool busy_polls(const struct object *o) { return o->what == CALLER && mod
 static bool is_granted(const struct object *o) { return o->what == CALLER && model_owns(napi_of(o), o->who, GRANTED); }
 static bool rests(const struct object *o) { return o->what == CALLER && !polls(o) && !busy_polls(o) && !is_granted(o); }
 
-/* The model's result is counted, as the caller counts it. */
+/* Counts a result of the model as a caller counts it, and returns it. */
 static uint32_t counted(struct object *o, uint32_t said) {
     struct fq_answers *const a = &o->answers;
     uint64_t *const counts[] = {&a->granted, &a->missed, &a->disabled, &a->released, &a->again, &a->held};

@@ -35,6 +35,13 @@ static bool takes_two(struct fq_ring *ring) {
 static uint32_t make_ring(void) { return fq_ring_new(&handles[0].ring, 2); }
 static bool ring_works(void) { return takes_two(&handles[0].ring); }
 
+static uint32_t make_places(void) { return fq_ring_places(&handles[0].ring, &handles[1].ring, 2); }
+static bool places_work(void) {
+    size_t first, count;
+    return fq_ring_claim(&handles[0].ring, 0, 3, &first, &count) == FQ_OK && count == 2 && fq_ring_claim(&handles[0].ring, 2, 0, &first, &count) == FQ_OK &&
+           fq_ring_peek(&handles[1].ring, 0, 3, &first, &count) == FQ_OK && first == 0 && count == 2;
+}
+
 static uint32_t make_tx(void) { return fq_tx_new(&handles[0].tx, 2, 0, 1000, 1000, 0); }
 static bool tx_works(void) { return fq_tx_send(&handles[0].tx, 60) == FQ_OK && fq_tx_done(&handles[0].tx, 1, 0) == FQ_OK; }
 
@@ -136,6 +143,14 @@ static void take_none(void) {
     want(takes == 0 && blocks == before, "a call takes memory, or gives it", takes);
     struct fq_ring out = FQ_NONE;
     want(fq_ring_split(&handles[2].ring, &out) == FQ_BAD_HANDLE && takes == 0 && blocks == before, "a split of a caller", takes);
+    struct fq_ring in = FQ_NONE;
+    size_t first;
+    want(fq_ring_places(&in, &out, 2) == FQ_OK, "no memory", 0);
+    const long with_places = blocks, taken = takes;
+    good = fq_ring_claim(&in, 0, 2, &first, &count) == FQ_OK && fq_ring_claim(&in, 2, 2, &first, &count) == FQ_OK && count == 0;
+    good = good && fq_ring_peek(&out, 0, 2, &first, &count) == FQ_OK && fq_ring_peek(&out, 2, 2, &first, &count) == FQ_OK && count == 0;
+    want(good && takes == taken && blocks == with_places, "claims and peeks", takes);
+    want(fq_free(&in.handle) == FQ_OK && fq_free(&out.handle) == FQ_OK, "the ends of places", 0);
     want(fq_abandon(&list.handle) == FQ_OK && fq_abandon(&tx.handle) == FQ_OK && fq_free(&driver.handle) == FQ_OK, "the end", 0);
     give_up();
     want(blocks == 0, "something is left on the heap", 0);
@@ -223,6 +238,7 @@ int main(void) {
     want(refuse_each("a raised trace", make_raised, raised_works) > 15, "a raised trace takes no memory", 0);
     want(refuse_each("a bare instance", make_bare, bare_works) > 8, "a bare instance takes no memory", 0);
     want(refuse_each("a split", make_split, split_works) > 1, "a split takes no memory", 0);
+    want(refuse_each("a ring of places", make_places, places_work) > 2, "a ring of places takes no memory", 0);
     take_none();
     puts("each allocation was refused, and told");
     return 0;

@@ -1,6 +1,6 @@
 /* A thread changes the state word all the time (fq_caller_set_threaded), so that attempts of another thread fail: the calls that make
  * one attempt return FQ_CHANGED now and then, those that repeat it never do, and a caller counts each attempt that failed. It ends when
- * attempts of each call have failed, or with 9 if after ten minutes too few of some call have. */
+ * attempts of each call have failed, or with 9 if after fifty minutes too few of some call have. */
 #include <fintaqush.h>
 #include <pthread.h>
 #include <stdatomic.h>
@@ -70,7 +70,7 @@ int main(void) {
             want(fq_control_step(&control, false, false) == FQ_OK, "a step of a stop");
             opened += attempts(true), stopped += attempts(false);
         }
-        want(time(NULL) < start + 600, "no attempt of some call fails");
+        want(time(NULL) < start + 3000, "no attempt of some call fails");
     }
     ends = true;
     want(pthread_join(thread, NULL) == 0 && fq_free(&control.handle) == FQ_OK, "the end");

@@ -13,11 +13,10 @@ static void want(bool holds, const char *call, size_t size) {
     exit(9);
 }
 
-/* A struct in an array of bytes, all of which are GUARD but for its size. */
+/* A struct at the beginning of an array of bytes. All bytes except its size are GUARD. */
 union at {
     size_t size;
     uint8_t bytes[ROOM];
-    struct fq_todo todo;
 };
 
 static union at of_size(size_t size) {
@@ -32,7 +31,6 @@ static union any ring = {{false, NULL}}, tx = {{false, NULL}}, caller[2] = {{{fa
                  driver = {{false, NULL}}, none = {{false, NULL}};
 static const uint8_t trace[] = "moment,device,event,value\n", arrivals[] = "ns,device,bytes\n";
 static uint8_t report[4096];
-static uint64_t due;
 
 static enum fq_status count(union any *of, union at *at) { return fq_count_sized(&of->handle, (struct fq_counts *)at); }
 static enum fq_status show_ring(union any *of, union at *at) { return fq_ring_show_sized(&of->ring, (struct fq_ring_shown *)at); }
@@ -42,17 +40,6 @@ static enum fq_status count_caller(union any *of, union at *at) { return fq_call
 static enum fq_status end_run(union any *of, union at *at) { return fq_run_end_sized(&of->list, (struct fq_run_report *)at); }
 static enum fq_status show_device(union any *of, union at *at) { return fq_driver_show_sized(&of->driver, 0, (struct fq_device_shown *)at); }
 static enum fq_status set_device(union any *of, union at *at) { return fq_driver_set_sized(&of->driver, 0, (const struct fq_device_settings *)at); }
-static enum fq_status next(union any *of, union at *at) { return fq_driver_next_sized(&of->driver, &at->todo); }
-static enum fq_status reported(union any *of, union at *at, enum fq_status (*call)(union any *, struct fq_todo *)) {
-    at->todo.number = due;
-    const enum fq_status said = call(of, &at->todo);
-    if (said == FQ_BAD_SIZE) memset(&at->todo.number, GUARD, sizeof at->todo.number);
-    return said;
-}
-static enum fq_status done_of(union any *of, struct fq_todo *todo) { return fq_driver_done(&of->driver, todo); }
-static enum fq_status step_of(union any *of, struct fq_todo *todo) { return fq_driver_step_sized(&of->driver, todo); }
-static enum fq_status done(union any *of, union at *at) { return reported(of, at, done_of); }
-static enum fq_status step(union any *of, union at *at) { return reported(of, at, step_of); }
 
 static enum fq_status replay(union any *of, union at *at) {
     const struct fq_settings settings = FQ_DEFAULT_SETTINGS;
@@ -92,8 +79,8 @@ static const struct call {
     enum fq_status right; /* what it returns for the right size */
 } calls[] = {CALL(count, &ring, fq_counts, FQ_OK), CALL(show_ring, &ring, fq_ring_shown, FQ_OK), CALL(finish, &ring, fq_totals, FQ_OK),
     CALL(show_tx, &tx, fq_tx_shown, FQ_OK), CALL(count_caller, &caller[0], fq_answers, FQ_OK), CALL(end_run, &list, fq_run_report, FQ_OK),
-    CALL(show_device, &driver, fq_device_shown, FQ_OK), CALL(next, &driver, fq_todo, FQ_OK), CALL(done, &driver, fq_todo, FQ_OK),
-    CALL(step, &driver, fq_todo, FQ_NOT_DUE), CALL(set_device, &driver, fq_device_settings, FQ_BAD_WEIGHT), CALL(replay, &none, fq_replayed, FQ_OK), CALL(raise_runs, &none, fq_replayed, FQ_OK),
+    CALL(show_device, &driver, fq_device_shown, FQ_OK), CALL(set_device, &driver, fq_device_settings, FQ_BAD_WEIGHT), CALL(replay, &none, fq_replayed, FQ_OK),
+    CALL(raise_runs, &none, fq_replayed, FQ_OK),
     CALL(machine, &none, fq_machine_ran, FQ_OK), CALL(machine_default, &none, fq_machine_settings, FQ_OK),
     /* a settings struct of bytes that are all 1, as also that of set_device, has a weight, a budget and a window out of their ranges */
     CALL(replay_by, &none, fq_settings, FQ_BAD_WEIGHT), CALL(raise_by, &none, fq_settings, FQ_BAD_WEIGHT),
@@ -102,15 +89,13 @@ static const struct call {
 static void objects(void) {
     struct fq_control control = FQ_NONE;
     struct fq_caller callers[2] = {FQ_NONE, FQ_NONE};
-    struct fq_todo todo;
     uint32_t id;
     bool made = fq_ring_new(&ring.ring, 4) == FQ_OK && fq_tx_new(&tx.tx, 4, 0, 1000, 1, 0) == FQ_OK && fq_list_new(&list.list) == FQ_OK;
     made = made && fq_shared_bare(&control, callers, 2) == FQ_OK && fq_move(&callers[0].handle, &caller[0].handle) == FQ_OK;
     made = made && fq_run_begin(&list.list, 300, 64, 1024) == FQ_OK && fq_run_next(&list.list, &id) == FQ_DONE;
     made = made && fq_driver_new(&driver.driver, 1, 300, 64, 1024) == FQ_OK && fq_driver_open(&driver.driver, 0) == FQ_OK;
-    made = made && fq_driver_next(&driver.driver, &todo) == FQ_OK && fq_abandon(&control.handle) == FQ_OK && fq_abandon(&callers[1].handle) == FQ_OK;
+    made = made && fq_abandon(&control.handle) == FQ_OK && fq_abandon(&callers[1].handle) == FQ_OK;
     want(made, "the objects", 0);
-    due = todo.number;
 }
 
 static void is_rejected(const struct call *call, size_t size) {

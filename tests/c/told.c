@@ -43,9 +43,9 @@ int main(void) {
     want(strcmp(version_text, FQ_VERSION) == 0, "the version in numbers");
     want(fq_version_number() == FQ_VERSION_NUMBER, "the library's number");
     const size_t sizes[] = {sizeof(struct fq_handle), sizeof(struct fq_dql), sizeof(struct fq_napi),
-        sizeof(struct fq_packet), sizeof(struct fq_tx_watchdog)};
+        sizeof(struct fq_packet), sizeof(struct fq_tx_watchdog), sizeof(struct fq_todo)};
     const uint32_t count = sizeof sizes / sizeof sizes[0];
-    want(count == FQ_STRUCT_TX_WATCHDOG + 1 && sizeof(struct fq_tx_watchdog) == 16, "the structs");
+    want(count == FQ_STRUCT_TODO + 1 && sizeof(struct fq_tx_watchdog) == 16 && sizeof(struct fq_todo) == 40, "the structs");
     for (uint32_t i = 0; i < 99; i++) want(fq_struct_size(i) == (i < count ? sizes[i] : 0), "a struct's size");
     tells(version, 0, FQ_VERSION);
     for (uint32_t i = 0; i < 300; i++) {

@@ -48,7 +48,7 @@ static void want(bool holds, const char *what) {
 template <class... Types>
 constexpr bool moves = ((std::is_nothrow_move_constructible_v<Types> && std::is_nothrow_move_assignable_v<Types> &&
                          !std::is_copy_constructible_v<Types> && !std::is_copy_assignable_v<Types>) && ...);
-static_assert(moves<Dql, TxRing, Caller, Granted, Polling, Busy, Control<Off>, Control<On>, Control<Marked>, Input, Output, Ring, List>);
+static_assert(moves<Dql, TxRing, Caller, Granted, Polling, Busy, Control<Off>, Control<On>, Control<Marked>, Input, Output, Ring, PlaceIn, PlaceOut, PlaceRing, List>);
 static_assert(!std::is_copy_constructible_v<Word> && !std::is_copy_assignable_v<Word> && !std::is_move_constructible_v<Word>);
 static_assert(moves<Shared, Bare, Scheduled, Ended, Took, TookBusy, Completed, End>);
 static_assert(noexcept(std::declval<Caller>().schedule()) && noexcept(std::declval<Caller>().take(FQ_LIST)) && noexcept(std::declval<Polling>().end(true)) &&
@@ -132,6 +132,28 @@ static void rings() {
     const Totals totals = std::move(*whole).finish();
     want(totals.put == 2 && totals.polled == 1 && totals.left == 1 && totals.bytes == 30, "its totals");
     want(!whole->put(1, 1) && whole->poll(out) == 0 && std::move(*whole).finish().put == 0 && !std::move(*whole).split(), "it is gone");
+}
+
+static void places() {
+    want(!PlaceRing::make(0) && !PlaceRing::make(65537), "a ring of places of none, or too many");
+    auto ring = PlaceRing::make(4);
+    int packets[4] = {};
+    auto own = ring->input.claim(0, 3);
+    want(own && own->first == 0 && own->count == 3, "three are claimed");
+    for (std::size_t i = 0; i < own->count; i++) packets[own->first + i] = 7 + int(i);
+    want(!ring->input.claim(4, 1) && !ring->output.peek(1, 1), "more than it owns");
+    own = ring->input.claim(3, 3);
+    want(own && own->first == 3 && own->count == 1, "the last one");
+    auto got = ring->output.peek(0, 64);
+    want(got && got->first == 0 && got->count == 3 && packets[got->first + 2] == 9, "what was published");
+    got = ring->output.peek(2, 1);
+    want(got && got->first == 2 && got->count == 1, "what is left");
+    PlaceIn moved(std::move(ring->input));
+    own = moved.claim(0, 1);
+    want(own && own->first == 3 && !ring->input.claim(0, 1), "an end that moved");
+    is_out = true;
+    want(!PlaceRing::make(4), "no memory");
+    is_out = false;
 }
 
 // A card whose packets arrive at given calls.
@@ -308,8 +330,8 @@ static void drivers() {
     did = driver.act(card);
     want(did.what == FQ_TODO_FETCH && did.packets == 64 && did.most == 64, "a fetch");
     std::uint32_t polls = 0;
-    while ((did = driver.act(card))) polls += did.run.polls;
-    polls += did.run.polls;
+    while ((did = driver.act(card))) polls += did.run().polls;
+    polls += did.run().polls;
     want(polls == 2 && card.taken == 100 && card.waiting == 0, "all packets");
     want(driver.end_run() == FQ_NOT_DUE, "no run to end");
     want(driver.interrupt(1) == FQ_GRANTED && driver.interrupt(1) == FQ_MISSED && driver.stop(1) == FQ_OK && driver.interrupt(1) == FQ_DISABLED, "interrupts");
@@ -330,7 +352,8 @@ static void drivers_with_timers() {
     EdgeCard none;
     want(driver && driver->set(0, {0, 64, 1, 5000, 0}) == FQ_OK && driver->set(2, {0, 64, 1, 5000, 0}) == FQ_BAD_DEVICE, "deferral");
     want(driver->set(1, {0, 65, 0, 0, 0}) == FQ_BAD_WEIGHT && driver->timer(0) == FQ_NOT_DUE, "a weight, and a closed device");
-    want(driver->open(0) == FQ_OK && driver->set(0, {0, 64, 0, 0, 0}) == FQ_NOT_DUE, "an open device");
+    want(driver->set(1, {0, 64, 1, 0, 0}) == FQ_BAD_SETTING, "deferral without a timeout");
+    want(driver->open(0) == FQ_OK && driver->set(0, {0, 64, 0, 0, 0}) == FQ_NOT_ALLOWED, "an open device");
     while (card.waiting > 0) static_cast<void>(driver->act(card));
     const Todo failed = driver->act(none);
     want(failed.what == FQ_TODO_FAILED && failed.status == FQ_NOT_ALLOWED, "cards without a timer");
@@ -357,7 +380,7 @@ static void drivers_that_rearm() {
     card.waiting = 1;
     want(driver->act(card).what == FQ_TODO_MASK && driver->act(card).what == FQ_TODO_FETCH, "a fetch that rearms");
     const Todo did = driver->act(card);
-    want(did.what == FQ_TODO_SLEEP && did.run.polls == 1 && did.run.work == 1 && !card.masked && card.taken == 101, "a sleep");
+    want(did.what == FQ_TODO_SLEEP && did.run().polls == 1 && did.run().work == 1 && !card.masked && card.taken == 101, "a sleep");
 }
 
 static void steps_of_drivers() {
@@ -382,7 +405,43 @@ static void steps_of_drivers() {
     }
     want(polls == 13 && card.taken == 100 && !card.masked && driver->shown(0)->packets == 100, "a loop of steps");
     todo.number = 1;
-    want(driver->step(todo) == FQ_NOT_DUE && todo.what == FQ_TODO_SLEEP && todo.number == 0, "a report that isn't due");
+    want(driver->step(todo) == FQ_OK && todo.status == FQ_NOT_DUE && todo.what == FQ_TODO_SLEEP && todo.number == 0, "a report that isn't due");
+}
+
+/* Two cards, whose packets interrupt; a loop of turns, and each mistake that a turn reports. */
+static void turns_of_drivers() {
+    auto driver = Driver::make(2, 300, Weight::of<8>());
+    RearmCard cards[2];
+    Todo todo;
+    want(driver && driver->open(0) == FQ_OK && driver->open(1) == FQ_OK, "a driver");
+    std::uint32_t fetches = 0, masks = 0;
+    const auto turns = [&](std::uint64_t interrupts) {
+        for (; driver->turn(interrupts, todo) == FQ_OK && todo; interrupts = 0) {
+            RearmCard &card = cards[todo.device];
+            if (todo.mask) card.mask(0), masks++;
+            if (todo.what == FQ_TODO_MASK) card.mask(0);
+            if (todo.what == FQ_TODO_UNMASK) card.unmask(0);
+            if (todo.what == FQ_TODO_LOOK) todo.packets = card.look(0);
+            if (todo.what != FQ_TODO_FETCH) continue;
+            want(card.masked, "a fetch from a masked card");
+            todo.packets = card.fetch(0, todo.most), fetches++;
+            if (todo.packets < todo.most) todo.rearm = card.rearm(0) ? FQ_REARM_MORE : FQ_REARM_EMPTY;
+        }
+    };
+    turns(0);
+    want(fetches == 26 && cards[0].taken == 100 && cards[1].taken == 100 && !cards[0].masked && !cards[1].masked, "a loop of turns");
+    masks = 0, cards[1].waiting = 1, turns(2);
+    want(fetches == 27 && masks == 1 && cards[1].taken == 101 && todo.run().polls == 1 && todo.run().work == 1, "a mask with its fetch");
+    want(driver->turn(4, todo) == FQ_BAD_DEVICE && !todo && todo.status == FQ_BAD_DEVICE, "a bit without a device");
+    want(driver->turn(1, todo = Todo()) == FQ_OK && todo.what == FQ_TODO_FETCH && todo.mask && todo.most == 8, "a fetch");
+    Todo none, many = todo;
+    want(driver->turn(0, none) == FQ_NOT_REPORTED && none.status == FQ_NOT_REPORTED && !none, "a lost action");
+    many.packets = 9;
+    want(driver->turn(0, many) == FQ_BAD_WORK && many.what == FQ_TODO_FAILED, "more than the weight");
+    many = driver->next();
+    want(many.number == todo.number && many.mask, "the same fetch again, with its mask");
+    want(driver->turn(0, todo) == FQ_OK && todo.what == FQ_TODO_UNMASK, "its report");
+    want(driver->stop(0) == FQ_OK && driver->turn(0, todo) == FQ_OK && todo.status == FQ_NOT_DUE && todo.what == FQ_TODO_MASK, "a report that isn't due");
 }
 
 static void machines() {
@@ -419,6 +478,7 @@ static void no_memory() {
 int main() {
     runs();
     rings();
+    places();
     cards();
     completions();
     busy();
@@ -428,6 +488,7 @@ int main() {
     drivers_with_timers();
     drivers_that_rearm();
     steps_of_drivers();
+    turns_of_drivers();
     machines();
     no_memory();
     want(blocks == 0, "nothing is left");

@@ -31,11 +31,12 @@ import emulation  # noqa: E402
 import machine  # noqa: E402
 from emulation import Setting  # noqa: E402
 from fintaqush_tools import drivers, predicting  # noqa: E402
+from fintaqush_tools.choosing import settings_of  # noqa: E402
 from fintaqush_tools.machine import values_of  # noqa: E402
 from judging import Judged, Skipped, difference, judge, read_kept, write_kept  # noqa: E402
 from parts import has_part  # noqa: E402
 from seen import DEVICE, HEAD, Seen, frames_in  # noqa: E402
-from tried import CARDS, NO_LIMIT, OTHERS, Card  # noqa: E402
+from tried import CARDS, NO_LIMIT, OTHERS, VIRTIO, Card  # noqa: E402
 
 Options = dict[str, int]
 Kept = dict[str, Any]  # head, costs, measured values by setting, arrivals
@@ -51,11 +52,10 @@ OF_SEVERAL = "interrupts", "polls", "runs", "squeezed"  # what is compared if th
 COLUMNS = {
     "interrupts": "Interrupts",
     "polls": "Polls",
-    "dropped": "Drops",
-    "delivered_p50": "Median wait to delivery, µs",
-    "used_p50": "Median wait to the end of use, µs",
+    "delivered_p50": "Median wait to delivery",
+    "used_p50": "Median wait to the end of use",
 }
-RULES = ("rx-gap", "latched", "gro-batch", "heedless", "app-wake")  # each with a value that is off without it
+RULES = ("rx-gap", "latched", "gro-batch", "heedless", "app-wake", "early")  # each with a value that is off without it
 
 
 # ---- what is kept
@@ -106,9 +106,9 @@ def options_of(card: Card, setting: Setting, kept: Kept) -> Options:
         "gro-flush-timeout": setting.deferral[1],
         "threaded": setting.threaded,
         "budget": setting.budget,
-        **kept["costs"],
         **drivers.options_of(head, DEVICE),
     }
+    options = settings_of(kept["costs"], options)
     options["rx-gap"] = max(card.least_gap, options["rx-gap"])
     return {name: value for name, value in options.items() if name != "take" or options["gro-batch"]}
 
@@ -202,7 +202,9 @@ def without(rule: str) -> Predict:
 def judged_rules() -> Iterator[Judged]:
     """The recordings need each rule: without it some value is off."""
     for rule in RULES:
-        lines = [line for card in CARDS for line in lines_of(card, read_kept(KEPT / card.name), without(rule))]
+        lines = [
+            line for card in (*CARDS, *OTHERS) for line in lines_of(card, read_kept(KEPT / card.name), without(rule))
+        ]
         off = sum(not line.is_good for line in lines)
         print(f"without {rule} {off} of {len(lines)} values are off")
         yield rule, [] if off else ["no value needs it"]
@@ -245,16 +247,16 @@ def keep(names: Sequence[str]) -> None:
 
 
 def table() -> list[str]:
-    """Returns the rows of the table of the kept recordings: in each cell the predicted value, the measured one, and the difference."""
+    """Returns the rows of the table of the kept recordings: in each cell by how many percent the predicted value was off."""
     columns = " | ".join(COLUMNS.values())
-    rows = [f"| Driver | Setting | {columns} |", "|" + "---|" * (2 + len(COLUMNS))]
-    for card in CARDS:
+    rows = [f"| Setting | {columns} |", "|" + "---|" * (1 + len(COLUMNS))]
+    for card in (*CARDS, VIRTIO):
         cells: dict[str, dict[str, str]] = {setting.name: {} for setting in card.settings}
         for line in lines_of(card, read_kept(KEPT / card.name), by_model):
-            cells[line.setting][line.name] = "{}, {} ({})".format(*line.cells()).replace(" %", "")
+            cells[line.setting][line.name] = line.cells()[2].replace(" %", "")
         for setting, of in cells.items():
             told = " | ".join(of.get(name, "") for name in COLUMNS)
-            rows.append(f"| {card.name} | {setting.replace(' us', ' µs')} | {told} |")
+            rows.append(f"| {card.name}, {setting.replace(' us', ' µs')} | {told} |")
     return rows
 
 

@@ -1,8 +1,6 @@
 """What a recording of an emulated card shows: costs, arrivals at the card, and measured values."""
 
-import re
 import struct
-from collections import Counter
 from collections.abc import Iterable, Iterator, Sequence
 from math import sqrt
 from pathlib import Path
@@ -13,7 +11,7 @@ from fintaqush_tools.commands import costs
 from fintaqush_tools.fits import WIDE
 from fintaqush_tools.instances import ANY
 from fintaqush_tools.receiving import Receiving
-from fintaqush_tools.recording import Event, Head, Look, check_lost, read
+from fintaqush_tools.recording import Head, check_lost, read
 
 Frame = tuple[int, int]  # when it came to the card, by QEMU's virtual clock in ns, and its number
 Measured = dict[str, float]
@@ -66,31 +64,17 @@ class Seen:
     def __init__(self, folder: Path, setting: emulation.Setting, frames: Iterable[Frame], cards: int = 1) -> None:
         self.path = folder / f"{setting.file}.rec"
         self.devices = [f"eth{number}" for number in range(cards)]
-        self.receiving, self.handler, self.span = Receiving(set(self.devices), {"card"}), "", (0, 0)
-        self.handled = Counter[str]()  # interrupts by the name of their handler
+        self.receiving = Receiving(set(self.devices), {"card"})
         stamps = rows_in(folder / f"{setting.file}.stamps")
         self.add_arrivals(frames, stamps, {row[0] for row in rows_in(folder / f"{setting.file}.read")})
         lost: list[str] = []
-        self.head: Head = read(str(self.path), lost, lambda _: [self.receiving, self])
+        self.head: Head = read(str(self.path), lost, lambda _: [self.receiving])
         check_lost(lost)
-
-    def looks_at(self, name: str) -> list[Look]:
-        """Returns what handles the events of this name."""
-        looks: dict[str, Look] = {"irq_handler_entry": self.begin_interrupt, "irq_handler_exit": self.end_interrupt}
-        return [looks[name]] if name in looks else []
-
-    def begin_interrupt(self, event: Event) -> None:
-        _, _, self.handler = event.said.partition("name=")
-
-    def end_interrupt(self, event: Event) -> None:
-        """Counts an interrupt, unless its handler left it to that of another card on the same line."""
-        self.handled[self.handler] += "ret=handled" in event.said
 
     @property
     def interrupts(self) -> int:
-        """Returns how many interrupts the cards raised. Handlers have the device's name, or another one, which the recording knows."""
-        known = {name for key, name in self.head.items() if re.fullmatch(rf"device\.({'|'.join(self.devices)})\.irq\.\d+\.name", key)}
-        return sum(count for name, count in self.handled.items() if name in known or name.startswith(tuple(self.devices)))
+        """Returns how many interrupts the cards raised."""
+        return predicting.interrupts_of(self.receiving, self.head)
 
     def add_arrivals(self, frames: Iterable[Frame], stamps: list[tuple[int, ...]], read: set[int]) -> None:
         ahead = ahead_of(stamps)

@@ -33,13 +33,16 @@ from fintaqush_tools.commands import costs  # noqa: E402
 from fintaqush_tools.errors import Refusal  # noqa: E402
 import rig  # noqa: E402
 from judging import Judged, Skipped, judge, read_kept, write_kept  # noqa: E402
+from fintaqush_tools.options import Words  # noqa: E402
 from fintaqush_tools.receiving import Receiving  # noqa: E402
+from fintaqush_tools.recorded import Recording  # noqa: E402
 from fintaqush_tools.recording import BACKLOG, check_lost, read  # noqa: E402
 from rig import Setting, Traffic  # noqa: E402
 
 TIMES = 3  # that each setting is recorded
 TRIES = 8  # until a recording is one that nothing disturbed
 MOST_SECONDS = 240  # for all recordings; what isn't recorded by then is skipped
+MOST_RUNNING = 60  # for one of traffic that already runs
 MOST_LATE = 2_000_000  # ns, of the sender's bursts
 MOST_STOLEN = 1  # hundredths of a second, which a hypervisor took
 QUIET = "needs a quiet machine"
@@ -47,6 +50,7 @@ NO_LIMIT = 65536  # packets of a socket's buffer, which holds all
 
 OVERLOAD = Traffic("fixed", 15000, 1500, 8, pace=10400, gso=8, filter=3900)
 STEADY = Traffic("poisson", 60, 1, 5000)
+RUNNING = Traffic("poisson", 60, 1, 250_000)
 BROADCAST = Traffic("mixed", 3000, 24, 150, gso=64)
 
 
@@ -111,7 +115,7 @@ def values_of(setting: Setting, recorded: rig.Recorded) -> dict[str, Any]:
     seen, head = seen_in(setting, recorded)
     if recorded.reads and max(recorded.reads)[0] >= len(seen.sent):
         raise rig.Failed(f"a recording by {setting.name} ended before the last packet")
-    ends = [(seen.sent[number], read + rig.USE_NS) for number, read in recorded.reads]
+    ends = [(seen.sent[number], read + rig.USE_NS) for number, read, _ in recorded.reads]
     return predicting.measured_of(seen, head, ends)
 
 
@@ -131,7 +135,7 @@ class Recordings:
         """One undisturbed recording: the sender kept to its times, and no hypervisor took the processors."""
         for _ in range(TRIES):
             if time.monotonic() > self.until:
-                raise rig.Failed(f"it isn't quiet enough within {MOST_SECONDS} s")
+                raise rig.Failed("it isn't quiet enough in time")
             self.count += 1
             recorded = rig.record(self.folder, setting, self.folder / f"{self.count}.rec")
             if recorded.late < MOST_LATE and recorded.stolen <= MOST_STOLEN:
@@ -290,9 +294,34 @@ def judged_here(program: str, folder: Path | None, numbers: Iterable[int], skipp
                 write_kept(folder / str(place + 1), kept)
 
 
+def judged_running(skipped: Skipped) -> Iterator[Judged]:
+    """Records traffic that already runs, and judges the waits by those that the program sees itself, from before each sending to its read."""
+    setting = Setting("traffic that already runs", "backlog", RUNNING, sysctls=backlog_of(3000), is_running=True)
+    if rig.missing():
+        return
+    with tempfile.TemporaryDirectory() as scratch:
+        rig.build(Path(scratch))
+        try:
+            recorded = Recordings(Path(scratch), time.monotonic() + MOST_RUNNING).once(setting)
+            seen = Recording(str(recorded.path), Words(device=None, capture=None)).read().seen
+        except (rig.Failed, Refusal) as error:
+            skipped.add("live", f"{setting.name}: {QUIET}: {error}")
+            return
+    delivered = sorted(seen.delivered())
+    if not delivered:
+        yield setting.name, ["packets and polls don't match"]
+        return
+    waits = sorted(end - sent for sent, end in delivered)
+    reads = [read - sent for _, read, sent in recorded.reads if delivered[0][0] <= sent <= delivered[-1][0]]  # what is recorded is slower
+    middle, whole = predicting.percentile(waits, 500), statistics.median(reads)
+    print(f"{setting.name}: {len(waits)} packets, median wait to delivery {middle / 1000:.1f} us, to the program's read {whole / 1000:.1f} us", flush=True)
+    yield setting.name, ["packets are delivered after they are read"] * (middle > whole)
+
+
 def judged(what: str, program: str, *others: str, skipped: Skipped) -> Iterator[Judged]:
     if what == "test":
         yield from judged_kept(program, skipped)
+        yield from judged_running(skipped)
     numbers = [int(number) - 1 for number in others[1:]] or range(len(GROUPS))
     yield from judged_here(program, Path(others[0]) if others else None, numbers, skipped)
 

@@ -1,4 +1,4 @@
-/* receiver PORT USE_NS FILTER FILE: reads UDP packets of the sender, works USE_NS on each, and writes `number,read` of each
+/* receiver PORT USE_NS FILTER FILE: reads UDP packets of the sender, works USE_NS on each, and writes `number,read,sent` of each
  * to FILE (CLOCK_MONOTONIC, in ns) once none has arrived for 300 ms. It prints `ready` on standard output when it listens,
  * and gives up if none arrives for a minute. A socket filter of FILTER multiplications makes the kernel's work on each packet
  * more expensive. */
@@ -39,7 +39,7 @@ static int add_filter(int in, int length) {
 
 int main(int count, char **words) {
     static struct {
-        uint64_t number, read;
+        uint64_t number, read, sent;
     } packets[MOST];
     if (count != 5) return 2;
     const int in = socket(AF_INET, SOCK_DGRAM, 0), room = BUFFER;
@@ -53,14 +53,15 @@ int main(int count, char **words) {
     if (bind(in, (const struct sockaddr *)&at, sizeof at)) return 1;
     puts("ready");
     fflush(stdout);
-    for (uint64_t bytes[25]; have < MOST && recv(in, bytes, sizeof bytes, 0) >= 8; have++) {
+    for (uint64_t bytes[25]; have < MOST && recv(in, bytes, sizeof bytes, 0) >= 16; have++) {
         packets[have].read = now();
         packets[have].number = bytes[0];
+        packets[have].sent = bytes[1];
         if (have == 0) give_up_after(in, 300000);
         while (now() < packets[have].read + use) {}
     }
     FILE *out = fopen(words[4], "w");
     if (!out) return 1;
-    for (size_t i = 0; i < have; i++) fprintf(out, "%lu,%lu\n", packets[i].number, packets[i].read);
+    for (size_t i = 0; i < have; i++) fprintf(out, "%lu,%lu,%lu\n", packets[i].number, packets[i].read, packets[i].sent);
     return fclose(out) != 0;
 }

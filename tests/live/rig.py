@@ -60,6 +60,7 @@ class Setting:
     sysctls: dict[str, int] = field(default_factory=dict)
     defer_hard_irqs: int = 0
     gro_flush_timeout: int = 0
+    is_running: bool = False  # the traffic begins before the recording, and ends after it
 
     @property
     def polls_on(self) -> int:
@@ -71,7 +72,7 @@ class Recorded:
     """The result of a recording: the file of fintaqush record, when each packet was read, and how late the sender was."""
 
     path: Path
-    reads: list[tuple[int, int]]  # (the packet's number, when it was read, in ns), in this order
+    reads: list[tuple[int, int, int]]  # (the packet's number, when it was read, and when it was sent, in ns), in this order
     late: int  # ns, of the latest burst
     stolen: int  # hundredths of a second that the hypervisor took from the two processors meanwhile
 
@@ -220,6 +221,16 @@ class Rig:
             raise Failed("the receiver didn't start")
         return process
 
+    def sender(self) -> subprocess.Popen[str]:
+        """The running sender."""
+        traffic, address = self.setting.traffic, "10.99.0.255" if self.setting.devices > 1 else "10.99.0.2"
+        words = traffic.period, traffic.burst, traffic.count, traffic.pace, traffic.gso, traffic.kind
+        process = subprocess.Popen(["ip", "netns", "exec", self.out, "chrt", "-f", "1", "taskset", "-c", str(SENDS), self.folder / "sender", address, str(PORT),
+                                    *map(str, words)], stdout=subprocess.PIPE, text=True)
+        self.undo.callback(process.wait)
+        self.undo.callback(process.kill)
+        return process
+
     def recorder(self, path: Path) -> subprocess.Popen[str]:
         """The running fintaqush record, called as a user would."""
         names = range(1, self.setting.devices + 1)
@@ -237,13 +248,15 @@ class Rig:
         return process
 
     def record(self, path: Path) -> Recorded:
-        traffic, read = self.setting.traffic, self.folder / "read"
+        read = self.folder / "read"
         receiver = self.receiver(read) if self.setting.devices == 1 else None
+        sender = self.sender() if self.setting.is_running else None
         recorder = self.recorder(path)
         before = stolen()
-        address = "10.99.0.255" if self.setting.devices > 1 else "10.99.0.2"
-        said = self.within(self.out, "chrt", "-f", 1, "taskset", "-c", SENDS, self.folder / "sender", address, PORT, traffic.period, traffic.burst,
-                           traffic.count, traffic.pace, traffic.gso, traffic.kind)
+        sender = sender or self.sender()
+        if self.setting.is_running and (recorder.wait() or sender.poll() is not None):
+            raise Failed("the traffic ended before its recording")
+        said, _ = sender.communicate()
         taken = stolen() - before
         if receiver and receiver.wait():
             raise Failed("the receiver failed")
@@ -252,7 +265,7 @@ class Rig:
             raise Failed(f"fintaqush record failed: {said_by_record.strip()[:200]}")
         late = int(group_in(r"^sent \d+ failed \d+ latest (\d+)", said))
         rows = (line.split(",") for line in read.read_text(encoding="ascii").splitlines()) if receiver else ()
-        return Recorded(path, [(int(number), int(when)) for number, when in rows], late, taken)
+        return Recorded(path, [(int(number), int(read), int(sent)) for number, read, sent in rows], late, taken)
 
 
 def record(folder: Path, setting: Setting, path: Path) -> Recorded:

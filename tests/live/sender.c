@@ -1,4 +1,5 @@
-/* sender ADDRESS PORT PERIOD_US BURST COUNT PACE_NS GSO KIND: sends COUNT bursts of UDP packets, of which each holds its number.
+/* sender ADDRESS PORT PERIOD_US BURST COUNT PACE_NS GSO KIND: sends COUNT bursts of UDP packets, of which each holds its number
+ * and when it is sent (CLOCK_MONOTONIC, in ns).
  * KIND: `fixed`, a burst of BURST packets each PERIOD_US; `poisson`, the same at Poisson times of that mean distance; `mixed`, bursts
  * of 1 to 2 * BURST packets each PERIOD_US. Within a burst a call is made each PACE_NS, or as soon as the one before has returned if that is
  * later, so the times don't depend on what becomes of the packets. With GSO above 1 a call sends up to GSO packets (UDP_SEGMENT).
@@ -54,8 +55,8 @@ int main(int count, char **words) {
         uint64_t next = when;
         for (int left = kind == 'm' ? 1 + (int)(drand48() * 2 * burst) : burst; left > 0; next += pace) {
             const int some = left < gso ? left : gso;
-            for (int k = 0; k < some; k++, number++) memcpy(bytes + k * SIZE, &number, 8);
             while (now() < next) {}
+            for (int k = 0; k < some; k++, number++) memcpy(bytes + k * SIZE, (uint64_t[]){number, now()}, 16);
             if (send(out, bytes, (size_t)(some * SIZE), 0) < 0) failed++;
             left -= some;
         }

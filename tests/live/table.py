@@ -3,7 +3,7 @@
     table.py PROGRAM                prints the table
     table.py PROGRAM --check PAGE   whether the page has that table between its marks; the exit status is 1 if it hasn't
     table.py PROGRAM --into PAGE    puts it there
-    table.py PROGRAM --draw FILE    draws it, as .png or .svg
+    table.py PROGRAM --draw FILE    draws it as .png, by matplotlib
 """
 
 from __future__ import annotations
@@ -15,7 +15,6 @@ from typing import Any
 
 from live import GROUPS, HERE, TOP, Line, predicted_lines
 from judging import read_kept
-from fintaqush_tools.pictures import LIGHT, canvas, saved
 
 sys.path.append(str(TOP / "scripts"))
 from parts import has_part  # noqa: E402
@@ -27,6 +26,8 @@ PANELS = {"median wait to the end of use, ms": ("used_p50",), "packets dropped":
           "polls, runs and squeezed runs": ("polls", "runs", "squeezed")}
 BREAKS = {"threaded, ": "threaded,~", "instances, ": "instances,~", "deferral ": "deferral~", "backlog of": "backlog~of"}
 WIDTHS = (0.36, 0.26, 0.38)
+GREY, BLUE, TEXT = "#757575", "#0063a6", "#1d1d1d"
+STYLE = {"font.size": 9, "axes.spines.top": False, "axes.spines.right": False, "axes.grid": True, "axes.grid.axis": "y", "axes.axisbelow": True}
 
 
 def text_of(name: str, value: float) -> str:
@@ -42,11 +43,10 @@ def rows_of(program: str) -> Iterator[tuple[str, list[Line], list[Line]]]:
 
 def table_of(program: str) -> list[str]:
     """The lines of the table as a page has it."""
-    lines = ["| Setting | Predicted from a recording with | Value | Predicted | Measured: median of three, range | Difference |",
-             "|---|---|---|---|---|---|"]
-    for base, _, predicted in rows_of(program):
-        lines += [f"| {line.setting} | {base} | {NAMES[line.name]} | {text_of(line.name, line.predicted)} | {text_of(line.name, line.median)}, "
-                  f"{text_of(line.name, min(line.measured))} to {text_of(line.name, max(line.measured))} | {line.error:+.1f} % |" for line in predicted]
+    lines = ["| Setting | Value | Predicted | Measured, median of three | Difference |", "|---|---|---|---|---|"]
+    for _, _, predicted in rows_of(program):
+        lines += [f"| {line.setting} | {NAMES[line.name]} | {text_of(line.name, line.predicted)} | {text_of(line.name, line.median)} | "
+                  f"{line.error:+.1f} % |" for line in predicted]
     return lines
 
 
@@ -62,7 +62,10 @@ def draw(program: str, path: str) -> None:
     """A picture: a panel for each kind of value, and for each setting what was measured, with its range, and predicted."""
     lines = [line for _, _, predicted in rows_of(program) for line in predicted]
     title = "Predicted and measured values on veth pairs; the range of three measurements"
-    with canvas((960, 380)) as figure:
+    import matplotlib.figure
+
+    with matplotlib.rc_context(STYLE):
+        figure = matplotlib.figure.Figure(figsize=(9.6, 3.8), dpi=100, layout="constrained")
         for number, (axes, (name, names)) in enumerate(zip(figure.subplots(1, len(PANELS), gridspec_kw={"width_ratios": WIDTHS}), PANELS.items())):
             draw_panel(axes, name, [line for line in lines if line.name in names], len(names) > 1)
             if number == 0:
@@ -70,7 +73,7 @@ def draw(program: str, path: str) -> None:
         figure.suptitle(title, fontsize=10)
         told = "; ".join(f"{line.setting}, {NAMES[line.name]}: measured {text_of(line.name, line.median)}, predicted {text_of(line.name, line.predicted)}"
                          for line in lines)
-        Path(path).write_bytes(saved(figure, Path(path).suffix, title, f"{title}. {told}."))
+        figure.savefig(path, metadata={"Title": title, "Description": f"{title}. {told}."})
 
 
 def draw_panel(axes: Any, title: str, lines: list[Line], is_named: bool) -> None:
@@ -78,8 +81,8 @@ def draw_panel(axes: Any, title: str, lines: list[Line], is_named: bool) -> None
     scale = 10**6 if "ms" in title else 1
     places, middles = range(len(lines)), [line.median / scale for line in lines]
     ends = [[(line.median - min(line.measured)) / scale for line in lines], [(max(line.measured) - line.median) / scale for line in lines]]
-    axes.bar([place - 0.2 for place in places], middles, 0.4, yerr=ends, capsize=3, color=LIGHT["grey"], ecolor=LIGHT["text"], label="measured")
-    axes.bar([place + 0.2 for place in places], [line.predicted / scale for line in lines], 0.4, color=LIGHT["blue"], hatch="//", label="predicted")
+    axes.bar([place - 0.2 for place in places], middles, 0.4, yerr=ends, capsize=3, color=GREY, ecolor=TEXT, label="measured")
+    axes.bar([place + 0.2 for place in places], [line.predicted / scale for line in lines], 0.4, color=BLUE, hatch="//", label="predicted")
     axes.set_title(title, fontsize=9)
     axes.set_xticks(list(places), [label_of(line, is_named) for line in lines], fontsize=7)
     if scale > 1:

@@ -10,6 +10,8 @@ from typing import Any
 
 from tooltest import REPLAY, process
 
+from fintaqush_tools.reports import ROWS
+
 COLUMNS = "row,moment,device,state,waiting,arrived,dropped,polled,in_flight,limit,avail,stopped,polls,work,squeezed,word,list,gave".split(",")
 
 
@@ -45,7 +47,7 @@ def values_of(number: int, row: str, report: list[list[str]], report_before: lis
             told["word"] = line[line.index("word") + 1]
         elif line[0] == "list":
             told["list"] = "".join(f" {each}" for each in line[1:])
-        elif line[:2] in (["softirq", str(number)], ["kthread", str(number)], ["busy", str(number)]):
+        elif line[0] in ROWS and line[1] == str(number):
             names = dict(zip(line[2::2], line[3::2]))
             told.update({name: names[name] for name in ("polls", "work", "squeezed") if name in names})
     return told

@@ -24,10 +24,11 @@ from typing import Any
 from finding import group_in
 import timing
 from timing import Made
-from tooltest import HAS_MACHINE, HERE, TOP, Done, InFolder, keys_of, process, run, skip_without
+from tooltest import HAS_MACHINE, HERE, TOP, Done, InFolder, ftrace, keys_of, process, run
 
-from fintaqush_tools import advice, blame, predicting, recording, verifying
+from fintaqush_tools import advice, blame, keeping, observed, predicting, recording, verifying
 from fintaqush_tools.errors import Refusal
+from fintaqush_tools.instances import Routes
 from fintaqush_tools.options import Words
 from fintaqush_tools.receiving import Held, Received, Receiving
 from fintaqush_tools.recorded import Recording
@@ -93,13 +94,26 @@ def overloaded(count: int = 40, ring: int = 50) -> Made:
     return made
 
 
+def later(text: str, by: int, pattern: str, every: int = 1) -> str:
+    """Returns a recording in which so many ns are added to the times of the lines with this pattern, or of every second or third of them."""
+    lines, count = text.splitlines(True), 0
+    for place, line in enumerate(lines):
+        found = re.search(r" (\d+)\.(\d{9}): ", line)
+        if found and re.search(pattern, line):
+            time = int(found[1]) * 10**9 + int(found[2]) + by
+            lines[place] = line.replace(found[0], f" {time // 10**9}.{time % 10**9:09}: ") if count % every == 0 else line
+            count += 1
+    return "".join(sorted(lines, key=lambda line: group_in(r" (\d+\.\d{9}): ", line)))
+
+
 BACKLOG = {"polled": "(no_device)", "program": "", "program.pids": "", "sysctl.net.core.netdev_max_backlog": 49}
 
 
 @HAS_MACHINE
 class Advise(InFolder):
     def advised(self, text: str, *words: object, status: int = 0) -> Done:
-        done = run("advise", self.write("x.rec", text), *words)
+        """Returns what advise prints with --explain."""
+        done = run("advise", self.write("x.rec", text), "--explain", *words)
         self.assertEqual(done.returncode, status, done.stderr)
         return done
 
@@ -116,6 +130,21 @@ class Advise(InFolder):
         # The machine's report has ten binary digits. Of 800 packets, 400 are at the first 5 places, 80 at each.
         self.assertEqual((values["delivered_p99"], values["delivered_p50"]), ((13750, 13744), (9650, 9648)))
         self.assertEqual((told["fit"], told["processor"], told["options"]["apart"], told["options"]["packet"]), ("good", 3, 1, 410))
+
+    def test_three_lines_first(self) -> None:
+        """What to set, what it brings with its band, and how far to trust it; then the commands, and with --explain all else."""
+        for text, goal, first, brings in (
+                (deferred(), "cpu", "napi_defer_hard_irqs 2, gro_flush_timeout 500000", r"the kernel's processor time: [\d.]+ % now; predicted [\d.]+ %, nine times of ten [\d.]+ to [\d.]+ %"),
+                (deferred(), "p99", "nothing, since no setting is notably better for the 99th percentile of waits", r".*: 94.2 us recorded; predicted .* us, nine times of ten .* us"),
+                (file_of(quiet(), **{"stolen.3": "0 200"}), "p50", "nothing, since no setting is notably better for the median wait", r".* us recorded; predicted [\d.]+ us")):
+            short = run("advise", self.write("x.rec", text), "--goal", goal).stdout.splitlines()
+            self.assertEqual((short[0], short[2][:13]), (f"set:    {first}", "trust:  good:"))
+            self.assertRegex(short[1], f"^brings: {brings}$")
+            whole = self.advised(text, "--goal", goal).stdout.splitlines()
+            self.assertEqual(whole[: len(short) - 1], short[:-1])
+            self.assertGreater(len(whole), 20)
+            self.assertEqual(short[-1], "--explain prints the costs, the fit, all settings and notes")
+        self.assertIn("a hypervisor took 20.0 % of processor 3's time", short[2])
 
     def test_nothing_to_change(self) -> None:
         """Each other setting delays packets."""
@@ -137,6 +166,11 @@ class Advise(InFolder):
             self.assertEqual(any(note.startswith("deferral isn't compared with none") for note in told["notes"]), timeouts == {0})
         values = {row["name"]: (row["measured"], row["predicted"]) for row in told["check"]}
         self.assertEqual((values["polls"], told["costs"]["timer"]["value"], told["costs"]["timer_wake"]["value"]), ((160, 160), 1700, 3300))
+
+    def test_no_advice_without_a_gain(self) -> None:
+        """The example's recording: a larger backlog would drop one packet less, with the same 99th percentile."""
+        told = json.loads(self.run_on(TOP / "examples/veth-backlog.rec", "--goal", "p99", "--json"))
+        self.assertEqual(({each["values"]["used_p99"] for each in told["tried"]}, told["set"]), ({told["now"]["used_p99"]}, []))
 
     def test_less_processor_time(self) -> None:
         """With a timer of 500 us, bursts 400 us apart share some polls, and only the first interrupt is left."""
@@ -163,14 +197,14 @@ class Advise(InFolder):
             made.switch(begin + 5 + int(busy * whole), cpu, "cc1-77", f"swapper/{cpu}-0")
         done = self.advised(file_of(made), "--goal", "p50")
         self.assertIn("wait to the end of use, p50, us", done.stdout)
-        self.assertIn("  for task in $(pgrep -x 'server'); do taskset -apc 1 $task; done\n", done.stdout)
+        self.assertIn("  for task in $(pgrep '^server$'); do taskset -apc 1 $task; done\n", done.stdout)
         self.assertIn("note: processor 1 was idle for 90 % of the recording; what waking the program there takes isn't in the recording unless it was apart\n", done.stdout)
         self.assertNotIn("taskset", self.advised(file_of(quiet(reader=timing.POLLER)), "--goal", "p50").stdout)
 
-    def card(self, works: Sequence[int] = (5, 15)) -> list[str]:
+    def card(self, works: Sequence[int] = (5, 15), flush: int = 0) -> list[str]:
         """Returns quiet's recording as that of a card: the packets that polls take, and no sender's."""
         lines: list[str] = []
-        for line in quiet(works=works).text().splitlines(True):
+        for line in quiet(works=works, flush=flush).text().splitlines(True):
             found = re.search(r" (\d+)\.(\d{9}): napi_poll: .* work (\d+) ", line)
             for place in range(int(found[3]) if found else 0):
                 assert found
@@ -180,6 +214,42 @@ class Advise(InFolder):
                              "mac_header_valid=1 mac_header=-14 nr_frags=0 gso_size=0 gso_type=0x0\n")
             lines += [] if "net_dev_xmit" in line else [line]
         return lines
+
+    @staticmethod
+    def merged(lines: Sequence[str]) -> str:
+        """Returns a recording of GRO: the stack gets the first packet of each burst 200 us after its poll, with the others merged into it."""
+        made, count, first = list[str](), 0, 0
+        for line in lines:
+            if "net_dev_xmit" in line or "napi_gro_receive_entry" in line:
+                count, first = count + 1, first or count + 1
+                line = line.replace("skbaddr=0 ", f"skbaddr={count:x} ")
+            made.append(line)
+            if re.search("napi_poll: .* work [1-9]", line):
+                made.append(re.sub("napi_poll: .*", f"netif_receive_skb: dev=vb1 skbaddr={first:x} len=86", line))
+                first = 0
+        return later("".join(made), 200_000, "netif_receive_skb")
+
+    def test_merged_packets(self) -> None:
+        """The last of 15 packets waits for the stack 200 us longer than for the end of its poll: of a card, 10,450 ns after the interrupt; 700 more by a
+        capture; of a pair, 13,750 ns after the sending. No other deferral than the recorded one is tried. With an event for each packet nothing is merged."""
+        none: dict[str, object] = {"program": "", "program.pids": "", "device.vb1.napi_defer_hard_irqs": 1, "device.vb1.gro_flush_timeout": 100_000}
+        one_end: dict[str, object] = {**none, "sender": "", "pair": ""}
+        card, pair = self.card(flush=100_000), quiet(flush=100_000).text().splitlines(True)
+        capture = ["--capture", self.captured(*self.arriving((5, 15)))]
+        cases: list[tuple[list[str], list[object], int, dict[str, object]]]
+        cases = [(card, [], 10_450, one_end), (card, capture, 11_150, {**none, **self.CAPTURED}), (pair, [], 13_750, none)]
+        for lines, words, wait, head in cases:
+            told = self.told(file_of(self.merged(lines), **head), "--goal", "cpu", *words)
+            values = {row["name"]: row["measured"] for row in told["check"]}
+            self.assertEqual((values["delivered_p50"], values["delivered_p99"]), (200_000 + wait,) * 2)
+            self.assertEqual({each["options"]["gro_flush_timeout"] for each in told["tried"]}, {0, 100_000})
+            self.assertEqual([note[:52] for note in told["notes"] if note.startswith("GRO")], ["GRO merged 800 packets that polls took into 80, so a"])
+            done = run("advise", self.folder / "x.rec", "--goal", "p50", "--wait", "delivery", "--explain", *words)
+            self.assertRegex(done.stdout, "the fit for the median wait to delivery is poor: wait to delivery, p50, us: -[89]")
+        each = "".join(re.sub("(.*)napi_gro_receive_entry: (.*) napi_id.*\n", r"\g<0>\1netif_receive_skb: \2 skbaddr=0 len=86\n", line) for line in card)
+        told = self.told(file_of(each, **one_end), "--goal", "cpu")
+        timeouts = {each["options"]["gro_flush_timeout"] for each in told["tried"]}
+        self.assertEqual((500_000 in timeouts, [note for note in told["notes"] if note.startswith("GRO")]), (True, []))
 
     REAL, MONOTONIC, ADDRESS = 1_700_000_000 * 10**9, 10**12 - 10**6, "02:00:00:00:00:07"
 
@@ -372,6 +442,21 @@ class Advise(InFolder):
             self.assertEqual([values[name] for name in ("polls", "delivered_p50", "delivered_p99")], [(80, 80), (9650, 9648), (13750, 13744)])
             self.assertEqual([told["costs"][name]["value"] for name in ("poll", "packet")], [2600, 410])
 
+    def test_packets_that_are_received_before_their_senders_event(self) -> None:
+        """The first packet of every eighth burst has its sender's event 5710 ns after its sending, 700 ns after its reception: its wait is as much shorter,
+        and all others are as they were. In the second recording this event comes after the poll, so that this wait counts as 0. In the third the first
+        five packets were sent before it."""
+        text = self.backlog_with_replies(2, 1)
+        head, _, trace = text.partition("trace\n")
+        before = re.sub(r".* net_dev_xmit: dev=va1 skbaddr=vb1000. .*\n", "", trace)
+        fewer = re.sub(r"(?m)^lines .*", f"lines {before.count(chr(10))}", head)
+        for text, sent, by in ((f"{head}trace\n{trace}", 800, 5710), (f"{head}trace\n{trace}", 800, 20_000), (f"{fewer}trace\n{before}", 795, 5710)):
+            head, _, trace = text.partition("trace\n")
+            told = self.told(f"{head}trace\n{later(trace, by, r'net_dev_xmit: dev=va1 skbaddr=vb1...0 ', every=8)}", "--goal", "drops")
+            values = {row["name"]: row["measured"] for row in told["check"]}
+            self.assertEqual((told["packets"], values["polls"], values["delivered_p50"], values["delivered_p99"]), (sent, 80, 9650, 13750))
+            self.assertEqual([told["costs"][name]["value"] for name in ("poll", "packet")], [2600, 410])
+
     def test_polls_of_packets_and_replies(self) -> None:
         """The fifth packet of a burst is another device's: 80 polls have one of these, and 720 packets are left."""
         text = self.backlog_with_replies(2, 1)
@@ -459,10 +544,11 @@ class Advise(InFolder):
             self.assertLessEqual(abs(next(row["error"] for row in told["check"] if row["name"] == "delivered_p50")), 25, name)
 
     def test_a_card_with_deferral(self) -> None:
-        """tests/cards/kept has the median wait of this setting from the arrivals at the card, 107 us. The prediction isn't by two timeouts."""
+        """Of another recording of this setting 276 packets between bursts have a median wait of 87 us by their arrivals at the card. The prediction isn't by
+        two timeouts."""
         told = json.loads(self.run_on(HERE / "recorded-card.rec.gz", "--goal", "p50", "--json"))
         row = next(each for each in told["check"] if each["name"] == "delivered_p50")
-        self.assertLess(abs(row["measured"] - 107_182), 10_000)
+        self.assertLess(abs(row["measured"] - 87_000), 5000)
         self.assertLess(abs(row["error"]), 10)
         self.assertTrue(any("count as spread evenly over the time since the poll before, so a wait may be off by 50.0 us" in each for each in told["notes"]))
         low, value, high = (told["advised"][each]["used_p50"] for each in ("low", "values", "high"))
@@ -472,21 +558,51 @@ class Advise(InFolder):
     def test_a_card_with_a_least_time_between_interrupts(self) -> None:
         """A recording of QEMU's e1000, which keeps 128 us between interrupts although rx-usecs is 0. recorded-gap.arrivals has the time from each packet's
         arrival at the card to the next one, after 2023-11-14T22:13:20Z."""
-        steps = map(int, (HERE / "recorded-gap.arrivals").read_text().split())
-        capture = self.captured(*((time, "52:54:00:00:00:01") for time in accumulate(steps)))
+        times = list(accumulate(map(int, (HERE / "recorded-gap.arrivals").read_text().split())))
+        capture = self.captured(*((time, "52:54:00:00:00:01") for time in times))
         with gzip.open(HERE / "recorded-gap.rec.gz", "rt") as file:
             text = re.sub(r"(?m)^began.realtime .*", f"began.realtime {self.REAL}", file.read())
-        for goal, name in (("p50", "used_p50"), ("p99", "delivered_p99"), ("cpu", "poll_percent")):
-            told = json.loads(self.advised(text, "--json", "--goal", goal, "--capture", capture).stdout)
+        for goal, wait, name in (("p50", "use", "used_p50"), ("p99", "delivery", "delivered_p99"), ("cpu", "use", "poll_percent")):
+            told = json.loads(self.advised(text, "--json", "--goal", goal, "--wait", wait, "--capture", capture).stdout)
             rows = {row["name"]: row for row in told["check"]}
             self.assertEqual((told["fit"], told["options"]["rx_gap"], told["packets"]), ("good", 128_000, 151))
             self.assertLess(max(abs(rows[each]["error"]) for each in ("polls", "runs", name)), 8)
             self.assertEqual((told["set"], {each["options"]["rx_gap"] for each in told["tried"]}), ([], {128_000}))
             self.assertIn("the card keeps at least 128.0 us between interrupts, so a lower rx-usecs changes nothing", told["notes"])
+        # Of a longer capture only what came during the recording counts. By another clock these are other packets, or the same ones at other times; or one in ten is missing.
+        lasts = times[-1] + 10**6
+        longer = [time + turn * lasts for turn in (-1, 0, 1) for time in times]
+        for shift, chosen in ((0, longer), (lasts // 3, longer), (-lasts // 3, longer), (10**6, times), (-(10**6), times), (0, [each for place, each in enumerate(times) if place % 10])):
+            capture = self.captured(*((time + shift, "52:54:00:00:00:01") for time in chosen))
+            for goal in ("p50", "p99", "cpu", "drops"):
+                done = run("advise", self.write("x.rec", text), "--goal", goal, "--wait", "delivery", "--capture", capture)
+                self.assertEqual(("that came during the recording aren't the 151 that polls took" in done.stderr, done.returncode), (chosen != longer or shift != 0,) * 2, (shift, goal, done.stderr))
+        capture = self.captured(*((time, "52:54:00:00:00:01") for time in times))
         # If rx-usecs were 125, the card's own time couldn't be known.
         told = json.loads(self.advised(text.replace("rx-usecs 0", "rx-usecs 125"), "--json", "--goal", "p50", "--capture", capture).stdout)
         self.assertLess(told["advised"]["values"]["used_p50"], told["now"]["used_p50"])
         self.assertEqual(sum("longer than predicted: --verify" in each for each in told["notes"]), 1)
+
+    def test_interrupts_that_are_not_predicted(self) -> None:
+        """A recording of virtio_net with deferral, which asks for interrupts before its poll ends: a plain search finds those that were handled, and the
+        prediction has most of them. If the driver were another one, everything else would be predicted within 40 %, and the fit would be poor
+        for every goal. Those of a transmit queue don't count."""
+        path = HERE / "recorded-early.rec.gz"
+        text = gzip.decompress(path.read_bytes()).decode()
+        handled = len(re.findall("irq=27 ret=handled", text))
+        rows = {row["name"]: row for row in json.loads(self.run_on(path, "--goal", "cpu", "--json"))["check"]}
+        self.assertEqual(rows["interrupts"]["measured"], handled)
+        self.assertLess(abs(rows["interrupts"]["error"]), 40)
+        other = self.write("x.rec", text.replace("device.eth0.driver virtio_net", "device.eth0.driver igb"))
+        for goal in ("p99", "p50", "cpu", "drops"):
+            done = run("advise", other, "--goal", goal, "--json")
+            rows = {row["name"]: row for row in json.loads(done.stdout)["check"]}
+            self.assertEqual((done.returncode, rows["interrupts"]["measured"]), (1, handled))
+            self.assertLess(rows["interrupts"]["error"], -40)
+            self.assertLess(max(abs(row["error"]) for name, row in rows.items() if name != "interrupts"), 40)
+            self.assertIn("the prediction of the recorded setting is poor (interrupts: -50 %), so there is no advice for any goal", done.stderr)
+        told = json.loads(self.run_on(HERE / "recorded-virtio.rec.gz", "--goal", "drops", "--json"))
+        self.assertEqual({row["measured"] for row in told["check"] if row["name"] in ("interrupts", "polls")}, {45})
 
     def run_on(self, path: Path, *words: str) -> str:
         done = run("advise", path, *words)
@@ -504,7 +620,7 @@ class Advise(InFolder):
     def test_a_fit_that_is_poor_for_one_goal(self) -> None:
         """Of 160 bursts the last three take 200 us longer, which are 3 % of the packets: the message names the goals for which there is advice."""
         made = quiet(count=157)
-        made.costs = {**COSTS, "poll": COSTS["poll"] + 200_000}
+        made.costs["poll"] += 200_000
         for _ in range(3):
             begin, end = made.time, made.softirq_round([10])
             made.read(end, 10)
@@ -517,19 +633,12 @@ class Advise(InFolder):
 
     def test_a_fit_without_the_wait_of_its_goal(self) -> None:
         """Of three packets one is sent 1 ms late, by its event: which packet was in which poll isn't known, so there is no wait to compare."""
-        lines = quiet().text().splitlines(True)
-        sent = [place for place, line in enumerate(lines) if "net_dev_xmit" in line]
-        for place in sent[::3]:
-            found = re.search(r" (\d+)\.(\d{9}): net_dev_xmit", lines[place])
-            assert found
-            time = int(found[1]) * 10**9 + int(found[2]) + 1_000_000
-            lines[place] = lines[place].replace(found[0], f" {time // 10**9}.{time % 10**9:09}: net_dev_xmit")
-        text = file_of("".join(sorted(lines, key=lambda line: group_in(r" (\d+\.\d{9}): ", line))))
+        text = file_of(later(quiet().text(), 1_000_000, "net_dev_xmit", every=3))
         for words in (["--goal", "p99"], ["--goal", "p50"], ["--goal", "cpu", "--p99-below", "1000"]):
             done = self.advised(text, *words, status=1)
             self.assertIn(" is unknown: no wait was measured, because which packet was in which poll isn't known\n", done.stdout)
             self.assertNotIn("advice:", done.stdout)
-            self.assertRegex(done.stderr, "^fintaqush advise: .*x.rec: no wait was measured, .*, so there is no advice for any goal\n$")
+            self.assertRegex(done.stderr, "^fintaqush advise: .*x.rec: no wait was measured, .*, so there is no advice for (any goal|this goal, but there is with --goal drops)\n$")
         self.assertNotIn("is unknown: no wait", self.advised(text, "--goal", "cpu", status=1).stdout)  # of which polls are compared
 
     def test_other_tasks(self) -> None:
@@ -544,16 +653,16 @@ class Advise(InFolder):
         self.assertEqual(self.told(file_of(quiet()))["other_tasks"], [])
 
     def test_which_task_the_waits_belong_to(self) -> None:
-        """Another task has the processor until the thread begins, 5000 + 1700 ns after 1 or 3 packets came. Their poll ends 2600 + 410 ns per packet
-        later: of 9710 and three times 10530 ns these are four times 6700, 65 %, and of the slowest 64 %."""
-        made = Made(**{**COSTS, "wake": 5000})
+        """1 or 3 packets come, the interrupt begins 2000 ns later and takes 1700, and another task has the processor for 5000 more until the thread begins.
+        Their poll ends 2600 + 410 ns per packet later: of 11,710 and three times 12,530 ns these are four times 5000, 41 %, and of the slowest 40 %."""
+        made = Made(**{**COSTS, "wake": 2000, "late": 5000})
         for place in range(80):
             made.switch(made.time - 9000, timing.POLLER, "swapper/3-0", "cc1-77", "R")
             made.time = made.thread_round(1 + 2 * (place % 2), False) + 50_000
         text = made.text().replace("prev_comm=swapper/3 prev_pid=0 prev_prio=120 prev_state=R ==> next_comm=napi", "prev_comm=cc1 prev_pid=77 prev_prio=120 prev_state=R ==> next_comm=napi")
         told = self.told(file_of(text, **{"device.vb1.threaded": 1, "program": "", "program.pids": ""}), "--goal", "drops")
-        self.assertEqual(told["blame"], ["of the waits to delivery 65 % passed while another task had the processor (cc1 65 %), and of the slowest one in 100 64 % (cc1 64 %): no "
-                                         "setting that is tried here changes that; priorities and other processors for these tasks do"])
+        self.assertEqual(told["blame"], ["of the waits to delivery 41 % passed while another task had the processor (cc1 41 %), and of the slowest one in 100 40 % (cc1 40 %): no "
+                                         "setting that is tried here changes that: give these tasks other processors or priorities, then record again"])
         self.assertEqual(self.told(file_of(quiet()))["blame"], [])
         deferred = file_of(text, **{"device.vb1.threaded": 1, "device.vb1.napi_defer_hard_irqs": 2, "device.vb1.gro_flush_timeout": 1000, "program": "", "program.pids": ""})
         self.assertNotIn("of the waits to delivery", run("advise", self.write("x.rec", deferred), "--goal", "drops").stdout)
@@ -561,12 +670,13 @@ class Advise(InFolder):
         self.assertIn(f"so there is no advice for any goal; {told['blame'][0]}\n", poor.stderr)
 
     def test_waits_that_other_tasks_make(self) -> None:
-        """Each of 1200 packets waits 20,000 + 1700 ns in which another task has the processor, and 2600 + 410 ns in its poll: no prediction fits. If the task
-        is the program that is recorded, or the processor is idle, it may."""
-        cases: list[tuple[str, set[int], str]] = [
-            ("cc1-77", set(), "88 % passed while another task had the processor .cc1 88 %., so their p50 is 24.7 us instead of 3.0, and no"), ("cc1-77", {77}, ""), ("swapper/3-0", set(), "")]
-        for task, known, why in cases:
-            made = Made(**{**COSTS, "wake": 20_000})
+        """Each of 1200 packets waits 300 ns for its interrupt, 1700 in it, 20,000 in which another task has the processor, and 2600 + 410 ns in its poll: no
+        prediction fits. If the task is the program that is recorded, or the processor is idle, it may; so if the interrupt needs as long to come."""
+        why = "80 % passed while another task had the processor .cc1 80 %., so their p50 is 25.0 us instead of 5.0, and no"
+        cases: list[tuple[str, set[int], tuple[int, int], str]] = [("cc1-77", set(), (300, 20_000), why), ("cc1-77", {77}, (300, 20_000), ""),
+                                                                   ("swapper/3-0", set(), (300, 20_000), ""), ("cc1-77", set(), (20_300, 0), "")]
+        for task, known, (wake, late), why in cases:
+            made = Made(**{**COSTS, "wake": wake, "late": late})
             made.switch(made.time - 9000, timing.POLLER, "swapper/3-0", task)
             for _ in range(1200):
                 made.time = made.softirq_round([1]) + 50_000
@@ -581,18 +691,25 @@ class Advise(InFolder):
                     told = str(error)
                 self.assertRegex(told, why or "^$")
 
+    def test_pinning(self) -> None:
+        """Interrupts go to the processor that polls, the program to another one. Names are quoted for the shell."""
+        head = {"program": "a'b", "device.eth0.irq.40.name": "eth0-TxRx-0", "device.eth0.irq.40.smp_affinity_list": "0-3"}
+        self.assertEqual(advice.pinning(head, "eth0", 3, 2), "pin the program and the interrupts (for task in $(pgrep '^a'\"'\"'b$'); do taskset -apc 2 $task; done; "
+                                                             "echo 3 > /proc/irq/40/smp_affinity_list)")
+        self.assertEqual(advice.pinning({}, "eth0", 3, 2), "")
+
     def test_waits_that_are_refused_early(self) -> None:
         """If no program is recorded, so that waits end with the delivery, the first events are enough to refuse a goal that is a wait."""
-        made = Made(**{**COSTS, "wake": 20_000})
+        made = Made(**{**COSTS, "wake": 300, "late": 20_000})
         made.switch(made.time - 9000, timing.POLLER, "swapper/3-0", "cc1-77")
         for _ in range(2400):
             made.time = made.softirq_round([1]) + 50_000
         none: dict[str, object] = {"program": "", "program.pids": "", "instance.1": "device vb1 napi 0 queue 0 kind receive polls 2400 packets 2400 on 3:2400:2400"}
         with unittest.mock.patch.object(recording, "EARLY", 9000):
-            for goal, pids, is_early in (("p50", "", True), ("p99", "", True), ("cpu", "", False), ("p50", "60", False)):
-                none["program.pids"] = pids
+            for goal, pids, defer, is_early in (("p50", "", 0, True), ("p99", "", 0, True), ("cpu", "", 0, False), ("p50", "60", 0, False), ("p50", "", 2, False)):
+                none |= {"program.pids": pids, "device.vb1.napi_defer_hard_irqs": defer, "device.vb1.gro_flush_timeout": 1000}
                 done = run("advise", self.write("x.rec", file_of(made, **none)), "--goal", goal)
-                self.assertEqual("passed while another task had the processor (cc1 88 %), so their " in done.stderr, is_early, (goal, done.stderr))
+                self.assertEqual("passed while another task had the processor (cc1 80 %), so their " in done.stderr, is_early, (goal, done.stderr))
 
     def test_other_tasks_beside_the_program(self) -> None:
         """The program reads on a separate processor: another task has 10 of 42 ms there."""
@@ -604,29 +721,31 @@ class Advise(InFolder):
         self.assertIn("other tasks used processor 5, on which the program reads, too (cc1 24 %): the prediction assumes", self.advised(file_of(made)).stdout)
 
     def test_a_use_that_is_unknown(self) -> None:
-        """Without reads a note says to record the program; with reads of half of the packets, so not of all, it doesn't."""
+        """Without reads a note says to record the program; with reads of half of the packets, so not of all, it doesn't, and the wait to the end of use isn't
+        that to delivery."""
         lines = quiet().text().splitlines(True)
         reads = [place for place, line in enumerate(lines) if "sys_recvmsg" in line]
         cases: list[tuple[list[int], str]] = [([], ": record with --program, so that waits are those to the end of use"), (reads[: len(reads) // 2], "")]
         for kept, ending in cases:
-            text = "".join(line for place, line in enumerate(lines) if place in kept or "sys_recvmsg" not in line)
-            self.assertIn(f"the cost of a packet's use is unknown and counts as 0{ending}", self.told(file_of(text))["notes"])
+            text = file_of("".join(line for place, line in enumerate(lines) if place in kept or "sys_recvmsg" not in line))
+            self.assertIn(f"the cost of a packet's use is unknown and counts as 0{ending}", self.told(text, "--goal", "cpu")["notes"])
+        said = self.advised(text, "--goal", "p50", status=1).stderr
+        self.assertRegex(said, "no wait to the end of use was measured: 400 reads for 800 packets that polls took: the program reads too slowly, or several packets at once, so there "
+                         "is no advice for this goal, but there is with --goal cpu or --goal drops or --goal p50 --wait delivery\n")
+        self.assertIn("the fit for the median wait to delivery is good\n", self.advised(text, "--goal", "p50", "--wait", "delivery").stdout)
 
     def test_a_use_that_is_not_predicted(self) -> None:
-        """Another task has the program's processor, so each read comes 300 us later: waits end with the delivery then, which is predicted. If the
-        ring dropped nothing but the head's is full, that isn't either, and the fit is poor."""
-        lines = []
-        for line in quiet().text().splitlines(True):
-            found = re.search(r"\[005\].* (\d+)\.(\d{9}): ", line)
-            time = int(found[1]) * 10**9 + int(found[2]) + 300_000 if found else 0
-            lines.append(line.replace(f"{found[1]}.{found[2]}", f"{time // 10**9}.{time % 10**9:09}") if found else line)
-        text = "".join(sorted(lines, key=lambda line: group_in(r" (\d+\.\d{9}): ", line)))
-        told = self.told(file_of(text), "--goal", "p50")
-        self.assertEqual((told["fit"], {row["name"] for row in told["check"] if "used" in row["name"]}), ("fair", set()))
-        self.assertTrue(any(note.startswith("the end of use isn't predicted (wait to the end of use, p50, us: -") for note in told["notes"]), told["notes"])
-        self.assertEqual({each["options"]["apart"] for each in told["tried"]}, {1})
-        done = self.advised(file_of(text, **{"device.vb1.ethtool.ring.rx": 1}), "--goal", "p50", status=1)
-        self.assertIn("is poor: dropped: +", done.stdout)
+        """Another task has the program's processor, so each read comes 300 us later: the wait to delivery is predicted, but only counts if it is asked for. If
+        the ring dropped nothing but the head's is full, that isn't either."""
+        text = later(quiet().text(), 300_000, r"\[005\]")
+        done = self.advised(file_of(text), "--goal", "p50", status=1)
+        self.assertRegex(done.stdout, r"\n  wait to the end of use, p50, us +3\d\d\.\d +\d\d\.\d .*\n")
+        self.assertRegex(done.stdout, r"the fit for the median wait is poor: wait to the end of use, p50, us: -\d\d %\n")
+        self.assertIn("but there is with --goal cpu or --goal drops or --goal p50 --wait delivery\n", done.stderr)
+        told = self.told(file_of(text), "--goal", "p50", "--wait", "delivery")
+        self.assertEqual((told["fit"], told["wait"], {each["options"]["apart"] for each in told["tried"]}), ("fair", "delivery", {1}))
+        done = self.advised(file_of(text, **{"device.vb1.ethtool.ring.rx": 1}), "--goal", "p50", "--wait", "delivery", status=1)
+        self.assertRegex(done.stdout, "is poor: dropped: [+]")
 
     def test_what_is_set_and_not_modelled(self) -> None:
         told = self.told(file_of(quiet(), **{"sysctl.net.core.busy_read": 50, "device.vb1.ethtool.coalesce.adaptive-rx": "on", "udp.RcvbufErrors": "3 10",
@@ -644,10 +763,11 @@ class Advise(InFolder):
         """80 polls of 2600 ns and 410 per packet take 0.34 of 7.9 ms with 1 or 7 packets, and 0.27 with 1 or 3. Each setting is recorded three times
         in turn, today's first. The advice holds if all of its recordings are below all of today's."""
         often = 100_000
+        state: dict[str, Any] = {}
 
         def verified(*works: tuple[int, int], status: int = 0, words: Sequence[str] = (), stolen: str = "0 0") -> Done:
             given = [self.write(f"{place}.rec", file_of(quiet(works=each, period=often), **{"stolen.3": "0 0" if place else stolen})) for place, each in enumerate(works)]
-            state = {"is_changed": False}
+            state["is_changed"] = False
 
             def record_again(_: Any, told: Any) -> Recording:
                 self.assertEqual(state["is_changed"], len(given) % 2 == 1)
@@ -655,15 +775,14 @@ class Advise(InFolder):
 
             @contextlib.contextmanager
             def with_changes(_: Any, changes: Sequence[advice.Change]) -> Any:
-                self.assertTrue(changes)
-                state["is_changed"] = True
+                state.update(changes=changes, is_changed=True)
                 yield
                 state["is_changed"] = False
 
             with unittest.mock.patch.object(verifying, "record_again", record_again), unittest.mock.patch("os.geteuid", lambda: 0), \
                     unittest.mock.patch.object(advice.Machine, "with_changes", with_changes):
                 done = self.advised(deferred((1, 7), often), "--goal", "cpu", "--verify", *words, status=status)
-            self.assertEqual(given, [])
+            self.assertEqual((given, bool(state["changes"])), ([], True))
             return done
 
         high, low = (1, 7), (1, 3)
@@ -673,7 +792,7 @@ class Advise(InFolder):
         done = verified(high, low, high, low, high, low)
         self.assertIn("\npolls, % of the time: 4.3 (4.3 to 4.3) today, 3.5 (3.5 to 3.5) with the advised settings: -19 %, better in all recordings\n", done.stdout)
         self.assertRegex(done.stdout, r"\npredicted for these packets: [\d.]+, nine times of ten [\d.]+ to [\d.]+, which (holds|does not hold) the measured median\n$")
-        self.assertEqual(done.stderr.splitlines(), [f"fintaqush advise: recording today's settings and the advised ones during traffic, {number} of 3" for number in (1, 2, 3)])
+        self.assertEqual(done.stderr.splitlines(), [f"fintaqush advise: recording today's settings and the advised settings during traffic, {number} of 3" for number in (1, 2, 3)])
         told = json.loads(verified(high, low, high, low, high, low, words=["--json"]).stdout)["verdict"]
         self.assertEqual((told["name"], told["verdict"], [[f"{each:.1f}" for each in told[name]] for name in ("today", "advised")]),
                          ("poll_percent", "better", [["4.3"] * 3, ["3.5"] * 3]))
@@ -683,11 +802,26 @@ class Advise(InFolder):
             done = verified(*works, status=1)
             self.assertIn(what, done.stdout)
             self.assertIn("fintaqush advise: the advised settings weren't better than today's, which are set again\n", done.stderr)
+        # The user's own change, from what the machine has now, and not from what it had when it was recorded.
+        words = ["--set", "net.core.netdev_budget=600", "--set", "gro_flush_timeout=7"]
+        with unittest.mock.patch.multiple(observed, of_kernel=lambda: [("sysctl.net.core.netdev_budget", "77")], settings_of_device=lambda name, _: [(f"device.{name}.gro_flush_timeout", "5")]):
+            done = verified(high, low, high, low, high, low, words=words)
+            self.assertIn("\npolls, % of the time: 4.3 (4.3 to 4.3) today, 3.5 (3.5 to 3.5) with those of --set: -19 %, better in all recordings\n", done.stdout)
+            self.assertEqual(done.stderr.splitlines()[0], "fintaqush advise: recording today's settings and those of --set during traffic, 1 of 3")
+            self.assertEqual(state["changes"], [advice.Change("sysctl", "netdev_budget", 600, 77), advice.Change("sysfs", "gro_flush_timeout", 7, 5)])
+            self.assertIn("those of --set weren't better than today's, which are set again\n", verified(*(low, high) * 3, words=words, status=1).stderr)
+            self.assertIn("--set threaded: there is no such setting here", self.advised(deferred((1, 7), often), "--goal", "cpu", "--verify", "--set", "threaded=1", status=1).stderr)
+        # --keep leaves what is better, and only that.
+        with unittest.mock.patch.object(keeping, "keep", lambda _, changes: [{"set": "echo", "file": "/etc/x", "why": "", "undo": f"rm {len(changes)}"}]):
+            self.assertIn("\nkept, also after a reboot, by /etc/x: echo\n  undone by: rm 2\n", verified(*(high, low) * 3, words=["--keep"]).stdout)
+            self.assertNotIn("kept", verified(*(low, high) * 3, words=["--keep"], status=1).stdout)
+        for wrong in (["--keep"], ["--set", "net.core.netdev_budget=600"], *(["--verify", "--set", each] for each in ("net.core.x$(id)=1", "netdev_budget=1", "ring=", "ring=x", "rx-usecs"))):
+            self.advised(deferred(), *wrong, status=64)
 
     def test_a_verdict_before_a_failure(self) -> None:
         """As a process, whose output to a pipe is buffered: the verdict comes out although the settings weren't better."""
         code = ("import sys; from fintaqush_tools import errors, verifying; from fintaqush_tools.commands import advise; "
-                "advise.verified = lambda _: ([], 0, verifying.Verdict('polls', [5, 5, 5], [6, 6, 7], 4, (3, 5))); errors.run('fintaqush advise', advise.main, sys.argv[1:])")
+                "advise.verified = lambda _: ([], 0, verifying.Verdict('polls', [5, 5, 5], [6, 6, 7], 4, (3, 5)), []); errors.run('fintaqush advise', advise.main, sys.argv[1:])")
         recording = self.write("x.rec", deferred())
         done = process(sys.executable, "-B", "-c", code, recording, "--goal", "cpu", "--verify", PYTHONPATH=TOP / "tools")
         self.assertIn("\npolls: 5 (5 to 5) today, 6 (6 to 7) with the advised settings: +20 %, worse in all recordings\n", done.stdout)
@@ -701,16 +835,7 @@ class Advise(InFolder):
             "predicted for these packets: 24.0, nine times of ten 20.5 to 30.0, which holds the measured median"]))
         self.assertEqual(verdict.failure(), "whether the advised settings are better isn't known, because only 2 of 3 recordings of a setting measured it; today's are set "
                          "again")
-        self.assertEqual(verifying.Verdict("used_p99", [], [9], 1, (1, 1)).lines(), ["the advice isn't verified: wait to the end of use, p99, us wasn't measured"])
-
-    @skip_without("matplotlib")
-    def test_the_picture(self) -> None:
-        for name, begins in (("x.png", b"\x89PNG"), ("x.svg", b"<?xml")):
-            self.advised(file_of(quiet()), "--plot", self.folder / name)
-            self.assertTrue((self.folder / name).read_bytes().startswith(begins))
-        text = (self.folder / "x.svg").read_text()
-        for told in ("x.rec: settings", "99th percentile of waits", "kernel, % of the processor", "advised<", "now<"):
-            self.assertIn(told, text)
+        self.assertEqual(verifying.Verdict("used_p99", [], [9], 1, (1, 1)).lines(), ["the advised settings aren't verified: wait to the end of use, p99, us wasn't measured"])
 
     def test_recordings_that_it_refuses(self) -> None:
         whole = file_of(quiet())
@@ -728,12 +853,11 @@ class Advise(InFolder):
             self.assertTrue(done.stderr.startswith("fintaqush advise: ") and why in done.stderr, done.stderr)
 
     def test_words_that_it_refuses(self) -> None:
-        for words in (["--goal", "speed"], ["--max-drops", "-1"], ["--p99-below", "0"], ["--plot", "x.pdf"], ["--packets", "1"]):
+        for words in (["--goal", "speed"], ["--max-drops", "-1"], ["--p99-below", "0"], ["--packets", "1"]):
             self.assertEqual(run("advise", self.write("x.rec", file_of(quiet())), *words).returncode, 64, words)
         self.assertEqual(run("advise").returncode, 64)
         self.assertIn("there is no such file", run("advise", self.folder / "none").stderr)
         self.assertIn("--device vb7: it has vb1", self.advised(file_of(quiet()), "--device", "vb7", status=1).stderr)
-        self.assertIn("there is no such folder", self.advised(file_of(quiet()), "--plot", self.folder / "none/x.png", status=1).stderr)
 
     def test_a_program_that_fails(self) -> None:
         for body in ("kill -9 $$", "exit 0", "echo hello", "exit 64"):
@@ -782,7 +906,7 @@ class Seen(unittest.TestCase):
         """Returns the arrivals of the packets of polls, each with when it began and ended, and its packets."""
         held, arrivals = Held(options), []
         for begun, ended, count in polls:
-            taken = [Received(begun, "eth0", 0, 0) for _ in range(count)]
+            taken = [Received(begun, "eth0", 0, 0, taken=ended) for _ in range(count)]
             held.spread(("eth0", "a0"), taken, count, ended)
             arrivals.append([each.time for each in taken])
         return arrivals
@@ -800,6 +924,10 @@ class Seen(unittest.TestCase):
         for packet, ended in ((Received(1000, "eth0", 0, 0), 1010), (by_card, 1120)):
             held.spread(("eth0", "a0"), [packet], 1, ended)
         self.assertEqual(by_card.time, 1110)
+        held, packets = Held(deferral), [Received(1000, "eth0", 0, 0, taken=1004), Received(1110, "eth0", 0, 0)]  # a poll looks for packets until it takes the last one
+        for packet, ended in zip(packets, (1010, 1120)):
+            held.spread(("eth0", "a0"), [packet], 1, ended)
+        self.assertEqual(packets[1].time, 1057)
         self.assertEqual([Held(each).doubt for each in (deferral, {**deferral, "heedless": 1}, {"rx-nsecs": 100}, {"rx-gap": 90})], [50, 0, 0, 45])
 
     def test_reads_that_are_no_packets(self) -> None:
@@ -827,6 +955,18 @@ class Seen(unittest.TestCase):
         made = Made(**COSTS)
         made.softirq_round([4], is_early=True)
         self.assertEqual(self.seen(made.text()).delivered(), [])
+
+    def test_backlogs_that_receive_before_the_senders_event(self) -> None:
+        """Processors 1 and 3 receive packets in turn, some before the event of their sending, which names no processor. An address that comes again long
+        after its reception is another packet's, which processor 1 receives."""
+        head = {"events": "net/netif_receive_skb", **{f"instance.{cpu}": f"device (no_device) napi b{cpu} kind receive polls 1 packets 2 on {cpu}:1:2" for cpu in (1, 3)}}
+        seen = Receiving({"(no_device)"}, {"va1"}, (), Routes(head, {"va1": "vb1"}))
+        sending, coming = ("net_dev_xmit: dev=va1 skbaddr={} len=100 rc=0", 2), "netif_receive_skb: dev=vb1 skbaddr={} len=86"
+        events = [(0, sending, "a"), (1, (coming, 1), "a"), (2, (coming, 3), "b"), (3, sending, "b"), (4, (coming, 1), "c"), (5, sending, "c"), (6, (coming, 3), "d"),
+                  (500, sending, "d"), (501, (coming, 1), "d")]
+        Texts([seen], []).add("".join(ftrace((time, said.format(address)), cpu=cpu) for time, (said, cpu), address in events))
+        seen.settle()
+        self.assertEqual([place and place[1] for place in seen.sent_to], ["b1", "b3", "b1", "b1"])
 
     def test_a_cost_that_is_too_high(self) -> None:
         """Packets and polls match whatever a packet is said to cost; a delivery isn't before the arrival."""
@@ -866,10 +1006,13 @@ class Seen(unittest.TestCase):
         self.assertEqual(predicting.worst_of([late[2], ("used_p50", 100, 145, 45.0)], {"used_p50", "used_p99"}), ("used_p50", 100, 145, 45.0))
 
     def test_a_grade_is_about_the_goal(self) -> None:
-        """A 99th percentile that is far off makes a fit poor for that goal, a median also for it, and neither for processor time."""
-        rows = [("polls", 100, 103, 3.0), ("used_p50", 100, 130, 30.0), ("used_p99", 100_000, 1000, -99.0), ("poll_percent", 10, 11, 10.0), ("delivered_p99", 9, 99, 1000.0)]
-        grades = {goal: predicting.grade_of(rows, predicting.judged_for(goal, "used", False)) for goal in ("p99", "p50", "cpu", "drops")}
-        self.assertEqual(grades, {"p99": "poor", "p50": "fair", "cpu": "good", "drops": "good"})
+        """A 99th percentile that is far off makes a fit poor for that goal, a median also for it, and neither for processor time; polls count only for that."""
+        rows = [("polls", 100, 103, 3.0), ("used_p50", 100, 130, 30.0), ("used_p99", 100_000, 1000, -99.0), ("poll_percent", 10, 11, 10.0), ("delivered_p99", 9, 99, 1000.0),
+                ("dropped", 0, 0, 0.0)]
+        for error, cpu in ((53, "poor"), (3, "good")):
+            rows[0] = ("polls", 100, 100 + error, float(error))
+            grades = {goal: predicting.grade_of(rows, predicting.judged_for(goal, "used", False)) for goal in ("p99", "p50", "cpu", "drops")}
+            self.assertEqual(grades, {"p99": "poor", "p50": "fair", "cpu": cpu, "drops": "good"})
         self.assertEqual(predicting.grade_of(rows, predicting.judged_for("cpu", "used", True)), "poor")
         self.assertEqual(predicting.worst_of(rows, {"polls", "used_p50"}), rows[1])
         self.assertEqual(predicting.name_of("p50", "delivered"), "delivered_p50")
@@ -935,6 +1078,16 @@ class Setting(InFolder):
         with self.assertRaises(Refusal), machine.with_changes(impossible):
             self.fail("it was set")
         self.assertEqual([self.value(name) for name in (*names, "mtu")], ["0", "0", "1500"])
+
+    def test_a_change_of_the_user(self) -> None:
+        """Afterwards the settings are those that the machine had before, also if the recording has others."""
+        machine = advice.Machine({"netns": self.netns, "device.vb1.gro_flush_timeout": "1"}, "vb1", 1)
+        with contextlib.suppress(KeyError), machine.with_changes(verifying.asked_changes(machine, [("napi_defer_hard_irqs", 2), ("gro_flush_timeout", 5000)])):
+            self.assertEqual([self.value(name) for name in ("napi_defer_hard_irqs", "gro_flush_timeout")], ["2", "5000"])
+            raise KeyError
+        self.assertEqual([self.value(name) for name in ("napi_defer_hard_irqs", "gro_flush_timeout")], ["0", "0"])
+        with self.assertRaisesRegex(Refusal, "--set ring: there is no such setting here"):
+            verifying.asked_changes(machine, [("ring", 512)])
 
     def test_the_lines_that_are_printed_set_it(self) -> None:
         machine = advice.Machine({"netns": self.netns, "online": "0-3", "program": "none"}, "vb1", 1)

@@ -20,7 +20,7 @@ import live
 import rig
 import tried
 
-from fintaqush_tools import advice, bands, choosing, predicting
+from fintaqush_tools import advice, bands, choosing, parts, predicting
 from fintaqush_tools.bands import Doubt
 from fintaqush_tools.choosing import numeric, settings_of
 from fintaqush_tools.layout import Layout
@@ -133,6 +133,29 @@ class Bands(unittest.TestCase):
         self.assertEqual(doubt.band("dropped", 0, [0, 0]), (0, 10.3))
         for name in ("poll_percent", "kernel_percent"):
             self.assertEqual([round(end, 6) for end in doubt.band(name, 10, [10])], [7.7, 17.22])
+
+    def test_what_varies_between_the_parts(self) -> None:
+        """Ten parts of 9 and 11 by turns have a mean of 10 and a deviation of 1.054: one more part is within 1.83 * sqrt(1.1) of these, which is 20.2 %. Both
+        ends of a band are further by that instead of 3 %, but at most by half."""
+        noises = parts.noises_of([{"used_p50": each, "packets_per_poll": 5, "dropped_percent": 0} for each in (9, 11) * 5])
+        self.assertEqual({name: round(noise, 3) for name, noise in noises.items()},
+                         {"used_p50": 0.202, "packets_per_poll": 0, "dropped_percent": 0, "polls": 0, "runs": 0, "interrupts": 0, "dropped": 0})
+        self.assertEqual(parts.noises_of([]), {})
+        # Two recordings of 9 and 12 differ by 3, of which their mean is 10.5; of 10 and 11 by less than the parts do.
+        for two, noise in (((9, 12), 0.286), ((10, 11), 0.202)):
+            found = parts.noises_of([{"used_p50": each} for each in (9, 11) * 5], [{"used_p50": each} for each in two])
+            self.assertEqual(round(found["used_p50"], 3), noise)
+        seen = Receiving({"vb1"}, {"va1"})
+        for time, has_come in ((0, 1), (10, 0), (20, 1), (30, 1), (40, 1)):
+            seen.append_packet(time, bool(has_come), 0, "va1", None)
+        self.assertEqual(parts.two_of(seen, {}), [])
+        seen.cut(20)
+        self.assertEqual([each["dropped_percent"] for each in parts.two_of(seen, {})], [50, 0])
+        for noise, ends in ((0.2, (80, 120)), (0.01, (97, 103)), (7, (50, 150))):
+            doubt = Doubt({"timer": 1}, [], {}, noises={"used_p50": noise, "poll_percent": noise})
+            self.assertEqual([round(end, 6) for end in doubt.band("used_p50", 100, [])], [ends[0], ends[1]])
+            self.assertEqual([round(end, 6) for end in doubt.band("kernel_percent", 100, [])], [ends[0] - 20, ends[1] + 20])
+            self.assertEqual([round(end, 6) for end in doubt.band("polls", 100, [])], [97, 103])
 
     def test_a_timer_that_was_not_recorded(self) -> None:
         """A packet that waits for it may be delivered 30 us later, and polls every 60 us may come every 90 us; and 3 % more."""
@@ -270,7 +293,7 @@ class Coalescing(unittest.TestCase):
         self.assertEqual([(each.value, each.before) for each in self.changes if each.kind == "coalesce"], [(100, 3)])
 
     def test_a_machine_without_the_option(self) -> None:
-        """It has no least time between interrupts, which is a note, and no other one is tried."""
+        """A note says that napi_machine lacks the option for the least time between interrupts; no other value is tried."""
         self.assertEqual(self.tried("e1000", 250, ("rx-nsecs",)), [(0, 0)])
         head = {"device.eth0.driver": "e1000", "device.eth0.ethtool.coalesce.rx-usecs": "250", "polled": "eth0"}
         with unittest.mock.patch.object(advice, "OPTIONS", {"latched": (0, 2, 0), "gro-batch": (0, 64, 0)}):
@@ -337,5 +360,6 @@ class Choices(unittest.TestCase):
         self.assertEqual(self.chosen("drops", ("-", 0), ("x", 0)), "-")
 
     def test_drops_that_the_costs_leave_open(self) -> None:
-        """With higher costs x loses packets, of which more changes save all."""
+        """With higher costs x loses packets, and xy and xyz lose none."""
+        self.assertEqual(self.chosen("drops", ("-", 0, (0, 200)), ("x", 0, (0, 0))), "-")  # which gains nothing
         self.assertEqual(self.chosen("drops", ("-", 900, (800, 950)), ("x", 0, (0, 200)), ("xy", 0, (0, 0)), ("xyz", 0, (0, 0))), "xy")

@@ -28,7 +28,7 @@ def transport(chance: random.Random, protocol: int) -> bytes:
 
 
 def inner(chance: random.Random, is_strange: bool) -> tuple[bytes, bytes]:
-    """Returns the type and the bytes of a packet: ARP, IPv4 or IPv6; a strange one may have a VLAN, have options or another type."""
+    """Returns the type and the bytes of a packet: ARP, IPv4 or IPv6; a strange one may also have a VLAN, options, or another type."""
     kind = chance.randrange(10 if is_strange else 6)
     if kind == 0:
         return b"\x08\x06", struct.pack(">HHBBH", 1, 0x0800, 6, 4, 1) + MACS[0] + ADDRESSES[0] + bytes(6) + ADDRESSES[1]

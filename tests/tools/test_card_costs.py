@@ -55,6 +55,19 @@ def woken(packets: int = 1, *more: tuple[int, str], read_on: int = 1) -> list[in
     return times_of(*before, *event_lines((9000, READ), (14000, READS), cpu=read_on)).woken_uses
 
 
+def early_in(text: str, irq: int) -> Iterator[int]:
+    """Yields what the handlers of an interrupt took while a softirq polled, on one processor, whose times are of microseconds."""
+    is_polling, began = False, 0
+    for seconds, micros, said in re.findall(rf" (\d+)\.(\d{{6}}): (softirq_e.*: vec=3|irq_handler_e.*: irq={irq}) ", text):
+        time = int(seconds) * 10**9 + int(micros) * 1000
+        if said.startswith("softirq"):
+            is_polling = said.startswith("softirq_entry")
+        elif said.startswith("irq_handler_entry"):
+            began = time
+        elif is_polling:
+            yield time - began
+
+
 class Known(unittest.TestCase):
     def test_takes_are_within_a_poll_and_without_the_stack(self) -> None:
         lines = event_lines((1000, given()), (1300, given()), (1500, given("eth1")), (1650, given()))
@@ -187,6 +200,13 @@ class Recorded(unittest.TestCase):
         self.assertEqual((found.value, found.count), (statistics.median(values), len(values)), what)
         self.assertGreater(len(values), 8, what)
 
+    def test_interrupts_during_polls(self) -> None:
+        """Those of virtio_net's receive queue count, and a driver that asks for interrupts after a poll has none."""
+        path = HERE / "recorded-early.rec.gz"
+        text = gzip.decompress(path.read_bytes()).decode("ascii")
+        self.same(self.times(path, "eth0")[2]["early"], list(early_in(text, 27)), "early")
+        self.assertNotIn("early", self.times(HERE / "recorded-card.rec.gz", "eth0")[2])
+
     def test_a_card(self) -> None:
         path = HERE / "recorded-card.rec.gz"
         events = timing.searched(gzip.decompress(path.read_bytes()).decode("ascii"))
@@ -196,7 +216,7 @@ class Recorded(unittest.TestCase):
         self.same(found["app-wake"], uses, "app-wake")
         self.same(found["timer"], list(timers_in(events)), "timer")
         self.same(found["timer-wake"], list(timer_wakes_in(events, "eth0")), "timer-wake")
-        self.assertNotIn("app-wake", card_costs.known_costs(times, timeline, None)[0])
+        self.assertNotIn("app-wake", card_costs.known_costs(times, timeline, None, {})[0])
         lines = {name: next(line for line in told if line.startswith(f"{name} ")) for name in ("take", "app-wake", "timer", "timer-wake")}
         self.assertEqual([" at a gro_flush_timeout of 100000 ns, " in line for line in lines.values()], [False, False, True, True])
         takes = statistics.median(takes_in(events, "eth0"))

@@ -11,11 +11,10 @@ import unittest
 from pathlib import Path
 from typing import Any
 
-from tooltest import HAS_MACHINE, HERE, NO_WORDS, TOP, InFolder, run
+from tooltest import HERE, NO_WORDS, TOP, InFolder, run
 
-from fintaqush_tools import comparing, results, thresholds
+from fintaqush_tools import comparing, parts, results, thresholds
 from fintaqush_tools.comparing import Value
-from fintaqush_tools.errors import Refusal
 from fintaqush_tools.options import Parser
 
 RECORDED = HERE / "recorded-apart.rec"
@@ -34,6 +33,50 @@ class Noise(unittest.TestCase):
             self.assertEqual(comparing.Change("", "x", Value(100, 3), Value(after, 4)).verdict(), verdict)
         self.assertEqual(comparing.Change("", "x", Value(100, None), Value(900, 4)).verdict(), "noise unknown")
         self.assertIsNone(comparing.Change("", "x", Value(0), Value(1)).percent)
+
+
+class Ranks(InFolder):
+    """What the parts of recordings show."""
+
+    # The 99th percentiles of ten parts, in ns: one of those before is out of all proportion.
+    LOW = (24_000, 35_000, 40_000, 51_000, 62_000, 75_000, 88_000, 120_000, 196_000, 13_800_000)
+    HIGH = (558_000, 561_000, 563_000, 566_000, 569_000, 571_000, 573_000, 575_000, 578_000, 580_000)
+
+    def test_critical_values(self) -> None:
+        """For two samples of ten the published one at 5 % is 23 pairs in the other order; 2 of the 184756 orders put all of one sample above the other,
+        and 2 of 70 with two samples of four. With ties: by Fisher's exact test 7 of 10 against none of 10 have 2 * 120 of 77520."""
+        ten = tuple(range(10))
+        self.assertLessEqual(comparing.chance_of(ten, (1.5, 1.6, 2.5, *range(10, 17))), 0.05)
+        self.assertGreater(comparing.chance_of(ten, (1.5, 1.6, 1.7, *range(10, 17))), 0.05)
+        self.assertAlmostEqual(comparing.chance_of(ten, tuple(range(10, 20))), 2 / 184756)
+        self.assertAlmostEqual(comparing.chance_of((5, 6, 7, 8), (1, 2, 3, 4)), 2 / 70)
+        self.assertAlmostEqual(comparing.chance_of(10 * (0,), 3 * (0,) + 7 * (1,)), 1 / 323)
+        self.assertEqual(comparing.chance_of((1, 1), (1, 1, 1)), 1)
+
+    def compared(self, before: Value, after: Value, condition: str) -> str:
+        """Returns the verdict on a 99th percentile in two recordings, and the status with this condition."""
+        sides = iter([{"": {"used_p99": each}} for each in (before, after)])
+        names = [self.write(name, "") for name in ("a", "b")]
+        with unittest.mock.patch.object(comparing, "values_in_file", lambda *_: next(sides)):
+            done = run("compare", *names, "--fail-if", condition)
+        return f"{done.stdout.splitlines()[1].split('%')[-1].split(maxsplit=0)[0].strip()}, {done.returncode}"
+
+    def test_one_part_hides_no_change(self) -> None:
+        """From 80 to 587 us, where a single part makes the interval of the mean 3885 % wide; and such a part alone is no change."""
+        low, high = (Value(middle, comparing.half_width(parts), parts) for middle, parts in ((80_000, self.LOW), (587_000, self.HIGH)))
+        self.assertGreater(comparing.half_width(self.LOW), 38 * 80_000)
+        self.assertEqual(self.compared(low, high, "p99>+10%"), "higher, 3")
+        self.assertEqual(self.compared(high, low, "p99<-10%"), "lower, 3")
+        calm = (*self.LOW[:9], 80_000)
+        self.assertEqual(self.compared(Value(80_000, 0, calm), Value(900_000, 0, self.LOW), "p99>+10%"), "within the noise, 0")
+        self.assertEqual(self.compared(Value(900_000, 0, self.LOW), Value(587_000, 0, self.HIGH), "p99<-10%"), "within the noise, 0")
+
+    def test_how_many_parts_it_needs(self) -> None:
+        """With three files on each side the intervals decide, because 2 of 20 orders put all of one above the other; with four the ranks do. A
+        recording's parts aren't compared with other files."""
+        for count, is_of_files, is_ranked in ((3, True, False), (4, True, True), (4, False, False)):
+            before, after = (Value(1, 2, tuple(values[:count]), is_it) for values, is_it in ((self.LOW, True), (self.HIGH, is_of_files)))
+            self.assertEqual(comparing.Change("", "x", before, after).is_ranked, is_ranked)
 
 
 class Conditions(unittest.TestCase):
@@ -104,13 +147,59 @@ class Files(InFolder):
         trace, good = TOP / "examples/bursts.csv", self.costs("a", 1)
         self.fails("neither results", "compare", good, trace)
         self.fails("no value in common", "compare", good, self.result("b", "what-if", {"dropped": 1}))
-        self.fails("results of plot, which aren't compared", "compare", good, self.result("c", "plot", {"title": "x"}))
+        self.fails("results of top, which aren't compared", "compare", good, self.result("c", "top", {"title": "x"}))
         self.fails("not the results of one tool in version 1", "compare", good, self.write("d", '{"version": 2, "tool": "costs"}\n'))
         self.fails("not the results of --json", "compare", good, self.write("e", "{\n"))
         self.fails("no file before --, to compare b.csv with", "compare", "--", "b.csv", status=64)
-        self.fails("no trace, whose replays", "compare", good, "--")
+        self.fails("a: not a trace, but results of --json, which fintaqush compare reads", "compare", good, "--")
         for words in (["a", "b", "c"], ["a", "b", "--raise"], ["a", "--budget", "1", "--", "b"], NO_WORDS):
             self.fails("fintaqush compare: error: ", "compare", *words, status=64)
+
+    def test_damaged_files(self) -> None:
+        """Each is refused by a line that names the file, and the line of it."""
+        good, head, json_head = self.costs("good", 1), "ring,used_p99\n", '{"version": 1, "tool": "what-if", '
+        for text, why in (
+            (head, "bad: it names columns, and has no row"),
+            (head + "3,abc\n", "bad: line 2: its 'used_p99' is 'abc', and not of type int or float"),
+            (head + "3,1\n4," + 5000 * "1" + "\n", f"bad: line 3: '{40 * '1'}' isn't a number that a result has"),
+            (head + "3,1\n4,5,6\n", "bad: line 3: it has 3 cells, and the first line names 2 columns"),
+            (head + "3,1\n4\n", "bad: line 3: it has 1 cells, and the first line names 2 columns"),
+            (head + "\n", "bad: line 2: it has 0 cells"),
+            (head + "3,1\n4,5", "bad: line 3: it is cut: no newline ends it"),
+            (head + '3,"1\n', "bad: line 2: not a line of CSV: unexpected end of data"),
+            (head + "\udcff,1\n", "bad: line 2: it is no UTF-8"),
+            ("used_p99,used_p99\n1,1\n", "bad: line 1: it has 2 cells, and the first line names 1 columns"),
+            (json_head + '"used_p99": 1e999}\n', "bad: line 1: '1e999' isn't a number that a result has"),
+            (json_head + '"used_p99": Infinity}\n', "bad: line 1: 'Infinity' isn't a number that a result has"),
+            (json_head + '"used_p99": ' + 5000 * "1" + "}\n", f"bad: line 1: '{40 * '1'}' isn't a number that a result has"),
+            (json_head + '"used_p99": true}\n', "bad: line 1: its 'used_p99' is 'True', and not of type int or float"),
+            (json_head + '"x": ' + 200_000 * "[" + "\n", "bad: line 1: not the results of --json: it is nested too deep"),
+            (json_head + '"x": "\udcff"}\n', "bad: line 1: not the results of --json: no UTF-8"),
+            (json_head + '"used_p99": 1}\n\n', "bad: line 2: not the results of --json"),
+            (json_head + '"used_p99": 1}\n[]\n', "bad: line 2: not the results of --json: no object"),
+            ('{"version": 1, "tool": "costs"}\n', "bad: line 1: its 'costs' is 'None', and not of type dict"),
+            ('{"version": 1, "tool": "costs", "costs": {"poll": {"value": 1}}}\n', "bad: line 1: its 'low' is 'None'"),
+            ('{"version": 1, "tool": "replay"}\n', "bad: line 1: its 'line' is 'None', and not of type str"),
+            ('{"version": 1, "tool": "replay", "line": "tx"}\n', "bad: line 1: its 'device' is 'None', and not of type int"),
+            ('{"version": 1, "tool": "replay", "line": "list"}\n', "bad: line 1: its 'devices' is 'None', and not of type list"),
+            ('{"version": 1, "tool": "advise", "costs": {}, "check": [3]}\n', "bad: line 1: its 'name' is 'None', and not of type str"),
+        ):
+            (self.folder / "bad").write_bytes(text.encode("utf-8", "surrogateescape"))
+            self.assertTrue(self.fails(why, "compare", good, self.folder / "bad").count("\n") == 1, why)
+
+    def test_a_file_that_grows(self) -> None:
+        """Results that are longer than any are refused before all of them are in memory."""
+        with gzip.open(self.folder / "bad.gz", "wb", compresslevel=1) as file:
+            file.write(b"{" + bytes(1 << 20) * 65)
+        self.fails("bad.gz: longer than any result, over 64 MiB", "compare", self.folder / "bad.gz", self.costs("a", 1))
+
+    def test_names_of_rows_and_values(self) -> None:
+        """What isn't printable in a name of a file is escaped."""
+        files = [self.write(name, "trace,polls\na\x1b[8m,1\nb,2\n".replace("1", polls)) for name, polls in (("a", "1"), ("b", "3"))]
+        self.assertIn("trace a\\x1b[8m  polls", self.succeeds("compare", *files))
+        self.assertIn("with trace a\\x1b[8m", self.ends_with(3, "compare", *files, "--fail-if", "polls>+1").stderr)
+        files = [self.result(name, "advise", {"costs": {}, "check": [{"name": "a\x1b[8m", "measured": measured}]}) for name, measured in (("a", 1), ("b", 3))]
+        self.assertIn("  a\\x1b[8m       1      3 ", self.succeeds("compare", *files))
 
     def test_recordings(self) -> None:
         """Of the short recording 63 packets came in 6.6 ms; compared with itself nothing changes, and a wait's noise isn't known of so few."""
@@ -122,11 +211,28 @@ class Files(InFolder):
         self.assertIsNone(values["used_p99"]["noise"])
         self.assertIn("changed by more than the noise, ", self.succeeds("compare", RECORDED, RECORDED))
 
+    def test_counters_of_the_kernel(self) -> None:
+        """Squeezed runs and drops of the processor that polled, number 3, and datagrams that found a socket full: 33, 44 and 55 more in 6.6 ms. Those of
+        another processor don't count. Costs of a recording are in us."""
+        text, counters = RECORDED.read_text(), {"softnet.3.squeezed 9 ": 42, "softnet.3.dropped 255611 ": 255655, "udp.RcvbufErrors 0 ": 55, "softnet.2.squeezed 3682 ": 9999}
+        for start, end in counters.items():
+            self.assertIn(f"\n{start}{start.split()[1]}\n", text)
+            text = text.replace(f"\n{start}{start.split()[1]}\n", f"\n{start}{end}\n")
+        more = self.write("more.rec", text)
+        told = {each["name"]: each for each in map(json.loads, self.succeeds("compare", RECORDED, more, "--json").splitlines())}
+        per_second = told["packets_per_second"]["before"] / 63
+        for name, count in (("squeezed", 33), ("backlog_drops", 44), ("socket_drops", 55)):
+            each = told[f"{name}_per_second"]
+            self.assertEqual((each["before"], round(each["after"] / per_second, 6), each["noise"]), (0, count, None))
+        self.assertIn("squeezed per second  ", self.succeeds("compare", RECORDED, more))
+        self.ends_with(3, "compare", RECORDED, more, "--fail-if", "squeezed>0")
+        self.assertRegex(self.succeeds("compare", RECORDED, HERE / "recorded-thread.rec"), "app wake µs +16.8 +3.50 ")
+
     def test_the_parts_of_a_recording(self) -> None:
         """A recording of thousands of packets has the noise between its parts."""
         values = comparing.values_in_file(str(HERE / "recorded-virtio.rec.gz"), None)[""]
         packets = gzip.open(HERE / "recorded-virtio.rec.gz", "rt").read().count("napi_gro_receive_entry")
-        is_known = packets >= comparing.FEWEST
+        is_known = packets >= parts.FEWEST
         self.assertEqual(values["packets_per_second"].noise is not None, is_known)
 
 
@@ -141,21 +247,8 @@ class Json(InFolder):
             self.assertTrue(lines and all(list(json.loads(line).items())[:2] == [("version", 1), ("tool", name)] for line in lines))
             self.assertEqual(self.succeeds(name, *words, "--json").splitlines(), lines)
 
-    @HAS_MACHINE
-    def test_predictions(self) -> None:
-        """machine has what what-if has for the same arrivals and settings."""
-        (self.folder / "arrivals.csv").write_text(ARRIVALS)
-        words = [self.folder / "arrivals.csv", "--ring", "4"]
-        one, = map(json.loads, self.succeeds("machine", *words, "--json").splitlines())
-        other, = map(json.loads, self.succeeds("what-if", *words, "--json").splitlines())
-        for name in ("sum", "load", "status", "fault"):
-            del other[name]
-        self.assertEqual({**one, "tool": "what-if"}, other)
-
     def test_no_other_file_is_replaced(self) -> None:
         """A file that isn't JSON may be an input that the option took for its own."""
         path = self.write("x.rec", "fintaqush-recording 1\n")
         self.fails("exists and isn't JSON, so it isn't replaced", "costs", "--json", path, RECORDED, status=64)
         self.assertEqual(path.read_text(), "fintaqush-recording 1\n")
-        with self.assertRaises(Refusal):
-            results.objects_in("")

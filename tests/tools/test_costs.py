@@ -16,7 +16,9 @@ from timing import Made
 from tooltest import HERE, TOP, InFolder, keys_of, run
 
 
-def recorded(interrupt: int, poll: int, packet: int, unit: int = 1, noise: Callable[[], int] = lambda: 0, threads: bool = False) -> str:
+def recorded(
+    interrupt: int, poll: int, packet: int, unit: int = 1, noise: Callable[[], int] = lambda: 0, threads: bool = False
+) -> str:
     """Returns a recording of rounds with these costs in ns: a handler, then a softirq with three polls. Two timers' handlers, one within a poll and
     one without a softirq, must not count."""
     lines: list[str] = []
@@ -66,11 +68,20 @@ class Costs(InFolder):
         text = recorded(2100, 1500, 330)
         self.assertEqual(self.words(text), {"interrupt": 2100, "poll": 1500, "packet": 330})
         told = self.told(text)
-        self.assertIn("interrupt 2100 ns (2100 to 2100): 200 handlers of eth0-rx-0 (200), half of them from 2100 to 2100\n", told)
-        self.assertIn("poll 1500 ns (1500 to 1500), packet 330 ns (330 to 330): 600 polls of 0 to 64 packets by softirqs, of which 30 lie far off and "
-                      "are left out; the line explains 100 %", told)
+        self.assertIn(
+            "interrupt 2100 ns (2100 to 2100): 200 handlers of eth0-rx-0 (200), half of them from 2100 to 2100\n", told
+        )
+        self.assertIn(
+            "poll 1500 ns (1500 to 1500), packet 330 ns (330 to 330): 600 polls of 0 to 64 packets by softirqs, of which 30 lie far off and "
+            "are left out; the line explains 100 %",
+            told,
+        )
         self.assertIn("wake: not known: no arrival is in it: record net/net_dev_xmit", told)
-        self.assertTrue(told.endswith("use: not known: no read of a program is recorded (fintaqush record --program)\n--interrupt 2100 --poll 1500 --packet 330\n"))
+        self.assertTrue(
+            told.endswith(
+                "use: not known: no read of a program is recorded (fintaqush record --program)\n--interrupt 2100 --poll 1500 --packet 330\n"
+            )
+        )
 
     def test_costs_that_vary(self) -> None:
         """Within 3 %, also with timestamps in microseconds; and the tool prints how far the polls are from the line."""
@@ -79,9 +90,14 @@ class Costs(InFolder):
             text = recorded(2000, 3000, 400, unit, lambda: chance.randrange(-200, 201))
             for name, value in self.words(text).items():
                 wanted = {"interrupt": 2000, "poll": 3000, "packet": 400}[name]
-                self.assertTrue(abs(value - wanted) <= wanted * (0.03 if name != "poll" or unit == 1 else 0.1), (name, value))
+                self.assertTrue(
+                    abs(value - wanted) <= wanted * (0.03 if name != "poll" or unit == 1 else 0.1), (name, value)
+                )
             told = self.told(text)
-            self.assertRegex(told, r"the line explains (99|100) % of the others' variation, and half of them are within [0-3] % of it\n")
+            self.assertRegex(
+                told,
+                r"the line explains (99|100) % of the others' variation, and half of them are within [0-3] % of it\n",
+            )
             self.assertEqual("time stamps are of microseconds" in told, unit == 1000)
 
     def test_whose_handlers_count(self) -> None:
@@ -99,41 +115,70 @@ class Costs(InFolder):
 
     def test_what_it_refuses(self) -> None:
         text = recorded(1, 1, 1)
-        for without, why in (("softirq_entry", "0 polls in complete softirqs or threads"), ("napi_poll", "0 polls in complete softirqs or threads")):
+        for without, why in (
+            ("softirq_entry", "0 polls in complete softirqs or threads"),
+            ("napi_poll", "0 polls in complete softirqs or threads"),
+        ):
             self.fails(why, "costs", "-", text="".join(line for line in text.splitlines(True) if without not in line))
-        self.assertIn("none of 600 polls took a packet: record while packets come", run("costs", "-", text=re.sub(r"work \d+", "work 0", text)).stderr)
+        self.assertIn(
+            "none of 600 polls took a packet: record while packets come",
+            run("costs", "-", text=re.sub(r"work \d+", "work 0", text)).stderr,
+        )
         self.assertIn("line 1: no line of ftrace", run("costs", "-", text="what\n").stderr)
         self.assertIn("there is no such file", run("costs", "none").stderr)
-
 
     def test_polls_of_one_size(self) -> None:
         """A poll of 2000 and a packet of 400 ns take 2400 together; a poll of three of them 3200. What a poll has of that is between nothing and all."""
         told = self.told(polls_of([(1, 2400)] * 40))
-        self.assertIn("poll 1200 ns (0 to 2400), packet 1200 ns (0 to 2400): each of 40 polls took 1 packet, so only what they cost together is known, 2400 ns "
-                      "(2400 to 2400); half of that counts for the poll. Traffic of which some polls take several packets separates them", told)
+        self.assertIn(
+            "poll 1200 ns (0 to 2400), packet 1200 ns (0 to 2400): each of 40 polls took 1 packet, so only what they cost together is known, 2400 ns "
+            "(2400 to 2400); half of that counts for the poll. Traffic of which some polls take several packets separates them",
+            told,
+        )
         self.assertTrue(told.endswith("--poll 1200 --packet 1200\n"), told)
         few = self.told(polls_of([(1, 2400)] * 198 + [(2, 90_000)] * 2))  # of which a line would be through 90 us
-        self.assertIn("poll 1200 ns (0 to 2400), packet 1200 ns (0 to 2400): nearly each of 200 polls took 1 packet, so only", few)
-        for polls, is_separated, packet in (([(3, 3300)] * 40, 0, {"value": 550, "low": 0, "high": 1100}), ([(3, 3200), (1, 2400)] * 20, 1, {"value": 400, "low": 400, "high": 400})):
+        self.assertIn(
+            "poll 1200 ns (0 to 2400), packet 1200 ns (0 to 2400): nearly each of 200 polls took 1 packet, so only", few
+        )
+        for polls, is_separated, packet in (
+            ([(3, 3300)] * 40, 0, {"value": 550, "low": 0, "high": 1100}),
+            ([(3, 3200), (1, 2400)] * 20, 1, {"value": 400, "low": 400, "high": 400}),
+        ):
             found = json.loads(self.told(polls_of(polls), "--json"))
-            self.assertEqual((found["is_separated"], {key: found["costs"]["packet"][key] for key in packet}), (is_separated, packet))
+            self.assertEqual(
+                (found["is_separated"], {key: found["costs"]["packet"][key] for key in packet}), (is_separated, packet)
+            )
 
     def test_a_processor_that_is_slower(self) -> None:
         """Polls of 1 to 9 packets take 1000 ns and 100 per packet; on processor 2 they take 700 more. Over both the middle is at one of them."""
         fast = polls_of([(work, 1000 + 100 * work + off) for work in range(1, 10) for off in (-10, 0, 10)] * 4)
-        slow = polls_of([(work, 1700 + 100 * work + off) for work in range(1, 10) for off in (-10, 0, 10)] * 2).replace("[001]", "[002]")
+        slow = polls_of([(work, 1700 + 100 * work + off) for work in range(1, 10) for off in (-10, 0, 10)] * 2).replace(
+            "[001]", "[002]"
+        )
         told = self.told(fast + slow.replace(" 1.", " 3."))
-        ratios = {each["processor"]: each["ratio"] for each in json.loads(self.told(fast + slow.replace(" 1.", " 3."), "--json"))["ratios"]}
+        ratios = {
+            each["processor"]: each["ratio"]
+            for each in json.loads(self.told(fast + slow.replace(" 1.", " 3."), "--json"))["ratios"]
+        }
         self.assertAlmostEqual(ratios[2] / ratios[1], 2200 / 1500, places=1)  # of the median polls, with five packets
-        self.assertRegex(told, r"\non processor 2 54 polls take (69\d|70\d) ns more than polls of as many packets on all\n")
+        self.assertRegex(
+            told, r"\non processor 2 54 polls take (69\d|70\d) ns more than polls of as many packets on all\n"
+        )
         self.assertNotIn("on processor 1 ", told)
         self.assertNotIn("on processor", self.told(fast + fast.replace("[001]", "[002]").replace(" 1.", " 3.")))
 
     def test_the_polls_of_a_transmit_queue(self) -> None:
         """Its instance takes no packet. With its 200 polls of 90 us and its interrupts' handlers of 7000 ns the line would be another one."""
         text = recorded(2100, 1500, 330)
-        other = re.sub(r"work \d+", "work 0", recorded(7000, 90_000, 0)).replace("struct 0 ", "struct 1 ").replace("[001]", "[002]").replace("eth0-rx-0", "eth0-tx-0")
-        both = "".join(sorted((text + other).splitlines(True), key=lambda line: line.split("..s1.")[1].split()[0].rjust(20)))
+        other = (
+            re.sub(r"work \d+", "work 0", recorded(7000, 90_000, 0))
+            .replace("struct 0 ", "struct 1 ")
+            .replace("[001]", "[002]")
+            .replace("eth0-rx-0", "eth0-tx-0")
+        )
+        both = "".join(
+            sorted((text + other).splitlines(True), key=lambda line: line.split("..s1.")[1].split()[0].rjust(20))
+        )
         self.assertEqual(self.words(both), {"interrupt": 2100, "poll": 1500, "packet": 330})
         self.assertIn("600 polls of transmit instances of eth0, which took no packet, are left out\n", self.told(both))
 
@@ -141,27 +186,58 @@ class Costs(InFolder):
         """Times of 1 to 9 packets that don't grow with the packets: 1000 and 9000 ns equally often for each number. Then 410 ns more per packet, but with
         so much other variation that the line explains little: the tool prints a warning on standard error."""
         polls = [(work, took) for work in range(1, 10) for took in (1000, 9000) * 20]
-        said = self.fails("over 360 polls of 1 to 9 packets the time doesn't grow with them (the line explains 0 % of how the times differ)", "costs", "-", "--words", text=polls_of(polls))
+        said = self.fails(
+            "over 360 polls of 1 to 9 packets the time doesn't grow with them (the line explains 0 % of how the times differ)",
+            "costs",
+            "-",
+            "--words",
+            text=polls_of(polls),
+        )
         self.assertEqual(said.count("\n"), 1)
-        done = run("costs", "-", "--words", text=polls_of([(1, 2000), (1, 9000), (2, 9600), (2, 2600)] * 3 + [(3, 2900), (3, 9900)] * 2))
-        self.assertTrue((done.returncode, done.stdout) == (1, "") and "explains" in done.stderr or "can't be distinguished from 0" in done.stderr, done.stderr)
+        done = run(
+            "costs",
+            "-",
+            "--words",
+            text=polls_of([(1, 2000), (1, 9000), (2, 9600), (2, 2600)] * 3 + [(3, 2900), (3, 9900)] * 2),
+        )
+        self.assertTrue(
+            (done.returncode, done.stdout) == (1, "")
+            and "explains" in done.stderr
+            or "can't be distinguished from 0" in done.stderr,
+            done.stderr,
+        )
 
     def test_the_backlog_is_left_out(self) -> None:
         """If a device polls. The backlog's polls take ten times as long."""
         text = recorded(2100, 1500, 330)
-        backlog = recorded(21000, 15000, 3300).replace("[001]", "[002]").replace("device eth0", "device (no_device)").replace("eth0-rx-0", "other")
-        both = "".join(sorted((text + backlog).splitlines(True), key=lambda line: line.split("..s1.")[1].split()[0].rjust(20)))
+        backlog = (
+            recorded(21000, 15000, 3300)
+            .replace("[001]", "[002]")
+            .replace("device eth0", "device (no_device)")
+            .replace("eth0-rx-0", "other")
+        )
+        both = "".join(
+            sorted((text + backlog).splitlines(True), key=lambda line: line.split("..s1.")[1].split()[0].rjust(20))
+        )
         told = self.told(both)
         self.assertTrue(told.endswith("--interrupt 2100 --poll 1500 --packet 330\n"), told)
-        self.assertIn("600 polls of a processor's backlog, (no_device), are left out, because devices poll; --device '(no_device)' takes only these\n", told)
-        self.assertEqual(self.words(both, "--device", "(no_device)"), {"interrupt": 21000, "poll": 15000, "packet": 3300})
+        self.assertIn(
+            "600 polls of a processor's backlog, (no_device), are left out, because devices poll; --device '(no_device)' takes only these\n",
+            told,
+        )
+        self.assertEqual(
+            self.words(both, "--device", "(no_device)"), {"interrupt": 21000, "poll": 15000, "packet": 3300}
+        )
         self.assertEqual(self.words(backlog), {"interrupt": 21000, "poll": 15000, "packet": 3300})
         more = self.told(text + text.replace("eth0 work", "eth1 work").replace("[001]", "[002]"))
         self.assertIn("polls of several devices are combined: eth0, eth1; --device takes those of one\n", more)
 
     def test_the_interrupts_of_another_card(self) -> None:
         """A disk's interrupt ends 20 ns before each softirq; the card's, 50 ns earlier, requested it. fintaqush record knows the card's."""
-        text = "".join(line if "softirq_entry: vec=3" not in line else self.disk(line) + line for line in recorded(2100, 1500, 330).splitlines(True))
+        text = "".join(
+            line if "softirq_entry: vec=3" not in line else self.disk(line) + line
+            for line in recorded(2100, 1500, 330).splitlines(True)
+        )
         lines = [line for line in text.splitlines(True)]
         head = "fintaqush-recording 1\nlost 0\nlines {}\ndevice eth0\npolled eth0\ndevice.eth0.irq.25.name eth0-rx-0\n{}trace\n"
         self.assertIn(" --poll 1500 --packet 330\n", self.told(text))
@@ -175,14 +251,21 @@ class Costs(InFolder):
         at = re.search(r"(\d+)\.(\d{9}): ", line)
         assert at
         time = int(at[1]) * 10**9 + int(at[2])
-        return "".join(f"   <idle>-0     [001] d.h1.  {each // 10**9}.{each % 10**9:09}: {said}\n" for each, said in (
-            (time - 50, "irq_handler_entry: irq=30 name=virtio3-requests"), (time - 20, "irq_handler_exit: irq=30 ret=handled")))
+        return "".join(
+            f"   <idle>-0     [001] d.h1.  {each // 10**9}.{each % 10**9:09}: {said}\n"
+            for each, said in (
+                (time - 50, "irq_handler_entry: irq=30 name=virtio3-requests"),
+                (time - 20, "irq_handler_exit: irq=30 ret=handled"),
+            )
+        )
 
 
 def line_of(points: Sequence[tuple[int, int]]) -> tuple[float, float]:
     """Returns the slope and the start of the least-squares line, as statistics.linear_regression does, which Python has since 3.10."""
     middles = [math.fsum(values) / len(points) for values in zip(*points)]
-    slope = math.fsum((x - middles[0]) * (y - middles[1]) for x, y in points) / math.fsum((x - middles[0]) ** 2 for x, _ in points)
+    slope = math.fsum((x - middles[0]) * (y - middles[1]) for x, y in points) / math.fsum(
+        (x - middles[0]) ** 2 for x, _ in points
+    )
     return slope, middles[1] - slope * middles[0]
 
 
@@ -190,8 +273,11 @@ def polls_of(polls: Iterable[tuple[int, int]]) -> str:
     """Returns a recording of softirqs with one poll each, with these packets and ns."""
     lines, time = [], 10**9
     for work, took in polls:
-        for said in ("softirq_entry: vec=3 [action=NET_RX]", f"napi_poll: napi poll on napi struct 0 for device eth0 work {work} budget 64",
-                     "softirq_exit: vec=3 [action=NET_RX]"):
+        for said in (
+            "softirq_entry: vec=3 [action=NET_RX]",
+            f"napi_poll: napi poll on napi struct 0 for device eth0 work {work} budget 64",
+            "softirq_exit: vec=3 [action=NET_RX]",
+        ):
             time += took if "poll" in said else 1
             lines.append(f"   <idle>-0     [001] ..s1.  {time // 10**9}.{time % 10**9:09}: {said}\n")
         time += 100_000
@@ -205,7 +291,9 @@ class Modelled(InFolder):
     PAIR = ("--pair", "va1:vb1")
 
     def costs(self, made: Made | str, *words: object) -> tuple[Any, dict[str, int]]:
-        printed = self.succeeds("costs", "-", "--json", *self.PAIR, *words, text=made if isinstance(made, str) else made.text())
+        printed = self.succeeds(
+            "costs", "-", "--json", *self.PAIR, *words, text=made if isinstance(made, str) else made.text()
+        )
         told = json.loads(printed)
         self.assertEqual([name for name in keys_of(told) if not name.isidentifier()], [])
         return told, {name.replace("_", "-"): cost["value"] for name, cost in told["costs"].items()}
@@ -213,8 +301,8 @@ class Modelled(InFolder):
     def wanted(self, *names: str) -> dict[str, int]:
         return {name: self.COSTS[name] for name in names}
 
-    def rounds(self, reader: int, count: int = 60) -> Made:
-        """Generates softirqs of one to three polls, and the reads of their packets."""
+    def rounds(self, reader: int, count: int = 60, waking: int = 0) -> Made:
+        """Generates softirqs of one to three polls, of which the first wakes the program, and the reads of their packets."""
         made, chance = Made(**self.COSTS), random.Random(4)
         made.reader = reader
         made.switch(made.time - 9000, timing.POLLER, "other-5", "swapper/3-0")
@@ -222,7 +310,7 @@ class Modelled(InFolder):
         made.switch(made.time - 7000, reader, "server-60", "swapper/9-0")
         for place in range(count):
             works = [1] if place % 2 else [chance.randrange(2, 40) for _ in range(1 + place % 3)]
-            made.time = made.read(made.softirq_round(works), sum(works)) + 150_000
+            made.time = made.read(made.softirq_round(works, more=waking), sum(works)) + 150_000
         return made
 
     def test_softirqs_by_interrupts_between_processors(self) -> None:
@@ -230,8 +318,12 @@ class Modelled(InFolder):
         made = self.rounds(reader=5)
         told, costs = self.costs(made)
         self.assertEqual(costs, self.wanted("interrupt", "poll", "packet", "wake", "use", "app-wake"))
-        self.assertEqual((told["apart"], told["threaded"], told["processor"], told["dropped"]), (1, 0, timing.POLLER, 0))
-        self.assertEqual(told["options"], "--interrupt 1700 --poll 2600 --packet 410 --wake 3300 --use 5200 --app-wake 2450")
+        self.assertEqual(
+            (told["apart"], told["threaded"], told["processor"], told["dropped"]), (1, 0, timing.POLLER, 0)
+        )
+        self.assertEqual(
+            told["options"], "--interrupt 1700 --poll 2600 --packet 410 --wake 3300 --use 5200 --app-wake 2450"
+        )
         self.assertEqual([told["costs"][name]["count"] for name in ("interrupt", "wake", "app_wake")], [60, 60, 30])
         self.assertEqual(told["costs"]["poll"]["explained"], 1)
         self.assertEqual([told["costs"]["poll"][end] for end in ("low", "high")], [2600, 2600])
@@ -241,6 +333,36 @@ class Modelled(InFolder):
         told, costs = self.costs(self.rounds(reader=timing.POLLER))
         self.assertEqual(costs, self.wanted("interrupt", "poll", "packet", "wake", "use", "app-wake"))
         self.assertEqual((told["apart"], told["costs"]["app_wake"]["count"]), (0, 30))
+
+    def test_polls_that_wake_the_program(self) -> None:
+        """On the processor that polls they are a kind of their own; if the program reads on another one, that is a part of the polls."""
+        told, costs = self.costs(self.rounds(timing.POLLER, 120, waking=2700))
+        self.assertEqual(
+            costs, {**self.wanted("interrupt", "poll", "packet", "wake", "use", "app-wake"), "poll-wake": 2700}
+        )
+        self.assertEqual(
+            (told["costs"]["poll_wake"]["count"], told["options"].split()[-2:]), (120, ["--poll-wake", "2700"])
+        )
+        self.assertNotIn("poll-wake", self.costs(self.rounds(5, 120, waking=2700))[1])
+
+    def test_polls_that_start_the_timer(self) -> None:
+        """Every second one does, and the timer's poll finds no packet, of 40 or, which are too few, of 30."""
+        cases: list[tuple[int, dict[str, int]]] = [(40, {"arm": 2100}), (30, {})]
+        for count, wanted in cases:
+            made, chance = Made(**self.COSTS), random.Random(5)
+            for place in range(2 * count):
+                arms = place % 2 == 0
+                end = made.softirq_round([chance.randrange(2, 40)], more=2100 * arms * bool(wanted))
+                made.time = (made.timer_round(end, 60_000) if arms else end) + 150_000
+            costs = self.costs(made)[1]
+            self.assertEqual(
+                costs,
+                {
+                    **self.wanted("poll", "packet"),
+                    **wanted,
+                    **{name: costs[name] for name in costs if name not in ("poll", "packet", "arm")},
+                },
+            )
 
     def test_packets_that_are_dropped_are_no_packets_of_polls(self) -> None:
         made = self.rounds(reader=5)
@@ -260,7 +382,9 @@ class Modelled(InFolder):
                 made.time = end + 20_000
             told, costs = self.costs(made)
             timer = {"timer": self.COSTS["interrupt"], "timer-wake": self.COSTS["wake"]} if share else {}
-            self.assertEqual((costs, told["threaded"]), ({**self.wanted("interrupt", "poll", "packet", "wake"), **timer}, 1))
+            self.assertEqual(
+                (costs, told["threaded"]), ({**self.wanted("interrupt", "poll", "packet", "wake"), **timer}, 1)
+            )
             self.assertEqual("timers on an idle processor" in " ".join(told["text"]), share > 0)
 
     def test_timers_take_longer(self) -> None:
@@ -279,7 +403,9 @@ class Modelled(InFolder):
             only.time = only.thread_round(1 + place % 7, place > 0) + 20_000
         told, costs = self.costs(only)
         self.assertEqual((costs["interrupt"], costs["timer"]), (4400, 4400))
-        self.assertIn("interrupt: not known, so that of a timer counts: nearly all polls are by NAPI's timer", told["text"])
+        self.assertIn(
+            "interrupt: not known, so that of a timer counts: nearly all polls are by NAPI's timer", told["text"]
+        )
 
     def test_a_wake_up_that_the_scheduler_decides(self) -> None:
         """Another task has the processor when the packets come, for 2 ms: no cost of waking an idle processor."""
@@ -288,11 +414,17 @@ class Modelled(InFolder):
             made.switch(made.time - 9000, timing.POLLER, "swapper/3-0", "cc1-77", "R")
             end = made.thread_round(1 + place % 7, False)
             made.time = end + 50_000
-        text = made.text().replace("prev_comm=swapper/3 prev_pid=0 prev_prio=120 prev_state=R ==> next_comm=napi", "prev_comm=cc1 prev_pid=77 prev_prio=120 prev_state=R ==> next_comm=napi")
+        text = made.text().replace(
+            "prev_comm=swapper/3 prev_pid=0 prev_prio=120 prev_state=R ==> next_comm=napi",
+            "prev_comm=cc1 prev_pid=77 prev_prio=120 prev_state=R ==> next_comm=napi",
+        )
         told, costs = self.costs(text)
         self.assertNotIn("wake", costs)
-        self.assertIn("wake: not known: of 40 wake-ups 40 waited for another task that had the processor, half of them for 2000 us or more, which the scheduler decides: record on a "
-                      "processor that does nothing else", told["text"])
+        self.assertIn(
+            "wake: not known: of 40 wake-ups 40 waited for another task that had the processor, half of them for 2000 us or more, which the scheduler decides: record on a "
+            "processor that does nothing else",
+            told["text"],
+        )
 
     def test_another_pair(self) -> None:
         """--device takes only its own pair's packets; of two pairs without it, all."""
@@ -303,7 +435,9 @@ class Modelled(InFolder):
         head = f"fintaqush-recording 1\nlost 0\nlines {len(text.splitlines())}\ndevice vb1 vb2\npair va1:vb1 va2:vb2\npolled vb1 vb2\ntrace\n"
         both = json.loads(run("costs", "-", "--json", text=head + text).stdout)
         own = json.loads(run("costs", "-", "--json", "--device", "vb1", text=head + text).stdout)
-        self.assertEqual((own["came"], both["came"] - own["came"], own["costs"]["wake"]["value"]), (own["delivered"], 60, 3300))
+        self.assertEqual(
+            (own["came"], both["came"] - own["came"], own["costs"]["wake"]["value"]), (own["delivered"], 60, 3300)
+        )
 
     def two_queues(self, by: str) -> list[tuple[int, str]]:
         """Returns a recording of two instances, each on its processor, which get packets in turn: rounds of 20 to 40 us apart, so that a packet of
@@ -315,20 +449,36 @@ class Modelled(InFolder):
             for _ in range(60):
                 made.time = made.softirq_round([chance.randrange(1, 20)]) + chance.randrange(20_000, 40_000)
             for number, (time, line) in enumerate(made.lines):
-                line = line.replace(f"[{timing.POLLER:03}]", f"[{cpu:03}]").replace("struct 0 ", f"struct a{place} ").replace("skbaddr=0", f"skbaddr={place}{number:x}")
+                line = (
+                    line.replace(f"[{timing.POLLER:03}]", f"[{cpu:03}]")
+                    .replace("struct 0 ", f"struct a{place} ")
+                    .replace("skbaddr=0", f"skbaddr={place}{number:x}")
+                )
                 parts.append((time, line))
                 if "net_dev_xmit" in line and by == "queue":
-                    parts.append((time - 1, re.sub(r"net_dev_xmit: (.*) len=.*", r"net_dev_start_xmit: \1 vlan_tagged=0", line).replace("skbaddr", f"queue_mapping={place} skbaddr")))
+                    parts.append(
+                        (
+                            time - 1,
+                            re.sub(r"net_dev_xmit: (.*) len=.*", r"net_dev_start_xmit: \1 vlan_tagged=0", line).replace(
+                                "skbaddr", f"queue_mapping={place} skbaddr"
+                            ),
+                        )
+                    )
         return sorted(parts, key=lambda line: line[0])
 
     def test_the_packets_of_two_queues(self) -> None:
         """Each instance's wake-ups are those by packets of its queue: 3300 ns. With the queues exchanged, packets and polls don't match."""
         lines = self.two_queues("queue")
-        head = ("fintaqush-recording 1\nlost 0\nlines {}\ndevice vb1\npair va1:vb1\npolled vb1\ninstance.1 device vb1 napi a0 queue {} kind receive polls 60 packets 9 on 3:60:9\n"
-                "instance.2 device vb1 napi a1 queue {} kind receive polls 60 packets 9 on 1:60:9\ntrace\n")
+        head = (
+            "fintaqush-recording 1\nlost 0\nlines {}\ndevice vb1\npair va1:vb1\npolled vb1\ninstance.1 device vb1 napi a0 queue {} kind receive polls 60 packets 9 on 3:60:9\n"
+            "instance.2 device vb1 napi a1 queue {} kind receive polls 60 packets 9 on 1:60:9\ntrace\n"
+        )
         text = "".join(f"{line}\n" for _, line in lines)
         told = json.loads(run("costs", "-", "--json", text=head.format(len(lines), 0, 1) + text).stdout)
-        self.assertEqual((told["costs"]["wake"]["value"], told["costs"]["wake"]["count"], told["costs"]["poll"]["value"]), (3300, 120, 2600))
+        self.assertEqual(
+            (told["costs"]["wake"]["value"], told["costs"]["wake"]["count"], told["costs"]["poll"]["value"]),
+            (3300, 120, 2600),
+        )
         wrong = json.loads(run("costs", "-", "--json", text=head.format(len(lines), 1, 0) + text).stdout)
         self.assertNotIn("wake", wrong["costs"])
         self.assertTrue(any(line.startswith("wake: not known: of ") for line in wrong["text"]), wrong["text"])
@@ -342,19 +492,36 @@ class Modelled(InFolder):
             if "net_dev_xmit" in line:
                 packet = group_in(r"skbaddr=(\d\w+)", line)
                 cpu = timing.POLLER if packet[0] == "0" else 1
-                end = next(each for each, other in made if each > time and "napi_poll" in other and f"[{cpu:03}]" in other)
-                lines.append((end - 5, f"          <idle>-0    [{cpu:03}] ..s1. {(end - 5) // 10**9}.{(end - 5) % 10**9:09}: netif_receive_skb: dev=vb1 skbaddr={packet} len=86"))
+                end = next(
+                    each for each, other in made if each > time and "napi_poll" in other and f"[{cpu:03}]" in other
+                )
+                lines.append(
+                    (
+                        end - 5,
+                        f"          <idle>-0    [{cpu:03}] ..s1. {(end - 5) // 10**9}.{(end - 5) % 10**9:09}: netif_receive_skb: dev=vb1 skbaddr={packet} len=86",
+                    )
+                )
         for place in range(300):  # of another device
             time = 10**12 + place * 9001
-            lines.append((time, f"          <idle>-0    [003] ..s1. {time // 10**9}.{time % 10**9:09}: netif_receive_skb: dev=eth0 skbaddr=f{place:x} len=86"))
+            lines.append(
+                (
+                    time,
+                    f"          <idle>-0    [003] ..s1. {time // 10**9}.{time % 10**9:09}: netif_receive_skb: dev=eth0 skbaddr=f{place:x} len=86",
+                )
+            )
         lines.sort(key=lambda each: each[0])
-        head = (f"fintaqush-recording 1\nlost 0\nlines {len(lines)}\nevents net/netif_receive_skb\ndevice vb1\npair va1:vb1\npolled (no_device)\n"
-                "instance.1 device (no_device) napi a0 kind receive polls 60 packets 9 on 3:60:9\ninstance.2 device (no_device) napi a1 kind receive polls 60 packets 9 on 1:60:9\ntrace\n")
+        head = (
+            f"fintaqush-recording 1\nlost 0\nlines {len(lines)}\nevents net/netif_receive_skb\ndevice vb1\npair va1:vb1\npolled (no_device)\n"
+            "instance.1 device (no_device) napi a0 kind receive polls 60 packets 9 on 3:60:9\ninstance.2 device (no_device) napi a1 kind receive polls 60 packets 9 on 1:60:9\ntrace\n"
+        )
         told = json.loads(run("costs", "-", "--json", text=head + "".join(f"{line}\n" for _, line in lines)).stdout)
-        self.assertEqual((told["costs"]["wake"]["value"], told["costs"]["wake"]["count"], told["came"], told["delivered"]), (3300, 120, told["came"], told["came"]))
+        self.assertEqual(
+            (told["costs"]["wake"]["value"], told["costs"]["wake"]["count"], told["came"], told["delivered"]),
+            (3300, 120, told["came"], told["came"]),
+        )
 
     def test_polls_that_no_interrupt_asks_for(self) -> None:
-        """As with a sender that shares the processor; a cost that isn't known to be 0 isn't printed."""
+        """A sender on the same processor raises softirqs without interrupts. Then the cost of an interrupt is printed only if it is known to be 0."""
         made = self.rounds(reader=5)
         made.lines = [line for line in made.lines if "call_function_single" not in line[1]]
         self.assertNotIn("interrupt", self.costs(made)[1])
@@ -362,14 +529,22 @@ class Modelled(InFolder):
         self.assertEqual(self.costs(made)[1]["interrupt"], 0)
 
     def test_a_stream_has_no_use(self) -> None:
-        """Its reads aren't packets: here each read takes the bytes of several packets."""
-        made = self.rounds(reader=5)
-        reads = [line for line in made.lines if "sys_recvmsg ->" in line[1]]
-        gone = set(reads[1::2])
-        made.lines = [line for line in made.lines if line not in gone]
-        told, costs = self.costs(made)
-        self.assertNotIn("use", costs)
-        self.assertTrue(any(line.startswith("use: not known: ") and "so a read isn't one packet" in line for line in told["text"]))
+        """Its reads aren't packets: each read takes the bytes of several packets, as that of a program that is too slow seems to, or of a part of one."""
+        for kept, why in (
+            (0, "the program reads too slowly, or several packets at once"),
+            (2, "a read isn't one packet"),
+        ):
+            made = self.rounds(reader=5)
+            reads = [line for line in made.lines if "sys_recvmsg ->" in line[1]]
+            made.lines = [line for line in made.lines if line not in reads[1::2]] + kept * reads[::2]
+            told, costs = self.costs(made)
+            self.assertNotIn("use", costs)
+            self.assertTrue(
+                any(
+                    line.startswith("use: not known: ") and line.endswith(f" packets that polls took: {why}")
+                    for line in told["text"]
+                )
+            )
 
     def test_a_quiet_recording_has_no_use(self) -> None:
         """The time between single packets isn't their use."""
@@ -389,19 +564,30 @@ class Modelled(InFolder):
             lone.time = lone.read(end, 1) + 100_000
         told, costs = self.costs(lone)
         self.assertNotIn("use", costs)
-        self.assertIn("use: not known: of 40 packets 0 waited while another one was used; record a higher load", told["text"])
+        self.assertIn(
+            "use: not known: of 40 packets 0 waited while another one was used; record a higher load", told["text"]
+        )
 
     def test_another_device_is_left_out(self) -> None:
         made = self.rounds(reader=5)
         for place in range(100):
             made.event(10**12 + place * 999_999, 1, "other-5", "softirq_entry: vec=3 [action=NET_RX]")
-            made.event(10**12 + place * 999_999 + 77_777, 1, "other-5", f"napi_poll: napi poll on napi struct 0 for device eth9 work {place % 9} budget 64")
+            made.event(
+                10**12 + place * 999_999 + 77_777,
+                1,
+                "other-5",
+                f"napi_poll: napi poll on napi struct 0 for device eth9 work {place % 9} budget 64",
+            )
             made.event(10**12 + place * 999_999 + 77_778, 1, "other-5", "softirq_exit: vec=3 [action=NET_RX]")
         told, costs = self.costs(made, "--device", "vb1")
-        self.assertEqual((costs["poll"], costs["packet"], told["polls_on"]), (2600, 410, [{"processor": timing.POLLER, "polls": told["polls"]}]))
+        self.assertEqual(
+            (costs["poll"], costs["packet"], told["polls_on"]),
+            (2600, 410, [{"processor": timing.POLLER, "polls": told["polls"]}]),
+        )
 
     def test_a_fit_that_is_worse_than_useless(self) -> None:
         """Times that fall with the number of packets; and, with a note, times that don't depend on it."""
+
         def made(time_of: Callable[[int], int]) -> str:
             made = Made(**self.COSTS)
             for _ in range(200):
@@ -413,8 +599,11 @@ class Modelled(InFolder):
         chance = random.Random(1)
         done = run("costs", "-", text=made(lambda work: 20_000 // work))
         self.assertEqual((done.returncode, done.stdout), (1, ""))
-        self.assertEqual(done.stderr, "fintaqush costs: -: what a packet costs isn't known: over 200 polls of 1 to 3 packets the time doesn't grow with them (the line explains "
-                         "0 % of how the times differ): record more varied traffic, on a processor that does nothing else\n")
+        self.assertEqual(
+            done.stderr,
+            "fintaqush costs: -: what a packet costs isn't known: over 200 polls of 1 to 3 packets the time doesn't grow with them (the line explains "
+            "0 % of how the times differ): record more varied traffic, on a processor that does nothing else\n",
+        )
         done = run("costs", "-", text=made(lambda work: chance.randrange(1000, 90_000)))
         self.assertTrue("doesn't grow with them" in done.stderr or "can't be distinguished from 0" in done.stdout)
 
@@ -478,8 +667,14 @@ class Modelled(InFolder):
         """In each use an interrupt takes 300 ns and a softirq 700, including another interrupt in it."""
         made = self.rounds(reader=5)
         for time in [time for time, line in made.lines if "sys_recvmsg ->" in line]:
-            for after, said in ((1, "local_timer_entry: vector=236"), (301, "local_timer_exit: vector=236"), (400, "softirq_entry: vec=3 [action=NET_RX]"),
-                                (500, "reschedule_entry: vector=253"), (600, "reschedule_exit: vector=253"), (1100, "softirq_exit: vec=3 [action=NET_RX]")):
+            for after, said in (
+                (1, "local_timer_entry: vector=236"),
+                (301, "local_timer_exit: vector=236"),
+                (400, "softirq_entry: vec=3 [action=NET_RX]"),
+                (500, "reschedule_entry: vector=253"),
+                (600, "reschedule_exit: vector=253"),
+                (1100, "softirq_exit: vec=3 [action=NET_RX]"),
+            ):
                 made.event(time + after, 5, "server-60", said)
         self.assertEqual(self.costs(made)[1]["use"], self.COSTS["use"] - 1000)
 
@@ -487,8 +682,13 @@ class Modelled(InFolder):
         """Another task has a quarter of the time."""
         made = self.rounds(reader=5)
         begin, end = min(made.lines)[0], max(made.lines)[0]
-        made.event(end + (end - begin) // 3, timing.POLLER, "hog-8", "sched_switch: prev_comm=hog prev_pid=8 prev_prio=120 prev_state=R ==> "
-                   "next_comm=swapper/3 next_pid=0 next_prio=120")
+        made.event(
+            end + (end - begin) // 3,
+            timing.POLLER,
+            "hog-8",
+            "sched_switch: prev_comm=hog prev_pid=8 prev_prio=120 prev_state=R ==> "
+            "next_comm=swapper/3 next_pid=0 next_prio=120",
+        )
         made.switch(end + 1, timing.POLLER, "swapper/3-0", "hog-8", "R")
         told, _ = self.costs(made)
         self.assertAlmostEqual({each["task"]: each["share"] for each in told["tasks"]}["hog"], 0.25, delta=0.01)
@@ -503,20 +703,28 @@ def parted(times: Iterable[tuple[int, bool]]) -> tuple[list[int], list[int]]:
 class Recorded(InFolder):
     """Real recordings: a backlog by RPS, a thread with deferral, and a program on another processor. Plain searches find the same values."""
 
-    def check(self, name: str, device: str, counts: list[int]) -> tuple[dict[str, tuple[int, int]], list[int], list[int]]:
+    def check(
+        self, name: str, device: str, counts: list[int]
+    ) -> tuple[dict[str, tuple[int, int]], list[int], list[int]]:
         path = TOP / "examples/veth-backlog.rec" if name == "backlog" else HERE / f"recorded-{name}.rec"
         events = timing.searched(path.read_text())
         told = json.loads(self.succeeds("costs", path, "--json"))
         found = {cost.replace("_", "-"): (each["value"], each["count"]) for cost, each in told["costs"].items()}
         polls = list(timing.poll_times(events, device))
-        interrupts, timers = parted(filter(None, (timing.before_run(events, place) for *_, place in polls if place is not None)))
+        interrupts, timers = parted(
+            filter(None, (timing.before_run(events, place) for *_, place in polls if place is not None))
+        )
         wakes, timer_wakes = parted(timing.wakes_of(events, device))
         uses, calls, lone = timing.reads_of(events, device)
         self.assertEqual((told["polls"], told["polled"], told["processor"]), (len(polls), [device], 3))
         found_of_each: list[Sequence[object]] = [polls, interrupts, wakes, timer_wakes, uses, lone]
         self.assertEqual([len(each) for each in found_of_each], counts)
         # If there are too few interrupts, or wake-ups by packets, a timer counts.
-        every = {"interrupt": interrupts if len(interrupts) >= 8 else timers, "wake": wakes if len(wakes) >= 8 else timer_wakes, "use": uses}
+        every = {
+            "interrupt": interrupts if len(interrupts) >= 8 else timers,
+            "wake": wakes if len(wakes) >= 8 else timer_wakes,
+            "use": uses,
+        }
         every |= {"timer": timers, "timer-wake": timer_wakes} if timers else {}
         for cost, values in every.items():
             self.assertEqual(found[cost], (timing.middle(values), len(values)), cost)
@@ -531,7 +739,10 @@ class Recorded(InFolder):
             slope, start = line_of(points)
             far = 3 * 1.4826 * statistics.median(abs(took - start - slope * work) for work, took in points)
             kept, points = points, [(work, took) for work, took in points if abs(took - start - slope * work) <= far]
-        self.assertEqual((costs["poll"]["count"], costs["poll"]["value"], costs["packet"]["value"]), (len(kept), round(start), round(slope)))
+        self.assertEqual(
+            (costs["poll"]["count"], costs["poll"]["value"], costs["packet"]["value"]),
+            (len(kept), round(start), round(slope)),
+        )
         self.assertTrue(0 < costs["poll"]["explained"] < 1)
         self.assertTrue(costs["packet"]["low"] < slope < costs["packet"]["high"])
 
@@ -545,16 +756,26 @@ class Recorded(InFolder):
 
     def test_a_program_on_another_processor(self) -> None:
         found, calls, lone = self.check("apart", "vb7", [31, 25, 26, 0, 36, 9])
-        self.assertEqual(found["app-wake"], (timing.middle(max(0, each - statistics.median(calls)) for each in lone), 9))
+        self.assertEqual(
+            found["app-wake"], (timing.middle(max(0, each - statistics.median(calls)) for each in lone), 9)
+        )
 
     def test_what_it_refuses(self) -> None:
         """Cut at any place, with lost events, of a kernel without the events, or of another version."""
         text = (TOP / "examples/veth-backlog.rec").read_text()
-        for changed, why in ((text[:-30], "isn't whole"), (text[: text.rindex("\n", 0, -2) + 1], "it is cut: 622 of 623 events are there"),
-                             (text[:1000], "it is cut: its head has no end"), ("", "it is empty"), ("fintaqush-recording 1\n", "its head has no end"),
-                             (text.replace("\nlost 0\n", "\nlost 5\n"), "the kernel lost 5 events, so results would be wrong"),
-                             (text.replace("recording 1", "recording 2"), "another version of fintaqush record wrote it"),
-                             (text.replace("\nlines 623", "\nlines 9"), "it is cut: 623 of 9 events"),
-                             (re.sub(r".*(napi_poll|softirq_e).*\n", "", text).replace("lines 623", "lines 513"), "0 polls of (no_device) in complete softirqs or threads")):
+        for changed, why in (
+            (text[:-30], "isn't whole"),
+            (text[: text.rindex("\n", 0, -2) + 1], "it is cut: 622 of 623 events are there"),
+            (text[:1000], "it is cut: its head has no end"),
+            ("", "it is empty"),
+            ("fintaqush-recording 1\n", "its head has no end"),
+            (text.replace("\nlost 0\n", "\nlost 5\n"), "the kernel lost 5 events, so results would be wrong"),
+            (text.replace("recording 1", "recording 3"), "another version of fintaqush record wrote it"),
+            (text.replace("\nlines 623", "\nlines 9"), "it is cut: 623 of 9 events"),
+            (
+                re.sub(r".*(napi_poll|softirq_e).*\n", "", text).replace("lines 623", "lines 513"),
+                "0 polls of (no_device) in complete softirqs or threads",
+            ),
+        ):
             said = self.fails(why, "costs", "-", text=changed)
             self.assertEqual(said.count("\n"), 1)

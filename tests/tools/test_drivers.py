@@ -59,18 +59,21 @@ class Drivers(unittest.TestCase):
             wanted |= {"modes"} if driver.modes else set()
             wanted |= {"takes"} if driver.takes else set()
             wanted |= {"spare"} if driver.spare else set()
+            wanted |= {"early"} if driver.early else set()
             if name != "vmxnet3":  # whose card decides it
                 wanted |= {"latched"} if driver.latched is not None else set()
                 wanted |= {"latched, MSI-X"} if driver.latched_msix not in (None, driver.latched) else set()
             self.assertLessEqual(wanted - ({"heedless"} if name == "veth" else set()), facts, name)
+        self.assertEqual({*re.findall(r"^(\w+): heedless: .*: napi_complete_done", rows, re.M)},
+                         {*drivers.HEEDLESS, *(name for name, driver in DRIVERS.items() if driver.heedless)})  # fmt: skip
 
     def test_options_of_a_card(self) -> None:
-        names = ("rx-gap", "rx-nsecs", "rx-frames", "latched", "gro-batch", "heedless")
-        self.assertEqual(self.options(head_of("e1000", 250), *names), (249856, 0, 0, 2, 8, 0))
-        self.assertEqual(self.options(head_of("igb", 50, {"irq.26.name": "eth0-TxRx-0"}), *names), (50000, 0, 0, 1, 8, 0))
-        self.assertEqual(self.options(head_of("virtio_net", 50), *names), (0, 50000, 7, 0, 8, 0))
+        names = ("rx-gap", "rx-nsecs", "rx-frames", "latched", "gro-batch", "heedless", "early")
+        self.assertEqual(self.options(head_of("e1000", 250), *names), (249856, 0, 0, 2, 8, 0, 0))
+        self.assertEqual(self.options(head_of("igb", 50, {"irq.26.name": "eth0-TxRx-0"}), *names), (50000, 0, 0, 1, 8, 0, 0))
+        self.assertEqual(self.options(head_of("virtio_net", 50), *names), (0, 50000, 7, 0, 8, 0, 1500))
         with_lro = {"ethtool.feature.large-receive-offload": "on", "irq.26.name": "eth0-rxtx-0"}
-        self.assertEqual(self.options(head_of("vmxnet3", 0, with_lro), *names), (0, 0, 0, 1, 0, 1))
+        self.assertEqual(self.options(head_of("vmxnet3", 0, with_lro), *names), (0, 0, 0, 1, 0, 1, 0))
         self.assertEqual(self.options(head_of("e1000e", 3), "rx-gap", "rx-nsecs"), (0, 0))
 
     def test_a_card_that_keeps_a_longer_time(self) -> None:
@@ -114,13 +117,18 @@ class Drivers(unittest.TestCase):
             self.assertEqual([machine.line_of(each) for each in changes], ["ethtool -G eth0 rx 512"])
             self.assertIn("ring 512", named({"ring": 512 - spare}, ["ring"], machine))
 
-    def test_an_unknown_driver_has_no_options(self) -> None:
-        self.assertEqual(drivers.options_of(head_of("qlcnic", 20), "eth0"), {})
+    def test_an_unknown_driver_has_no_options_but_that_it_is_heedless(self) -> None:
+        wanted: dict[str, dict[str, int]] = {"qlcnic": {}, "cxgb4": {"heedless": 1}}
+        for name, own in wanted.items():
+            self.assertEqual(drivers.options_of(head_of(name, 20), "eth0"), own)
+            options = dict(advice.options_of(head_of(name, 20), "eth0", 0))
+            self.assertLessEqual({"rx-nsecs": 20_000, **own}.items(), options.items())
         self.assertEqual(drivers.options_of({}, "eth0"), {})
 
     def test_what_is_not_known_is_said(self) -> None:
         for driver, usecs, said in (
             ("qlcnic", 0, "the driver qlcnic is unknown: when its card interrupts, and which rx-usecs it takes"),
+            ("cxgb4", 0, "cxgb4 unmasks whatever napi_complete_done returns, so deferral saves no interrupt"),
             ("e1000e", 3, "rx-usecs 3 of e1000e is a mode, in which the driver chooses the time between interrupts itself"),
             ("vmxnet3", 20, "what rx-usecs of vmxnet3 sets isn't known"),
             ("mana", 0, "whether a cause of mana's card outlives its packet isn't known"),

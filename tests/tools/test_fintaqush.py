@@ -17,7 +17,7 @@ from pathlib import Path
 from typing import Any
 
 from finding import group_in
-from tooltest import HAS_MACHINE, MACHINE, MOST_SECONDS, PROGRAMS, SERIES, TOP, Done, InFolder, process, process_to, run, skip_without, started
+from tooltest import HAS_MACHINE, MOST_SECONDS, PROGRAMS, REPLAY, SERIES, TOP, Done, InFolder, process, process_to, run, skip_without, started
 
 from fintaqush_tools.cli import MODULES, module_of
 from fintaqush_tools.options import parser_of
@@ -36,10 +36,10 @@ class Fintaqush(InFolder):
         done = call("--help")
         self.assertEqual((done.returncode, done.stderr), (0, ""))
         listed = re.findall(r"^  ([a-z][\w-]*) {2,}\S", done.stdout, re.M)
-        self.assertEqual(sorted(listed), sorted(MODULES))
+        self.assertEqual(sorted(listed), sorted(MODULES.keys() - {"series"}))
         self.assertEqual(run("--names").stdout.split(), sorted(MODULES))
         self.assertEqual(run("help").stdout, done.stdout)
-        self.assertEqual(run("help", "raise").stdout, run("raise", "--help").stdout)
+        self.assertEqual(run("help", "costs").stdout, run("costs", "--help").stdout)
         modules = {path.stem for path in (TOP / "tools/fintaqush_tools/commands").glob("*.py")} - {"__init__"}
         self.assertEqual(set(MODULES.values()), modules)
 
@@ -52,13 +52,13 @@ class Fintaqush(InFolder):
                 self.assertEqual(self.succeeds(name, "--version"), f"fintaqush {name} of Fintaqush {version}\n")
             page = self.succeeds(name, "--manual")
             self.assertTrue(page.startswith(f".TH FINTAQUSH\\-{name.upper().replace('-', chr(92) + '-')} 1 "), page[:80])
-            self.assertEqual("; 3 a condition of \\-\\-fail\\-if holds;" in page, "--fail-if" in text, page)
+            self.assertEqual("; 3 a condition of \\-\\-fail\\-if holds;" in page, "--fail-if" in text and name != "replay", page)
         for text in (run("--manual").stdout.replace("\\-", "-"), run("--help").stdout):
             self.assertIn("; 3 a condition of --fail-if holds;", text)
-        for name, status in (("raise", 1), ("replay", 66)):
+        for name, status in (("costs", 1), ("replay", 66)):
             done = call(name, "none.csv", folder=self.folder)
             self.assertEqual((done.stderr, done.returncode), (f"fintaqush {name}: none.csv: there is no such file\n", status))
-        self.fails("fintaqush raise: error: unrecognized arguments: --buget", "raise", "x", "--buget", status=64)
+        self.fails("fintaqush costs: error: unrecognized arguments: --buget", "costs", "x", "--buget", status=64)
 
     def test_a_subcommand_that_does_not_exist(self) -> None:
         for name, near in (("plto", "plot"), ("from", "from-ftrace or from-pcap"), ("whatif", "what-if"), ("Steps", "steps")):
@@ -71,7 +71,7 @@ class Fintaqush(InFolder):
         (self.folder / "link").symlink_to(COMMAND)
         (self.folder / "second").symlink_to("link")
         for command in (self.folder / "link", self.folder / "second"):
-            self.assertEqual(call("raise", BURSTS, command=command, folder="/").stdout, self.ends_with(0, "raise", BURSTS).stdout)
+            self.assertEqual(call("traffic", command=command, folder="/").stdout, self.ends_with(0, "traffic").stdout)
 
     def test_what_it_runs_prints_what_the_program_prints(self) -> None:
         text = BURSTS.read_text()
@@ -85,36 +85,25 @@ class Fintaqush(InFolder):
         for wrong in (["--every", "0"], ["--restarts", "1"], ["--rows", "--polls"], ["--rows", "--every", "2"]):
             self.ends_with(64, "series", *wrong, text=text)
 
-    @HAS_MACHINE
-    def test_the_machine(self) -> None:
-        arrivals = self.write("arrivals", "ns,device,bytes\n0,1,60\n5,1,60\n")
-        expected = process(MACHINE, "--budget", "16", text=arrivals.read_text())
-        done = call("machine", arrivals, "--budget", "16")
-        self.assertEqual((done.stdout, done.returncode), (expected.stdout, 0))
-        self.assertEqual(self.fails("", "machine", "none", folder=self.folder), "fintaqush machine: none: there is no such file\n")
-        for name, what in ((BURSTS, "a trace, which fintaqush replay reads"), (self.write("x", "1,2\n"), "not arrivals")):
-            said = self.fails(f"{what}; arrivals are made by --arrivals of from-pcap, from-ftrace or traffic\n", "machine", name, status=2)
-            self.assertTrue(said.startswith(f"fintaqush machine: {name}: {what}"), said)
-
     def test_outputs_and_inputs_that_are_none(self) -> None:
         for words in (["--help"], ["plot", "--help"], ["--version"], ["completion", "bash"]):
             name = "fintaqush" if words[0].startswith("-") else f"fintaqush {words[0]}"
             for kind, why in (("full", "No space left on device"), ("closed", "standard output is closed")):
                 self.assertEqual(process_to(kind, COMMAND, *words), (f"{name}: {why}\n", 1))
-        done = process("sh", "-c", 'exec "$0" json < "$1"', COMMAND, self.folder)
+        done = process("sh", "-c", 'exec "$0" costs < "$1"', COMMAND, self.folder)
         self.assertEqual((done.stderr, done.returncode), ("fintaqush: standard input is a folder\n", 1))
 
     def test_signals(self) -> None:
         """Signals to the started process, which has become the tool: one line, and exit status 128 plus the signal's number."""
         os.mkfifo(self.folder / "fifo")
         for number in (signal.SIGINT, signal.SIGTERM):
-            child = started(COMMAND, "json", "fifo", folder=self.folder)
+            child = started(COMMAND, "costs", "fifo", folder=self.folder)
             end = self.opened(child, "fifo")
             while child.poll() is None:
                 child.send_signal(number)
                 time.sleep(0.05)
             os.close(end)
-            self.assertEqual((child.communicate()[1], child.returncode), ("fintaqush json: interrupted\n", 128 + number))
+            self.assertEqual((child.communicate()[1], child.returncode), ("fintaqush costs: interrupted\n", 128 + number))
 
     @HAS_MACHINE
     def test_the_tour(self) -> None:
@@ -135,7 +124,7 @@ class Options(InFolder):
     def test_messages_are_short(self) -> None:
         """One line of usage, whatever the subcommand's options are, and one with the error, which has the nearest option."""
         for name, words, near in (("what-if", ["--budgte", "3"], ": is --budget meant?"), ("record", ["--device", "lo", "--out", "x", "--progam=y"], ": is --program meant?"),
-                                  ("plot", ["--series", "a", "b", "--json"], ""), ("traffic", ["--xyz"], "")):
+                                  ("plot", ["a", "b"], ""), ("traffic", ["--xyz"], "")):
             said = self.ends_with(64, name, *words).stderr
             self.assertRegex(said, rf"^usage: fintaqush .*\nfintaqush {name}: error: .*{re.escape(near)}\n$")
 
@@ -193,7 +182,7 @@ class Starts(InFolder):
 
     def test_no_environment(self) -> None:
         """Without PATH a shell finds python3 in its own folders, and Python doesn't know its own name."""
-        calls: list[list[object]] = [["--version"], ["plot", "--help"], ["raise", BURSTS, "--binary", SERIES], ["replay", "--help"], ["completion", "bash"]]
+        calls: list[list[object]] = [["--version"], ["plot", "--help"], ["compare", BURSTS, "--binary", REPLAY, "--"], ["replay", "--help"], ["completion", "bash"]]
         for words in calls:
             done = process("env", "-i", COMMAND, *words)
             self.assertEqual((done.stderr.count("\n") <= 1, done.returncode), (True, 0), done.stderr)
@@ -203,7 +192,7 @@ class Starts(InFolder):
 
     def test_little_memory(self) -> None:
         """One line, whatever Python needs itself."""
-        calls: list[list[object]] = [["series", BURSTS], ["machine", BURSTS], ["raise", BURSTS], ["--version"]]
+        calls: list[list[object]] = [["series", BURSTS], ["compare", BURSTS, "--"], ["--version"]]
         for kib in (8000, 12000, 14000, 16384, 24000, 32767, 33000, 40000):
             for words in calls:
                 none: dict[str, Any] = dict.fromkeys(PROGRAMS, "/bin/false")
@@ -218,7 +207,7 @@ class Starts(InFolder):
     def test_a_signal_while_python_starts(self) -> None:
         """Ctrl-C at any time from the beginning on: no traceback, and the end that it has later."""
         os.mkfifo(self.folder / "fifo")
-        starts = {COMMAND: ["json", "fifo"], TOP / "replay": ["--mode", "serial", "fifo"]}
+        starts = {COMMAND: ["costs", "fifo"], TOP / "replay": ["--mode", "serial", "fifo"]}
         keeps = os.open(self.folder / "fifo", os.O_RDWR)  # so that no open of it waits
 
         def interrupted(command: Path, words: list[str], place: int) -> None:
@@ -260,7 +249,7 @@ errors.run("this", main, [])
         os.mkfifo(self.folder / "fifo")
         ended = "import os, signal, sys; signal.setitimer(signal.ITIMER_REAL, 2); os.execv(sys.argv[1], sys.argv[1:])"
         keeps = os.open(self.folder / "fifo", os.O_RDWR)
-        done = process(sys.executable, "-c", ended, COMMAND, "json", self.folder / "fifo")
+        done = process(sys.executable, "-c", ended, COMMAND, "costs", self.folder / "fifo")
         self.assertEqual((done.stdout, done.returncode), ("", -signal.SIGALRM), done.stderr)
         child = started(COMMAND, "replay", "--mode", "serial", self.folder / "fifo")
         time.sleep(1.5)
@@ -274,7 +263,7 @@ class Completion(InFolder):
     def test_each_option_is_there(self) -> None:
         for shell in ("bash", "zsh", "fish"):
             text = self.succeeds("completion", shell)
-            for name, options in (("plot", ["beside", "budget", "force"]), ("traffic", ["kind"]), ("machine", ["rx-nsecs"]), ("replay", ["mode"])):
+            for name, options in (("plot", ["beside", "budget", "force"]), ("traffic", ["kind"]), ("what-if", ["rx-nsecs"]), ("replay", ["mode"])):
                 self.assertIn(name, text)
                 for option in options:
                     self.assertIn(f"-l {option} " if shell == "fish" else f"--{option}", text, (shell, option))

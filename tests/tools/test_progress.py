@@ -6,7 +6,6 @@ import os
 import re
 import subprocess
 import threading
-import time
 import unittest.mock
 from typing import Any
 
@@ -65,12 +64,21 @@ class Shown(InFolder):
         wanted = "making 1 row, 50 %, "
         self.assertIn(wanted, self.seen("what-if", arrivals, pattern=wanted, MACHINE=self.program("half", HALF)))
 
+    @HAS_MACHINE
+    def test_a_search_of_what_if(self) -> None:
+        """After each load; the fifth one waits until the progress was seen."""
+        arrivals = self.write("arrivals", "ns,device,bytes\n" + "".join(f"{10000 * place},1,60\n" for place in range(300)))
+        slow = self.program("slow", f"echo >> probes; [ $(wc -l < probes) != 5 ] || {{ {WAIT}; }}\nexec '{MACHINE}' \"$@\"")
+        wanted = r"searching 1 load, [1-9]\d %, "
+        words = [arrivals, "--ring", "1", "--until", "drops", "--band", "0", "--jobs", "1"]
+        self.assertRegex(self.seen("what-if", *words, pattern=wanted, MACHINE=slow), wanted)
+
     def test_a_capture(self) -> None:
         """By the share of the capture that tcpdump has read."""
         capture = self.folder / "capture.pcap"
         capture.write_bytes(b"\xd4\xc3\xb2\xa1" + b"\0" * 39996)
         self.program("tcpdump", HALF)
-        self.check(r"reading, 50 %, \d s left", "from-pcap", capture, "made", PATH=f"{self.folder}:{os.environ['PATH']}")
+        self.check(r"reading, 50 %, \d+ s left", "from-pcap", capture, "made", PATH=f"{self.folder}:{os.environ['PATH']}")
 
     @HAS_MACHINE
     def test_settings_of_advise(self) -> None:
@@ -97,22 +105,23 @@ class Shown(InFolder):
 
     def test_elsewhere_nothing_is_shown(self) -> None:
         slow = self.program("slow", f"sleep {LONG}\nexec '{SERIES}' \"$@\"")
-        done = run("raise", BURSTS, "--out", "x.csv", folder=self.folder, SERIES=slow)
-        self.assertEqual((done.stderr.count("\n"), "\r" in done.stderr, done.returncode), (1, False, 0))
+        done = run("steps", BURSTS, "--out", "x.html", folder=self.folder, SERIES=slow)
+        self.assertEqual((done.stderr.count("\n"), "\r" in done.stderr, done.returncode), (0, False, 0))
 
     def test_a_line_that_is_written_when_its_block_ends(self) -> None:
         """It is cleared all the same."""
         lines: list[str] = []
-        is_written = threading.Event()
+        is_written, working = threading.Event(), progress.Progress("working")
 
         def slowly(text: str) -> None:
             if text not in ("", progress.CLEAR):
                 is_written.set()
-                time.sleep(0.3)
+                assert working.over
+                working.over.wait()
             lines.append(text)
 
         with unittest.mock.patch.multiple(progress, put=slowly, can_be_shown=lambda: True), \
                 unittest.mock.patch.object(os, "get_terminal_size", lambda _: os.terminal_size((80, 24))):
-            with progress.Progress("working"):
+            with working:
                 is_written.wait()
         self.assertEqual(lines, [lines[0], progress.CLEAR])

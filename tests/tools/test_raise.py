@@ -1,4 +1,4 @@
-"""Tests of fintaqush raise and of `napi_series --raise`: expected numbers come from the kernel, from traces that are small enough to replay by hand, or
+"""Tests of `napi_series --raise` and of `replay --raise`: expected numbers come from the kernel, from traces that are small enough to replay by hand, or
 from replays of each prefix. tests/kernel.sh compares raised replays with the kernel's own functions. RAISED=10000 tries that many random traces."""
 
 from __future__ import annotations
@@ -53,7 +53,16 @@ def series(words: Sequence[str], text: bytes) -> bytes:
 class Raise(InFolder):
     def raised(self, text: str, *words: object) -> list[str]:
         """Returns the rows of the resulting trace."""
-        return self.ends_with(0, "raise", "-", *words, text=text).stdout.splitlines()[1:]
+        return self.whole(text, *words).splitlines()[1:]
+
+    @staticmethod
+    def whole(text: str, *words: object) -> str:
+        """Returns what napi_series prints of the rows with the added runs, or its error."""
+        given, option = list(map(str, words)), "--raise"
+        if "--restarts" in given:
+            place = given.index("--restarts")
+            option, given = f"--raise={given[place + 1]}", [*given[:place], *given[place + 2 :]]
+        return series([option, "--rows", *given], text.encode()).decode()
 
     def replay(self, text: str, *words: str) -> list[list[str]]:
         return report_of(text.splitlines()[1:], words, text[: text.index("\n") + 1])
@@ -66,14 +75,12 @@ class Raise(InFolder):
         def sums(report: list[list[str]]) -> tuple[int, int, list[str]]:
             return (int(report[-1][8]), sum(int(line[6]) for line in report if line[0] == "device"), report[-2])
         self.assertEqual(sums(self.replay(path.read_text(), *words))[:2], (8441, 5582))
-        done = run("raise", path, *words, "--out", self.folder / "raised.csv")
-        self.assertRegex(done.stderr, r"^fintaqush raise: \d+ runs added, \d+ rows\n$")
-        text = (self.folder / "raised.csv").read_text()
+        text = self.whole(path.read_text(), *words)
         self.assertEqual(sums(self.replay(text, *words)), (15245, 0, ["list"]))
         # Only softirq rows are added, and a second call adds none.
         kept = iter(text.splitlines())
         self.assertTrue(all(row in kept for row in path.read_text().splitlines()))
-        self.assertEqual(run("raise", self.folder / "raised.csv", *words).stdout, text)
+        self.assertEqual(self.whole(text, *words), text)
 
     def test_what_the_pages_show_of_a_budget_is_true_to_the_kernel(self) -> None:
         """A command in a page with another budget or weight adds runs, or replays a recording with the recorded one, or uses arrivals, for which
@@ -81,7 +88,7 @@ class Raise(InFolder):
         pages = [TOP / "README.md", TOP / "examples/README.md", *sorted((TOP / "docs").glob("*.md")), TOP / "replay"]
         commands = [line for page in pages for line in page.read_text().splitlines()
                     if re.search(r"(^|[ `])(\./replay|tools/[a-z-]+|(\./)?fintaqush [a-z-]+) [^\[]*--(budget|weight) ", line)]
-        true = (r"--raise\b|(tools/|fintaqush )(raise|what-if) |raised\.csv|compare-recording |linux-(veth-small-budget|napi-disable)\.csv --budget 64\b"
+        true = (r"--raise\b|(tools/|fintaqush )what-if |compare_recording|linux-(veth-small-budget|napi-disable)\.csv --budget 64\b"
                 r"|and \d+ packets dropped$")
         self.assertEqual([command for command in commands if not re.search(true, command)], [])
         self.assertGreater(len(commands), 8)
@@ -125,8 +132,8 @@ class Raise(InFolder):
                          ["0,1,open,8", "1,1,rx,60", "18446744073709551615,1,rx,60", "2,0,softirq,0", *["2,0,softirq,0"] * 2])
 
     def test_a_run_that_is_followed_by_one_at_the_same_time(self) -> None:
-        """It has its added run already, in whatever form the time is written. The last run of three is repeated until the list is empty, which takes
-        four runs; of five, none."""
+        """It has its added run already, in whatever form the time is written. Of three runs the last is repeated until the list is empty, which
+        takes four runs; of five runs none is repeated."""
         words = ["--budget", "1", "--weight", "1"]
         for own, wanted in ((3, 4), (5, 5)):
             text = HEADER + "0,1,open,8\n" + "1,1,rx,60\n" * 3 + "2,0,softirq,0\n02,0,softirq,00\n" + "2,0,softirq,0\n" * (own - 2)
@@ -189,17 +196,15 @@ class Raise(InFolder):
         for old, new in (("2,0,softirq", '2,0,"so"ftirq'), ("3,0,", '"3"0,0,'), ("moment,", '"mo"ment,')):
             path = self.write("x.csv", self.BURST.replace(old, new, 1))
             plain = self.write("y.csv", self.BURST.replace(old, new.replace('"', ""), 1))
-            for name, *words in (["raise", "--budget", "1", "--weight", "1"], ["compare", "--raise", "--budget", "1", "--"],
-                                 ["plot", "--raise", "--budget", "1", "--json"]):
-                other = run(name, plain, *words).stdout
-                self.assertEqual(self.ends_with(0, name, path, *words).stdout, other.replace("y.csv", "x.csv"))
+            other = run("compare", plain, "--raise", "--budget", "1", "--").stdout
+            self.assertEqual(self.ends_with(0, "compare", path, "--raise", "--budget", "1", "--").stdout, other)
 
     def test_a_disable_that_waits_for_the_runs(self) -> None:
         """In the given rows the enable row meets a pending disable; with the added runs it doesn't."""
         two = HEADER + "0,1,open,8\n0,2,open,8\n0,1,rx,60\n0,2,rx,60\n1,2,disable,0\n2,0,softirq,0\n3,2,enable,0\n"
         self.assertGreater(self.raised(two, "--budget", "1", "--weight", "1")[5:-1].count("2,0,softirq,0"), 1)
-        self.fails("trace fault 12 Pending row 7", "raise", "-", "--budget", "1", "--weight", "1", "--restarts", "0", text=two)
-        self.fails("trace fault 12 Pending row 6", "raise", "-", text=two.replace("2,0,softirq,0\n", ""))
+        self.assertEqual(self.whole(two, "--budget", "1", "--weight", "1", "--restarts", "0"), "trace fault 12 Pending row 7\n")
+        self.assertEqual(self.whole(two.replace("2,0,softirq,0\n", "")), "trace fault 12 Pending row 6\n")
 
     def test_as_many_rows_as_a_trace_has(self) -> None:
         """With one packet per run 49990 packets take 49991 runs, the last without a packet."""
@@ -209,10 +214,10 @@ class Raise(InFolder):
         full = HEADER + "0,1,open,65536\n" + "0,1,tx,60\n" * 99997 + "0,1,rx,60\n1,0,softirq,0\n"
         self.assertEqual(len(self.raised(full)), 100000)
         for more in (full.replace("tx", "rx"), text + "1,1,rx,60\n" * 20 + "2,0,softirq,0\n"):
-            self.fails("trace fault 9 TooManyRows row 100001", "raise", "-", *words, text=more)
+            self.assertEqual(self.whole(more, *words), "trace fault 9 TooManyRows row 100001\n")
 
     def test_refusals(self) -> None:
-        self.fails("trace fault 6 UnknownDevice row 1", "raise", "-", text=HEADER + "0,1,rx,60\n")
+        self.assertEqual(self.whole(HEADER + "0,1,rx,60\n"), "trace fault 6 UnknownDevice row 1\n")
         for words in (["--weight", "65"], ["--budget", "0"], ["--restarts", "-1"], ["--restarts", "x"]):
-            self.ends_with(64, "raise", "-", *words, text=HEADER)
-        self.assertEqual(run("raise", "-", text=HEADER).stdout, HEADER)
+            self.assertEqual(self.whole(HEADER, *words).partition(" ")[0], "usage")
+        self.assertEqual(self.whole(HEADER), HEADER)

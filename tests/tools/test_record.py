@@ -3,6 +3,7 @@
 from __future__ import annotations
 
 import contextlib
+import json
 import os
 import re
 import shutil
@@ -14,19 +15,20 @@ import time
 import unittest
 import unittest.mock
 from collections import Counter
-from collections.abc import Iterator, Sequence
+from collections.abc import Callable, Iterator, Sequence
 from pathlib import Path
 from typing import Any
 
 from tooltest import MOST_SECONDS, NO_WORDS, START, TOP, InFolder, limited, process, run, skip_without
 
-from fintaqush_tools import instances, observed, tracing
+from fintaqush_tools import instances, observed, recording, ring_buffer, tracing
 from fintaqush_tools.commands import record
 from fintaqush_tools.errors import Refusal
+from fintaqush_tools.recording import Event, Events
 from fintaqush_tools.options import Words
 
 IN_MOUNTS = ["unshare", "-m", "sh", "-c", 'cd /sys/kernel/tracing && { [ -d instances ] || mount -t tracefs nodev .; } 2> /dev/null && cd /sys/kernel/tracing && eval "$1"', "sh"]
-# A program with a given name that reads a number of packets; and one that, after a line of input, sends bursts repeatedly: the first has so
+# A program with a given name that reads a number of packets; and one that, at each line of input, sends bursts repeatedly: the first has so
 # many packets, and each following one has one more, up to the last.
 SERVER = """import socket, sys
 open("/proc/self/comm", "w").write(sys.argv[1])
@@ -41,13 +43,15 @@ CLIENT = """import socket, sys, time
 times, first, last = map(int, sys.argv[1:4])
 out = socket.socket(socket.AF_INET, socket.SOCK_DGRAM)
 print("ready", flush=True)
-sys.stdin.readline()
-for _ in range(times):
-    for packets in range(first, last + 1):
-        for _ in range(packets):
-            out.sendto(b"x" * 100, ("10.98.0.2", 9))
-        time.sleep(float(sys.argv[4]))
+for _ in sys.stdin:
+    for _ in range(times):
+        for packets in range(first, last + 1):
+            for _ in range(packets):
+                out.sendto(b"x" * 100, ("10.98.0.2", 9))
+            time.sleep(float(sys.argv[4]))
+    print("sent", flush=True)
 """
+ENDLESS = "3600"  # seconds of a recording that the test ends by a signal when it has seen what it waits for
 
 
 def in_tracing(command: str) -> str | None:
@@ -66,6 +70,29 @@ def instances_there() -> list[str]:
 def own(said: str) -> str:
     """Returns messages without that on a hypervisor, which depends on the machine."""
     return re.sub("fintaqush record: a hypervisor took .*\n", "", said)
+
+
+class Probed(Events):
+    is_probed = True
+
+
+WORD = re.compile(r"(\w+)=(\S+)|\b(struct|device|work|budget) (\S+)|0x([0-9a-f]+)$")
+
+
+def what(event: Event) -> tuple[int, int, int, str, str, dict[str, str]]:
+    """Returns an event, by its time in us, with the values of its text: addresses and other numbers as the kernel prints them."""
+    words = {key or other or "": (value or more or last).lstrip("0x") for key, value, other, more, last in WORD.findall(event.said)}
+    words.pop("prev_state", None)
+    return (event.time + 500) // 1000, event.cpu, event.pid, event.name, event.flags[2:3].replace(".", ""), words
+
+
+def check_same(test: unittest.TestCase, events: Events, kernel: Events) -> None:
+    """Checks the events of pages against the kernel's text of them, which has more values of some events."""
+    test.assertEqual(len(events), len(kernel))
+    of_pages, of_text = (sorted(map(what, each), key=lambda one: str(one[:4])) for each in (events, kernel))
+    for own, other in zip(of_pages, of_text):
+        test.assertEqual(own[:-1], other[:-1])
+        test.assertLessEqual(own[-1].items(), other[-1].items(), own)
 
 
 IS_ROOT = os.geteuid() == 0
@@ -92,6 +119,10 @@ class Refused(InFolder):
     def test_what_is_not_there(self) -> None:
         for words, why in ((["--device", "none9"], "--device none9: there is no such device; one in a network namespace needs --netns"),
                            (["--device", "../lo"], "--device ../lo: not a device name"), (["--device=-lo"], "--device -lo: not a device name"),
+                           (["--device", ".."], "--device ..: not a device name"), (["--device", "v\x1b[8m"], "--device v\\x1b[8m: not a device name"),
+                           (["--device", "lo", "--sender", "ü"], "--sender ü: not a device name"), (["--device", "(no_device)"], "not a device name"),
+                           (["--device", "lo", "--program", "a\x1b"], "--program a\\x1b: a name of printable ASCII characters"),
+                           (["--device", "lo", "--netns", ".."], "--netns ..: there is no such network namespace"),
                            (["--device", "lo;id"], "--device lo;id: there is no such device; one in a network namespace needs --netns"),
                            (["--device", "lo", "--netns", "none9"], "--netns none9: there is no such network namespace; `ip netns` lists them"),
                            (["--device", "lo", "--netns", "../x"], "--netns ../x: there is no such network namespace; `ip netns` lists them"),
@@ -123,6 +154,10 @@ class NothingThere(InFolder):
         # a veth whose peer is in a namespace without a name
         self.program("ip", """case "$*" in *list-id*) : ;; *) echo '[{},{"ifindex":3,"ifname":"vb1","link_index":2,"link_netnsid":0}]' ;; esac""")
         self.assertEqual(observed.peer_of("vb1", ""), "")
+        # one whose other end has a name that isn't printable
+        self.program("ip", """echo '[{"ifindex":3,"ifname":"vb1","link_index":2,"link":"v\\u001b[8m"}]'""")
+        with self.assertRaisesRegex(Refusal, r"^the other end of a veth pair, v\\x1b\[8m: not a device name, which has "):
+            record.find_senders(Words(device=["vb1"], sender=[], netns=""))
 
     def test_ethtool(self) -> None:
         for said in ("echo 'netlink error: Operation not supported' >&2; exit 1", ":", "echo 'Cannot get driver information: Operation not supported' >&2; exit 71"):
@@ -154,6 +189,9 @@ class NothingThere(InFolder):
         self.assertEqual(done.returncode, 0, done.stderr)
 
 
+PIECE = 1 << 16  # bytes of a made-up buffer that are read at once
+
+
 class Advice(unittest.TestCase):
     def test_a_buffer_that_was_too_small(self) -> None:
         """32 MB for half a second of five take ten times as much, or a tenth of the time."""
@@ -175,19 +213,22 @@ class Buffer(tracing.Instance):
     def monotonic(self) -> float:
         return self.now
 
+    def monotonic_ns(self) -> int:
+        return int(self.now * 1e9)
+
     def sleep(self, seconds: float) -> None:
         self.now += seconds
         self.level += self.rate * seconds
         self.most = max(self.most, self.level / tracing.MEGABYTE)
 
-    def statistics(self) -> Iterator[tuple[int, int]]:
+    def statistics(self) -> Iterator[tuple[int, int, int]]:
         self.checks += 1
-        yield from ((7, 0), (int(self.level), 0))
+        yield from ((7, 0, 0), (int(self.level), 0, 0))
 
     def drain(self) -> bool:
         self.pieces += 1
-        self.sleep(record.PIECE / self.speed)
-        self.level = max(0, self.level - record.PIECE)
+        self.sleep(PIECE / self.speed)
+        self.level = max(0, self.level - PIECE)
         return not self.level
 
 
@@ -197,7 +238,14 @@ class Waits(unittest.TestCase):
     def waited(self, buffer: Buffer, seconds: float, megabytes: int) -> bool:
         """Returns whether it ends early."""
         with unittest.mock.patch.object(record, "time", buffer):
-            return record.wait(buffer, Words(seconds=seconds, buffer=megabytes), buffer.drain)
+            return record.wait(buffer, Words(buffer=megabytes), seconds, buffer.drain)
+
+    def test_the_time_counts_from_the_first_window(self) -> None:
+        """Also if it takes longer than that until the kernel records."""
+        buffer, windows = Buffer(3), record.Windows()
+        with unittest.mock.patch.object(record, "time", buffer), unittest.mock.patch.object(buffer, "write", lambda *_: buffer.sleep(5)):
+            self.assertFalse(windows.record(buffer, Words(buffer=32, window=None), 1, buffer.drain))
+        self.assertEqual((len(windows), round(windows.seconds(), 6)), (1, 1))
 
     def test_buffers_that_hold_all_need_no_work(self) -> None:
         """15 MB of 32 are never emptied, and checked when 16 could be full: at 100 MB/s after 160 ms, and after 10 ms at the end, but at least 20 ms
@@ -212,7 +260,7 @@ class Waits(unittest.TestCase):
         """10 MB come in a second and 20 can be read; from half of 8 MB they are read at once."""
         buffer = Buffer(10)
         self.assertFalse(self.waited(buffer, 20, 8))
-        self.assertTrue(buffer.now >= 20 and 100 <= buffer.pieces * record.PIECE / tracing.MEGABYTE <= 200, buffer.pieces)
+        self.assertTrue(buffer.now >= 20 and 100 <= buffer.pieces * PIECE / tracing.MEGABYTE <= 200, buffer.pieces)
         self.assertTrue(4 <= buffer.most <= 5, buffer.most)
 
     def test_it_ends_before_a_buffer_is_full(self) -> None:
@@ -224,33 +272,22 @@ class Waits(unittest.TestCase):
             self.assertLess(buffer.now, 10)
 
 
-class Lines(InFolder):
-    """What is read from the buffers of two processors, and what is written."""
+class Counts(unittest.TestCase):
+    """What is found in the events."""
 
-    def body(self, *lines: str, clock: str = "mono", pairs: Sequence[tuple[str, str]] = ()) -> record.Body:
-        path = str(self.write("lines", "".join(f"{line}\n" for line in lines)))
-        body = record.Body(path, tracing.Stamps(clock, {}), pairs)
-        body.scan()
+    def body(self, *events: Event, pairs: Sequence[tuple[str, str]] = ()) -> record.Body:
+        body = record.Body(pairs)
+        for event in events:
+            for look in body.looks_at(event.name):
+                look(event)
+        body.napi = list(body.instances.found())
         return body
 
-    def event(self, time: int, cpu: int, said: str) -> str:
-        return f"          <idle>-0       [{cpu:03}] d.s1.  {time // 10**6}.{time % 10**6:06}: {said}"
+    def event(self, time: int, cpu: int, said: str) -> Event:
+        name, _, what = said.partition(": ")
+        return Event(0, "a", cpu, "..s", time, name, what, 1)
 
-    def test_they_are_written_in_order(self) -> None:
-        """A buffer is read to its end before the next one, so an earlier event may come later; events of one time stay in order."""
-        times = [5, 7, 7, 3, 9, 1, 12, 4]
-        body = self.body(*(self.event(10**9 + time, place, "x: y") for place, time in enumerate(times)))
-        with unittest.mock.patch.object(record, "LATE", 4), open(self.folder / "out", "wb") as file:
-            body.put(file)
-        found = re.findall(r"\[(\d+)\] d.s1.  (\S+):", (self.folder / "out").read_text())
-        self.assertEqual([time[-6:] for _, time in found], ["000001", "000003", "000004", "000005", "000007", "000007", "000009", "000012"])
-        self.assertEqual([cpu for cpu, time in found if time.endswith("7")], ["001", "002"])
-
-    def test_a_line_of_an_unknown_format(self) -> None:
-        with self.assertRaisesRegex(Refusal, "the kernel's trace has a line of an unknown format: 'CPU:2 "), open(self.folder / "out", "wb") as file:
-            self.body("CPU:2 nothing").put(file)
-
-    def poll(self, time: int, cpu: int, napi: str, work: int, device: str = "vb1", budget: int = 64) -> str:
+    def poll(self, time: int, cpu: int, napi: str, work: int, device: str = "vb1", budget: int = 64) -> Event:
         return self.event(time, cpu, f"napi_poll: napi poll on napi struct {napi} for device {device} work {work} budget {budget}")
 
     def test_instances(self) -> None:
@@ -273,7 +310,7 @@ class Lines(InFolder):
     def test_the_queues_of_a_pair(self) -> None:
         """Two queues get 1 to 4 and 5 to 8 packets in turn, and a poll of its instance takes them. One packet in ten finds its ring full, and in one
         round of seven the poll sees only those of the next round."""
-        lines: list[str] = []
+        lines: list[Event] = []
         time, packet, left = 0, 0, [0, 0]
         for round_ in range(70):
             for queue, napi in ((1, "aa"), (0, "bb")):
@@ -290,6 +327,16 @@ class Lines(InFolder):
         body = self.body(*lines, pairs=[("va1", "vb1")])
         self.assertEqual({each.napi: each.queue for each in body.napi}, {"aa": 1, "bb": 0})
         self.assertEqual(body.sent["va1"], packet)
+
+    def test_notes(self) -> None:
+        head, none = {"missing": "", "seconds": "1.0"}, self.body()
+        words = Words(device=["vb1"], sender=["va1"], probe=None)
+        self.assertEqual(list(record.notes_on(words, head, none)), ["nothing was sent by va1: record while packets arrive"])
+        words.sender = []
+        self.assertEqual(list(record.notes_on(words, head, none)), ["it has no arrivals: vb1 received nothing: record while packets arrive"])
+        words.probe = [], []
+        backlog = self.body(self.event(1, 0, "netif_receive_skb: dev=vb1 skbaddr=1 len=9"), self.poll(2, 0, "aa", 1, "(no_device)"))
+        self.assertEqual(list(record.notes_on(words, head, backlog))[1:], ["the probe shows nothing, because a processor's backlog polls, which has no deferral"])
 
     def test_which_events(self) -> None:
         """Of a pair also packets that a backlog may get, and if it has several queues those that the sender begins to send."""
@@ -354,22 +401,56 @@ class Recorded(InFolder):
         self.assertEqual(process.stdout.readline(), "ready\n")
         return process
 
-    def sender(self, *numbers: object) -> subprocess.Popen[str]:
-        return self.ready(self.sending, CLIENT, *numbers, stdin=subprocess.PIPE)
+    def sender(self, *numbers: object, processor: int | None = None) -> subprocess.Popen[str]:
+        """Starts a sender, on that processor if one is named."""
+        sender = self.ready(self.sending, CLIENT, *numbers, stdin=subprocess.PIPE)
+        if processor is not None:
+            os.sched_setaffinity(sender.pid, {processor})
+        return sender
 
     def send(self, sender: subprocess.Popen[str]) -> None:
         sender.communicate("\n")
         self.assertEqual(sender.returncode, 0)
 
+    def send_once(self, sender: subprocess.Popen[str]) -> None:
+        """Lets a sender send, which can send again then."""
+        assert sender.stdin and sender.stdout
+        print(file=sender.stdin, flush=True)
+        self.assertEqual(sender.stdout.readline(), "sent\n")
+
+    def ended(self, process: subprocess.Popen[str], number: int = signal.SIGINT) -> str:
+        """Ends a recording by a signal, and returns what it prints."""
+        process.send_signal(number)
+        out, said = process.communicate(timeout=MOST_SECONDS)
+        self.assertEqual((own(said), process.returncode), ("", 0))
+        return out
+
+    def wait_until(self, has_come: Callable[[], bool]) -> None:
+        until = time.monotonic() + MOST_SECONDS
+        while not has_come():
+            self.assertLess(time.monotonic(), until)
+            time.sleep(0.01)
+
+    @staticmethod
+    def is_on(process: subprocess.Popen[str]) -> bool:
+        return in_tracing(f"cat instances/fintaqush-{process.pid}/tracing_on") == "1\n"
+
+    @staticmethod
+    def level(process: subprocess.Popen[str], processor: int) -> float | None:
+        """Returns how many MB are in a processor's buffer; None after the recording."""
+        told = in_tracing(f"sed -n 's/^bytes: //p' instances/fintaqush-{process.pid}/per_cpu/cpu{processor}/stats")
+        return int(told) / tracing.MEGABYTE if told else None
+
     def serve(self, count: int) -> subprocess.Popen[str]:
         """Starts a program that reads so many packets."""
         return self.ready(self.receiving, SERVER, self.reader, count)
 
-    def head(self) -> tuple[dict[str, str], str]:
-        head, _, body = (self.folder / "made").read_text(errors="replace").partition("\ntrace\n")
-        first, *lines = head.split("\n")
-        self.assertEqual(first, "fintaqush-recording 1")
-        return dict(line.split(" ", 1) for line in lines), body
+    def head(self, reader: Events | None = None) -> tuple[dict[str, str], Events]:
+        """Returns the head and the events of the recording."""
+        events = Events() if reader is None else reader
+        head = recording.read(str(self.folder / "made"), [], lambda _: [events])
+        self.assertEqual((self.folder / "made").read_bytes().partition(b"\n")[0], b"fintaqush-recording 2")
+        return head, events
 
     def check_gone(self, process: subprocess.Popen[str]) -> None:
         """Checks that no instance and no file but the recording is left, and that tracing is as before."""
@@ -378,24 +459,25 @@ class Recorded(InFolder):
 
     def test_a_recording(self) -> None:
         """Forty bursts of one to forty packets, which a program reads. Expected numbers come from the sent packets, and from the kernel's files."""
-        server, sender, stolen = self.serve(820), self.sender(1, 1, 40, 0.005), self.stolen()
+        begun, server, sender, stolen = time.monotonic_ns(), self.serve(820), self.sender(1, 1, 40, 0.005), self.stolen()
         set_before = in_tracing("cat current_tracer tracing_on trace_clock events/enable buffer_size_kb saved_cmdlines_size")
         settings = {path.name: path.read_text().strip() for path in Path("/proc/sys/net/core").glob("*[a-z]") if os.access(path, os.R_OK)}
-        process = self.start("--program", self.reader, seconds="6")
+        process = self.start("--program", self.reader, seconds=ENDLESS)
         self.send(sender)
-        out, said = process.communicate(timeout=MOST_SECONDS)
-        self.assertEqual((own(said), process.returncode), ("", 0))
+        self.assertEqual(server.wait(MOST_SECONDS), 0)
+        out = self.ended(process)
         self.check_gone(process)
         self.assertEqual(in_tracing("cat current_tracer tracing_on trace_clock events/enable buffer_size_kb saved_cmdlines_size"), set_before)
-        head, body = self.head()
+        head, events = self.head()
         self.assertEqual([head[key] for key in ("device", "netns", "sender", "pair", "lost", "program", "program.pids", f"sent.{self.ends[0]}")],
                          [self.ends[1], self.receiving, self.ends[0], f"{self.ends[0]}:{self.ends[1]}", "0", self.reader, str(server.pid), "820"])
         for key in ("netdev_budget", "netdev_max_backlog", "dev_weight", "netdev_budget_usecs", "busy_poll", "rps_sock_flow_entries"):
             self.assertIn(head[f"sysctl.net.core.{key}"], (settings[key], Path(f"/proc/sys/net/core/{key}").read_text().strip()))
-        self.assertEqual([head[f"device.{self.ends[1]}.{key}"] for key in ("threaded", "napi_defer_hard_irqs", "gro_flush_timeout", "rx-0.rps_cpus")], ["0"] * 4)
+        self.assertEqual([head[f"device.{self.ends[1]}.{key}"] for key in ("threaded", "napi_defer_hard_irqs", "gro_flush_timeout")], ["0"] * 3)
+        self.assertEqual(set(head[f"device.{self.ends[1]}.rx-0.rps_cpus"]) - {","}, {"0"})
         self.assertEqual((head["kernel"], head[f"device.{self.ends[1]}.address"]), (os.uname().release, "02:00:00:00:00:02"))
-        self.check_instances(head, body)
-        self.check_stolen(head, stolen)
+        self.check_instances(head, events)
+        self.check_stolen(head, stolen, (time.monotonic_ns() - begun) / 1e9)
         readings = [(time.monotonic_ns(), time.time_ns(), time.monotonic_ns()) for _ in range(100)]
         since, real, until = min(readings, key=lambda each: each[2] - each[0])
         self.assertAlmostEqual(int(head["began.realtime"]) - real, int(head["began.monotonic"]) - (since + until) // 2, delta=10**7)
@@ -403,19 +485,18 @@ class Recorded(InFolder):
         self.assertEqual(after - before, 820)
         before, after = map(int, head["udp.InDatagrams"].split())
         self.assertEqual(after - before, 820)
-        lines = [line for line in body.splitlines() if not line.startswith("#")]
-        self.assertEqual(len(lines), int(head["lines"]))
-        self.assertEqual(len(re.findall(r"sys_recv\w+ -> 0x64\n", body)), 820)
-        self.assertTrue(all(f" {name}: " in body for name in ("napi_poll", "softirq_entry", "softirq_exit", "sched_switch")))
+        self.assertEqual(len(events), int(head["events.count"]))
+        self.assertEqual(sum(event.name.startswith("sys_exit_recv") and event.said == "0x64" for event in events), 820)
+        self.assertLessEqual({"napi_poll", "softirq_entry", "softirq_exit", "sched_switch"}, {event.name for event in events})
         self.assertNotIn("netdev_rss_key", "".join(head))
         self.assertRegex(out, rf"^made: \d+\.\d s; .*; 820 packets of {self.ends[0]}\n")
         self.succeeds("from-ftrace", "made", "arrivals", "--arrivals", folder=self.folder)
         self.assertEqual((self.folder / "arrivals.csv").read_text().count(",1,142\n"), 820)
-        self.check_clock(lines, head)
+        self.check_clock(events, begun)
 
-    def check_instances(self, head: dict[str, str], body: str) -> None:
+    def check_instances(self, head: dict[str, str], events: Events) -> None:
         """Checks the lines of the instances against a plain count of the polls."""
-        polls = re.findall(r"\[(\d+)\] \S+ +\S+ napi_poll: napi poll on napi struct (\S+) for device (\S+) work (\d+)", body)
+        polls = [(event.cpu, *re.findall(r"struct (\S+) for device (\S+) work (\d+)", event.said)[0]) for event in events if event.name == "napi_poll"]
         told = instances.instances_in(head)
         for each in told:
             own = [(int(cpu), int(work)) for cpu, napi, device, work in polls if (napi, device) == (each.napi, each.device)]
@@ -427,66 +508,169 @@ class Recorded(InFolder):
         """Returns what a hypervisor took from each processor, in ms, as a plain search of /proc/stat finds it in hundredths of a second."""
         return {cpu: 10 * int(taken) for cpu, taken in re.findall(r"(?m)^cpu(\d+)(?: \d+){7} (\d+) ", Path("/proc/stat").read_text())}
 
-    def check_stolen(self, head: dict[str, str], before: dict[str, int]) -> None:
+    def check_stolen(self, head: dict[str, str], before: dict[str, int], seconds: float) -> None:
         """Checks what the head says of each processor: not less than before the recording, not more than after it, and no more than the time."""
         after = self.stolen()
         self.assertEqual({key.split(".")[1] for key in head if key.startswith("stolen.")}, set(after))
         for cpu, most in after.items():
             begin, end = map(int, head[f"stolen.{cpu}"].split())
-            self.assertTrue(before[cpu] <= begin <= end <= most and end - begin <= 1000 * float(head["seconds"]) + 10, (cpu, before, begin, end, after))
+            self.assertTrue(before[cpu] <= begin <= end <= most and end - begin <= 1000 * seconds + 10, (cpu, before, begin, end, after))
 
-    def check_clock(self, lines: list[str], head: dict[str, str]) -> None:
-        """Checks that times are of CLOCK_MONOTONIC and rise on each processor; with the processor's counter they have nine digits."""
-        stamps = [re.match(r".{16}-\d+\s+\[(\d+)\] \S+ +(\d+)\.(\d+): ", line) for line in lines]
-        self.assertTrue(all(stamps))
-        seen = [found for found in stamps if found]
-        self.assertEqual({len(found[3]) for found in seen}, {9 if head["clock"] == "tsc" else 6})
-        times = [(int(found[1]), int(found[2]) * 10**9 + int(found[3].ljust(9, "0"))) for found in seen]
-        for cpu in {cpu for cpu, _ in times}:
-            own = [at for where, at in times if where == cpu]
-            self.assertEqual(own, sorted(own))
-        now = time.monotonic_ns()
-        self.assertTrue(all(now - MOST_SECONDS * 10**9 < at < now for _, at in times))
-        self.assertTrue(2.5e9 < max(times, key=lambda each: each[1])[1] - min(times, key=lambda each: each[1])[1] < MOST_SECONDS * 1e9)
+    def check_clock(self, events: Events, begun: int) -> None:
+        """Checks that times are of CLOCK_MONOTONIC, and rise: by the 39 pauses of 5 ms between the bursts at least."""
+        times, now = [event.time for event in events], time.monotonic_ns()
+        self.assertEqual(times, sorted(times))
+        self.assertTrue(begun < times[0] < times[-1] < now)
+        self.assertGreaterEqual(times[-1] - times[0], 39 * 5 * 10**6)
 
     def test_a_device_without_a_pair(self) -> None:
         """On the loopback device, as on a card, it records the received packets: at least those sent here. They are arrivals."""
-        process = self.recording("5", "--device", "lo")
+        process, size = self.recording(ENDLESS, "--device", "lo"), 700 + os.getpid() % 600  # another test may send over it too
         with socket.socket(socket.AF_INET, socket.SOCK_DGRAM) as end, socket.socket(socket.AF_INET, socket.SOCK_DGRAM) as out:
             end.bind(("127.0.0.1", 0))
             for _ in range(60):
-                out.sendto(b"x" * 777, end.getsockname())
+                out.sendto(b"x" * size, end.getsockname())
+                end.recv(size)
+        process.send_signal(signal.SIGINT)
         told, said = process.communicate(timeout=MOST_SECONDS)
         self.assertEqual((process.returncode, own(said)), (0, "fintaqush record: its arrivals are when polls took the packets, because no device that sends to it is known, as of a "
                                                          "veth pair: waits in a card's ring before the interrupt aren't in it\n"))
-        head, body = self.head()
-        self.assertEqual(int(head["received.lo"]), len(re.findall(r" netif_receive_skb: dev=lo ", body)))
+        head, events = self.head()
+        self.assertEqual(int(head["received.lo"]), sum(event.name == "netif_receive_skb" and event.said.startswith("dev=lo ") for event in events))
         self.assertIn(f"; {head['received.lo']} packets that lo received\n", told)
         self.succeeds("from-ftrace", "made", "arrivals", "--arrivals", folder=self.folder)
-        # 777 bytes of data, 8 of UDP, 20 of IPv4 and 14 of Ethernet.
-        self.assertEqual((self.folder / "arrivals.csv").read_text().count(",1,819\n"), 60)
+        # Beside the data 8 bytes of UDP, 20 of IPv4 and 14 of Ethernet.
+        self.assertEqual((self.folder / "arrivals.csv").read_text().count(f",1,{size + 8 + 20 + 14}\n"), 60)
 
     def test_an_end_by_a_signal(self) -> None:
-        for number in (signal.SIGINT, signal.SIGTERM, signal.SIGHUP):
-            process = self.start(seconds="60")
+        """A signal ends the recording, and what came until then is kept."""
+        for number, option in ((signal.SIGINT, ""), (signal.SIGTERM, "--window=59s/60s"), (signal.SIGHUP, "")):
+            sender = self.sender(1, 30, 30, 0)
+            process = self.start(*option.split(), seconds=ENDLESS)
             self.assertIn(f"fintaqush-{process.pid}", instances_there())
-            process.send_signal(number)
-            out, said = process.communicate(timeout=MOST_SECONDS)
-            self.assertEqual((out, said, process.returncode, self.names()), ("", "fintaqush record: interrupted\n", 128 + number, []))
+            self.send(sender)
+            out = self.ended(process, number)
+            self.assertEqual(self.names(), ["made"])
+            self.assertEqual(self.head()[0][f"sent.{self.ends[0]}"], "30")
+            self.assertRegex(out, "^made: [0-9.]+ s; ")
             self.check_gone(process)
+
+    def deferral(self) -> list[str]:
+        files = " ".join(f"/sys/class/net/{self.ends[1]}/{name}" for name in recording.PROBE)
+        return subprocess.run(["ip", "netns", "exec", self.receiving, "sh", "-c", f"cat {files}"], capture_output=True, text=True, check=True).stdout.split()
+
+    def wait_for(self, *deferral: str) -> None:
+        """Waits until this is set."""
+        self.wait_until(lambda: self.deferral() == list(deferral))
+
+    def has_timers(self, events: Events) -> bool:
+        """Returns whether a timer of the receiver is started: one within its instance, as there may be others on this machine."""
+        napi = {int(found[1], 16) for event in events if (found := re.search(rf"napi struct (\S+) for device {self.ends[1]} ", event.said))}
+        self.assertTrue(napi)
+        timers = {int(found[1], 16) for event in events if event.name == "hrtimer_start" and (found := re.search(r"hrtimer=(?:0x)?(\w+)", event.said))}
+        return any(0 < timer - each < 4096 for timer in timers for each in napi)
+
+    def probing(self) -> subprocess.Popen[str]:
+        """Starts a recording whose second half, which is as long as the test wants, has begun."""
+        tool = self.tool("""recorded = record.Recorded.record
+record.Recorded.record = lambda self, windows, _, during: recorded(self, windows, 1 if windows is self.windows else 3600, during)""")
+        process = self.start("--probe", seconds=ENDLESS, start=tool)
+        self.wait_for("2", "100000")
+        self.wait_until(lambda: self.is_on(process))  # nothing is recorded while it is set
+        return process
+
+    def test_a_probe(self) -> None:
+        """In its half deferral is set: then, and only then, polls are by timers. What was set is restored, also if the tool is killed then, and
+        if no more can be written."""
+        for netns, words in ((self.receiving, (self.ends[1], "gro", "on")), (self.sending, (self.ends[0], "tso", "off", "tx-udp-segmentation", "off"))):
+            subprocess.run(["ip", "netns", "exec", netns, "ethtool", "-K", *words], check=True)  # without these a backlog polls
+        before = self.deferral()
+        always, sender = self.sender(10**6, 1, 1, 0.001), self.sender(1500, 1, 1, 0.001)
+        assert always.stdin
+        print(file=always.stdin, flush=True)
+        process = self.probing()
+        self.send(sender)
+        self.ended(process)
+        self.assertEqual(self.deferral(), before)
+        (head, events), (_, probed) = self.head(), self.head(Probed())
+        self.assertEqual(head["probe"].isdigit() and [head[f"device.{self.ends[1]}.{name}"] for name in recording.PROBE], before)
+        self.assertEqual(list(events), [event for event in probed if event.time < int(head["probe"])])
+        self.assertEqual([self.has_timers(events), self.has_timers(probed)], [False, True])
+        found = json.loads(run("costs", "made", "--json", folder=self.folder).stdout)
+        self.assertIn("timer", found["costs"])
+        for number in (signal.SIGKILL, signal.SIGTERM):
+            process = self.probing()
+            process.send_signal(number)
+            process.communicate()
+            self.wait_for(*before)
+        process = self.start("--probe", seconds="2")
+        self.assertEqual((process.wait(MOST_SECONDS), self.deferral()), (0, before))
+        subprocess.run(["ip", "netns", "exec", self.receiving, "sh", "-c", f"cd /sys/class/net/{self.ends[1]} && echo 2 > napi_defer_hard_irqs && echo 1 > gro_flush_timeout"], check=True)
+        self.fails(f"--probe: {self.ends[1]} has deferral already", "record", "--probe", "--device", self.ends[1], "--netns", self.receiving, "--out", "x", folder=self.folder)
+
+    def test_windows(self) -> None:
+        """Packets are sent in all of the time; those of a quarter of it are recorded, as if a window followed the one before at once. A window, and
+        the time between two begins, may be longer if the machine is busy, never shorter."""
+        sender = self.sender(10**6, 1, 1, 0.001)
+        process = self.start("--window", "250ms/1s", seconds=ENDLESS)
+        assert sender.stdin
+        print(file=sender.stdin, flush=True)
+        for is_on in 3 * (False, True):
+            self.wait_until(lambda: self.is_on(process) == is_on)
+        self.ended(process)
+        head, events = self.head()
+        windows = [tuple(map(int, each.split(":"))) for each in head["windows"].split()]
+        self.assertGreaterEqual(len(windows), 4)
+        self.assertTrue(all(end - begin >= 0.25e9 for begin, end in windows[:-1]), windows)
+        self.assertTrue(all(later[0] - earlier[0] >= 1e9 for earlier, later in zip(windows, windows[1:])), windows)
+        whole = sum(end - begin for begin, end in windows)
+        self.assertEqual(head["seconds"], f"{whole / 1e9:.6f}")
+        self.assertTrue(windows[0][0] <= events[0].time <= events[-1].time < windows[0][0] + whole)
+
+    def test_twice(self) -> None:
+        """Two windows of the time, with as long a pause."""
+        with unittest.mock.patch.object(record, "recorded_by", return_value="") as made, unittest.mock.patch.object(record, "check_whole"):
+            record.main(["7", "--twice", "--device", "lo", "--out", "x"])
+        self.assertEqual((made.call_args[0][0].window, made.call_args[0][0].seconds), ((7, 14), 21))
+        for other in ("--probe", "--window=1s/2s"):
+            self.fails("--twice has the time of two whole recordings", "record", "--twice", other, "--device", "lo", "--out", "x", status=64)
+
+    def test_events_are_those_that_the_kernel_prints(self) -> None:
+        """All of an instance's buffers, first as text, then by pages."""
+        with tracing.Instance(tracing.mount_tracefs()) as instance, open(self.folder / "pages", "w+b") as file:
+            instance.set_buffers(8, None)
+            instance.write("options/hash-ptr", "0")
+            enabled, _ = instance.enable(tracing.Sources(f'comm == "{self.reader[:15]}"', ["lo"], [self.ends[1]], [self.ends[0]]))
+            server, sender = self.serve(210), self.sender(1, 1, 20, 0.001)
+            instance.write("tracing_on", "1")
+            self.send(sender)
+            self.assertEqual(server.wait(MOST_SECONDS), 0)
+            instance.write("tracing_on", "0")
+            text, head = instance.read("trace"), dict(instance.formats(enabled))
+            with instance.pipes() as pipes:
+                buffers = record.Buffers(pipes, ring_buffer.Layout.parsed(head["pages"]), file)
+                while not buffers.is_drained():
+                    pass
+            events = Events()
+            recording.Pages([events], head).add(buffers.pages())
+        kernel = Events()
+        recording.Texts([kernel], []).add(text)
+        self.assertGreater(len(kernel), 1000)
+        check_same(self, events, kernel)
 
     def test_what_a_killed_one_left_is_removed(self) -> None:
         """The instance of a running process is kept."""
-        process = self.start(seconds="60")
+        process = self.start(seconds=ENDLESS)
+        self.assertIn(f"fintaqush-{process.pid}", instances_there())
         process.kill()
         process.communicate()
-        self.assertIn(f"fintaqush-{process.pid}", instances_there())
         for name in self.names():
             (self.folder / name).unlink()
         in_tracing(f"mkdir instances/fintaqush-{os.getpid()}")
         self.addCleanup(in_tracing, f"rmdir instances/fintaqush-{os.getpid()}")
         other = self.start()
         self.assertEqual(other.wait(MOST_SECONDS), 0)
+        self.assertGreaterEqual(float(self.head()[0]["seconds"]), 1)
         left = instances_there()
         self.assertNotIn(f"fintaqush-{process.pid}", left)
         self.assertIn(f"fintaqush-{os.getpid()}", left)
@@ -494,8 +678,8 @@ class Recorded(InFolder):
     def test_events_that_are_lost(self) -> None:
         """While the tool can't check its buffers, more events come than they hold. It prints how many were lost, and the old file stays."""
         self.write("made", "old\n")
-        sender = self.sender(1, 40000, 40000, 0)
-        process = self.start("--buffer", "1", seconds="3")
+        sender = self.sender(1, 40000, 40000, 0, processor=min(os.sched_getaffinity(0)))
+        process = self.start("--buffer", "1", seconds=ENDLESS)
         process.send_signal(signal.SIGSTOP)
         self.send(sender)
         process.send_signal(signal.SIGCONT)
@@ -504,36 +688,42 @@ class Recorded(InFolder):
         self.assertEqual((process.returncode, self.names(), (self.folder / "made").read_text()), (1, ["made"], "old\n"))
 
     def test_a_recording_that_is_larger_than_its_buffers(self) -> None:
-        """They are emptied meanwhile, each time that one is half full: 25000 packets are some 5 MB of events, of which a processor's buffer holds four.
-        They are sent slowly and on the only processor that is recorded, so that a busy machine can empty the buffer in time."""
-        sender, processor = self.sender(25, 1000, 1000, 1), min(os.sched_getaffinity(0))
-        os.sched_setaffinity(sender.pid, {processor})
-        process = self.start("--buffer", "4", "--processors", str(processor), seconds="45")
-        self.send(sender)
-        _, said = process.communicate(timeout=MOST_SECONDS)
-        self.assertEqual((own(said), process.returncode), ("", 0))
-        head, body = self.head()
-        self.assertEqual((head["buffer"], head[f"sent.{self.ends[0]}"], body.count(f" net_dev_xmit: dev={self.ends[0]} ")), ("4", "25000", 25000))
-        self.assertTrue(0 < float(head["recorder.seconds"]) < 45)
+        """They are emptied meanwhile, each time that one is half full: 40000 packets are over 6 MB of events, of which a processor's buffer holds four.
+        They are sent on the only processor that is recorded, and no more before it is emptied, as the tool may wait for a processor."""
+        processor = min(os.sched_getaffinity(0))
+        sender = self.sender(1, 1000, 1000, 0, processor=processor)
+        process = self.start("--buffer", "4", "--processors", str(processor), seconds=ENDLESS)
+        for _ in range(40):
+            self.send_once(sender)
+            self.wait_until(lambda: (self.level(process, processor) or 0) < 2.2)
+        self.ended(process)
+        head, events = self.head()
+        sent = sum(event.name == "net_dev_xmit" and event.said.startswith(f"dev={self.ends[0]} ") for event in events)
+        self.assertEqual((head["buffer"], head[f"sent.{self.ends[0]}"], sent), ("4", "40000", 40000))
+        self.assertGreater((self.folder / "made").stat().st_size, 4 * tracing.MEGABYTE)
+        self.assertTrue(0 < float(head["recorder.seconds"]) < float(head["seconds"]))
 
     def test_a_buffer_that_is_too_small(self) -> None:
         """If it isn't emptied until the end, the recording ends early: the file is written, the exit status is 1, and the last line says which buffer
-        holds the whole time. It fills slowly: a fifth of it takes seconds."""
-        tool = self.tool("""drained, end, ended = record.is_drained, tracing.Instance.end, []
-tracing.Instance.end = lambda self: (end(self), ended.append(self))
-record.is_drained = lambda pipe, file: not ended or drained(pipe, file)""")
-        sender = self.sender(10000, 75, 75, 0.05)
-        process = self.start("--buffer", "4", seconds="120", start=tool)
-        assert sender.stdin
-        print(file=sender.stdin, flush=True)
+        holds the whole time. Nothing is sent from the moment at which it is nearly full."""
+        tool = self.tool("""drained, ended = record.Buffers.is_drained, []
+record.Buffers.is_drained = lambda self: not ended or drained(self)
+counted = record.counted
+record.counted = lambda *counts: ended.append(True) or counted(*counts)""")
+        processor = min(os.sched_getaffinity(0))
+        sender = self.sender(1, 250, 250, 0, processor=processor)
+        process = self.start("--buffer", "4", "--processors", str(processor), seconds=ENDLESS, start=tool)
+        while (level := self.level(process, processor)) is not None and level < record.FULL * 4:
+            self.send_once(sender)
         said = process.communicate(timeout=MOST_SECONDS)[1]
-        self.assertRegex(said.splitlines()[-1], r"^fintaqush record: a buffer of 4 MB was nearly full after [\d.]+ of 120 s, so the recording ended early: (record again with|120 s)")
+        why = rf"^fintaqush record: a buffer of 4 MB was nearly full after [\d.]+ of {ENDLESS} s, so the recording ended early: (record again with|{ENDLESS} s)"
+        self.assertRegex(said.splitlines()[-1], why)
         self.assertEqual((process.returncode, self.names()), (1, ["made"]))
         self.assertEqual(self.head()[0]["buffer"], "4")
 
     @staticmethod
     def tool(change: str) -> list[str]:
-        """Returns a command that changes a module, and is the tool then."""
+        """Returns a command that runs the tool after this change of its modules."""
         return [sys.executable, "-BEs", "-c", f"""import sys
 sys.path.insert(0, "{TOP}/tools")
 from fintaqush_tools import cli, tracing
@@ -542,21 +732,15 @@ from fintaqush_tools.commands import record
 cli.entry()
 """]
 
-    def test_a_machine_without_an_even_counter(self) -> None:
-        """CLOCK_MONOTONIC is used instead, and times have six digits."""
-        tool = self.tool('tracing.Instance.set_clock = lambda self: self.write("trace_clock", "mono") or "mono"')
-        done = process(*tool, "record", "3", "--device", "lo", "--out", "made", folder=self.folder)
-        self.assertEqual(done.returncode, 0, done.stderr)
-        head, body = self.head()
-        self.assertEqual(head["clock"], "mono")
-        self.check_clock([line for line in body.splitlines() if not line.startswith("#")], head)
-
     def test_some_processors(self) -> None:
-        process = self.start("--processors", "0")
-        self.assertEqual(process.wait(MOST_SECONDS), 0)
-        self.assertEqual(set(re.findall(r"^.{16}-\d+\s+\[(\d+)\]", self.head()[1], re.M)), {"000"})
+        processor = min(os.sched_getaffinity(0))
+        sender = self.sender(1, 9, 9, 0, processor=processor)
+        process = self.start("--processors", str(processor), seconds=ENDLESS)
+        self.send(sender)
+        self.ended(process)
+        self.assertEqual({event.cpu for event in self.head()[1]}, {processor})
 
     def test_a_disk_that_is_full(self) -> None:
         done = limited("-f 1", "record", "1", "--device", "lo", "--out", "made", folder=self.folder)
         self.assertEqual((done.returncode, done.stdout, self.names()), (1, "", []))
-        self.assertEqual(done.stderr.splitlines()[-1], "fintaqush record: File too large")
+        self.assertEqual(done.stderr.splitlines()[-1], "fintaqush record: made: File too large")

@@ -1,53 +1,37 @@
-"""Tests of how recordings are parsed: splitting a line gives what the pattern of all forms does."""
+"""Tests of how recordings are read: texts of other tools and of older versions, and pages of the kernel's ring buffer."""
 
 from __future__ import annotations
 
-import errno
 import gzip
-import os
-import signal
+import struct
 import tempfile
 import unittest
-from collections.abc import Callable
-from pathlib import Path
 from unittest.mock import patch
 
+from test_record import check_same
 from tooltest import HERE, InFolder
 
-from fintaqush_tools import recording, splitting
+from fintaqush_tools import recording, ring_buffer
 from fintaqush_tools.errors import Refusal
-from fintaqush_tools.recording import LINE, Event, Events, Texts, Threads, event_of
-from fintaqush_tools.splitting import columns_of
+from fintaqush_tools.recording import Event, Events, Pages, Texts
 
 SWITCH = "sched_switch: prev_comm=a prev_pid=1 prev_prio=120 prev_state=S ==> next_comm=server [x] next_pid=25933 next_prio=120"
+
+
+def order_of(event: Event) -> tuple[int, int]:
+    return event.cpu, event.time
 
 
 def events_of(text: str, lost: list[str]) -> Events:
     """Returns the events of a text."""
     events = Events()
-    Texts([events], lost).add(text, columns_of(text))
+    Texts([events], lost).add(text)
     return events
 
 
 class Lines(unittest.TestCase):
     def events(self, *lines: str) -> list[Event]:
         return events_of("".join(f"{line}\n" for line in lines), [])
-
-    def test_both_ways_give_the_same(self) -> None:
-        """For all kept recordings."""
-        files = sorted(HERE.glob("recorded-*.rec*"))
-        self.assertGreater(len(files), 4)
-        for path in files:
-            text = (gzip.decompress(path.read_bytes()) if path.suffix == ".gz" else path.read_bytes()).decode()
-            lines = [line for line in text.partition("\ntrace\n")[2].splitlines(True) if not line.startswith("#")]
-            threads, matched = Threads(), []
-            for number, line in enumerate(lines, 1):
-                found = LINE.match(line)
-                assert found, line
-                event = event_of(number, found, threads)
-                threads.switch(event)
-                matched.append(event)
-            self.assertEqual(events_of("".join(lines), []), matched, path)
 
     def test_by_hand(self) -> None:
         """A name that ftrace doesn't know is that of the last switch to the thread; calls and their returns have names of their own."""
@@ -72,8 +56,8 @@ class Lines(unittest.TestCase):
             recording.read(file.name, [], lambda _: [events], lambda: counts.append(len(events)))
         self.assertEqual((counts, len(events)), ([3], 9))
 
-    def test_what_cannot_be_split(self) -> None:
-        """Stamps in microseconds, brackets in a name and other tools' forms are left to the pattern; lost events are no events."""
+    def test_other_forms(self) -> None:
+        """Stamps in microseconds, brackets in a name and other tools' forms; lost events are no events."""
         lines = ["a-1 [000] ..... 1.000001: softirq_entry: vec=3", "a [b]-1 [000] ..... 1.000000002: softirq_entry: vec=3", "a 1/1 [000] 1.000000003: irq:softirq_entry: vec=3"]
         lost: list[str] = []
         events = events_of("".join(f"{line}\n" for line in [*lines, "CPU:0 [LOST 7 EVENTS]"]), lost)
@@ -85,84 +69,129 @@ class Lines(unittest.TestCase):
                 events_of(f"{lines[1]}\n{wrong}", [])
 
 
-class Processes(InFolder):
-    """Other processes split the pieces of a recording, which are small here."""
-
-    def setUp(self) -> None:
-        super().setUp()
-        self.started: list[int] = []
-
-    def told(self, path: Path, processors: int, piece: int, begun: Callable[[int], int] = int) -> tuple[Events, list[str], str]:
-        """Returns the events of a recording, the notes on lost ones, and the error, as read with so many processors. `begun` gets the number
-        of each process that is started."""
-        events, lost, why, fork = Events(), list[str](), "", os.fork
-
-        def forked() -> int:
-            pid = fork()
-            if pid:
-                self.started.append(begun(pid))
-            return pid
-
-        with patch.multiple(recording, PIECE=piece), patch.multiple(splitting, ALONE=1), patch.object(os, "fork", forked), \
-                patch.object(os, "sched_getaffinity", lambda _: set(range(processors))):
-            try:
-                recording.read(str(path), lost, lambda _: [events])
-            except Refusal as error:
-                why = str(error)
-        with self.assertRaises(ChildProcessError):  # none is left
-            os.waitpid(-1, os.WNOHANG)
-        return events, lost, why
-
-    def check(self, path: Path, why: str, piece: int = 1 << 12, begun: Callable[[int], int] = int) -> tuple[Events, list[str], str]:
-        """Checks that the processes change nothing, and returns what `told` does."""
-        alone = self.told(path, 1, piece)
-        self.assertEqual(self.started, [])
-        self.assertEqual(self.told(path, 4, piece, begun), alone)
-        self.assertEqual(len(self.started), 3)
-        self.assertRegex(alone[2], f"^{why}$")
-        self.started = []
-        return alone
-
-    def test_borders_in_all_kinds_of_lines(self) -> None:
-        """Of the pieces, by their sizes: in lines that are split, and in others, each of which is between lines of its own."""
-        lines = [f"           <...>-25933   [001] ..... 5.0000000{number}1: sys_recvmsg -> 0x64\n" for number in range(9)]
-        lines[1:1] = [f"               a-1       [001] d..2. 5.000000002: {SWITCH}\n"]
-        lines[3:3], lines[5:5] = ["# a comment\n"], ["CPU:0 [LOST 7 EVENTS]\n"]
-        lines[7:7] = ["a-1 [000] ..... 1.000001: softirq_entry: vec=3\r\n"]
-        lines[9:9] = ["å-1 [000] ..... 1.000000001: softirq_entry: vec=3\n"]
-        path = self.write("all.txt", "".join(lines))
-        told = [self.check(path, "", piece) for piece in range(64, 256)]
-        self.assertTrue(all(each == told[0] for each in told))
-        self.assertEqual((len(told[0][0]), told[0][1]), (12, ["line 6 of the recording: the kernel lost 7 events"]))
-        self.assertEqual({each.task for each in told[0][0]}, {"<...>", "a", "å", "server [x]"})
-
-    def test_kept_recordings(self) -> None:
-        for path in sorted(HERE.glob("recorded-*.rec*")):
-            self.assertGreater(len(self.check(path, "")[0]), 400)
-
-    def test_faults(self) -> None:
-        """The first one is reported, also if reading fails before other processes have split what came before it."""
+class Faults(InFolder):
+    def test_faults_of_texts(self) -> None:
         line = "a-1 [000] ..... 1.000000001: softirq_entry: vec=3\n"
         text, at, wrong = line * 3000, len(line) * 2000, "line 2001: no line of ftrace, .*: 'what'"
-        front = text[:at] + line.replace("a-1", "a") + text[at:]
-        self.check(self.write("bad", f"{text[:at]}what\n{text[at:]}"), wrong)
-        self.check(self.write("front", front), "no line of ftrace, .*: 'a \\[000\\] .....'")
-        self.check(self.write("long", text[:at] + "a" * 9999), "line 2001: longer than any line of ftrace")
-        self.check(self.write("both", f"{text[:at]}what\n{'a' * 9999}\n"), wrong)
-        self.check(self.write("cut", text[:-9]), "it is cut: line 3000 isn't whole")
-        for name, start, why in (("packed.gz", "", "it isn't whole: .*"), ("worse.gz", "what\n", wrong.replace("2001", "1261"))):
-            packed = gzip.compress(f"{line * 1260}{start}{text}".encode(), 0)
-            (self.folder / name).write_bytes(packed[: len(line) * 1500])
-            self.check(self.folder / name, why)
+        for name, whole, why in (("bad", f"{text[:at]}what\n{text[at:]}", wrong), ("long", text[:at] + "a" * 9999, "line 2001: longer than any line of ftrace"),
+                                 ("cut", text[:-9], "it is cut: line 3000 isn't whole")):
+            with self.assertRaisesRegex(Refusal, why):
+                recording.read(str(self.write(name, whole)), [], lambda _: [Events()])
+        (self.folder / "packed.gz").write_bytes(gzip.compress(text.encode(), 0)[: len(line) * 1500])
+        with self.assertRaisesRegex(Refusal, "it isn't whole: "):
+            recording.read(str(self.folder / "packed.gz"), [], lambda _: [Events()])
 
-    def test_processes_that_fail(self) -> None:
-        """This one does the work of those that are killed or can't be started."""
-        path = self.write("some.txt", "a-1 [000] ..... 1.000000001: softirq_entry: vec=3\n" * 3000)
 
-        def killed(pid: int) -> int:
-            os.kill(pid, signal.SIGKILL)
-            return pid
+# As Documentation/trace/ring-buffer-design.rst and `cat events/header_event` describe them: the low five bits of an event's first word have its length
+# in words, or 0 if the next word has it in bytes, or 29, 30 and 31; the others have the time since the event before.
+VEC, EXIT = 7, 8  # numbers of two formats
+HEAD = {"pages": "8 8 16", f"format.{VEC}": "softirq_entry vec:8:4:u", f"format.{EXIT}": "softirq_exit vec:8:4:u", "format.9": "net_dev_xmit skbaddr:8:8:u len:16:4:u rc:20:4:s name:24:4:l"}
 
-        self.check(path, "", begun=killed)
-        with patch.object(os, "fork", side_effect=OSError(errno.EAGAIN, "no more")):
-            self.assertEqual(len(self.told(path, 4, 1 << 12)[0]), 3000)
+
+def event(data: bytes, delta: int, is_long: bool = False) -> bytes:
+    size = len(data) // 4
+    return struct.pack("<II", delta << 5, len(data) + 4) + data if is_long else struct.pack("<I", size | delta << 5) + data
+
+
+def entry(vector: int, delta: int, kind: int = VEC, pid: int = 5, flags: int = 0x10, **others: bool) -> bytes:
+    return event(struct.pack("<HBBiI", kind, flags, 1, pid, vector), delta, **others)
+
+
+def page(stamp: int, *parts: bytes, lost: int = 0) -> bytes:
+    data = b"".join(parts)
+    return struct.pack("<QQ", stamp, len(data) | lost) + data
+
+
+def pages_read(*pages: tuple[int, bytes], **others: str) -> Events:
+    """Returns the events of pages, each with its processor."""
+    events = Events()
+    passing = Pages([events], {**HEAD, **others})
+    passing.add(iter(pages))
+    passing.end()
+    return events
+
+
+class PagesRead(InFolder):
+    def test_pages_of_the_kernel(self) -> None:
+        """Kept ones are what the same kernel printed of the same buffers."""
+        events, text = Events(), Events()
+        recording.read(str(HERE / "recorded-pages.rec.gz"), [], lambda _: [events])
+        recording.read(str(HERE / "recorded-pages.txt.gz"), [], lambda _: [text])
+        self.assertEqual(len(text), 2519)
+        check_same(self, events, text)
+        switches = [[recording.SWITCH[each.said] for each in some if each.name == "sched_switch"] for some in (sorted(events, key=order_of), sorted(text, key=order_of))]
+        self.assertEqual(*switches)
+
+    def test_times(self) -> None:
+        """Of events, of a longer time between two (1 << 27 ns), of a time that is whole, and after padding, which ends a page if it has no time."""
+        whole = page(1000, entry(1, 0), entry(2, 7), struct.pack("<II", 30 | 3 << 5, 2), entry(3, 1), struct.pack("<III", 29 | 4 << 5, 8, 0), entry(4, 1, is_long=True),
+                     struct.pack("<II", 31 | 9 << 5, 1 << 20), entry(5, 1), struct.pack("<II", 29, 0), entry(6, 1))
+        times = [1000, 1007, 1007 + (2 << 27) + 3 + 1, 1007 + (2 << 27) + 3 + 1 + 4 + 1, (1 << 47) + 9 + 1]
+        self.assertEqual([(each.time, each.said) for each in pages_read((0, whole))], [(time, f"vec={place}") for place, time in enumerate(times, 1)])
+
+    def test_events_of_several_processors(self) -> None:
+        """In the order of their times, with the task and whether it is interrupted; what a page says of lost events before it doesn't count as its size."""
+        one = page(100, *(entry(1, 10, pid=1, flags=flags) for flags in (0, 8, 0x10, 0x18, 0x40)))
+        two = page(105, *(entry(2, 10, EXIT, pid=2) for _ in range(3)), lost=1 << 31)
+        events = pages_read((0, one), (3, two), **{"task.1": "napi/eth0-1"})
+        self.assertEqual([(each.time, each.cpu, each.name[8:], each.task, each.flags[2:]) for each in events],
+                         [(110, 0, "entry", "napi/eth0-1", "."), (115, 3, "exit", "<...>", "s"), (120, 0, "entry", "napi/eth0-1", "h"), (125, 3, "exit", "<...>", "s"),
+                          (130, 0, "entry", "napi/eth0-1", "s"), (135, 3, "exit", "<...>", "s"), (140, 0, "entry", "napi/eth0-1", "H"), (150, 0, "entry", "napi/eth0-1", "h")])
+
+    def test_many_pages(self) -> None:
+        """Of four processors, whose times overlap."""
+        pages = [(place % 4, page(place * 10, *(entry(place, 7) for _ in range(9)))) for place in range(1000)]
+        times = [each.time for each in pages_read(*pages)]
+        self.assertEqual(times, sorted(place * 10 + 7 * each for place in range(1000) for each in range(1, 10)))
+
+    def test_windows_and_a_probe(self) -> None:
+        """A window follows the one before at once, and events between two don't count. The events of a probe are for the readers that want them."""
+        pages = [(0, page(100 * place, *(entry(place, 20) for _ in range(4)))) for place in range(1, 6)]
+        found = [(each.time, each.said) for each in pages_read(*pages, windows="120:150 340:460", probe="500")]
+        self.assertEqual(found, [(120, "vec=1"), (140, "vec=1"), (150, "vec=3"), (170, "vec=3"), (190, "vec=3"), (230, "vec=4"), (250, "vec=4")])
+        self.assertEqual({each.said for each in pages_read(*pages, probe="300")}, {"vec=1", "vec=2"})
+        with patch.object(Events, "is_probed", True):
+            self.assertEqual(len(pages_read(*pages, probe="300")), 20)
+
+    def test_parts_of_a_large_recording(self) -> None:
+        """Readers for which some parts are enough get two of eight pages in each of ten parts; the others get all."""
+        pages = [(0, page(1000 * place, *(entry(1, 100) for _ in range(4)))) for place in range(80)]
+        cuts, events, sampled = list[int](), Events(), Events()
+        with patch.multiple(recording, PARTS=10, SAMPLE=20), patch.object(ring_buffer, "AT_ONCE", 1), patch.object(sampled, "is_sampled", True, create=True), \
+                patch.object(sampled, "cut", cuts.append, create=True):
+            passing = Pages([events, sampled], {**HEAD, "pages.count": "80"})
+            passing.add(iter(pages))
+            passing.end()
+        self.assertEqual(len(events), 320)
+        self.assertEqual([each.time // 1000 for each in sampled][::4], [place for place in range(80) if (place + 1) % 8 < 2])
+        self.assertEqual(len(cuts), 10)
+        self.assertEqual((round(sampled.share, 1), sampled.span[0]), (0.3, 0))
+
+    def test_damaged_pages(self) -> None:
+        packet = struct.pack("<HBBiQIiI", 9, 0, 0, 5, 1, 60, 0, 4 << 16 | 28)
+        good = page(100, event(packet + b"va1\0", 1))
+        self.assertEqual(pages_read((0, good))[0].said, "dev=va1 skbaddr=1 len=60 rc=0")
+        cases = [((page(100, entry(1, 1)), page(99, entry(1, 1))), "page 2: it is earlier than the one before"), ((page(1 << 62, entry(1, 1)),), "page 1: its last event"),
+                 ((page(100, entry(1, 1)) + b"12",), "page 1: its size is wrong"), ((page(100, entry(1, 1))[:-4],), "page 1: its size is wrong"),
+                 ((page(100, entry(1, 1)[:8]),), "page 1: its last event isn't whole"), ((page(100, struct.pack("<II", 31, 0)),), "page 1: its times go back"),
+                 ((page(100, event(packet[:20], 1)),), "page 1: an event net_dev_xmit of it is cut"), ((page(100, event(packet, 1)),), "page 1: an event net_dev_xmit of it has a text outside"),
+                 ((page(100, event(packet[:-4] + struct.pack("<I", 4 << 16 | 2), 1)),), "page 1: an event net_dev_xmit of it has a text outside"), ((b"",), "page 1: its size is wrong")]
+        for pages, why in cases:
+            with self.assertRaisesRegex(Refusal, f"^{why}"):
+                pages_read(*((0, each) for each in pages))
+        for key, value in (("pages", "8 8"), ("pages", "8 8 9"), ("format.7", "softirq_entry vec:8:4"), ("format.7", "softirq_entry"), ("format.7", "softirq_entry vec:8:4:u vec:8:4:x"),
+                           ("format.7", "softirq_entry vec:4:4:u"), ("windows", "5:4"), ("windows", "1:2 x"), ("probe", "x"), ("windows", "1:5 3:9")):
+            with self.assertRaisesRegex(Refusal, "its head (says|has)"):
+                pages_read(**{key: value})
+
+    def test_files_that_are_cut(self) -> None:
+        """A message names the file and the place; it does so too for a head without an end, and for another version."""
+        whole = gzip.decompress((HERE / "recorded-pages.rec.gz").read_bytes())
+        at = whole.index(b"\npages\n") + 7
+        for end, why in ((at - 3, "it is cut: its head has no end"), (at + 5, "it is cut: its last page isn't whole"), (len(whole) - 1, "it is cut: its last page isn't whole")):
+            (self.folder / "x.rec").write_bytes(whole[:end])
+            self.fails(f"x.rec: {why}", "costs", "x.rec", folder=self.folder)
+        (self.folder / "x.rec").write_bytes(whole[:at] + struct.pack("<II", 0, 1 << 30) + whole[at:])
+        self.fails("x.rec: it has a page of an unknown format", "costs", "x.rec", folder=self.folder)
+        (self.folder / "x.rec").write_bytes(whole.replace(b"recording 2", b"recording 3", 1))
+        self.fails("another version of fintaqush record wrote it; this one reads versions 1 and 2", "costs", "x.rec", folder=self.folder)

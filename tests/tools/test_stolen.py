@@ -56,7 +56,7 @@ class Reports(InFolder):
         body.napi = instances.instances_in({f"instance.{cpu}": f"device {name} napi {name} kind receive polls 1 packets 1 on {cpu}:1:1"
                                             for name, cpu in (("vb1", 3), ("vb2", 5))})
         head = {"missing": "", "seconds": "1.0", "stolen.5": "0 900"}
-        words = Words(device=["vb1"], sender=["va1"])
+        words = Words(device=["vb1"], sender=["va1"], probe=None)
         self.assertEqual(list(record.notes_on(words, {**head, "stolen.3": LARGE}, body)), [TOO_HIGH])
         self.assertEqual(list(record.notes_on(words, head, body)), [])
 
@@ -85,7 +85,7 @@ class Advice(InFolder):
     def told(self, taken: str) -> tuple[str, Any]:
         """Returns the advice for less processor time, as text and as JSON."""
         path, words = self.write("x.rec", deferred(stolen=taken)), ("--goal", "cpu")
-        return self.succeeds("advise", path, *words), json.loads(self.succeeds("advise", path, *words, "--json"))
+        return self.succeeds("advise", path, *words, "--explain"), json.loads(self.succeeds("advise", path, *words, "--json"))
 
     def test_a_band_that_is_not_known(self) -> None:
         """The advice is the same, but without a band and without a doubt of the costs."""

@@ -14,7 +14,6 @@ from collections.abc import Callable
 from pathlib import Path
 from typing import Any
 
-import needs
 from tooltest import (HEADER, HERE, MACHINE, MOST_SECONDS, NO_WORDS, PROGRAMS, REPLAY, START, TOP, InFolder, call, captured, failing, limited,
                       process, process_to, run, run_to, started)
 
@@ -24,22 +23,20 @@ from fintaqush_tools.cli import MODULES
 TRACE = TOP / "examples/bursts.csv"
 REPORT = "list\ntotal devices 0 runs 0 polls 0 work 0 squeezed 0\n"
 # Each tool with options by which it writes to standard output, and its input.
-WRITERS: dict[str, list[Any]] = {"raise": [TRACE], "json": ["-"], "traffic": [], "compare": [TRACE, "--budget", "1", "--"],
-           "plot": [TRACE, "--json"], "compare-recording": [TOP / "examples/linux-veth-small-budget", "--budget", "64"],
+WRITERS: dict[str, list[Any]] = {"traffic": [], "compare": [TRACE, "--budget", "1", "--"],
            "from-ftrace": [HERE / "soft-tcp.txt", "made", *(f"--pair=va{number}:vb{number}" for number in range(1, 7))],
            "from-pcap": ["captured", "made"], "costs": [HERE / "soft-gso-23.txt"], "what-if": ["arrivals"],
            "advise": [HERE / "recorded-apart.rec"], "completion": ["bash"]}
 if not os.path.exists(MACHINE):
     del WRITERS["what-if"], WRITERS["advise"]
-SERIES_HEAD = "row,moment,device,state,waiting,arrived,dropped,polled,in_flight,limit,avail,stopped,polls,work,squeezed\n"
 CAPTURED = captured("100.000000")
-ALL = sorted(MODULES.keys() - {"replay", "series", "machine"})
+ALL = sorted(MODULES.keys() - {"replay", "series"})
 # Each tool that reads a file, with the options that it needs besides.
 READERS: dict[str, list[str]] = {
-    **{tool: [] for tool in ("raise", "json", "compare-recording", "costs")},
+    "costs": [],
     **{tool: ["made"] for tool in ("from-ftrace", "from-pcap")},
     "compare": ["--"],
-    "plot": ["--json"],
+    "plot": ["--out", "page.html"],
 }
 # A failing output, and the message for it: nothing is read after a pipe's end is closed.
 FAILING = {"full": "No space left on device", "unread": "", "closed": "standard output is closed"}
@@ -83,7 +80,7 @@ class Surroundings(InFolder):
 
     def test_an_output_of_a_process_that_fails(self) -> None:
         """The end of a process, with the locale of a user and with none, for short and long texts and a line by argparse."""
-        calls = [(tool, WRITERS[tool]) for tool in ("traffic", "raise", "completion", "json")]
+        calls = [(tool, WRITERS[tool]) for tool in ("traffic", "costs", "completion")]
         for tool, words in [*calls, ("plot", ["--version"])]:
             for kind, why in FAILING.items():
                 for front in (NO_WORDS, BARE):
@@ -93,7 +90,7 @@ class Surroundings(InFolder):
 
     def test_a_disk_that_fills_up_with_outputs_unbuffered(self) -> None:
         """A file limited to 1 kB takes part of the output, and Python, unbuffered, would take that for all."""
-        for tool in ("raise", "json", "traffic", "plot"):
+        for tool in ("traffic", "completion"):
             with open(self.folder / "out", "w", encoding="utf-8") as out:
                 start = [START[0], "-u", *START[1:]]
                 done = limited("-f 1", tool, *WRITERS[tool], start=start, text=long_report(), out=out)
@@ -105,32 +102,22 @@ class Surroundings(InFolder):
         event = f"   a-1  [000] b....  5.000000: net_dev_xmit: dev=va1 skbaddr=0 len={digits} rc=0\n"
         self.write("made.csv", HEADER)
         for tool, words, text, status in (
-                ("json", NO_WORDS, REPORT.replace("devices 0", f"devices {digits}"), 1), ("from-ftrace", ["-", "other"], event, 1),
+                ("from-ftrace", ["-", "other"], event, 1),
                 ("from-ftrace", ["-", "other"], event.replace("-1  [000]", f"-{digits}  [000]"), 1),
-                ("from-pcap", ["-", "other"], CAPTURED.replace("100.", f"{digits}."), 1), ("plot", ["--series", "-"], SERIES_HEAD + f"{digits}" + "," * 14, 1),
-                ("compare-recording", ["made"], "", 1), ("raise", ["-", "--budget", digits], HEADER, 64), ("sweep", ["--part", f"1/{digits}", "."], "", 64),
+                ("from-pcap", ["-", "other"], CAPTURED.replace("100.", f"{digits}."), 1),
+                ("steps", ["-", "--budget", digits], HEADER, 64), ("sweep", ["--part", f"1/{digits}", "."], "", 64),
                 ("traffic", ["--rate", digits], "", 64), ("traffic", ["--seed", digits], "", 64), ("from-pcap", ["-", "other", "-c", digits], CAPTURED, 64),
-                ("raise", ["-"], HEADER + f"0,1,open,{digits}\n", 1), ("steps", ["-", "--out", "x.html"], HEADER + f"0,1,open,{digits}\n", 1)):
-            self.write("made.work", f"polls {digits} work 1\n")
+                ("compare", ["-", "--"], HEADER + f"0,1,open,{digits}\n", 1), ("steps", ["-", "--out", "x.html"], HEADER + f"0,1,open,{digits}\n", 1)):
             said = self.fails("", tool, *words, status=status, text=text, folder=self.folder)
             self.assertNotRegex(said, "Traceback|mistake of its own")
             self.check_line(tool, said.splitlines(True)[-1])
             self.assertLess(len(said), 3000)
 
-    def test_want_of_memory(self) -> None:
-        """In 100 MB, 60 MB can be read, but not decoded to text as well."""
-        text = self.write("text", "softirq 4 polls 2 work 3 squeezed 1\n" * 1700000)
-        calls: list[tuple[str, list[object]]] = [("json", [text]), ("plot", ["--series", text, "--json"])]
-        for tool, words in calls:
-            done = limited("-v 100000", tool, *words, folder=self.folder)
-            wanted = ("", f"fintaqush {tool}: there isn't enough memory\n", 1)
-            self.assertEqual((done.stdout, done.stderr, done.returncode), wanted)
-        self.assertEqual(self.names(), ["text"])
-
     def test_want_of_memory_at_any_time(self) -> None:
         """With the least memory with which scripts/start.py begins, and more: one line, or it works as usual."""
         self.write("report", REPORT)
-        for tool, words in (("json", ["report"]), ("traffic", ["--out", "out"]), ("sweep", ["--help"])):
+        calls: list[tuple[str, list[object]]] = [("costs", [HERE / "soft-gso-23.txt"]), ("traffic", ["--out", "out"]), ("sweep", ["--help"])]
+        for tool, words in calls:
             statuses = set()
             for memory in range(33000, 60000, 2000):
                 done = limited(f"-v {memory}", tool, *words, folder=self.folder)
@@ -169,10 +156,9 @@ class Surroundings(InFolder):
         old, held = self.write("old.svg", "old\n"), self.held()
         before = self.names()
         calls: list[tuple[str, list[object], str]] = [
-            ("raise", [TRACE, "--out", old], "SERIES"), ("compare", [TRACE, "--out", old, "--"], "PROGRAM"),
+            ("compare", [TRACE, "--out", old, "--"], "PROGRAM"),
             ("steps", [TRACE, "--out", "page.html"], "SERIES"), ("sweep", [TRACE, "--resume", "--out", "rows"], "PROGRAM")]
-        if needs.is_here("matplotlib"):
-            calls += [("plot", [TRACE, "--out", old, "--force"], "SERIES"), ("advise", [HERE / "recorded-apart.rec", "--plot", old], "MACHINE")]
+        calls += [("plot", [TRACE, "--out", old], "SERIES")]
         for number in (signal.SIGINT, signal.SIGTERM, signal.SIGHUP):
             for tool, words, program in calls:
                 programs: dict[str, Any] = {program: held}
@@ -272,7 +258,7 @@ with tracing.Instance("."):
     def test_more_interruptions_disturb_nothing(self) -> None:
         """One signal per millisecond, from when it reads a FIFO until it has ended: one line, and its exit status."""
         os.mkfifo(self.folder / "fifo.csv")
-        for tool, words in [*READERS.items(), ("raise", ["--out", "out"])]:
+        for tool, words in READERS.items():
             child = self.start(tool, "fifo.csv", *words)
             end, until = self.opened(child, "fifo.csv"), time.monotonic() + MOST_SECONDS
             while child.poll() is None:
@@ -289,7 +275,7 @@ with tracing.Instance("."):
             for words, status in ((["--no-such-word"], 64), (["--help"], 0)):
                 with contextlib.redirect_stdout(io.StringIO()), failing("full") as full, contextlib.redirect_stderr(full):
                     self.assertEqual(call(tool, words), status, (tool, words))
-        for words, status in ((["json", "--no-such-word"], 64), (["json", "none"], 1), (["plot", "--help"], 0)):
+        for words, status in ((["costs", "--no-such-word"], 64), (["costs", "none"], 1), (["plot", "--help"], 0)):
             done = process("sh", "-c", 'exec "$0" "$@" 2> /dev/full', *BARE, *START, *words)
             self.assertEqual(done.returncode, status, words)
 
@@ -305,7 +291,7 @@ with tracing.Instance("."):
 
     def test_an_interruption_before_it_has_begun(self) -> None:
         """During the imports, which are the same for all tools: the signal ends it, with the message that it was interrupted."""
-        for module, tools in (("csv", ("sweep", "plot")), ("argparse", ("json", "traffic", "record", "advise"))):
+        for module, tools in (("csv", ("sweep", "plot")), ("argparse", ("traffic", "record", "advise"))):
             self.write(f"{module}.py", "import os, signal\nos.kill(os.getpid(), signal.SIGINT)\n")
             for tool in tools:
                 child = started(START[0], "-B", *START[2:], tool, "--help", PYTHONPATH=self.folder)
@@ -328,9 +314,9 @@ with tracing.Instance("."):
         before = rows.read_text()
         self.write("captured", CAPTURED)
         names = self.names()
-        long: dict[str, list[object]] = {"raise": [TRACE, "--out", old], "traffic": ["--out", old], "json": ["-", "--out", old]}
+        long: dict[str, list[object]] = {"traffic": ["--out", old]}
         every: dict[str, list[object]] = {
-            **long, "from-ftrace": WRITERS["from-ftrace"], "from-pcap": WRITERS["from-pcap"], "plot": [TRACE, "--out", old, "--force"],
+            **long, "from-ftrace": WRITERS["from-ftrace"], "from-pcap": WRITERS["from-pcap"], "plot": [TRACE, "--out", old],
             "compare": [TRACE, "--out", old, "--budget", "1", "--"], "sweep": [TRACE, "--resume", "--out", rows]}
         for limit, calls in ((1, long), (0, every)):
             for tool, words in calls.items():
@@ -343,31 +329,26 @@ with tracing.Instance("."):
         (self.folder / "folder.csv").mkdir()
         os.mkfifo(self.folder / "fifo.csv")
         for out, why in (("none/x.csv", "there is no such folder"), ("folder.csv", "this is a folder"), ("fifo.csv", "not a regular file")):
-            for tool in ("raise", "traffic", "json"):
-                self.fails(why, tool, *[TRACE] * (tool == "raise"), "--out", out, text=REPORT, folder=self.folder)
+            calls: list[tuple[str, list[object]]] = [("traffic", ["--out", out]), ("compare", [TRACE, "--out", out, "--"])]
+            for tool, words in calls:
+                self.fails(why, tool, *words, text=REPORT, folder=self.folder)
                 self.assertEqual(self.names(), ["fifo.csv", "folder.csv"])
 
     def test_inputs_that_are_none(self) -> None:
         (self.folder / "folder.csv").mkdir()
         (self.folder / "bytes").write_bytes(b"\xff\xfe")
         calls: dict[str, list[str]] = {**READERS, "what-if": [], "advise": []}
-        del calls["compare-recording"]
         for tool, words in calls.items():
             for name in ("folder.csv", "none.csv", b"\xff.csv", "bytes", "/dev/zero"):
                 self.check_line(tool, self.fails("", tool, name, *words, folder=self.folder))
 
-    def test_names_stay_off_the_terminal(self) -> None:
-        for tool in ("raise", "json", "from-ftrace", "from-pcap"):
-            said = self.fails("\\x1b[31m.csv", tool, "\x1b[31m.csv", *["made"] * tool.startswith("from"), folder=self.folder)
-            self.assertNotIn("\x1b", said)
-
     def test_a_fifo_is_read_once(self) -> None:
         os.mkfifo(self.folder / "fifo")
-        for tool, words in (("raise", NO_WORDS), ("compare", ["--"]), ("plot", ["--raise", "--json"])):
+        for tool, words in (("compare", ["--"]), ("plot", ["--raise", "--out", "page.html"])):
             child = self.start(tool, "fifo", *words)
             (self.folder / "fifo").write_bytes(TRACE.read_bytes())
             child.communicate(timeout=MOST_SECONDS)
             self.assertEqual(child.returncode, 0)
 
     def test_a_program_that_is_killed(self) -> None:
-        self.fails("ended with status -9", "raise", "-", "--binary", self.program("program", "kill -9 $$"), text=HEADER)
+        self.fails("ended with status -9", "compare", "-", "--", text=HEADER, PROGRAM=self.program("program", "kill -9 $$"))

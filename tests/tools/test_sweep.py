@@ -3,18 +3,15 @@
 from __future__ import annotations
 
 import csv
-import itertools
+import json
 import os
+import re
 import shutil
-import subprocess
 import unittest
 from collections.abc import Callable, Sequence
-from concurrent.futures import ThreadPoolExecutor
-from pathlib import Path
 from typing import Any
 
-from finding import group_in
-from tooltest import HEADER, MOST_SECONDS, NO_WORDS, REPLAY, START, TOP, Done, InFolder, process, run, skip_without, started
+from tooltest import HEADER, NO_WORDS, REPLAY, TOP, Done, InFolder, process, run, skip_without
 
 
 def slurm_block() -> str:
@@ -59,7 +56,6 @@ class Sweep(InFolder):
     def test_every_trace_with_every_combination(self) -> None:
         said = self.sweep().stderr
         self.assertIn("8 rows in", said)
-        self.assertRegex(said, r"fintaqush sweep: 4 of 8 rows, \d+ s\n")
         self.check_rows()
 
     TURNS = """softirq 3 polls 1 work 10 squeezed 1
@@ -101,16 +97,18 @@ tx {0} sent 0 held 0 done 0 denied 0 limit {3} avail {3} stopped 0
         self.assertIn("8 rows, of which 3 are there", done.stderr)
         self.assertEqual(self.out.read_text().splitlines(keepends=True), [kept[0], kept[1], *lines[2:]])
 
-    def test_a_damaged_file_and_the_line_that_repairs_it(self) -> None:
-        """A shell runs the command in the error message; then --resume has all rows again."""
+    def test_a_damaged_file(self) -> None:
+        """The message names the line; without it --resume has all rows again."""
         self.sweep()
         whole = self.out.read_text()
-        damages: list[Callable[[list[str]], list[str]]] = [
-            lambda lines: [lines[0], lines[1], lines[2].replace(",", "", 3), *lines[3:]], lambda lines: ["trace;sum\n", *lines[1:]]]
+        damages: list[Callable[[str], str]] = [
+            lambda line: line.replace(",", "", 3), *(lambda line, last=last: f"{line.rpartition(',')[0]},{last}\n" for last in ("abc", "9" * 5000, "1\r1", "x" * 200_000)),
+            lambda line: re.sub(r",0,,,\d+,", ",0,,,,", line)]
         for damage in damages:
-            self.out.write_text("".join(damage(whole.splitlines(True))))
-            repair = group_in("`(sed .*)`", self.sweep("--resume", status=1).stderr)
-            self.assertEqual(process("sh", "-c", repair).returncode, 0)
+            lines = whole.splitlines(True)
+            self.out.write_text("".join([*lines[:2], damage(lines[2]), *lines[3:]]))
+            self.assertIn(": row 3 isn't a row of sweep: without this line --resume makes", self.sweep("--resume", status=1).stderr)
+            self.out.write_text("".join([*lines[:2], *lines[3:]]))
             self.sweep("--resume")
             self.assertEqual(self.out.read_text(), whole)
 
@@ -124,37 +122,12 @@ tx {0} sent 0 held 0 done 0 denied 0 limit {3} avail {3} stopped 0
         for condition in ("squeezed", "squeezed>0us", "nothing>0", "squeezed>", "squeezed>1e3"):
             self.sweep("--fail-if", condition, status=64)
 
-    def test_two_calls_on_one_file_lose_no_row(self) -> None:
-        """Each replays other windows, at the same time; the file has the rows of both, each once."""
-        slow = self.program("slow", f"sleep 0.05\nexec '{REPLAY}' \"$@\"")
-        words = [self.folder, "--budget", "2,300", "--resume", "--jobs", "2", "--out", self.out, "--binary", slow]
-        windows = [[str(10 * call + each) for each in range(1, 10)] for call in range(3)]
-        with ThreadPoolExecutor(3) as pool:
-            ended = list(pool.map(lambda window: process(*START, "sweep", *words, "--window", ",".join(window)), windows))
-        self.assertEqual([done.returncode for done in ended], [0, 0, 0], [done.stderr for done in ended])
-        self.assertEqual(sorted((Path(row["trace"]).name, row["budget"], row["window"]) for row in self.rows()),
-                         sorted(itertools.product(["burst.csv", "faulty.csv"], ["2", "300"], sum(windows, []))))
-
-    def test_it_goes_by_what_a_trace_holds(self) -> None:
-        """A changed trace is replayed again, and its old rows are removed; a renamed one isn't replayed, and keeps its rows."""
-        played = self.folder / "played"
-        program = self.program("program", f"echo >> '{played}'\nexec '{REPLAY}' \"$@\"")
-        words = ["--resume", "--binary", program]
-        self.sweep(*words)
-        before = self.rows()
-        played.unlink()
-        os.rename(self.folder / "burst.csv", self.folder / "other.csv")
-        self.sweep(*words)
-        self.assertFalse(played.exists())
-        rows = [{**row, "trace": Path(row["trace"]).name} for row in self.rows()]
-        theirs = [{**row, "trace": "other.csv"} for row in before if row["trace"].endswith("burst.csv")]
-        self.assertEqual([row for row in rows if row["trace"] == "other.csv"], theirs)
-        self.assertEqual(len(rows), 12)
-        self.write("other.csv", self.BURST.replace("1,0,softirq,0\n", ""))
-        self.sweep(*words)
-        self.assertEqual(played.read_text().count("\n"), 4)
-        rows = [row for row in self.rows() if row["trace"].endswith("other.csv")]
-        self.assertEqual([row["polls"] for row in rows], ["0"] * 4)
+    def test_a_trace_that_changed(self) -> None:
+        """It is replayed again, and its old rows are removed."""
+        self.sweep()
+        self.write("burst.csv", self.BURST.replace("1,0,softirq,0\n", ""))
+        self.assertIn("8 rows, of which 4 are there", self.sweep("--resume").stderr)
+        self.assertEqual([row["polls"] for row in self.rows()], ["0"] * 4 + [""] * 4)
 
     def test_what_a_killed_call_left_of_a_row_goes(self) -> None:
         self.sweep()
@@ -163,38 +136,6 @@ tx {0} sent 0 held 0 done 0 denied 0 limit {3} avail {3} stopped 0
         self.sweep("--resume", "--budget", "2")
         self.sweep("--resume")
         self.assertEqual(sorted(self.out.read_text().splitlines()), sorted(whole.splitlines()))
-
-    def test_tasks_that_are_cancelled_and_resumed_have_the_rows_of_one_machine(self) -> None:
-        """Sixteen tasks, each with its part, are terminated at any time, as a cancelled job is, and started again until all have finished."""
-        slow = self.program("slow", f"sleep 0.05\nexec '{REPLAY}' \"$@\"")
-        windows = ",".join(str(number) for number in range(1, 33))
-        words = [self.folder, "--budget", "2,300", "--window", windows, "--binary", slow]
-
-        def task(number: int) -> tuple[bool, list[str]]:
-            more = ["--resume", "--jobs", "1", "--part", f"{number}/16", "--out", self.folder / f"rows-{number}"]
-            said: list[str] = []
-            for seconds in (0.3, 0.5, 0.7, MOST_SECONDS):
-                with started(*START, "sweep", *words, *more) as child:
-                    try:
-                        said.append(child.communicate(timeout=seconds)[1])
-                    except subprocess.TimeoutExpired:
-                        child.terminate()
-                        said.append(child.communicate(timeout=MOST_SECONDS)[1])
-                if child.returncode == 0:
-                    return True, said
-                if child.returncode != 143 and (child.returncode != -15 or said[-1]):  # before it took signals
-                    return False, said
-            return False, said
-
-        with ThreadPoolExecutor(4) as pool:
-            for ended, said in pool.map(task, range(1, 17)):
-                self.assertTrue(ended, said)
-                self.assertNotIn("Traceback", "".join(said))
-        parts = [line for number in range(1, 17) for line in (self.folder / f"rows-{number}").read_text().splitlines()[1:]]
-        self.assertEqual(run("sweep", *words, "--out", self.out, "--binary", REPLAY).returncode, 0)
-        self.assertEqual(sorted(parts), sorted(self.out.read_text().splitlines()[1:]))
-        self.assertEqual(len(parts), 2 * 2 * 32)
-        self.assertEqual([name for name in self.names() if name.startswith(".")], [])
 
     def test_hidden_files_and_rows_are_no_traces(self) -> None:
         self.out = self.folder / "rows.csv"
@@ -218,12 +159,6 @@ tx {0} sent 0 held 0 done 0 denied 0 limit {3} avail {3} stopped 0
             self.assertIn("8 rows are missing: --resume tries them again", self.sweep("--resume", "--binary", program, status=1).stderr)
             self.assertEqual(self.rows(), [])
         self.sweep("--resume")
-        self.check_rows()
-        # It fails twice, and then succeeds.
-        self.out.unlink()
-        self.program("program", f"d='{self.folder}/'$2-$4; if mkdir \"$d\" 2> /dev/null || mkdir \"$d\"b 2> /dev/null; then exit 7; fi\n"
-                                f"exec '{REPLAY}' \"$@\"")
-        self.sweep("--binary", program)
         self.check_rows()
 
     def test_runs_raised_anew(self) -> None:
@@ -252,12 +187,38 @@ tx {0} sent 0 held 0 done 0 denied 0 limit {3} avail {3} stopped 0
         self.check_rows()
         self.assertIn("or not a regular file", run("sweep", self.folder / "fifo.csv", "--out", self.out).stderr)
 
+    def test_files_that_are_no_traces(self) -> None:
+        """Arrivals that are named, and a faulty trace alone, fail; in a folder arrivals are skipped, and a faulty trace is a row."""
+        arrivals, reads = self.write("arrivals.csv", "ns,device,bytes\n1,1,60\n"), "arrivals, which fintaqush what-if reads"
+        self.fails(f"arrivals.csv: not a trace, but {reads}", "sweep", arrivals, "--out", self.out)
+        self.assertIn(f"arrivals.csv: skipped, because it is {reads}", self.sweep().stderr)
+        self.check_rows()
+        self.out.unlink()
+        self.assertRegex(self.ends_with(1, "sweep", self.folder / "faulty.csv", "--out", self.out).stderr, r"every row is refused: .*/faulty.csv: trace fault \d+ \w+ row \d+")
+
     def test_a_name_that_is_no_text(self) -> None:
         name = os.fsencode(self.folder) + b"/\xff;touch x,\x1b.csv"
         os.rename(self.folder / "burst.csv", name)
         os.unlink(self.folder / "faulty.csv")
         self.assertNotIn("\x1b", self.ends_with(0, "sweep", self.folder, "--out", self.out).stderr)
         self.assertIn(b"/\xff;touch x,\x1b.csv", self.out.read_bytes())
+
+    def test_names_that_a_spreadsheet_computes(self) -> None:
+        """They are quoted in the CSV, known again by it, and as they are in JSON."""
+        names = ["\ta.csv", "'=y.csv", "'z.csv", "+1.csv", "-2.csv", "=cmd|' !A1.csv", "@x.csv", "b=.csv"]
+        os.unlink(self.folder / "faulty.csv")
+        for name in names:
+            (self.folder / name).write_text(self.BURST)
+        words = [".", "--out", "rows", "--binary", REPLAY]
+        self.ends_with(0, "sweep", *words, folder=self.folder)
+        self.assertEqual([row["trace"] for row in self.rows()], [*(f"'{name}" for name in names[:-1]), "b=.csv", "burst.csv"])
+        done = self.ends_with(0, "sweep", *words, "--resume", "--json", folder=self.folder)
+        self.assertIn("9 rows, of which 9 are there", done.stderr)
+        self.assertEqual([json.loads(line)["trace"] for line in done.stdout.splitlines()], [*names, "burst.csv"])
+
+    def test_a_name_with_a_newline(self) -> None:
+        self.write("a\nb.csv", self.BURST)
+        self.assertIn("a\\nb.csv: a name with a newline can't be in a row", self.sweep(status=1).stderr)
 
     # In place of ssh: it runs the command here instead of on a host, and a host called dead doesn't respond.
     SSH = """#!/bin/bash

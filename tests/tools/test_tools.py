@@ -7,13 +7,15 @@ import json
 import os
 import re
 import struct
+import sys
 import unittest
 from collections.abc import Iterable
 from typing import Any
 
-from tooltest import (ENTRY, EXIT, HEADER, HERE, NO_WORDS, REPLAY, START, TOP, InFolder, captured, ftrace, polled, process, run, sent,
+from tooltest import (ENTRY, EXIT, HEADER, HERE, NO_WORDS, REPLAY, TOP, InFolder, captured, ftrace, polled, process, run, sent,
                       skip_without)
 
+from events import events_of
 from fintaqush_tools import reports
 from fintaqush_tools.errors import Refusal
 
@@ -164,11 +166,13 @@ class FromFtrace(InFolder):
                             for note in notes))
         for first in (20, 68, 69, 100, 139):
             self.succeeds("from-ftrace", HERE / "soft-gso-23.txt", self.folder / f"from{first}", *PAIRS, "--rows", f"{first}:100000")
-            self.succeeds("compare-recording", self.folder / f"from{first}")
+            self.compared(name=f"from{first}")
 
-    def compared(self, *words: object, status: int = 0) -> str:
-        """Returns what compare-recording prints of the files that were made."""
-        return self.ends_with(status, "compare-recording", self.folder / "made", *words).stdout
+    def compared(self, *words: object, name: object = "made", status: int = 0) -> str:
+        """Returns what compare_recording.py prints of the files that were made, or its error."""
+        done = process(sys.executable, "-B", TOP / "tests/compare_recording.py", self.folder / str(name), *words)
+        self.assertEqual(done.returncode, status, done.stderr)
+        return done.stdout + done.stderr
 
     def test_a_replay_is_compared_with_the_recording(self) -> None:
         """Six packets arrive during three runs; the replay gives each to that run, the kernel to the next."""
@@ -177,16 +181,14 @@ class FromFtrace(InFolder):
         self.assertIn("row 67: work 48, the kernel 42: noted\nrow 68: work 0, the kernel 6: carries on the difference of row 67", told)
         rows = len((self.folder / "made.work").read_text().splitlines())
         self.assertTrue(told.endswith(f"; {rows - 6} rows agree, 0 differ, 6 others are accounted for by notes: as the kernel\n"), told)
-        few = self.compared("--lines", "2").splitlines()
-        self.assertEqual((len(few), few[2]), (4, "and 4 more rows accounted for by notes: --lines 6 prints them"))
         notes = (self.folder / "made.notes").read_text()
         self.assertIn("later rows carry the difference on", notes)
         self.write("made.notes", "".join(line for line in notes.splitlines(True) if not line.startswith("row 138:")))
         self.assertIn("row 138: work 69, the kernel 63: OTHER THAN THE KERNEL", self.compared(status=1))
         self.write("made.work", "polls 1\n")
-        self.fails(".work: line 1 isn't of the form", "compare-recording", self.folder / "made")
-        done = self.ends_with(0, "compare-recording", TOP / "examples/linux-veth-small-budget", "--budget", "64")
-        self.assertEqual(done.stdout, "544 rows, 15647 packets; the kernel 15647; 544 rows agree, 0 differ, "
+        self.assertIn(".work: line 1 isn't of the form", self.compared(status=1))
+        self.assertEqual(self.compared("--budget", "64", name=TOP / "examples/linux-veth-small-budget"),
+                                      "544 rows, 15647 packets; the kernel 15647; 544 rows agree, 0 differ, "
                                       "0 others are accounted for by notes: as the kernel\n")
 
     def test_a_file_that_is_falsified(self) -> None:
@@ -226,16 +228,14 @@ class FromFtrace(InFolder):
                       self.compared())
 
     def test_a_replay_that_is_other_than_the_kernel(self) -> None:
-        """One packet comes before each of 30 runs, and the kernel polled two, 30 times; ten of those lines are printed, and a line counts the rest."""
+        """One packet comes before each of 30 runs, and the kernel polled two, 30 times; ten of those lines are printed."""
         self.write("made.csv", HEADER + "0,1,open,256\n" + "".join(f"{place},1,rx,60\n{place},0,softirq,0\n" for place in range(30)))
         self.write("made.work", "polls 1 work 2\n" * 30)
         lines = self.compared(status=1).splitlines()
-        self.assertEqual((len(lines), lines[0], lines[10]), (12, "row 3: work 1, the kernel 2: OTHER THAN THE KERNEL",
-                                                             "and 20 more rows without a reason: --lines 30 prints them"))
-        self.assertEqual(lines[11], "30 rows, 30 packets; the kernel 60; 0 rows agree, 30 differ, 0 others are accounted for by notes: other than the kernel")
+        self.assertEqual((len(lines), lines[0]), (11, "row 3: work 1, the kernel 2: OTHER THAN THE KERNEL"))
+        self.assertEqual(lines[10], "30 rows, 30 packets; the kernel 60; 0 rows agree, 30 differ, 0 others are accounted for by notes: other than the kernel")
         self.write("made.csv", HEADER + "0,1,open,256\n" + "0,0,softirq,0\n" * 30)
-        said = self.fails("made.csv: it has no arrivals, so there is nothing to compare", "compare-recording", self.folder / "made")
-        self.assertEqual(said.count("\n"), 1)
+        self.assertRegex(self.compared(status=1), r"^compare_recording.py: .*: it has no arrivals, so there is nothing to compare\n$")
 
 
 class FromPcap(InFolder):
@@ -416,9 +416,7 @@ class Traffic(InFolder):
             for seed in range(4):
                 text = run("traffic", "--rate", "2000", "--devices", "5", "--seed", seed, "--version", version, "--seconds", "0.3",
                            "--mix", f"tx=50,done=40,disable=10,threaded=10,kthread=30{busy}").stdout
-                self.assertEqual({line.split(",")[2] for line in text.splitlines()[1:]} - {"busy"},
-                                 {"open", "rx", "tx", "done", "softirq", "kthread", "disable", "enable", "threaded"})
-                self.assertEqual(",busy," in text, version == "2")
+                self.assertEqual({line.split(",")[2] for line in text.splitlines()[1:]}, set(events_of(int(version))))
                 for words in (NO_WORDS, ["--budget", "1", "--weight", "1"]):
                     done = process(REPLAY, *words, text=text)
                     self.assertEqual((done.stderr, done.returncode), ("", 0))
@@ -462,7 +460,7 @@ class CompareRuns(InFolder):
 class Report2Json(InFolder):
     def objects_of(self, report: str) -> list[dict[str, Any]]:
         """Returns the objects of a report, without what all of them begin with: the version, and the tool."""
-        objects: list[dict[str, Any]] = list(map(json.loads, self.succeeds("json", text=report).splitlines()))
+        objects: list[dict[str, Any]] = list(map(json.loads, reports.lines_of(report).splitlines()))
         for each in objects:
             self.assertEqual([(name, each.pop(name)) for name in list(each)[:2]], [("version", 1), ("tool", "replay")])
         return objects
@@ -507,14 +505,6 @@ total devices 1 runs 0 polls 0 work 0 squeezed 0
         self.assertEqual(objects[0], {"line": "busy", "row": 7, "device": 1, "polls": 4, "work": 2})
         self.assertEqual((objects[2]["held"], objects[2]["flags"]), (3, ["SCHED", "IN_BUSY_POLL"]))
 
-    def test_slow_modules_are_not_imported(self) -> None:
-        """A report is converted without the modules that are slow to import."""
-        report = "list\ntotal devices 0 runs 0 polls 0 work 0 squeezed 0\n"
-        done = process(*START[:2], "-X", "importtime", *START[2:], "json", text=report)
-        imported = {line.split("|")[-1].strip() for line in done.stderr.splitlines()}
-        self.assertEqual((done.returncode, len(done.stdout.splitlines())), (0, 2))
-        self.assertFalse({"argparse", "json", "re", "subprocess", "tempfile", "pathlib"} & imported)
-
     def test_threads_mode(self) -> None:
         objects = self.objects_of("""device 1 arrived 3 bytes 1620
 device 2 arrived 2 bytes 160
@@ -535,16 +525,18 @@ total devices 2
             with self.assertRaises(Refusal, msg=cut[-60:]):
                 reports.objects_of(cut)
         for cut, why in (("", "the report is empty"), (whole[:-1], "the report is cut"), (whole + whole, "there are two reports in it")):
-            self.fails(why, "json", text=cut)
+            with self.assertRaisesRegex(Refusal, why):
+                reports.objects_of(cut)
 
     def test_every_example_passes(self) -> None:
         for trace in sorted((TOP / "examples").glob("*.csv")):
             report = process(REPLAY, text=trace.read_text()).stdout
-            self.assertEqual(len(self.succeeds("json", text=report).splitlines()), len(report.splitlines()))
+            self.assertEqual(len(reports.lines_of(report).splitlines()), len(report.splitlines()))
             self.assertTrue(report)
 
     def test_what_is_no_report_is_refused(self) -> None:
         for line in ("", "napi", "softirq 4 polls 2 work 3", "softirq 4 polls 2 work 3 squeezed 2", "list x",
                      "total devices 3 polls 2 runs 1 work 3 squeezed 1",
                      "napi 2 granted 0 missed 0 disabled 0 again 0 released 0 word 16"):
-            self.fails("fintaqush json: line 2: ", "json", text=f"list\n{line}\n")
+            with self.assertRaisesRegex(Refusal, "line 2: "):
+                reports.objects_of(f"list\n{line}\n")

@@ -14,7 +14,9 @@ from fractions import Fraction
 from typing import Any
 
 import machine
-from tooltest import HAS_MACHINE, MACHINE, NO_WORDS, START, TOP, InFolder, process, run, skip_without
+from tooltest import HAS_MACHINE, HERE, MACHINE, NO_WORDS, START, TOP, InFolder, process, run
+
+from fintaqush_tools.commands import what_if
 
 HEADER = "ns,device,bytes\n"
 
@@ -45,7 +47,7 @@ class WhatIf(InFolder):
               for kind, skip in (("device", 0), ("processor", 0), ("time", 0), ("application", 0), ("total", 1))}
         told: dict[str, int | str] = {name: of["total"][0][name] for name in ("arrived", "dropped", "refused", "used")}
         for end, kind in (("delivered", "device"), ("used", "processor")):
-            told.update({f"{end}_{name}": max(line[wait] for line in of[kind]) for name, wait in (("p50", "wait50"), ("p99", "wait99"), ("p999", "wait999"))})
+            told.update({f"{end}_{name}": max(line[wait] for line in of[kind]) for name, wait in (("p50", "wait50"), ("p90", "wait90"), ("p99", "wait99"), ("p999", "wait999"))})
         told.update({f"{name}_percent": percent(of["time"], name) for name in ("interrupt", "poll", "use", "idle")})
         if of["application"]:
             told["use_percent"] = percent(of["application"], "use")
@@ -62,6 +64,19 @@ class WhatIf(InFolder):
         for row, (budget, weight) in zip(rows, wanted):
             self.assertEqual(row, self.modelled(self.arrivals.read_text(), f"--budget={budget}", f"--weight={weight}", "--processors=2", "--ring=4"))
         self.assertGreater(int(rows[0]["dropped"]), 0)
+
+    def test_values_that_exclude_each_other(self) -> None:
+        """Each reason is of values that the plain program rejects, and it accepts the others; the rows are those without such values."""
+        for name, value, other, values, told in (
+            ("rx-gap", 7, "rx-nsecs", (0, 5), "--rx-gap 7 excludes --rx-nsecs 5: a card keeps a least time between interrupts, or waits for more packets"),
+            ("rx-gap", 7, "rx-frames", (0, 2), "--rx-gap 7 excludes --rx-frames 2: "), ("take", 9, "packet", (9, 8), "--take 9 is above --packet 8, of which it is a part"),
+            ("early", 3, "heedless", (0, 1), "--early 3 excludes --heedless 1: a driver asks for interrupts before napi_complete_done, or after it"),
+        ):
+            rows = self.rows(f"--{name}", value, f"--{other}", ",".join(map(str, values)))
+            self.assertEqual((rows[0]["fault"], rows[0]["arrived"]), ("", "300"), told)
+            self.assertIn(told, rows[1]["fault"])
+            for each, status in zip(values, (0, 64)):
+                self.assertEqual(machine.ran(machine.plain(), [f"--{name}={value}", f"--{other}={each}"], self.arrivals.read_text())[2], status, told)
 
     def test_by_hand(self) -> None:
         """One packet: its interrupt takes 10 ns, its poll 5 and 3, its use 2; of these 20 ns half are the interrupt's."""
@@ -162,7 +177,7 @@ class WhatIf(InFolder):
 
     def test_a_trace_is_named(self) -> None:
         self.fails("bursts.csv: a trace, which fintaqush replay reads; arrivals are made by --arrivals of", "what-if", TOP / "examples/bursts.csv")
-        self.fails("veth-backlog.rec: not arrivals; arrivals are made by --arrivals of", "what-if", TOP / "examples/veth-backlog.rec")
+        self.fails("veth-backlog.rec: a recording, which fintaqush advise, costs and from-ftrace read; arrivals are made by --arrivals of", "what-if", TOP / "examples/veth-backlog.rec")
 
     def test_json_keys_are_identifiers(self) -> None:
         """Also with generated traffic and a searched load; each object has the format's version."""
@@ -250,6 +265,15 @@ class WhatIf(InFolder):
         told, = self.table(*words, "--until", "drops", "--band", "0")
         self.assertRegex(told, rf"^it breaks at {float(row['breaks_at']):.3g} times this load \({float(row['packets_per_second']) / 1000:.3g} k packets/s\): packets are lost$")
 
+    def test_a_search_reads_the_arrivals_once(self) -> None:
+        """And scales them once for a load that several settings try, as all do here, because the budget never ends a run."""
+        probes = self.folder / "probes"
+        counting = self.program("counting", f"echo >> {probes}\nexec '{MACHINE}' \"$@\"")
+        self.rows("--ring", "8", "--budget", "300,400", "--until", "drops", "--band", "0", "--jobs", "1", MACHINE=counting)
+        loads, count = what_if.scaled.cache_info(), len(probes.read_text())
+        self.assertGreater(loads.misses, 3)
+        self.assertEqual((what_if.parsed.cache_info().misses, loads.hits, count), (1, loads.misses, 2 * loads.misses + 2))  # a load of 1 is as it is
+
     def test_loads_that_never_and_always_break(self) -> None:
         self.arrivals.write_text(HEADER + "".join(f"{10_000 * place},1,60\n" for place in range(20)))
         self.assertEqual(self.table("--until", "drops", "--band", "0"), ["it holds up to 1.02e+03 times this load, the highest one tried"])
@@ -258,6 +282,34 @@ class WhatIf(InFolder):
         row, = self.rows("--until", "p99=1", "--band", "0")  # an interrupt takes 4 us
         self.assertEqual((row["holds_at"], row["breaks_at"]), ("", "0.000977"))
         self.assertEqual(self.names(), ["arrivals.csv"])
+
+    def test_costs_of_a_recording(self) -> None:
+        """They are those that fintaqush costs prints; one that is given counts instead, and one that isn't known is named."""
+        words, of = self.succeeds("costs", HERE / "recorded-apart.rec", "--words").split(), ["--costs", HERE / "recorded-apart.rec"]
+        self.assertEqual(words[::2], ["--interrupt", "--poll", "--packet", "--wake", "--use", "--app-wake"])
+        self.assertEqual(self.rows(*of), self.rows(*words))
+        self.assertEqual(self.rows(*of, "--use", "7"), self.rows(*words, "--use", "7"))
+        lacking = ["--costs", HERE / "recorded-rps.rec.gz"]
+        self.assertIn("recorded-rps.rec.gz doesn't have all costs, so these are as by default: --use 2000\n", self.said(*lacking))
+        self.assertEqual(self.said(*lacking, "--use", "7"), "")
+        self.assertIn("arrivals.csv: line 1: no line of ftrace", self.ends_with(1, "what-if", self.arrivals, "--costs", self.arrivals).stderr)
+
+    def test_deferral_without_a_timeout(self) -> None:
+        said = "fintaqush what-if: --defer-hard-irqs does nothing without --gro-flush-timeout, as in Linux\n"
+        for words, wanted in ((["--defer-hard-irqs", "0,2"], said), (["--defer-hard-irqs", "2", "--gro-flush-timeout", "0,20000"], ""), (NO_WORDS, "")):
+            self.assertEqual(self.said(*words, "--band", "0"), wanted)
+
+    def test_the_best_row_loses_nothing(self) -> None:
+        """A ring of one packet drops two of three, so those that stay wait least, and a ring of 8 has all used after 4 + 1 + 3 * 1 + 3 * 2 us: the table
+        names the row that drops none, and of several loads the best one of the highest."""
+        self.arrivals.write_text(HEADER + "".join(f"{100_000 * burst + place},1,60\n" for burst in range(50) for place in range(3)))
+        costs = ["--interrupt", "4000", "--poll", "1000", "--use", "2000"]
+        told = self.table("--ring", "1,8", "--band", "0", *costs, "--packet", "1000")
+        self.assertIn("row 2: the lowest 99th percentile of waits to the end of use without losses, 14.0 µs; the highest is 14.0 µs, of row 2", told)
+        self.assertIn("row 1: packets are lost, up to 66.7 %", told)
+        for words, row in ((["--ring", "1,8"], 2), (["--ring", "8,9", "--load", "0.1,1", "--packet", "300,400"], 5)):
+            told = self.table(*words, "--band", "0")
+            self.assertRegex("\n".join(told), rf"(?m)^rows? {row}\b.*: the lowest 99th percentile")
 
     def test_made_traffic_over_seeds(self) -> None:
         """The median, the minimum and the maximum of the plain program's values for each seed's arrivals; one row per setting."""
@@ -295,38 +347,9 @@ class WhatIf(InFolder):
         self.assertEqual([row["budget"] for row in parts], ["1", "3", "2", "4"])
         self.assertIn("exists: --resume continues it", run("what-if", self.arrivals, "--out", out).stderr)
 
-    @skip_without("matplotlib")
-    def test_the_picture(self) -> None:
-        for name, begins in (("x.png", b"\x89PNG"), ("x.svg", b"<?xml"), ("x.html", b"<!DOCTYPE html>")):
-            self.rows("--budget", "1,300", "--load", "0.5,1,2", "--plot", self.folder / name)
-            self.assertTrue((self.folder / name).read_bytes().startswith(begins))
-        text = (self.folder / "x.svg").read_text()
-        costs = "interrupt 4000, poll 1000, packet 1000, use 2000, wake 0, app-wake 0, take 0, timer 4000, timer-wake 0"
-        for told in ("arrivals.csv: load 0.5, 1, 2; budget 1, 300", f"Costs are given, in ns: {costs}.",
-                     "99th percentile of waits", "dropped and refused, %", "share, %", "budget 1<", "budget 300<", "load (times the arrivals)"):
-            self.assertIn(told, text.replace("&apos;", "'"))
-
-    @skip_without("matplotlib")
-    def test_a_long_title_fits(self) -> None:
-        """The outermost columns of pixels are white. A scale of less than two decades also has labels between powers of ten."""
-        words = ["--gro-flush-timeout", "0,20000,100000", "--defer-hard-irqs", "2", "--load", "0.5,1,2", "--plot"]
-        self.rows(*words, self.folder / "x.png")
-        self.rows(*words, self.folder / "x.svg")
-        from matplotlib.image import imread  # which skip_without has found
-
-        self.assertEqual(imread(self.folder / "x.png")[:, [0, 1, -2, -1], :3].min(), 1)
-        self.assertTrue(re.search(r">0\.0*[25]<", (self.folder / "x.svg").read_text()))
-
-    @skip_without("matplotlib")
-    def test_the_picture_of_words_that_it_cannot_tell_apart(self) -> None:
-        for words, why in ((NO_WORDS, "no option has several values"), (["--budget", "1,2,3", "--weight", "1,2,3", "--load", "1,2"], "9 curves")):
-            self.fails(why, "what-if", self.arrivals, *words, "--plot", self.folder / "x.png")
-            self.assertFalse((self.folder / "x.png").exists())
-
     def test_what_is_refused(self) -> None:
-        for words in (["--budget", "65536"], ["--load", "0"], ["--load", "1e3"], ["--weight", "0"], ["--slice", "1"], ["--longest", "1"], ["--threaded", "2"], ["--band", "91"], ["--band", "20", "--part", "1/2"], ["--budget", "1,,2"], ["--plot", "x.pdf"], ["--resume"],
-                      ["--until", "drop"], ["--until", "p99=x"], ["--until", "drops", "--load", "1,2"], ["--until", "drops", "--out", "x"], ["--seeds", "2"], ["--traffic", "--rate 1"],
-                      ["--until", "drops", "--plot", "x.png"]):
+        for words in (["--budget", "65536"], ["--load", "0"], ["--load", "1e3"], ["--weight", "0"], ["--slice", "1"], ["--longest", "1"], ["--threaded", "2"], ["--band", "91"], ["--band", "20", "--part", "1/2"], ["--budget", "1,,2"], ["--resume"],
+                      ["--until", "drop"], ["--until", "p99=x"], ["--until", "drops", "--load", "1,2"], ["--until", "drops", "--out", "x"], ["--seeds", "2"], ["--traffic", "--rate 1"]):
             self.ends_with(64, "what-if", self.arrivals, *words)
         self.ends_with(64, "what-if")
         self.fails("there is no such file", "what-if", self.folder / "none")

@@ -13,10 +13,11 @@ Event = tuple[int, int, str, int, str]  # time, processor, task, its number, and
 
 
 class Made:
-    """A recording in ftrace's format, of packets on a veth pair, generated from given costs in ns."""
+    """A recording in ftrace's format, of packets on a veth pair, generated from given costs in ns. `late` is how long after the interrupt a
+    softirq or a thread begins."""
 
     def __init__(self, **costs: int) -> None:
-        self.costs, self.time, self.reader = costs, 10**12, POLLER
+        self.costs, self.time, self.reader = {"late": 0, **costs}, 10**12, POLLER
         self.lines: list[tuple[int, str]] = []
         self.timer: int | None = None
 
@@ -45,23 +46,23 @@ class Made:
         self.event(end, POLLER, "<idle>-0", f"{name}_exit: vector=251")
         return end
 
-    def polled(self, time: int, task: str, work: int, name: str = "vb1") -> int:
-        end = time + self.costs["poll"] + work * self.costs["packet"]
+    def polled(self, time: int, task: str, work: int, name: str = "vb1", more: int = 0) -> int:
+        end = time + self.costs["poll"] + work * self.costs["packet"] + more
         self.lines.append((end, f"{task.rjust(20)} [{POLLER:03}] b.... {end // 10**9}.{end % 10**9:09}: napi_poll: "
                                 f"napi poll on napi struct 0 for device {name} work {work} budget 64"))
         return end
 
-    def softirq_round(self, works: Sequence[int], is_early: bool = False) -> int:
+    def softirq_round(self, works: Sequence[int], is_early: bool = False, more: int = 0) -> int:
         """Adds packets, an interrupt between processors that requests a softirq, and its polls; returns its end. An early one ends before the events
-        of its packets, which come after the sending."""
+        of its packets, which come after the sending. The first poll takes `more` than others."""
         if not is_early:
             self.sent(self.time, works[0])
-        time = self.handler(self.time + self.costs["wake"], "call_function_single")
+        time = self.handler(self.time + self.costs["wake"], "call_function_single") + self.costs["late"]
         self.event(time, POLLER, "<idle>-0", "softirq_entry: vec=3 [action=NET_RX]")
         for place, work in enumerate(works):
             if place:
                 self.sent(time + 1, work)
-            time = self.polled(time, "<idle>-0", work)
+            time = self.polled(time, "<idle>-0", work, more=0 if place else more)
         self.event(time, POLLER, "<idle>-0", "softirq_exit: vec=3 [action=NET_RX]")
         if is_early:
             self.sent(time + 700, works[0])
@@ -85,7 +86,7 @@ class Made:
         self.sent(due - 500 if by_timer else due, work)
         begin = due + self.costs["wake"]
         inner = f"hrtimer_expire_entry: hrtimer=1 function=napi_watchdog now={begin}"
-        time = self.handler(begin, "local_timer", inner) if by_timer else self.handler(begin, "reschedule")
+        time = (self.handler(begin, "local_timer", inner) if by_timer else self.handler(begin, "reschedule")) + self.costs["late"]
         self.switch(time, POLLER, "swapper/3-0", "napi/vb1-9-50", "R")
         end = self.polled(time, "napi/vb1-9-50", work)
         self.timer = end + 100_000

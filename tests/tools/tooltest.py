@@ -4,9 +4,7 @@ napi_machine, also for the tools."""
 from __future__ import annotations
 
 import contextlib
-import html
 import io
-import json
 import os
 import shutil
 import signal
@@ -25,7 +23,6 @@ TOP = HERE.parent.parent
 sys.path += [str(TOP / "tests"), str(TOP / "tools"), str(TOP / "bench")]
 import machine  # noqa: E402
 import needs  # noqa: E402
-from finding import group_in  # noqa: E402
 
 from fintaqush_tools import cli, errors  # noqa: E402
 from fintaqush_tools.progress import Program  # noqa: E402
@@ -40,13 +37,11 @@ MACHINE = os.environ.get("MACHINE") or str(TOP / "crates/napi_machine/out/napi_m
 if not os.path.exists(MACHINE) and shutil.which("g++"):
     MACHINE = machine.plain()  # if napi_machine isn't built, the tools are tested with the bench's program in its place
 PROGRAMS = {"PROGRAM": REPLAY, "SERIES": SERIES, "MACHINE": MACHINE}
-BROWSER: str | None = next(filter(None, map(shutil.which, ("chromium", "chromium-browser", "google-chrome"))), None)
-HAS_BROWSER = unittest.skipUnless(BROWSER, "chromium")
 HAS_MACHINE = unittest.skipUnless(os.path.exists(MACHINE), "g++")
 HEADER = "moment,device,event,value\n"
 ENTRY, EXIT = "softirq_entry: vec=3 [action=NET_RX]", "softirq_exit: vec=3 [action=NET_RX]"
 NO_WORDS: list[str] = []  # among lists of words: mypy takes the type of [] for another one
-MOST_SECONDS = 300  # for anything that a test waits for
+MOST_SECONDS = 900  # for anything that a test waits for
 
 if signal.getsignal(signal.SIGINT) == signal.SIG_IGN:  # as in the background of a shell: no process would end by it
     signal.signal(signal.SIGINT, signal.default_int_handler)
@@ -231,18 +226,6 @@ class InFolder(unittest.TestCase):
         self.addCleanup(process.communicate)
         self.addCleanup(process.kill)
         return process
-
-    def browsed(self, page: str, *words: str) -> str:
-        """Returns what a browser makes of a page."""
-        command = [str(BROWSER), "--headless", "--no-sandbox", "--disable-gpu", f"--user-data-dir={self.folder}/profile", *words, "--dump-dom"]
-        done = subprocess.run([*command, f"file://{self.write('walked.html', page)}"], capture_output=True, text=True, check=False, timeout=300,
-                              env={**os.environ, "HOME": str(self.folder)})
-        return done.stdout
-
-    def walked(self, page: str, script: str, *words: str) -> Any:
-        """Returns what a script, which is added to a page, reports in a browser."""
-        told = group_in(r'<pre class="told">(.*?)</pre>', self.browsed(page.replace("</body>", f"{script}</body>"), *words))
-        return json.loads(html.unescape(told))
 
     def opened(self, process: subprocess.Popen[str], name: str) -> int:
         """Waits until a process reads a FIFO of the folder, and returns an end to write to it."""

@@ -15,8 +15,8 @@ from fintaqush_tools.choosing import timeout_of
 from fintaqush_tools.errors import Refusal
 from fintaqush_tools.machine import OPTIONS
 from fintaqush_tools.processes import ran
-from fintaqush_tools.recording import BACKLOG, Head
-from fintaqush_tools.texts import shown
+from fintaqush_tools.recording import BACKLOG, Head, number_in
+from fintaqush_tools.texts import argument, shown
 
 VETH_RING = 256  # entries of veth's ring, which ethtool doesn't report
 SOCKET = 65536  # packets: a recording doesn't have the socket buffer's size in packets, so this holds all
@@ -38,19 +38,13 @@ COMM = 15  # characters of a task's name that the kernel keeps
 WRITE = 'echo "$3" > "/sys/class/net/$1/$2"'  # device and value are arguments of the shell, never part of the command
 
 
-def number_in(head: Head, key: str, default: int) -> int:
-    """Returns a number of the recording's head, or the default."""
-    found = re.fullmatch(r"\d{1,15}", head.get(key, ""))
-    return int(found[0]) if found else default
-
-
 def within_range(option: str, value: int) -> int:
     low, high, _ = OPTIONS[option]
     return max(low, min(high, value))
 
 
 def usecs_of(time: int) -> int:
-    """Returns the rx-usecs that set a time of the machine, in ns: some drivers set it only nearly."""
+    """Returns the rx-usecs that set a time of the machine, in ns: some drivers set it only approximately."""
     return (time + 500) // 1000
 
 
@@ -89,14 +83,14 @@ def options_of(head: Head, device: str, is_apart: int, processors: int = 1) -> d
             "rx-nsecs": 1000 * drivers.usecs_in(head, device),
             "rx-frames": of_device("ethtool.coalesce.rx-frames", 0),
         }
-        own = drivers.options_of(head, device) or timer
+        own = {**timer, **drivers.options_of(head, device)}
         options.update({name: value for name, value in own.items() if name in OPTIONS})
     return {name: within_range(name, value) for name, value in options.items()}
 
 
 def unmodelled_in(head: Head, device: str) -> Iterator[str]:
     """Yields the settings of the recorded machine that the model doesn't have."""
-    if number_in(head, "sysctl.net.core.busy_read", 0) or number_in(head, "sysctl.net.core.busy_poll", 0):
+    if number_in(head, "sysctl.net.core.busy_read") or number_in(head, "sysctl.net.core.busy_poll"):
         yield "busy polling is on (net.core.busy_read, busy_poll)"
     if head.get(f"device.{device}.ethtool.coalesce.adaptive-rx") == "on":
         yield "adaptive coalescing is on (ethtool -C adaptive-rx)"
@@ -174,15 +168,31 @@ def interrupts_of(head: Head, device: str) -> dict[int, str]:
     """Returns the interrupt of each queue that receives, by their names, as eth0-TxRx-3, virtio0-input.3 or
     mlx5_comp3@pci:.."""
     found = {}
-    for key, name in head.items():
-        irq = re.fullmatch(rf"device\.{re.escape(device)}\.irq\.(\d+)\.name", key)
-        queue = re.search(r"(?:rx|input|comp)[^0-9]*(\d+)", name, re.I)
-        if irq and queue:
-            found[int(queue[1])] = irq[1]
+    for number, name in drivers.interrupts_in(head, device).items():
+        if queue := re.search(r"(?:rx|input|comp)[^0-9]*([0-9]{1,9})", name, re.I):
+            found[int(queue[1])] = number
     return found
 
 
 # ---- how settings are applied
+
+
+def pinned(name: str, end: str, option: str, processor: int | str) -> str:
+    """Returns the shell command that pins tasks to a processor: the one of this number, or those whose name begins so, or with `$` is so."""
+    if name.isdigit():
+        return f"taskset {option} {processor} {name}"
+    pattern = "^" + re.sub(r"[][\\.*^$+?(){}|]", r"\\\g<0>", name[:COMM]) + end
+    return f"for task in $(pgrep {argument(pattern)}); do taskset {option} {processor} $task; done"
+
+
+def pinning(head: Head, device: str, polls_on: int, processor: int) -> str:
+    """Says how to keep a device's interrupts on the processor that polls, and the program on another one; nothing if the head has neither."""
+    lines = [f"echo {polls_on} > /proc/irq/{irq}/smp_affinity_list" for irq in drivers.interrupts_in(head, device)]
+    what = ["the interrupts"] * bool(lines)
+    if head.get("program"):
+        what.insert(0, "the program")
+        lines.insert(0, pinned(head["program"], "$", "-apc", processor))
+    return f"pin {' and '.join(what)} ({'; '.join(lines)})" if lines else ""
 
 
 def thread_of(device: str) -> str:
@@ -280,19 +290,18 @@ class Machine:
 
     def line_of(self, change: Change) -> str:
         """Returns the shell command for a change."""
-        front = f"ip netns exec {self.netns} " if self.netns else ""
-        attribute = f"/sys/class/net/{self.device}/{change.name}"
+        front = f"ip netns exec {argument(self.netns)} " if self.netns else ""
+        device, value = argument(self.device), change.value
+        written = f"echo {value} > {argument(f'/sys/class/net/{self.device}/{change.name}')}"
         return {
-            "sysctl": f"sysctl -w net.core.{change.name}={change.value}",
-            "sysfs": f"{front}sh -c 'echo {change.value} > {attribute}'"
-            if front
-            else f"echo {change.value} > {attribute}",
-            "threads": f"for task in $(pgrep '^{thread_of(self.device)}'); do taskset -pc {change.value} $task; done",
-            "table": f"{front}ethtool -X {self.device} {change.name} {change.value}",
-            "irq": f"echo {change.value} > /proc/irq/{change.name}/smp_affinity_list",
-            "ring": f"{front}ethtool -G {self.device} rx {change.value}",
-            "coalesce": f"{front}ethtool -C {self.device} rx-usecs {change.value}",
-            "program": f"for task in $(pgrep -x '{change.name[:COMM]}'); do taskset -apc {change.value} $task; done",
+            "sysctl": f"sysctl -w net.core.{change.name}={value}",
+            "sysfs": f"{front}sh -c {argument(written)}" if front else written,
+            "threads": pinned(thread_of(self.device), "", "-pc", value),
+            "table": f"{front}ethtool -X {device} {change.name} {value}",
+            "irq": f"echo {value} > /proc/irq/{change.name}/smp_affinity_list",
+            "ring": f"{front}ethtool -G {device} rx {value}",
+            "coalesce": f"{front}ethtool -C {device} rx-usecs {value}",
+            "program": pinned(change.name, "$", "-apc", value),
         }[change.kind]
 
     def apply(self, change: Change, value: object) -> None:

@@ -9,9 +9,9 @@ from operator import le
 from typing import Any, Optional
 
 from fintaqush_tools.errors import Refusal
+from fintaqush_tools.files import kind_of
 from fintaqush_tools.texts import shown
 
-TRACE = b"moment,device,event"  # begins a trace
 HEADER = "ns,device,bytes\n"
 HEADER_WITH_FLOWS = "ns,device,bytes,flow\n"
 SECOND = 10**9  # nanoseconds, which the time stamps here are
@@ -49,8 +49,8 @@ def check_header(path: str, status: int = 1) -> None:
     """Fails with this exit status if a file doesn't begin as arrivals do."""
     with open(path, "rb") as file:
         begin = file.readline(1000)
-    if begin.startswith(TRACE) or b"device" not in begin:
-        what = "a trace, which fintaqush replay reads" if begin.startswith(TRACE) else "not arrivals"
+    if not begin.startswith(HEADER.strip().encode()) and (kind_of(begin) or b"device" not in begin):
+        what = kind_of(begin) or "not arrivals"
         made = "arrivals are made by --arrivals of from-pcap, from-ftrace or traffic"
         raise Refusal(f"{shown(path)}: {what}; {made}", status)
 

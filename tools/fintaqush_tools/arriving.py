@@ -9,7 +9,7 @@ from collections.abc import Iterable, Mapping
 
 from fintaqush_tools.errors import Refusal
 from fintaqush_tools.options import Words
-from fintaqush_tools.recording import NET_RX, SENT, SOFTIRQ, SWITCH, Event, Head, Look, fields_by
+from fintaqush_tools.recording import IS_NET_RX, SENT, SWITCH, Event, Head, Look, fields_by
 from fintaqush_tools.texts import shown
 from fintaqush_tools.timeline import HANDLERS, SOON
 
@@ -51,15 +51,10 @@ class PollBegins:
     """For each processor, when the current poll began, or the interrupt that requested it. A packet that the poll takes arrived before
     that, or during the poll."""
 
-    handlers: dict[int, int]
-    ended: dict[int, tuple[int, int, bool]]
-    began: dict[int, int]
-    by_card: dict[int, bool]
-    interrupt: dict[int, int]
-
     def __init__(self) -> None:
-        self.handlers, self.ended, self.began, self.by_card = {}, {}, {}, {}  # by processor
-        self.interrupt = {}  # by processor: the card's that asked for the next poll
+        # By processor; `interrupt` is the card's that asked for the next poll.
+        self.handlers, self.began, self.interrupt = (dict[int, int]() for _ in range(3))
+        self.ended, self.by_card = dict[int, tuple[int, int, bool]](), dict[int, bool]()
 
     def looks_at(self, name: str) -> list[Look]:
         """Returns what handles the events of this name."""
@@ -74,8 +69,15 @@ class PollBegins:
             return [self.begin_handler if end == "entry" else self.end_handler]
         return [looks[name]] if name in looks else []
 
+    def cut(self) -> None:
+        """Forgets what was under way."""
+        for each in (self.handlers, self.began, self.interrupt):
+            each.clear()
+        self.ended.clear()
+        self.by_card.clear()
+
     def softirq(self, event: Event) -> None:
-        if int(event.parts(SOFTIRQ)[0]) == NET_RX:
+        if event.parts(IS_NET_RX):
             self.begin(event) if event.name == "softirq_entry" else self.began.pop(event.cpu, None)
 
     def poll(self, event: Event) -> None:

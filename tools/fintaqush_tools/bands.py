@@ -5,7 +5,8 @@ The doubt of the costs is twice the change of all costs by which the recorded se
 predicted, at least 15 % and at most 50 %. A band holds the predictions with all costs lower and higher by the doubt, or at the ends of a cost's confidence interval if
 that is wider; and the prediction plus twice what was missed at the recorded setting: times and few packets by the
 difference, all else by the ratio. A setting that moves the program has costs up to `MOVED` % higher. Waits have half of NAPI's timeout, or of the card's least time between interrupts, if arrivals are inferred
-from polls that waited for it. Both of its ends are 3 % further, because recordings of one setting differ; those of the share of the time that
+from polls that waited for it. Both of its ends are further by what the value varies between the ten parts of the recording (fintaqush_tools.parts), at least 3 % and at most
+50 %, because recordings of one setting differ; those of the share of the time that
 polls take `SLEPT` more, because what a poll costs depends on how long its processor slept.
 
 Twice, because what the model lacks may take longer with another setting; tests/tools/test_bands.py counts how many
@@ -29,7 +30,8 @@ DOUBT = 20  # % of the costs, if no recording says more
 LEAST, MOST = 15, 50  # % of the costs; those of three like recordings differed by 15 %
 MOVED = 100  # % by which costs were higher with the program on another processor
 TIMES = 2  # how much further than at the recorded setting a prediction may be off
-ALIKE = 0.03  # relative difference between recordings of one setting
+ALIKE = 0.03  # relative difference between recordings of one setting, at least
+NOISIEST = 0.5  # the same, at most: what varies by more isn't known anyway
 SLEPT = 0.2  # by which deferral changed what a poll costs: 67 of 72 measured shares were in this band, 49 without it
 # If no NAPI timer was recorded: ns that its handler may take longer than an interrupt's, of which 3 to 6 us were
 # measured. Its polls may be late by `LATE`, because waking a processor after a long idle time took 16 to 40 us.
@@ -78,11 +80,13 @@ class Doubt:
         intervals: Mapping[str, Interval] | None = None,
         arrivals: int = 0,
         apart: int | None = None,
+        noises: Mapping[str, float] | None = None,
     ) -> None:
         """`rows` compare the recorded setting with its prediction, and `higher` is predicted with costs `DOUBT` % higher.
         `intervals` has the ends of each cost; without those of polls and packets only their sum is known, of which each
         has the half in `costs`. `arrivals` is by how many ns an arrival may be off. `apart` is whether the program had a
-        processor of its own."""
+        processor of its own. `noises` has by which share values vary between the parts of the recording."""
+        self.noises = noises or {}
         self.arrivals, self.apart, self.elsewhere = arrivals, apart, with_costs(costs, 100 + MOVED)
         self.rows = {row[0]: row for row in rows}
         self.percent = doubt_of(rows, higher)
@@ -135,5 +139,6 @@ class Doubt:
                 else value
             )
             ends.append(late)
-        further = ALIKE + SLEPT * (LIKE.get(name, name) == "poll_percent")
+        own = LIKE.get(name, name)
+        further = min(NOISIEST, max(ALIKE, self.noises.get(own, 0))) + SLEPT * (own == "poll_percent")
         return max(0.0, min(ends) * (1 - further)), max(ends) * (1 + further)

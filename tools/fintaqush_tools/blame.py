@@ -6,12 +6,13 @@ from __future__ import annotations
 import bisect
 from collections import Counter
 from collections.abc import Collection, Iterable, Iterator, Sequence
+from itertools import chain, islice
 
 from fintaqush_tools.errors import Refusal
 from fintaqush_tools.layout import Layout
 from fintaqush_tools.predicting import LATE, percentile, us
 from fintaqush_tools.receiving import Deliveries, Receiving
-from fintaqush_tools.recording import Head
+from fintaqush_tools.recording import Head, rise_of
 from fintaqush_tools.tasks import KERNEL_TASKS, Tasks
 from fintaqush_tools.texts import shown
 
@@ -21,17 +22,23 @@ FEWEST = 1000  # waits, of which a percentile is known
 NOTABLE = 0.1  # least share that is worth a line
 SLOWEST = 100  # one in so many waits
 MOST = 20_000  # waits that are looked at
+FLIGHT = 50_000  # ns, the longest time from a packet to the end of its interrupt
 NAMED = 3  # tasks
+MOVE = "give these tasks other processors or priorities"
 
 
-def spans_of(seen: Receiving, deliveries: Deliveries) -> list[tuple[int, list[Span]]]:
-    """Returns for each delivered packet its wait, from its arrival to the end of its poll, and the part of it before the poll began: while polls
-    run in a softirq, the task that they interrupted counts as running."""
-    found = [each for matched in deliveries.values() for each in matched]
-    spans = []
-    for packet, poll, _ in found[:: len(found) // MOST + 1]:
-        begin, end = seen.sent[packet], seen.begun[poll] or seen.ended[poll]
-        spans.append((max(0, seen.ended[poll] - begin), [(seen.on[poll], begin, max(begin, end))]))
+def spans_of(seen: Receiving, deliveries: Deliveries) -> list[tuple[int, Span]]:
+    """Returns for each delivered packet its wait, from its arrival to the end of its poll, and the part of it in which a task could keep the poll from
+    beginning: from the end of the interrupt that asked for the poll, or from the arrival if no interrupt soon followed, to the softirq or the thread.
+    """
+    count, spans = sum(map(len, deliveries.values())), []
+    for packet, poll, _ in islice(chain.from_iterable(deliveries.values()), 0, None, count // MOST + 1):
+        cpu, came, run = seen.on[poll], seen.sent[packet], seen.run[poll]
+        end = seen.entries[cpu][run - 1] if run else seen.begun[poll] or seen.ended[poll]
+        asked = seen.asked[cpu]
+        at = bisect.bisect_left(asked, came)
+        begin = asked[at] if at < len(asked) and asked[at] <= min(end, came + FLIGHT) else came
+        spans.append((max(0, seen.ended[poll] - came), (cpu, begin, max(begin, end))))
     return spans
 
 
@@ -50,37 +57,36 @@ def others_in(tasks: Tasks, spans: Iterable[Span], known: Collection[int]) -> Co
     return taken
 
 
-def told(waits: Sequence[tuple[int, list[Span]]], tasks: Tasks, known: Collection[int]) -> tuple[float, str]:
+def told(waits: Sequence[tuple[int, Span]], tasks: Tasks, known: Collection[int]) -> tuple[float, str]:
     """Returns the share of these waits that passed while other tasks had the processor, and the tasks."""
     whole = max(1, sum(wait for wait, _ in waits))
-    taken = others_in(tasks, (span for _, spans in waits for span in spans), known)
+    taken = others_in(tasks, (span for _, span in waits), known)
     names = ", ".join(f"{shown(name)} {100 * time / whole:.0f} %" for name, time in taken.most_common(NAMED))
     return sum(taken.values()) / whole, names
 
 
-def check_waits(seen: Receiving, goal: str, known: Collection[int]) -> None:
-    """Fails if a wait by which the fit for a goal is judged is twice what it would be without the time in which other tasks had the processors,
-    because no prediction fits then. `seen` may be of a part of the recording."""
+def check_waits(seen: Receiving, goal: str, known: Collection[int], remedy: str = MOVE) -> None:
+    """Fails if other tasks doubled a wait by which the predictions for a goal are judged, because no prediction fits then. `seen` may be of a
+    part of the recording; `remedy` says what to do."""
     waits = spans_of(seen, seen.deliveries())
     whole = sorted(wait for wait, _ in waits)
-    own = sorted(wait - sum(others_in(seen.tasks, spans, known).values()) for wait, spans in waits)
+    own = sorted(wait - sum(others_in(seen.tasks, [span], known).values()) for wait, span in waits)
     for each in {"p50", goal} if len(waits) >= FEWEST else ():
         most, least = (percentile(some, 10 * int(each[1:])) for some in (whole, own))
         if most > 2 * least and most - least > LATE * (each == "p99"):
             share, names = told(waits, seen.tasks, known)
             raise Refusal(
                 f"of the waits to delivery of its first {len(seen.sent)} packets {100 * share:.0f} % passed while another task had the processor ({names}), so "
-                f"their {each} is {us(most)} us instead of {us(least)}, and no prediction of waits fits: priorities and other processors for these tasks change "
-                "that; --goal cpu and --goal drops need no wait"
+                f"their {each} is {us(most)} us instead of {us(least)}, and no prediction of waits fits: {remedy}, then record again; --goal cpu and --goal drops "
+                "need no wait"
             )
 
 
 def lines_of_socket(head: Head) -> Iterator[str]:
     """Yields a line about packets that were delivered and then dropped, because the socket's buffer was full."""
-    before, after = map(int, head.get("udp.RcvbufErrors", "0 0").split())
-    if after > before:
+    if dropped := rise_of(head, "udp.RcvbufErrors") or 0:
         yield (
-            f"{after - before} datagrams were delivered and then dropped at a full socket: the program reads too slowly, or the buffer is too small "
+            f"{dropped} datagrams were delivered and then dropped at a full socket: the program reads too slowly, or the buffer is too small "
             "(SO_RCVBUF, net.core.rmem_max), and no setting that is tried here changes that"
         )
 
@@ -100,7 +106,7 @@ def lines_of_traffic(seen: Receiving) -> Iterator[str]:
         )
 
 
-def lines_of(seen: Receiving, layout: Layout, known: Collection[int]) -> Iterator[str]:
+def lines_of(seen: Receiving, layout: Layout, known: Collection[int], remedy: str = MOVE) -> Iterator[str]:
     """Yields a line about all waits and the slowest of them, if other tasks have a notable share."""
     waits = sorted(spans_of(seen, layout.deliveries), key=lambda each: each[0])
     slowest = waits[-max(1, len(waits) // SLOWEST) :]
@@ -109,5 +115,5 @@ def lines_of(seen: Receiving, layout: Layout, known: Collection[int]) -> Iterato
         named, slow_named = (f" ({each})" if each else "" for each in (names, slow_names))
         all_of = f"of the waits to delivery {100 * share:.0f} % passed while another task had the processor{named}"
         slow = f"of the slowest one in {SLOWEST} {100 * slow_share:.0f} %{slow_named}"
-        what = "no setting that is tried here changes that; priorities and other processors for these tasks do"
+        what = f"no setting that is tried here changes that: {remedy}, then record again"
         yield f"{all_of}, and {slow}: {what}"

@@ -3,9 +3,10 @@
 from __future__ import annotations
 
 import itertools
+import math
 import os
 import re
-from collections.abc import Callable, Mapping, Sequence
+from collections.abc import Callable, Iterator, Mapping, MutableMapping, Sequence
 from fractions import Fraction
 from typing import Any, Optional
 
@@ -43,25 +44,32 @@ def between(low: Fraction, high: Fraction) -> Fraction:
     return Fraction(round((float(low) * float(high)) ** 0.5 * STEPS), STEPS)
 
 
-def search(breaks: Callable[[Fraction], bool]) -> Ends:
-    """Returns the highest load known to hold and the lowest known to break, at most 1 % apart; None if there is none. Assumes that a
-    setting that holds a load also holds any lower one."""
-    load = Fraction(1)
-    holds, broken = (None, load) if breaks(load) else (load, None)
-    while holds is None or broken is None:
-        load = load / 2 if holds is None else load * 2
-        if not LOWEST <= load <= HIGHEST:
-            return holds, broken
-        if breaks(load):
-            broken = load
-        else:
-            holds = load
-    while broken > holds * APART:
+def search(breaks: Callable[[Fraction], bool]) -> Iterator[Ends]:
+    """Yields after each load that was tried the highest load known to hold and the lowest known to break; None if there is none. At last they
+    are at most 1 % apart. Assumes that a setting that holds a load also holds any lower one."""
+    load: Fraction | None = Fraction(1)
+    ends: Ends = (None, None)
+    while load:
+        ends = (ends[0], load) if breaks(load) else (load, ends[1])
+        yield ends
+        load = next_load(*ends)
+
+
+def next_load(holds: Fraction | None, broken: Fraction | None) -> Fraction | None:
+    """Returns the load to try next, if there is one."""
+    if holds and broken:
         load = between(holds, broken)
-        if not holds < load < broken:
-            break
-        holds, broken = (holds, load) if breaks(load) else (load, broken)
-    return holds, broken
+        return load if broken > holds * APART and holds < load < broken else None
+    load = broken / 2 if broken else (holds or 1) * Fraction(2)
+    return load if LOWEST <= load <= HIGHEST else None
+
+
+def share_of(ends: Ends) -> float:
+    """Returns about how much of the search is done. Once one load keeps the limits and another breaks them, each further one halves the range between."""
+    holds, broken = ends
+    if not holds or not broken:
+        return 0.1
+    return max(0.2, 1 - 0.1 * math.ceil(math.log2(max(1, math.log(broken / holds) / math.log(APART)))))
 
 
 def rate_of(path: str) -> float:
@@ -73,26 +81,31 @@ def rate_of(path: str) -> float:
         file.seek(0)
         file.readline()
         first = file.readline(LONGEST_LINE).partition(b",")[0]
-    if not (first.isdigit() and last.isdigit() and len(last) <= 20) or int(last) <= int(first):
+    is_known = all(each.isdigit() and len(each) <= 20 for each in (first, last))
+    if not is_known or int(last) <= int(first):
         raise Refusal("--until needs arrivals over some time, with times that are plain numbers")
     return (lines - 1) * 10**9 / (int(last) - int(first))
 
 
 Breaks = Callable[[Key, int, Fraction], bool]
-Step = Callable[[], None]
+Job = tuple[Key, int]
 
 
-def breakings(keys: Sequence[Key], percents: Sequence[int], breaks: Breaks, jobs: int, step: Step) -> Found:
-    """Returns the ends of each key. `breaks` returns whether a key breaks at a percentage and a load; `step` is called after each search."""
+def breakings(
+    keys: Sequence[Key], percents: Sequence[int], breaks: Breaks, jobs: int, shares: MutableMapping[Job, float]
+) -> Found:
+    """Returns the ends of each key. `breaks` returns whether a key breaks at a percentage and a load; `shares` gets how much of each search is
+    done."""
 
-    def searched(job: tuple[Key, int]) -> tuple[tuple[Key, int], Ends]:
-        key, percent = job
-        return job, search(lambda load: breaks(key, percent, load))
+    def searched(job: Job) -> tuple[Job, Ends]:
+        for ends in search(lambda load: breaks(*job, load)):
+            shares[job] = share_of(ends)
+        shares[job] = 1
+        return job, ends
 
     found: dict[Key, dict[int, Ends]] = {key: {} for key in keys}
     for (key, percent), ends in in_threads(searched, list(itertools.product(keys, percents)), jobs):
         found[key][percent] = ends
-        step()
     return found
 
 

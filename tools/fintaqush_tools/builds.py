@@ -21,11 +21,11 @@ import signal
 import subprocess
 import time
 from collections.abc import Callable, Sequence
-from typing import IO, Any
+from typing import IO, Any, Optional
 
 from fintaqush_tools import errors
 from fintaqush_tools.errors import Interrupted, Refusal
-from fintaqush_tools.places import IS_CHECKOUT, TOP
+from fintaqush_tools.places import HOME, IS_CHECKOUT, TOP
 from fintaqush_tools.progress import say, show
 
 # A folder that git ignores, or outside a clone the user's cache.
@@ -33,9 +33,18 @@ CACHE = os.environ.get("XDG_CACHE_HOME") or os.path.expanduser("~/.cache")
 BUILT = f"{TOP}/.git/built" if os.path.isdir(f"{TOP}/.git") else f"{CACHE}/fintaqush/{TOP.replace('/', '%')}"
 LIBC = ctypes.CDLL(None)
 PARENT = os.getpid()
-# The processor that archives are compiled for, by the names of `rattle build --cpu`; else x86-64-v2.
-CPU = os.environ.get("FINTAQUSH_CPU")
+# What archives and programs are built for (scripts/install.sh --target), else x86-64. The kit has no C library of arm64: there Debian's cross
+# compiler links, and GLUE has the few C functions that the kit's archives have for x86-64.
+TARGET = os.environ.get("FINTAQUSH_TARGET", "")
+TRIPLES = {"": "x86_64-unknown-linux-gnu", "arm64": "aarch64-unknown-linux-gnu"}
+CROSS = "aarch64-linux-gnu-gcc"
+GLUE = [f"{TOP}/glue/heap.c", f"{TOP}/glue/os.c"]
+# The processor that archives are compiled for, by the names of `rattle build --cpu`; else x86-64-v2, or all of arm64.
+CPU = os.environ.get("FINTAQUSH_CPU", "")
 KILLED = -signal.SIGKILL
+OLDEST_NODE = 18
+NONE = f"""no rt on PATH (the kit), which proves and builds the program; without it only an installed program runs, or one of web/fintaqush.wasm \
+by node {OLDEST_NODE} or later"""
 
 
 class Sums(dict[str, list[Any]]):
@@ -117,8 +126,7 @@ def child(memory: int = 0, nice: int = 0) -> None:
 def kit() -> str:
     """Returns the folder of the toolchain."""
     if not shutil.which("rt"):
-        why = "there is no rt on PATH, which proves and builds the program: see 'What it needs' in README.md"
-        raise Refusal(why, 69)
+        raise Refusal(f"there is {NONE}: see 'What it needs' in README.md", 69)
     return os.path.dirname(subprocess.run(["rt", "doc"], stdout=subprocess.PIPE, text=True, check=False).stdout.strip())
 
 
@@ -131,7 +139,7 @@ def sums() -> Sums:
 def crates() -> dict[str, Crate | Installed]:
     """Returns the crates of crates.txt by their names, or the programs of an installation."""
     if not IS_CHECKOUT:
-        return {name: Installed(name) for name in os.listdir(f"{TOP}/programs")}
+        return {name: Installed(name) for name in ("napi_serial", "napi_replay")}
     rows = re.findall(r"^ *(\w+)([^#:\n]*):([^#\n]*)", read(f"{TOP}/crates.txt"), re.M)
     return {name: Crate(name, kind.strip(), uses.split()) for name, kind, uses in rows}
 
@@ -144,14 +152,47 @@ def sum_of(texts: Sequence[str]) -> str:
     return hashlib.sha256("\n".join(texts).encode()).hexdigest()
 
 
+def sum_below(name: str) -> str:
+    """Returns a checksum of the sources of a program, as they are now, and of those of the crates below it."""
+    crate = crates()[name]
+    return sum_of([it.sources for it in crate.all]) if isinstance(crate, Crate) else ""
+
+
+def in_module(name: str, is_same: bool = False) -> Optional[tuple[str, str]]:
+    """Returns the path of a program of web/fintaqush.wasm, with what to say of it, if node can run it; with `is_same` only if it was made
+    from the present sources."""
+    path, node = f"{TOP}/web/{name}", shutil.which("node")
+    if not node or not os.path.exists(path):
+        return None
+    found = subprocess.run([node, "--version"], stdout=subprocess.PIPE, text=True, check=False).stdout
+    sums = dict(line.split() for line in read(f"{TOP}/web/fintaqush.sum").splitlines())
+    is_own = sums.get(name) == sum_below(name)
+    if int((re.findall(r"^v(\d+)", found) or [0])[0]) < OLDEST_NODE or is_same and not is_own:
+        return None
+    of = "the proved sources" if is_own else "OTHER sources, not from these,"
+    return path, f"web/fintaqush.wasm, compiled from {of} in a way that the kit doesn't offer"
+
+
+def elsewhere(name: str) -> Optional[tuple[str, str]]:
+    """Returns the path of a program that wasn't proved here, with what to say of it: of an installed one, or of the module. With the kit, by
+    which it can be proved, only a module of these sources counts."""
+    has_kit = bool(shutil.which("rt"))
+    path = None if has_kit else shutil.which(name)
+    found = (path, f"the installed {path}") if path else in_module(name, is_same=has_kit)
+    why = "isn't proved here" if has_kit else "isn't proved here, which takes the kit"
+    return (found[0], f"{name} {why}: this is {found[1]}") if found else None
+
+
 class Installed:
     """A program that was proved and built before it was installed."""
 
     def __init__(self, name: str) -> None:
-        self.name, self.made = name, f"{TOP}/programs/{name}"
+        # of what pip installs, which has no programs
+        own = os.path.abspath(os.environ.get("PROGRAM") or f"{HOME}/bin/{name}")
+        self.name, self.made = name, f"{TOP}/programs/{name}" if os.path.isdir(f"{TOP}/programs") else own
 
     def is_built(self) -> bool:
-        return os.access(self.made, os.X_OK)
+        return os.path.isfile(self.made) and os.access(self.made, os.X_OK)
 
 
 class Crate:
@@ -160,9 +201,8 @@ class Crate:
         self.folder, self.log = f"{TOP}/crates/{name}", f"{BUILT}/{name}.log"
         self.is_program, self.is_archive = os.path.exists(f"{self.folder}/src/main.rt"), "staticlib" in kind
         self.is_library = not self.is_program and not self.is_archive
-        out = f"{self.folder}/out/{CPU}" if CPU and self.is_archive else f"{self.folder}/out"
-        file = name if self.is_program else f"lib{name}.a"
-        self.made = f"{BUILT}/{name}.rlib" if self.is_library else f"{out}/{file}"
+        parts = ["out", TARGET, CPU if self.is_archive else "", name if self.is_program else f"lib{name}.a"]
+        self.made = f"{BUILT}/{name}.rlib" if self.is_library else "/".join([self.folder, *filter(None, parts)])
 
     @functools.cached_property
     def all(self) -> list[Crate]:
@@ -201,6 +241,7 @@ class Crate:
         read, also of the kit."""
         made = [sums().of(f"{self.made}/format" if self.is_library else self.made)]
         made += [read(f"{kit()}/KIT-ID")] if self.is_library else []
+        made += map(read, GLUE) if TARGET and self.is_program else []
         return sum_of([*(it.sources for it in self.all), *made])
 
     def is_built(self) -> bool:
@@ -231,6 +272,7 @@ class Crate:
         command = [*self.words("build", jobs), "-o", f"{self.made}.new"]
         command += ["--crate-type", "staticlib"] * self.is_archive
         command += ["--statements"] if self.is_library else ["--toolchain", f"{kit()}/toolchain", "--backend", "llvm"]
+        command += ["--target", TRIPLES[TARGET]] if TARGET and not self.is_library else []
         command += ["--cpu", CPU] if CPU and self.is_archive else []
         self.begun = self.times()
         with open(self.log, "wb") as log:
@@ -244,9 +286,11 @@ class Crate:
         new = f"{self.made}.new"
         if status == 0 and self.is_program:
             os.replace(new, f"{BUILT}/{self.name}.o")
-            command = [f"{kit()}/bin/rattle-link", "--target", "x86_64-unknown-linux-gnu"]
+            command = [f"{kit()}/bin/rattle-link", "--target", TRIPLES[TARGET]]
             command += ["--toolchain", f"{kit()}/toolchain", "-o", new]
             command += [f"{BUILT}/{self.name}.o", f"{kit()}/c/libos_c.a", f"{kit()}/c/liblibc_c.a"]
+            if TARGET:
+                command = [CROSS, "-O2", "-pthread", "-o", new, f"{BUILT}/{self.name}.o", *GLUE]
             with open(self.log, "ab") as log:
                 status = subprocess.run(command, stdout=log, stderr=log, preexec_fn=child, check=False).returncode
         if status != 0:
@@ -376,6 +420,8 @@ def build(names: Sequence[str], beside: Callable[[], None] = lambda: None) -> in
     built. While it waits, it calls `beside` again and again."""
     if unknown := [it for it in names if it not in crates()]:
         raise Refusal(f"there is no crate {unknown[0]!r} in crates.txt", 64)
+    if TARGET not in TRIPLES:
+        raise Refusal(f"there is no target {TARGET!r}, only arm64", 64)
     asked = not_built(names)
     sums().keep()
     if not asked:

@@ -11,6 +11,7 @@ import zlib
 from collections.abc import Callable, Iterator
 from typing import IO, NamedTuple, Optional
 
+from fintaqush_tools.errors import Refusal
 from fintaqush_tools.progress import Progress
 
 # Ns of a tick.
@@ -186,7 +187,10 @@ def in_pcapng(data: mmap.mmap) -> Iterator[Record]:
             if number >= len(interfaces) or whole < 32 + held or not interfaces[number][0].header <= held <= length:
                 raise Strange
             link, ticks = interfaces[number]
-            yield Record((high << 32 | low) * SECOND // ticks, length, place + 28, held, link)
+            time = (high << 32 | low) * SECOND // ticks
+            if time >= 1 << 64:  # of which tcpdump prints a part
+                raise Refusal(f"a packet's time is {time // SECOND} s, by {ticks} ticks per second (if_tsresol)")
+            yield Record(time, length, place + 28, held, link)
         place += whole
 
 

@@ -12,8 +12,9 @@ from collections.abc import Iterable, Sequence
 from dataclasses import replace
 from typing import Optional
 
+from fintaqush_tools import drivers
 from fintaqush_tools.fits import FEWEST, Cost, cost_of
-from fintaqush_tools.recording import POLLED, SWITCH, Event, Head, Look, fields_by
+from fintaqush_tools.recording import POLLED, PROBE, SWITCH, Event, Head, Look, Reader, fields_by, number_in
 from fintaqush_tools.timeline import RETURNED, TIMER, Timeline
 
 GIVEN = fields_by(r"dev=(\S+) ")
@@ -24,7 +25,7 @@ NEAR = 0.1  # share by which the times that a card keeps may differ, and by more
 SOON = 10_000  # ns from such an arrival to the softirq that its interrupt requests
 
 
-class CardTimes:
+class CardTimes(Reader):
     """Collects times of the polls of some devices, by default of all, and of the programs that read."""
 
     takes: list[int]
@@ -43,6 +44,11 @@ class CardTimes:
         self.sleeps = {}  # by task that sleeps: how many packets polls had delivered by then
         self.woken = {}  # by task that read the only packet since then: the end of that packet's poll
         self.delivered, self.poll_end, self.poll_on, self.was_lone, self.span = 0, 0, -1, False, (0, 0)
+
+    def cut(self, time: int) -> None:
+        """Forgets what was under way, at the beginning of a window."""
+        for each in (self.taken, self.sleeps, self.woken):
+            each.clear()
 
     def looks_at(self, name: str) -> list[Look]:
         """Returns what handles the events of this name."""
@@ -132,9 +138,15 @@ def timer_costs(times: Timeline) -> dict[str, Cost]:
 
 
 def timeouts_of(head: Head, devices: Iterable[str]) -> list[int]:
-    """Returns the gro_flush_timeout of the recorded devices, in ns, without 0."""
-    texts = (head.get(f"device.{device}.gro_flush_timeout", "") for device in devices)
-    return sorted({int(text) for text in texts if text.isdigit()} - {0})
+    """Returns the gro_flush_timeout of the recorded devices and of a probe, in ns, without 0."""
+    found = {number_in(head, f"device.{device}.gro_flush_timeout") for device in devices}
+    return sorted((found | {PROBE["gro_flush_timeout"] * ("probe" in head)}) - {0})
+
+
+def early_cost(times: Timeline, head: Head) -> Optional[Cost]:
+    """Returns the cost of an interrupt that comes before the completion of a poll, if the driver of a recorded device has such."""
+    rows = (drivers.driver_in(head, device) for device in times.devices)
+    return cost_of(times.early, "interrupts during polls") if any(row and row.early for row in rows) else None
 
 
 def arrival_interrupt_cost(arrivals: Sequence[int], softirqs: Sequence[int]) -> Optional[Cost]:
@@ -166,13 +178,13 @@ def least_gap(arrivals: Sequence[int], interrupts: Sequence[int], ended: Sequenc
 
 
 def known_costs(
-    times: CardTimes, timeline: Timeline, use: Optional[Cost], timeouts: Sequence[int] = ()
+    times: CardTimes, timeline: Timeline, use: Optional[Cost], head: Head
 ) -> tuple[dict[str, Cost], list[str]]:
     """Returns the costs that the recording shows, by the names of the machine's options, and a line about each. `use` is the cost of a
-    packet's use if the program reads on the processor that polls; `timeouts` are the recorded gro_flush_timeout, in ns.
-    """
-    found = {"take": take_cost(times), "app-wake": app_wake_cost(times, use)}
+    packet's use if the program reads on the processor that polls."""
+    found = {"take": take_cost(times), "app-wake": app_wake_cost(times, use), "early": early_cost(timeline, head)}
     costs = {name: cost for name, cost in found.items() if cost}
+    timeouts = timeouts_of(head, timeline.devices)
     at = f" at a gro_flush_timeout of {' and '.join(map(str, timeouts))} ns" if timeouts else ""
     for name, cost in timer_costs(timeline).items():
         costs[name] = replace(cost, source=f"{cost.source}{at}")

@@ -49,11 +49,12 @@ def settings_of(costs: Mapping[str, int], options: Options) -> Options:
             values[of_timer if of_timer in COSTS else name] = costs.get(of_timer, costs[name])
     if "take" in values:
         values["take"] = min(values["take"], values["packet"])
-    return {**values, **options}
+    early = values.pop("early", 0)  # only of a driver that has early interrupts
+    return {**values, **options, **({"early": early} if early and options.get("early") else {})}
 
 
 def slowed(costs: Costs, ratio: float) -> dict[str, int]:
-    """Returns the costs of polls on a processor on which they take so many times as long."""
+    """Returns the costs of polls, multiplied by this ratio."""
     return {name: round(ratio * costs[name]) for name in ("poll", "packet")}
 
 
@@ -136,7 +137,9 @@ class Choice:
         if self.best and self.goal == "drops":
             least = [pair for pair in allowed if pair[1]["lost"] <= self.best[1]["lost"]]
             self.best = min(least[:MOST_COMPARED], key=self.most_lost)
-        if self.best:
+        if self.best and self.is_allowed(today) and self.is_alike(today, self.best[1]):
+            self.best = self.tried[0]  # no change without a gain
+        elif self.best:
             self.best = self.fewest_changes(self.best, allowed)
 
     def fewest_changes(self, best: Tried, allowed: Sequence[Tried]) -> Tried:

@@ -19,7 +19,8 @@ with open(f"{os.path.dirname(__file__)}/usage.txt", encoding="utf-8") as file:
 BLOCKS = [text.splitlines() for text in USAGE.split("\n\n") if ":\n  " in text]
 GROUPS = [(title[:-1], [line.split(None, 1) for line in lines]) for title, *lines in BLOCKS]
 # Each subcommand's module in commands/.
-MODULES = {name: name.replace("-", "_") + "_" * (name in ("raise", "try")) for _, group in GROUPS for name, _ in group}
+NAMES = ["series", *(name for _, group in GROUPS for name, _ in group)]  # the first help doesn't have series
+MODULES = {name: name.replace("-", "_") + "_" * (name == "try") for name in NAMES}
 
 
 def unknown(name: str) -> str:
@@ -68,7 +69,7 @@ def about(asked: str) -> int:
     elif asked in ("--version", "version"):
         from fintaqush_tools.places import version
 
-        print(f"fintaqush of Fintaqush {version()}")
+        print(f"Fintaqush {version()}")
     elif asked == "--manual":
         print(page(""))
     else:

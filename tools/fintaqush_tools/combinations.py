@@ -1,24 +1,18 @@
 """Used by sweep and what-if: a CSV file with a row per combination of settings. Each row is made by running a program. Several programs run
-at once on all processors, or by GNU parallel on many machines. Existing rows aren't made again, and several calls may work on one file."""
+at once on all processors, or by GNU parallel on many machines. Existing rows aren't made again. Only one call may work on a file."""
 
 from __future__ import annotations
 
 import argparse
-import contextlib
 import csv
-import errno
-import fcntl
 import hashlib
 import io
-import itertools
 import os
 import re
-import shlex
 import shutil
 import subprocess
 import tempfile
-import time
-from collections.abc import Callable, Iterator, Mapping, Sequence
+from collections.abc import Callable, Iterable, Iterator, Sequence
 from typing import IO, Any
 
 from fintaqush_tools.errors import Refusal, Signals, unfinished, why
@@ -26,7 +20,8 @@ from fintaqush_tools.files import check_target, write_whole
 from fintaqush_tools.options import Parser, Words, add_binary, as_options, number, pair
 from fintaqush_tools.places import TOP
 from fintaqush_tools.processes import read_now
-from fintaqush_tools.progress import Program, Progress, can_be_shown, say, share_of
+from fintaqush_tools.progress import Progress, say, share_of
+from fintaqush_tools.results import NUMBER, cells_in
 from fintaqush_tools.texts import last_line, shown
 from fintaqush_tools.threads import in_threads
 
@@ -34,6 +29,9 @@ Key = tuple[str, ...]
 Row = dict[str, Any]
 
 TRIES = 3
+# The first letter of a name that a spreadsheet would compute, or that is quoted.
+FORMULA = re.compile("[=+@\t\r'-]")
+MAY_LACK = {"raised", "greatest_limit"}  # numbers that a row with results may lack
 
 
 def choices(read: Callable[[str], object]) -> Callable[[str], list[str]]:
@@ -75,22 +73,6 @@ def check_words(tool: str, words: Words) -> None:
     check_target(words.out)
 
 
-@contextlib.contextmanager
-def locked(path: str) -> Iterator[IO[bytes]]:
-    """Opens the file of rows and locks it against other calls. If another call replaced the file meanwhile, it is opened again."""
-    while True:
-        with open(path, "r+b") as file:
-            try:
-                fcntl.flock(file, fcntl.LOCK_EX)
-            except OSError as error:
-                if error.errno not in (errno.ENOSYS, errno.EOPNOTSUPP, errno.ENOLCK):
-                    raise
-                say(f"{shown(path)}: files can't be locked there, so no other call may work on it")
-            if os.path.samestat(os.fstat(file.fileno()), os.stat(path)):
-                yield file
-                return
-
-
 def fault_of(made: str, status: int, said: bytes, faults: re.Pattern[str]) -> str:
     """Returns the fault of the input of a program that ended so; nothing after a success. Fails on any other outcome."""
     if status == 0:
@@ -106,33 +88,17 @@ def told_in(rows: Sequence[Row]) -> list[Row]:
     return [row for row in rows if str(row["status"]) == "0"]
 
 
-class Counted:
-    """Reports the number of rows on standard error: as a progress line on a terminal, else at each tenth if the file is kept."""
-
-    def __init__(self, all_rows: int, is_passing: bool) -> None:
-        self.all_rows, self.count, self.told = all_rows, 0, 0
-        self.is_silent = is_passing or Program.is_quiet or can_be_shown()
-        self.since = time.monotonic()
-
-    def how_far(self) -> float:
-        """Returns the share of the work that is done, by finished rows and by how far the running programs have read."""
-        shares = (share_of(file) or 0 for file in list(read_now))
-        return min(1, (self.count + sum(shares)) / self.all_rows)
-
-    def step(self) -> None:
-        self.count += 1
-        tenth = self.count * 10 // self.all_rows
-        if tenth > self.told and not self.is_silent:
-            self.told = tenth
-            say(f"{self.count} of {self.all_rows} rows, {time.monotonic() - self.since:.0f} s")
+def how_far(count: int, all_rows: int) -> float:
+    """Returns the share of the work that is done, by finished rows and by how far the running programs have read."""
+    return min(1, (count + sum(share_of(file) or 0 for file in list(read_now))) / all_rows)
 
 
 class Combinations:
-    """The rows of a tool. The first value of a key is a file, the second identifies its contents, and the others are settings; `row_of` makes the
-    row of a program and a key, or fails."""
+    """The rows of a tool. The first value of a key is a file, the second identifies its contents, and the others are settings; after the key come
+    the status, the fault and numbers. `row_of` makes the row of a program and a key, or fails."""
 
     def __init__(self, tool: str, key: list[str], told: list[str], row_of: Callable[[str, Key], Row]) -> None:
-        self.tool = tool
+        self.tool, self.numbers = tool, told[2:]
         self.key, self.columns, self.row_of = key, [*key, *told], row_of
         self.head = ",".join(self.columns) + "\n"
 
@@ -145,9 +111,23 @@ class Combinations:
             return None, f"{' '.join([shown(key[0]), *words])}: {why(error)}"
 
     def line_of(self, row: Row) -> str:
-        text = io.StringIO()
-        csv.DictWriter(text, self.columns, lineterminator="\n").writerow(row)
+        text, name = io.StringIO(), str(row[self.key[0]])
+        quoted = {self.key[0]: f"'{name}" if FORMULA.match(name) else name}
+        csv.DictWriter(text, self.columns, lineterminator="\n").writerow({**row, **quoted})
         return text.getvalue()
+
+    def row_in(self, line: str) -> Row | None:
+        """Returns the row of a line; None if that isn't whole, or lacks a number of a result."""
+        try:
+            cells = cells_in(line)
+        except Refusal:
+            return None
+        row = dict(zip(self.columns, cells))
+        lacks = {name for name in self.numbers if not NUMBER.fullmatch(row.get(name, ""))}
+        may_lack = MAY_LACK if row.get("status") == "0" else lacks
+        if len(cells) != len(self.columns) or not lacks <= may_lack or any(row[name] for name in lacks):
+            return None
+        return {**row, self.key[0]: re.sub(f"^'(?={FORMULA.pattern})", "", cells[0])}
 
     def play(self, made: str, keys: Sequence[str]) -> int:
         """Makes these rows and prints them: GNU parallel runs this, on this machine or another."""
@@ -180,23 +160,15 @@ class Combinations:
                 try:
                     Signals.resume()
                     for raw in process.stdout or ():
-                        line = raw.decode("utf-8", "surrogateescape")
-                        row = next(csv.DictReader([line], self.columns))
-                        if line.endswith("\n") and None not in row and None not in row.values():
+                        row = self.row_in(raw.decode("utf-8", "surrogateescape"))
+                        if row:
                             yield row
                 finally:
                     process.terminate()
 
     def rows_here(self, made: str, keys: Sequence[Key], words: Words) -> Iterator[Row]:
         """Makes the rows on this machine, with a pool of threads that each run a program."""
-
-        def tries(key: Key) -> tuple[Row | None, str]:
-            row, told = self.try_row(made, key)
-            for _ in range(TRIES - 1):
-                row, told = (row, told) if row else self.try_row(made, key)
-            return row, told
-
-        for row, told in in_threads(tries, keys, words.jobs):
+        for row, told in in_threads(lambda key: self.try_row(made, key), keys, words.jobs):
             if row:
                 yield row
             else:
@@ -205,66 +177,34 @@ class Combinations:
     def key_of(self, row: Row) -> Key:
         return tuple(row[name] for name in self.key)
 
-    def rows_in(self, file: IO[bytes], path: str) -> dict[Key, Row]:
+    def rows_in(self, path: str) -> dict[Key, Row]:
         """Returns the complete rows of a file by their keys. Only a row that was cut short at the end is skipped."""
-        lines = list(io.StringIO(file.read().decode("utf-8", "surrogateescape"), newline="\n"))
+        with open(path, encoding="utf-8", errors="surrogateescape", newline="\n") as file:
+            lines = list(file)
         if lines and not lines[-1].endswith("\n"):
             lines.pop()
         if not lines or lines[0] != self.head:
-            raise Refusal(f"{shown(path)}: not a file of {self.tool}" + self.repaired_head(path, lines))
-        rows = list(csv.DictReader(lines[1:], self.columns))
-        for place, row in enumerate(rows, 2):
-            if None in row or None in row.values():
-                sed = f"sed -i {place}d {shlex.quote(shown(path))}"
-                how = f"`{sed}` removes it, and --resume makes the missing rows"
+            raise Refusal(f"{shown(path)}: not a file of {self.tool}")
+        rows = {}
+        for place, line in enumerate(lines[1:], 2):
+            row = self.row_in(line)
+            if not row:
+                how = "without this line --resume makes the missing rows"
                 raise Refusal(f"{shown(path)}: row {place} isn't a row of {self.tool}: {how}")
-        return {self.key_of(row): row for row in rows}
-
-    def repaired_head(self, path: str, lines: Sequence[str]) -> str:
-        """Returns the command that repairs a damaged first line, if the second one is a row."""
-        rows = list(csv.reader(lines[1:2]))
-        if not rows or len(rows[0]) != len(self.columns):
-            return ""
-        command = f"sed -i '1c {self.head.strip()}' {shlex.quote(shown(path))}"
-        return f"; if only its first line is damaged: `{command}` repairs it"
-
-    def append(self, path: str, row: Row) -> None:
-        """Appends a row. An incomplete line that a killed call left is removed."""
-        with locked(path) as file:
-            begins = file.seek(max(0, file.seek(0, os.SEEK_END) - 65536))  # longer than any row
-            file.truncate(end := begins + file.read().rindex(b"\n") + 1)
-            file.seek(end)
-            try:
-                file.write(self.line_of(row).encode("utf-8", "surrogateescape"))
-                file.flush()
-            except OSError:
-                file.truncate(end)
-                raise
-
-    def settle(self, path: str, keys: Sequence[Key]) -> dict[Key, Row]:
-        """Sorts the rows: those of `keys` come last, in order. Rows of files that have changed are removed."""
-        asked, settings = set(keys), {(key[0], *key[2:]) for key in keys}
-        with locked(path) as file:
-            rows = self.rows_in(file, path)
-            others = [row for key, row in rows.items() if key not in asked and (key[0], *key[2:]) not in settings]
-            own = [rows[key] for key in keys if key in rows]
-            write_whole(path, self.head + "".join(map(self.line_of, others + own)))
+            rows[self.key_of(row)] = row
         return rows
 
-    def play_missing(self, made: str, words: Words, rows: Mapping[Key, Row], missing: Sequence[Key]) -> None:
-        """Makes the missing rows and appends each as it finishes. If another file with the same contents has the row, it is copied."""
-        counted = Counted(len(missing), words.is_passing)
-        told = {key[1:]: row for key, row in rows.items()}
-        known = [{**told[key[1:]], self.key[0]: key[0]} for key in missing if key[1:] in told]
-        unknown = [key for key in missing if key[1:] not in told]
-        rows_by = self.rows_by_parallel if words.sshloginfile else self.rows_here
-        there = set()  # if GNU parallel runs a process again, its first rows come twice
-        with Progress(f"making {len(missing)} row{'s' * (len(missing) > 1)}", counted.how_far):
-            for row in itertools.chain(known, rows_by(made, unknown, words) if unknown else []):
-                if self.key_of(row) not in there:
+    def make_missing(self, made: str, words: Words, missing: Sequence[Key]) -> Iterator[Row]:
+        """Makes the missing rows, appends each to the file as it finishes, and yields it."""
+        rows_by, there = self.rows_by_parallel if words.sshloginfile else self.rows_here, set[Key]()
+        plural = "s" * (len(missing) > 1)
+        with Progress(f"making {len(missing)} row{plural}", lambda: how_far(len(there), len(missing))):
+            for row in rows_by(made, missing, words):
+                if self.key_of(row) not in there:  # if GNU parallel runs a process again, its first rows come twice
                     there.add(self.key_of(row))
-                    self.append(words.out, row)
-                    counted.step()
+                    with open(words.out, "ab") as file:  # a row that a killed call cuts is skipped
+                        file.write(self.line_of(row).encode("utf-8", "surrogateescape"))
+                    yield row
 
     def tell(self, words: Words, text: str) -> None:
         """Prints a line on standard error, if the file is kept."""
@@ -272,30 +212,34 @@ class Combinations:
             say(text)
 
     def begin(self, words: Words, keys: Sequence[Key]) -> dict[Key, Row]:
-        """Returns the rows that exist already."""
-        if os.path.lexists(words.out) and not words.resume:
+        """Returns the rows that exist already, of a file that ends in a whole row."""
+        is_there = os.path.lexists(words.out)
+        if is_there and not words.resume:
             raise Refusal(f"{shown(words.out)} exists: --resume continues it")
-        try:
-            write_whole(words.out, self.head, replaces=False)
-        except (Refusal, FileExistsError):
-            if not (words.resume and os.path.isfile(words.out)):
-                raise
-        with locked(words.out) as file:
-            rows = self.rows_in(file, words.out)
+        rows = self.rows_in(words.out) if is_there else {}
+        self.write(words.out, rows.values())
         others = {(key[0], *key[2:]) for key in rows} - {(key[0], *key[2:]) for key in keys}
         stay = f"; {len(others)} others of {shown(words.out)} stay" if others else ""
         self.tell(words, f"{len(keys)} rows, of which {len(set(keys) & set(rows))} are there{stay}")
         return rows
 
+    def write(self, path: str, rows: Iterable[Row]) -> None:
+        write_whole(path, self.head + "".join(map(self.line_of, rows)))
+
     def make(self, made: str, words: Words, keys: Sequence[Key]) -> list[Row]:
         """Makes the missing rows of these keys, or of a part of them; at the end the rows are in the order of their keys, after the other rows of
         the file."""
         keys = keys[words.part[0] - 1 :: words.part[1]] if words.part else keys
+        for path in {key[0] for key in keys}:
+            if set(path) & set("\r\n"):
+                raise Refusal(f"{shown(path)}: a name with a newline can't be in a row")
         rows = self.begin(words, keys)
         missing = [key for key in keys if key not in rows]
         if missing:
-            self.play_missing(made, words, rows, missing)
-        rows = self.settle(words.out, keys)
+            rows |= {self.key_of(row): row for row in self.make_missing(made, words, missing)}
+        asked, settings = set(keys), {(key[0], *key[2:]) for key in keys}
+        others = [row for key, row in rows.items() if key not in asked and (key[0], *key[2:]) not in settings]
+        self.write(words.out, [*others, *(rows[key] for key in keys if key in rows)])  # without those of changed files
         left = [key for key in keys if key not in rows]
         refused = sum(1 for key in keys if key in rows and str(rows[key]["status"]) != "0")
         self.tell(words, f"{len(keys) - len(left)} rows in {shown(words.out)}, of which {refused} are refused")

@@ -4,15 +4,17 @@ tests/cards/sources.txt has the line of Linux for each fact.
 
 from __future__ import annotations
 
+import re
 from collections.abc import Iterator, Sequence
 from dataclasses import dataclass
 from typing import Optional
 
-from fintaqush_tools.recording import Head
+from fintaqush_tools.recording import Head, number_in
 
 GAP, TIMER, NONE, UNKNOWN = "gap", "timer", "none", "unknown"
 LEAST = "interrupts.least_ns"  # of a device in a head: the least time between interrupts that a capture shows
 MOST_BATCH = 64  # packets, which the machine's --gro-batch takes
+HANDLER = 1500  # ns that the handler of an early interrupt takes, if none was recorded
 
 
 @dataclass(frozen=True)
@@ -32,6 +34,7 @@ class Driver:
     gro: bool = True  # it calls napi_gro_receive or napi_gro_frags
     gro_unless: str = ""  # the feature with which it doesn't
     heedless: bool = False  # it unmasks whatever napi_complete_done returns
+    early: bool = False  # it asks for interrupts before napi_complete_done
     spare: int = 0  # so many packets less than its entries a ring holds
 
     def accepts(self, usecs: int) -> bool:
@@ -59,12 +62,14 @@ DRIVERS = {
         UNKNOWN, (10, 10000), latched=1, latched_msix=1, gro_unless="large-receive-offload", heedless=True, spare=2
     ),
     # Without the feature VIRTIO_NET_F_NOTF_COAL it takes only 0, and a recording doesn't have that feature.
-    "virtio_net": Driver(TIMER, latched=0, latched_msix=0),
+    "virtio_net": Driver(TIMER, latched=0, latched_msix=0, early=True),
     "veth": Driver(latched=0),
     "tg3": Driver(UNKNOWN, (1, 1023), takes_zero=False, heedless=True),
     "be2net": Driver(UNKNOWN, (1, 128), heedless=True),
     "mana": Driver(heedless=True),
 }
+# Of these drivers only that is known: they unmask whatever napi_complete_done returns.
+HEEDLESS = ("atlantic", "bcmgenet", "bnx2", "cxgb4", "fec", "forcedeth", "fsl_enetc", "mvneta", "qede")
 
 
 def name_in(head: Head, device: str) -> str:
@@ -77,20 +82,23 @@ def driver_in(head: Head, device: str) -> Optional[Driver]:
     return DRIVERS.get(name_in(head, device))
 
 
-def number_in(head: Head, key: str, otherwise: int = 0) -> int:
-    text = head.get(key, "")
-    return int(text) if text.isdigit() else otherwise
-
-
 def usecs_in(head: Head, device: str) -> int:
     return number_in(head, f"device.{device}.ethtool.coalesce.rx-usecs")
 
 
-def has_msix(head: Head, device: str) -> bool:
-    """Returns whether the device has an interrupt for each queue, which it has only with MSI-X."""
-    prefix = f"device.{device}.irq."
-    names = [value.lower() for key, value in head.items() if key.startswith(prefix) and key.endswith(".name")]
-    return any("rx" in name.replace(device.lower(), "") or "input" in name for name in names)
+def interrupts_in(head: Head, device: str) -> dict[str, str]:
+    """Returns the names of the recorded device's interrupts, by their numbers."""
+    keys = (
+        (re.fullmatch(rf"device\.{re.escape(device)}\.irq\.([0-9]{{1,9}})\.name", key), name)
+        for key, name in head.items()
+    )
+    return {found[1]: name for found, name in keys if found and name}
+
+
+def of_queues(head: Head, device: str) -> set[str]:
+    """Returns the names of the interrupts of the recorded device's receive queues; none without MSI-X."""
+    names = interrupts_in(head, device).values()
+    return {name for name in names if re.search("rx|input|comp", name.lower().replace(device.lower(), ""))}
 
 
 def latched_in(head: Head, device: str) -> Optional[int]:
@@ -98,7 +106,7 @@ def latched_in(head: Head, device: str) -> Optional[int]:
     driver = driver_in(head, device)
     if not driver:
         return None
-    return driver.latched_msix if has_msix(head, device) else driver.latched
+    return driver.latched_msix if of_queues(head, device) else driver.latched
 
 
 def least_in(head: Head, device: str) -> int:
@@ -120,11 +128,11 @@ def is_least_open(head: Head, device: str) -> bool:
 
 
 def options_of(head: Head, device: str) -> dict[str, int]:
-    """Returns the machine's options for what the recorded device's driver and card do; none if the driver is unknown. What isn't known
-    of a known driver is 0, and `notes_on` says so."""
+    """Returns the machine's options for what the recorded device's driver and card do; only what is known of an unknown driver. What
+    isn't known of a known driver is 0, and `notes_on` says so."""
     driver, usecs = driver_in(head, device), usecs_in(head, device)
     if not driver:
-        return {}
+        return {"heedless": 1} if name_in(head, device) in HEEDLESS else {}
     calls_gro = driver.gro and head.get(f"device.{device}.ethtool.feature.{driver.gro_unless}") != "on"
     batch = number_in(head, "sysctl.net.core.gro_normal_batch", 8) if calls_gro else 0
     is_timer = driver.coalescing == TIMER and usecs not in driver.modes
@@ -135,6 +143,7 @@ def options_of(head: Head, device: str) -> dict[str, int]:
         "latched": latched_in(head, device) or 0,
         "gro-batch": min(MOST_BATCH, batch),
         "heedless": int(driver.heedless),
+        "early": HANDLER * driver.early,
     }
 
 
@@ -162,6 +171,8 @@ def notes_on(head: Head, device: str) -> Iterator[str]:
     if not driver:
         if name:
             yield f"the driver {name} is unknown: when its card interrupts, and which rx-usecs it takes"
+        if name in HEEDLESS:
+            yield f"{name} unmasks whatever napi_complete_done returns, so deferral saves no interrupt"
         return
     if usecs in driver.modes:
         yield f"rx-usecs {usecs} of {name} is a mode, in which the driver chooses the time between interrupts itself"

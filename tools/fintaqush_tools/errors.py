@@ -34,6 +34,20 @@ class Refusal(Exception):
         self.status = status
 
 
+class About:
+    """A context manager that begins the message of a refusal in its block with what it is about: a file, or a line of it."""
+
+    def __init__(self, what: object) -> None:
+        self.what = what
+
+    def __enter__(self) -> None:
+        pass
+
+    def __exit__(self, _kind: type[BaseException] | None, error: BaseException | None, *_: object) -> None:
+        if isinstance(error, Refusal):
+            error.args = (f"{shown(self.what)}: {error}",)
+
+
 class Interrupted(BaseException):
     """A signal, by its number, that ends the program; `more` is what the user should know besides."""
 
@@ -72,6 +86,11 @@ class Signals:
             for process in list(running):
                 process.kill()
             raise Interrupted(number)
+
+    @classmethod
+    def forget(cls) -> None:
+        """Forgets the signal, so that the program goes on until the next one."""
+        cls.is_over, cls.number = False, 0
 
     @classmethod
     def lost(cls, unraisable: sys.UnraisableHookArgs) -> None:

@@ -15,6 +15,16 @@ if TYPE_CHECKING:
     from io import BufferedReader
     from typing import IO, AnyStr
 
+TRACE, ROWS = b"moment,device,event", b"trace,sum,budget,"
+# What a file that begins so is, and what reads it.
+KINDS = {
+    b"ns,device,bytes": "arrivals, which fintaqush what-if reads",
+    TRACE: "a trace, which fintaqush replay reads",
+    b"row,moment,device,state": "a series of fintaqush series",
+    ROWS: "rows of fintaqush sweep, which fintaqush compare reads",
+    b"fintaqush-recording ": "a recording, which fintaqush advise, costs and from-ftrace read",
+    b'{"version": ': "results of --json, which fintaqush compare reads",
+}
 MOST_BYTES = 64 * 1024 * 1024  # of a trace or a report; the largest trace has 7 MB
 
 
@@ -102,13 +112,6 @@ def write_out(path: str | None, text: str | Iterable[str]) -> None:
             sys.stdout.flush()
 
 
-def told_notes(name: str, notes: list[str]) -> str:
-    """Returns the line with the number of notes in a file, the first of them, and the file's name."""
-    first = "".join(f"\n  {shown(note)}" for note in notes[:3])
-    count = f"{len(notes)} note{'s' * (len(notes) != 1)}"
-    return f"{count} in {shown(name)}" + (", which begins" if len(notes) > 3 else "") + f"{':' * bool(notes)}{first}"
-
-
 def check_input(path: str) -> None:
     """Fails if the input file doesn't exist. `-` is standard input."""
     if path == "-" and sys.stdin is None:
@@ -129,6 +132,23 @@ def check_regular(path: str, reason: str) -> None:
 def opened(path: str) -> BufferedReader:
     """Opens a file, or standard input for `-`."""
     return open(sys.stdin.fileno() if path == "-" else path, "rb", closefd=path != "-")
+
+
+def kind_of(text: bytes) -> str:
+    """Returns what a text is, and what reads it, by its first line; nothing if that isn't known."""
+    first = text.partition(b"\n")[0]
+    if b"used_p99" in first.split(b","):
+        return "a table of fintaqush what-if, which fintaqush compare reads and web/index.html draws"
+    return next((what for begin, what in KINDS.items() if first.startswith(begin)), "")
+
+
+def read_trace(path: str) -> bytes:
+    """Returns the contents of a file, which may be a trace. Fails if it is known to be something else."""
+    text = read_bytes(path)
+    what = kind_of(text[:1000])
+    if what not in ("", KINDS[TRACE]):
+        raise Refusal(f"{shown(path)}: not a trace, but {what}")
+    return text
 
 
 def bytes_in(file: IO[bytes]) -> bytes:

@@ -6,14 +6,16 @@ import re
 from collections import Counter
 from collections.abc import Iterable, Iterator, Mapping
 from dataclasses import dataclass, field
-from typing import Optional
+from typing import Generic, Optional, TypeVar
 
 from fintaqush_tools.errors import Refusal
 from fintaqush_tools.recording import BACKLOG, Event, Head, fields_by
-from fintaqush_tools.texts import shown
+from fintaqush_tools.texts import is_number, shown
 
+Sent = TypeVar("Sent")  # what is kept of a sent packet
 Place = tuple[str, str]  # the device of an instance, and the address of its napi_struct
 ANY: Place = ("", "")  # all instances, if a recording lists none
+EARLY = 100_000  # ns by which what happens to a packet may precede its sender's event, which follows the sending
 
 FIELDS = {"device", "napi", "napi_id", "queue", "kind", "polls", "packets", "on"}
 ON = re.compile(r"(\d{1,6}):(\d{1,15}):(\d{1,15})")
@@ -65,7 +67,7 @@ def parsed(key: str, text: str) -> NapiInstance:
         if found:
             each.polls[int(found[1])], each.packets[int(found[1])] = int(found[2]), int(found[3])
     for name in ("napi_id", "queue"):
-        if values.get(name, "").isdigit():
+        if is_number(values.get(name, "")):
             setattr(each, name, int(values[name]))
     return each
 
@@ -143,9 +145,9 @@ class Instances:
         yield from order
 
 
-class Routes:
+class Routes(Generic[Sent]):
     """Finds the instance that gets a packet which the sender of a pair sends: the only one of its device, or that of the packet's queue, or the
-    backlog of the processor that receives the packet later. `pairs` has the device at which each sender's packets arrive.
+    backlog of the processor that receives the packet. `pairs` has the device at which each sender's packets arrive.
     """
 
     only: dict[str, Place]
@@ -153,13 +155,18 @@ class Routes:
     queues: dict[str, int]
     backlogs: dict[int, Place]
     moved: set[str]
+    unplaced: dict[str, Sent]  # by address: sent packets that aren't received yet
+    early: dict[
+        str, tuple[Place, int]
+    ]  # by address: packets that were received, and when, whose sender's event isn't known yet
 
-    STARTED = fields_by(r"dev=(\S+) queue_mapping=(\d+) skbaddr=(\S+)")
+    STARTED = fields_by(r"dev=(\S+) queue_mapping=(\d{1,9}) skbaddr=(\S+)")
     NAMED = fields_by(r"dev=(\S+) skbaddr=(\S+)")
 
     def __init__(self, head: Head, pairs: Mapping[str, str]) -> None:
         self.receivers, self.are_known = dict(pairs), False
         self.only, self.by_queue, self.queues, self.moved = {}, {}, {}, set()
+        self.unplaced, self.early = {}, {}
         own: dict[str, list[NapiInstance]] = {}
         for each in instances_in(head):
             self.are_known = True
@@ -175,25 +182,42 @@ class Routes:
                 self.only[device] = some[0].place
             self.by_queue |= {(device, each.queue): each.place for each in some if each.queue is not None}
 
+    def cut(self) -> None:
+        """Forgets the packets that were being sent."""
+        self.queues.clear()
+        self.unplaced.clear()
+        self.early.clear()
+
     def start(self, event: Event) -> None:
         """Stores the queue of a packet that is being sent."""
         sender, queue, packet = event.parts(self.STARTED)
         if sender in self.receivers:
             self.queues[packet] = int(queue)
 
-    def of_sent(self, sender: str, event: Event) -> tuple[Place | None, str]:
-        """Returns the instance that gets a sent packet, and the packet's address; no instance if only its reception shows that."""
+    def of_sent(self, sender: str, event: Event, sent: Sent | None) -> Place | None:
+        """Returns the instance that gets a sent packet, or None if it isn't received yet, and only that will show the instance: `of_received` returns
+        `sent` then. A packet that is dropped at once has none."""
         device = self.receivers[sender]
         if not self.are_known or device in self.only:
-            return self.only.get(device, ANY), ""
+            return self.only.get(device, ANY)
         _, packet = event.parts(self.NAMED)
-        queue = self.queues.pop(packet, -1)
-        return self.by_queue.get((device, queue)), packet
+        place, (early, time) = self.by_queue.get((device, self.queues.pop(packet, -1))), self.early.pop(
+            packet, (None, 0)
+        )
+        if place or early and event.time - time < EARLY:
+            return place or early
+        if sent is not None:
+            self.unplaced[packet] = sent
+        return None
 
-    def of_received(self, event: Event) -> tuple[Place | None, str]:
-        """Returns the backlog that a received packet was in, if a backlog gets its device's packets, and the packet's address."""
+    def of_received(self, event: Event) -> tuple[Place | None, Sent | None]:
+        """Returns the backlog that a received packet was in, if a backlog gets its device's packets, and what `of_sent` was given for the packet, unless the
+        sender's event comes only later."""
         device, packet = event.parts(self.NAMED)
-        return (self.backlogs.get(event.cpu), packet) if device in self.moved else (None, packet)
+        place = self.backlogs.get(event.cpu) if device in self.moved else None
+        if place and packet not in self.unplaced:
+            self.early[packet] = place, event.time
+        return place, self.unplaced.pop(packet, None) if place else None
 
     def of_poll(self, device: str, napi: str) -> Place:
         return (device, napi) if self.are_known else ANY

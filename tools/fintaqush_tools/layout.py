@@ -4,6 +4,7 @@ processor of rank r is device r + 1 + M * k."""
 from __future__ import annotations
 
 import bisect
+from array import array
 from collections import Counter, defaultdict
 from collections.abc import Mapping, Sequence
 
@@ -50,21 +51,19 @@ class Layout:
         seen = self.seen
         if not seen.senders or seen.is_by_thread:
             return
-        began = {
-            packet: seen.begun[poll]
-            for matched in self.deliveries.values()
-            for packet, poll, _ in matched
-            if not seen.by_timer[poll]
-        }
+        began = array("q", [-1]) * len(seen.sent)  # when its poll began, or 0; -1 if it waited for the timer
+        for matched in self.deliveries.values():
+            for packet, poll, _ in matched:
+                began[packet] = -1 if seen.by_timer[poll] else seen.begun[poll]
         for packet, (time, cpu) in enumerate(zip(seen.sent, cpus)):
             if seen.sent_on[packet] != cpu:
                 continue
             self.own_packets += 1
-            if packet in began or not seen.held.deferrals:
+            if began[packet] >= 0 or not seen.held.deferrals:
                 entries = seen.entries[cpu]
                 at = bisect.bisect_left(entries, time)
                 entry = entries[at] if at < len(entries) else time
-                seen.sent[packet] = max(time, min(entry, began.get(packet) or entry))
+                seen.sent[packet] = max(time, min(entry, began[packet] if began[packet] > 0 else entry))
 
     def is_sent_here(self) -> bool:
         """Returns whether the processors that poll sent most of the packets."""

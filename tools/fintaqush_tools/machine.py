@@ -21,11 +21,32 @@ Option = tuple[int, int, Union[int, str]]
 OPTIONS: dict[str, Option] = {it["name"]: (it["least"], it["most"], it["default"]) for it in TABLE}
 MEANS: dict[str, str] = {it["name"]: it["what"] for it in TABLE}
 IN_NS = tuple(it["name"] for it in TABLE if it["unit"] == "ns")
-NAMES = ("interrupt", "poll", "packet", "use", "wake", "app-wake", "take", "timer", "timer-wake")
+NAMES = (
+    "interrupt",
+    "poll",
+    "packet",
+    "use",
+    "wake",
+    "app-wake",
+    "take",
+    "timer",
+    "timer-wake",
+    "early",
+    "poll-wake",
+    "arm",
+)
 COSTS = tuple(name for name in NAMES if name in OPTIONS)
+# Two options of which one has to be 0, and the reason.
+EXCLUDES = {
+    **dict.fromkeys(
+        [("rx-gap", "rx-nsecs"), ("rx-gap", "rx-frames")],
+        "a card keeps a least time between interrupts, or waits for more packets",
+    ),
+    ("early", "heedless"): "a driver asks for interrupts before napi_complete_done, or after it in any case",
+}
 LINES = ("device", "processor", "time", "application", "total")
 SHARES = ("interrupt", "poll", "use", "idle")
-PERCENTILES = {"p50": "wait50", "p99": "wait99", "p999": "wait999"}
+PERCENTILES = {"p50": "wait50", "p90": "wait90", "p99": "wait99", "p999": "wait999"}
 WAITS = [f"{end}_{name}" for end in ("delivered", "used") for name in PERCENTILES]
 TOTALS = ("arrived", "dropped", "refused", "used")
 COUNTS = ("interrupts", "timers", "runs", "polls", "squeezed", "late")
@@ -39,7 +60,7 @@ ARE = {
     **{
         f"{end}_{name}": f"the {per_cent}th percentile of waits from arrival to {what}, in ns, of the {of} where it is the greatest"
         for end, what, of in (("delivered", "delivery by a poll", "device"), ("used", "the end of use", "processor"))
-        for name, per_cent in (("p50", "50"), ("p99", "99"), ("p999", "99.9"))
+        for name, per_cent in (("p50", "50"), ("p90", "90"), ("p99", "99"), ("p999", "99.9"))
     },
     "interrupt_percent": "the share of all processors' time that interrupts and timers take, in %",
     "poll_percent": "the share of all processors' time that polls take, in %",
@@ -71,6 +92,17 @@ def default_of(name: str, settings: Mapping[str, Any]) -> int:
     if isinstance(default, int):
         return default
     return int(settings[default]) if default in settings else default_of(default, settings)
+
+
+def misfit(settings: Mapping[str, Any]) -> str:
+    """Returns why napi_machine rejects settings of which each is in its range, or an empty text if it accepts them."""
+    value = {name: int(settings[name] if name in settings else default_of(name, settings)) for name in OPTIONS}
+    for (one, other), reason in EXCLUDES.items():
+        if value[one] and value[other]:
+            return f"--{one} {value[one]} excludes --{other} {value[other]}: {reason}"
+    if value["take"] > value["packet"]:
+        return f"--take {value['take']} is above --packet {value['packet']}, of which it is a part"
+    return ""
 
 
 def lines_of(report: str) -> dict[str, list[dict[str, int]]]:

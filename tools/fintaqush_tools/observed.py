@@ -15,6 +15,7 @@ from typing import Any
 
 from fintaqush_tools.errors import Refusal
 from fintaqush_tools.processes import ran
+from fintaqush_tools.recording import DEVICE_NAME, NAMESPACE_NAME
 from fintaqush_tools.texts import shown
 
 COUNTED = {"processed": 0, "dropped": 1, "squeezed": 2, "rps": 9, "flow_limit": 10}  # columns of /proc/net/softnet_stat
@@ -60,9 +61,10 @@ def output_of(command: Sequence[str]) -> str:
     return out.decode("utf-8", "replace") if status == 0 else ""
 
 
-def check_device(name: str) -> None:
-    if not re.fullmatch(r"[^\s/:-][^\s/:]{0,14}", name):
-        raise Refusal(f"--device {shown(name)}: not a device name")
+def check_device(name: str, option: str = "--device") -> None:
+    if not re.fullmatch(DEVICE_NAME, name):
+        what = "at most 15 printable ASCII characters without blanks, / and :"
+        raise Refusal(f"{option} {shown(name)}: not a device name, which has {what}")
 
 
 def check_namespace(netns: str | None) -> None:
@@ -70,7 +72,7 @@ def check_namespace(netns: str | None) -> None:
         return
     if not shutil.which("ip"):
         raise Refusal("--netns needs ip, which isn't installed (Debian: apt install iproute2)")
-    if "/" in netns or netns.startswith("-") or not os.path.exists(f"/run/netns/{netns}"):
+    if not re.fullmatch(NAMESPACE_NAME, netns) or not os.path.exists(f"/run/netns/{netns}"):
         raise Refusal(f"--netns {shown(netns)}: there is no such network namespace; `ip netns` lists them")
 
 
@@ -121,7 +123,7 @@ def interrupts_of(name: str) -> Iterator[tuple[str, str]]:
     real = os.path.realpath(f"/sys/class/net/{name}/device")
     names = {line.split(":")[0].strip(): line.split()[-1] for line in lines_in_proc("interrupts") if ":" in line}
     for folder in (real, os.path.dirname(real)):
-        for irq in sorted(glob.glob(f"{folder}/msi_irqs/*"), key=lambda path: int(os.path.basename(path))):
+        for irq in sorted(glob.glob(f"{glob.escape(folder)}/msi_irqs/*"), key=lambda path: int(os.path.basename(path))):
             number = os.path.basename(irq)
             yield f"irq.{number}.name", names.get(number, "")
             for end in ("smp_affinity_list", "effective_affinity_list"):

@@ -4,7 +4,6 @@ from __future__ import annotations
 
 import argparse
 import contextlib
-import os
 import re
 import sys
 from collections.abc import Callable, Sequence
@@ -86,7 +85,7 @@ class Parser(argparse.ArgumentParser):
             raise Refusal(message)
         with contextlib.suppress(OSError):  # a standard error that takes nothing changes no status
             self.print_usage(sys.stderr)
-            sys.stderr.write(f"{self.prog}: error: {message}\n")
+            sys.stderr.write(f"{self.prog}: error: {shown(message)}\n")
         self.exit(BAD_USAGE)
 
 
@@ -175,11 +174,5 @@ def add_force(parser: Parser, names: str) -> None:
 
 def add_raise(parser: argparse.ArgumentParser, more: str = "") -> None:
     """Adds the option for the runs that the kernel would add."""
-    text = f"add {more}the runs that the kernel would make, as fintaqush raise does"
+    text = f"add {more}the runs that the kernel would make after a run that leaves devices on the poll list"
     parser.add_argument("--raise", action="store_true", dest="raised", help=text)
-
-
-def require_end(words: Words, option: str, name: str | None, ends: Sequence[str]) -> None:
-    """Rejects the name of a picture that ends otherwise."""
-    if name and os.path.splitext(name)[1] not in ends:
-        words.error(f"{option}: a name that ends in .png, .svg or .html")

@@ -30,5 +30,5 @@ def version() -> str:
 
 def usage_text(called: str) -> str:
     """Returns the usage text of the launcher, with the name that it was called by."""
-    with open(f"{TOP}/docs/usage.txt", encoding="utf-8") as file:
+    with open(f"{TEMPLATES}/replay.txt", encoding="utf-8") as file:
         return with_pages(file.read().replace("./replay", called))

@@ -5,15 +5,17 @@ from __future__ import annotations
 import bisect
 from collections import Counter
 from collections.abc import Collection, Iterable, Iterator, Mapping, Sequence
+from itertools import chain
 from typing import Any
 
+from fintaqush_tools import drivers
 from fintaqush_tools.arrivals import arrivals_text
 from fintaqush_tools.errors import Refusal
 from fintaqush_tools.layout import Layout
 from fintaqush_tools.machine import option_words, values_of
 from fintaqush_tools.processes import ran
 from fintaqush_tools.receiving import Receiving
-from fintaqush_tools.recording import Head
+from fintaqush_tools.recording import Head, rise_of
 from fintaqush_tools.texts import last_line, shown
 
 Compared = tuple[str, float, float, float]  # name, measured value, predicted value, error in %
@@ -21,31 +23,38 @@ Compared = tuple[str, float, float, float]  # name, measured value, predicted va
 # For each measured value: its name in the machine's report, its unit, and the divisor for that unit.
 MEASURED = {
     "dropped": ("packets", 1),
+    "interrupts": ("interrupts", 1),
     "polls": ("polls", 1),
     "runs": ("runs", 1),
     "squeezed": ("runs", 1),
     "delivered_p50": ("us", 1000),
+    "delivered_p90": ("us", 1000),
     "delivered_p99": ("us", 1000),
     "used_p50": ("us", 1000),
+    "used_p90": ("us", 1000),
     "used_p99": ("us", 1000),
     "poll_percent": ("%", 1),
 }
 TOLD = {
     "dropped": "dropped",
+    "interrupts": "interrupts",
     "polls": "polls",
     "runs": "runs",
     "squeezed": "squeezed runs",
     "delivered_p50": "wait to delivery, p50, us",
+    "delivered_p90": "wait to delivery, p90, us",
     "delivered_p99": "wait to delivery, p99, us",
     "used_p50": "wait to the end of use, p50, us",
+    "used_p90": "wait to the end of use, p90, us",
     "used_p99": "wait to the end of use, p99, us",
     "poll_percent": "polls, % of the time",
 }
-COUNTS = {"dropped", "polls", "runs", "squeezed"}
+PARTS = {"p50": 500, "p90": 900, "p99": 990}  # per mille of the waits
+COUNTS = {"dropped", "interrupts", "polls", "runs", "squeezed"}
 GRADES = ((15, "good"), (40, "fair"))  # the largest error in % for each grade
 LATE = 30_000  # ns by which one in a hundred packets may always be late, because of interrupts and hypervisors
 SIZE = 60  # bytes of an arrival, which the machine doesn't use
-FEW = 100  # drops and timers below one in FEW packets aren't compared by ratio
+FEW = 100  # drops, interrupts and timers below one in FEW packets aren't compared by ratio
 
 
 def percentile(values: Sequence[float], per_mille: int) -> float:
@@ -63,8 +72,17 @@ def arrivals_at(seen: Receiving, numbers: Mapping[str, int] | None = None, visib
 
 def arrivals_of(times: Iterable[int], devices: Iterable[int]) -> str:
     """Returns the arrivals at these times; those of one time stay in order."""
-    rows = sorted((time, place, device) for place, (time, device) in enumerate(zip(times, devices)))
-    return "".join(arrivals_text((time, device, SIZE) for time, _, device in rows))
+    at, of = list(times), list(devices)
+    order = sorted(range(len(at)), key=at.__getitem__)
+    return "".join(arrivals_text((at[place], of[place], SIZE) for place in order))
+
+
+def first_of(arrivals: str, packets: int) -> str:
+    """Returns the arrivals of the first packets, so many at most."""
+    end = 0
+    for _ in range(packets + 1):
+        end = arrivals.find("\n", end) + 1 or len(arrivals)
+    return arrivals[:end]
 
 
 def visible_times(seen: Receiving) -> Iterator[int]:
@@ -90,10 +108,12 @@ def measured_of(
         "dropped": seen.dropped,
         "polls": len(seen.ended),
         "runs": seen.runs,
-        "squeezed": sum(squeezed_on(head, processor) for processor in seen.processors),
+        "squeezed": squeezed_on(head, *seen.processors),
         "timers": sum(seen.timers[processor] for processor in seen.processors),
         "poll_percent": seen.poll_percent(),
     }
+    if interrupts := interrupts_of(seen, head):
+        values["interrupts"] = interrupts
     if layout:
         values |= waits_at(layout, layout.major(), packet)
     else:
@@ -101,24 +121,28 @@ def measured_of(
     return values | percentiles_of("used", used or seen.used())
 
 
-def squeezed_on(head: Head, processor: int) -> int:
-    """Returns how many runs on a processor were squeezed."""
-    before, after = map(int, head.get(f"softnet.{processor}.squeezed", "0 0").split())
-    return after - before
+def interrupts_of(seen: Receiving, head: Head) -> int:
+    """Returns how many interrupts the cards that polled raised for received packets. Their handlers have names that the head has, or the device's."""
+    names = (drivers.of_queues(head, device) or drivers.interrupts_in(head, device).values() for device in seen.polled)
+    known, own = set(chain.from_iterable(names)), tuple(seen.polled)
+    return sum(count for name, count in seen.handled.items() if name in known or not known and name.startswith(own))
+
+
+def squeezed_on(head: Head, *processors: int) -> int:
+    """Returns how many runs on these processors were squeezed."""
+    return sum(rise_of(head, f"softnet.{processor}.squeezed") or 0 for processor in processors)
 
 
 def percentiles_of(name: str, pairs: Iterable[tuple[int, float]]) -> dict[str, float]:
     waits = sorted(end - time for time, end in pairs)
-    return {f"{name}_p50": percentile(waits, 500), f"{name}_p99": percentile(waits, 990)} if waits else {}
+    return {f"{name}_{each}": percentile(waits, part) for each, part in PARTS.items()} if waits else {}
 
 
 def waits_at(layout: Layout, devices: Collection[int], packet: float) -> dict[str, float]:
     """Returns the greatest percentiles of the waits to delivery at these devices, if they are known."""
     known = [waits for device, waits in layout.waits(packet).items() if device in devices]
     return {
-        name: max(percentile(waits, part) for waits in known)
-        for name, part in (("delivered_p50", 500), ("delivered_p99", 990))
-        if known
+        f"delivered_{name}": max(percentile(waits, part) for waits in known) for name, part in PARTS.items() if known
     }
 
 
@@ -157,9 +181,9 @@ def predicted(made: str, arrivals: str | bytes, settings: Mapping[str, Any]) -> 
 
 
 def base_of(name: str, measured: float, packets: float) -> float:
-    """Returns the number by which a difference is divided: the measured value; for few drops, timers and squeezed runs a hundredth of the packets, at
-    least 10, because a ratio of small numbers says nothing."""
-    least = max(FEW / 10, packets / FEW) if name in ("dropped", "timers", "squeezed") else 1
+    """Returns the number by which a difference is divided: the measured value; for few drops, interrupts, timers and squeezed runs a hundredth of the
+    packets, at least 10, because a ratio of small numbers says nothing."""
+    least = max(FEW / 10, packets / FEW) if name in ("dropped", "interrupts", "timers", "squeezed") else 1
     return max(measured, least)
 
 
@@ -178,10 +202,11 @@ def compared(measured: Mapping[str, float], values: Mapping[str, Any]) -> list[C
 
 
 def judged_for(goal: str, end: str, has_limit: bool) -> set[str]:
-    """Returns the names of the values by which a fit is judged: the counts, and what the goal is about. `has_limit` is whether the 99th
-    percentile has one."""
+    """Returns the names of the values by which a fit is judged: the counts, of which polls and runs only for goal cpu, and what the goal is about.
+    `has_limit` is whether the 99th percentile has one."""
     waits = {f"{end}_p50"} if goal == "p99" else set()
-    return COUNTS | waits | {name_of(goal, end)} | ({f"{end}_p99"} if has_limit else set())
+    counts = COUNTS - (set() if goal == "cpu" else {"polls", "runs"})
+    return counts | waits | {name_of(goal, end)} | ({f"{end}_p99"} if has_limit else set())
 
 
 def name_of(goal: str, end: str) -> str:
@@ -236,7 +261,7 @@ def check_lines(rows: Sequence[Compared], packets: float) -> Iterator[str]:
 
 
 def objects_in(rows: Sequence[Compared], packets: float) -> list[dict[str, Any]]:
-    """Returns the same for a program: `of` is the number by which the difference was divided."""
+    """Returns these comparisons for the JSON output: `of` is the number by which the difference was divided."""
     return [
         {"name": name, "measured": measured, "predicted": value, "error": error, "of": base_of(name, measured, packets)}
         for name, measured, value, error in rows

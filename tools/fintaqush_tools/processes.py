@@ -3,6 +3,7 @@
 from __future__ import annotations
 
 import contextlib
+import functools
 import os
 import signal
 import subprocess
@@ -11,10 +12,11 @@ import threading
 from collections.abc import Generator, Iterator, Sequence
 from typing import IO, Any, NoReturn
 
+from fintaqush_tools.builds import elsewhere, not_built
 from fintaqush_tools.errors import Interrupted, Refusal, Signals, running, starting
 from fintaqush_tools.files import check_input
 from fintaqush_tools.places import HOME, IS_CHECKOUT, TOP
-from fintaqush_tools.progress import Program, Progress, share_of
+from fintaqush_tools.progress import Program, Progress, say, share_of
 from fintaqush_tools.settings import judge
 from fintaqush_tools.texts import last_line, shown
 
@@ -24,19 +26,29 @@ read_now: set[IO[bytes]] = set()  # the open files that our programs read
 
 
 def program(name: str, named: str | None = None) -> str:
-    """Returns the path of one of our programs, which is built if needed; or of the named one, or of the one in PROGRAM, SERIES or MACHINE."""
+    """Returns the path of one of our programs: of the named one, or of the one in PROGRAM, SERIES or MACHINE, else of our own."""
     named = named or os.environ.get(NAMED[name])
     if named or not IS_CHECKOUT:
         made = os.path.abspath(named or f"{HOME}/bin/{name}")
         if not (os.path.isfile(made) and os.access(made, os.X_OK)):
             raise Refusal(f"{shown(named or made)}: not a program")
         return made
-    environment = {**os.environ, "FINTAQUSH_NAME": Program.name}
-    build = [f"{TOP}/scripts/build.sh", name]
-    with at_work(build, stdin=subprocess.DEVNULL, env=environment) as process:
-        process.wait()
-    if process.returncode != 0:
-        raise Refusal(f"{name} couldn't be built")
+    return own_program(name)
+
+
+@functools.cache
+def own_program(name: str) -> str:
+    """Returns the path of the program that was proved here, or of one from elsewhere; if there is none, it is proved and built."""
+    if not_built([name]):
+        if other := elsewhere(name):
+            say(other[1])
+            return other[0]
+        environment = {**os.environ, "FINTAQUSH_NAME": Program.name}
+        build = [f"{TOP}/scripts/build.sh", name]
+        with at_work(build, stdin=subprocess.DEVNULL, env=environment) as process:
+            process.wait()
+        if process.returncode != 0:
+            raise Refusal(f"{name} couldn't be built")
     return f"{TOP}/crates/{name}/out/{name}"
 
 

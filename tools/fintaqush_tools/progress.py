@@ -1,11 +1,13 @@
-"""What a program prints on standard error: lines that begin with its name, and the progress of long work. It imports nothing that is
-slow to import."""
+"""What a program prints for people: lines on standard output; lines on standard error that begin with its name, and the progress of long
+work. Names in them may come from any file, so each is printed as `shown` has it. It imports nothing that is slow to import."""
 
 from __future__ import annotations
 
 import _thread
 import os
 import sys
+
+from fintaqush_tools.texts import shown
 
 TYPE_CHECKING = False  # `typing` is slow to import
 if TYPE_CHECKING:
@@ -28,10 +30,15 @@ class Program:
     is_busy = False  # of two nested progresses only the outer one is shown
 
 
+def tell(*lines: str) -> None:
+    """Prints lines on standard output."""
+    print(*map(shown, lines), sep="\n", flush=True)
+
+
 def say(text: str) -> None:
-    """Prints a line, if it can be written."""
+    """Prints a text of one or more lines, if it can be written."""
     with writing:
-        put(f"{cleared()}{Program.name}: {text}\n")
+        put(f"{cleared()}{Program.name}: " + "".join(f"{shown(line)}\n" for line in text.split("\n")))
 
 
 def put(text: str) -> None:
@@ -61,7 +68,7 @@ def show(text: str, is_over: Callable[[], bool] = lambda: False) -> None:
         elif not is_over():
             columns = os.get_terminal_size(2).columns or 80  # a terminal without a known width reports 0
             Program.is_shown = True
-            put(f"{CLEAR}{f'{Program.name}: {text}'[: columns - 1]}")
+            put(f"{CLEAR}{f'{Program.name}: {shown(text)}'[: columns - 1]}")
 
 
 class Progress:

@@ -7,44 +7,83 @@ from __future__ import annotations
 import bisect
 from array import array
 from collections import Counter, defaultdict
-from collections.abc import Collection, Iterable, Mapping, Sequence
-from typing import Optional, Union
+from collections.abc import Collection, Iterable, Iterator, Mapping, Sequence
+from typing import Any, Optional, Union
 
 from fintaqush_tools.arriving import BY_PAIR, BY_POLL, BY_STACK, KINDS, PollBegins, packet_of
-from fintaqush_tools.instances import ANY, Place, Routes
-from fintaqush_tools.recording import NET_RX, POLLED, SENT, SOFTIRQ, Event, Look, fields_by, is_by_thread
+from fintaqush_tools.instances import ANY, EARLY, Place, Routes
+from fintaqush_tools.recording import IS_NET_RX, POLLED, SENT, Event, Look, Reader, fields_by, is_by_thread
 from fintaqush_tools.tasks import Tasks
+from fintaqush_tools.timeline import BETWEEN, HANDLER
 
-Deliveries = dict[Place, list[tuple[int, int, int]]]  # for each instance what `matched` returns
 Marked = Union[int, tuple[str, int]]  # a processor, or a thread
 
+ADDRESS = fields_by(r".*?\bskbaddr=(\S+)")
 TIMER = fields_by(r"hrtimer=\S+ function=(\w+)")
+MERGED = 0.9  # share of the packets that the stack receives at least, unless GRO merges some
 FULL = 64  # packets, the weight of a poll
 MOST_UNREAD = 64  # packets that may wait for the program when a recording begins
 SLACK = 1.1  # by which the time between two interrupts may exceed the least one that a card keeps
-EARLY = 100_000  # ns: an arrival's event comes after the arrival, by at most this
 
 
-def agree(pairs: Sequence[tuple[float, float]]) -> bool:
-    """Returns whether, in each pair, the first time may be an arrival and the second a later event of the same packet."""
-    return sum(time > later for time, later in pairs) * 50 <= len(pairs) and all(
-        time <= later + EARLY for time, later in pairs
-    )
+def times() -> array[int]:
+    return array("Q")
+
+
+def agree(pairs: Iterable[tuple[float, float]]) -> bool:
+    """Returns whether the first time of each pair is the earlier one. An event is written after what happened, so a few times may be late."""
+    count = late = 0
+    for time, later in pairs:
+        count += 1
+        if time > later:
+            late += 1
+            if time > later + EARLY:
+                return False
+    return late * 50 <= count
+
+
+class Matched:
+    """The packets that an instance delivered, in that order: the index of each, that of its poll, and how many packets of the poll came after it."""
+
+    def __init__(self) -> None:
+        self.packets, self.polls, self.after = times(), times(), times()
+
+    def __iter__(self) -> Iterator[tuple[int, int, int]]:
+        return zip(self.packets, self.polls, self.after)
+
+    def __len__(self) -> int:
+        return len(self.packets)
+
+    def add(self, packets: array[int], poll: int, last: int) -> None:
+        """Adds packets of a poll, in which `last` packets came after the last one of these."""
+        self.packets.extend(packets)
+        self.polls.extend([poll] * len(packets))
+        self.after.extend(range(last + len(packets) - 1, last - 1, -1))
+
+    def extend(self, others: Matched) -> None:
+        self.packets.extend(others.packets)
+        self.polls.extend(others.polls)
+        self.after.extend(others.after)
+
+
+Deliveries = dict[Place, Matched]  # of each instance
 
 
 class Received:
     """A packet that a poll took: when it arrived by that poll, its device, its processor, the hash of its flow, whether a card's interrupt
-    asked for the poll, and the instance once it is known."""
+    asked for the poll, when the poll took it, and the instance once it is known."""
 
-    __slots__ = ("time", "device", "cpu", "flow", "by_card", "place")
+    __slots__ = ("time", "device", "cpu", "flow", "by_card", "taken", "place")
 
-    def __init__(self, time: int, device: str, cpu: int, flow: int, by_card: bool = False) -> None:
+    def __init__(self, time: int, device: str, cpu: int, flow: int, by_card: bool = False, taken: int = 0) -> None:
         self.time, self.device, self.cpu, self.flow, self.by_card, self.place = time, device, cpu, flow, by_card, ANY
+        self.taken = taken or time
 
 
 class Held:
     """Finds when packets may have come that waited in a card's ring until a timer of NAPI or of the card ended. They count as spread evenly over
-    the time since the poll before, because neither their arrival nor the card's interrupt is recorded."""
+    the time since the poll before took its last packet, because neither their arrival nor the card's interrupt is recorded.
+    """
 
     before: dict[Place, tuple[int, int, int]]
 
@@ -54,91 +93,104 @@ class Held:
         self.deferrals = options.get("defer-hard-irqs", 0) if flush else 0
         self.delay, self.gap = options.get("rx-nsecs", 0), options.get("rx-gap", 0)
         self.doubt = max(flush if self.deferrals else 0, self.gap) // 2  # ns by which an arrival may be off
-        # For each instance: the end of its last poll, how often its interrupt is still deferred, and when a poll last began that wasn't deferred.
+        # For each instance: when its last poll took a packet, or ended without one; how often its interrupt is still deferred, and when a poll last began that wasn't deferred.
         self.before = {}
 
     def spread(self, place: Place, packets: Sequence[Received], work: int, ended: int) -> bool:
         """Changes the arrivals of the packets that a poll took. Returns whether NAPI's timer asked for the poll."""
-        end, left, asked = self.before.get(place, (0, 0, 0))
+        since, left, asked = self.before.get(place, (0, 0, 0))
         begun = packets[0].time if packets else ended
         by_timer = left > 0 and not (
             packets and packets[0].by_card
         )  # some drivers unmask the card before the timer ends
         is_held = by_timer or begun - asked <= SLACK * self.gap
-        since = end if is_held else max(end, begun - self.delay)  # the first packet starts a card's timer
-        for number, packet in enumerate(packets if end else ()):
-            packet.time = since + int((begun - since) * (number + is_held / 2) / len(packets))
-        self.before[place] = ended, self.deferrals if work else max(0, left - 1), asked if by_timer else begun
+        looked = packets[-1].taken if packets else ended
+        begin = since if is_held else max(since, begun - self.delay)  # the first packet starts a card's timer
+        for number, packet in enumerate(packets if since else ()):
+            packet.time = begin + int((begun - begin) * (number + is_held / 2) / len(packets))
+        self.before[place] = looked, self.deferrals if work else max(0, left - 1), asked if by_timer else begun
         return by_timer
 
 
-class Receiving:
+class Gro:
+    """When packets left GRO, if it merges some: with the packet of their flow into which they were merged."""
+
+    def __init__(self) -> None:
+        self.within = dict[str, int]()  # by address: the numbers of packets that may be in it
+        self.left, self.passed = times(), 0  # for each packet when it left, or 0; how many packets the stack received
+
+    def enter(self, event: Event) -> None:
+        """Handles a packet that GRO gets, or that is sent to a device with GRO."""
+        (address,) = ADDRESS[event.said] or ("",)
+        self.within[address] = len(self.left)
+        self.left.append(0)
+
+    def leave(self, event: Event, devices: Collection[str]) -> None:
+        """Handles a packet that the stack gets, perhaps with others that were merged into it; those of other devices don't count."""
+        device, address = event.parts(Routes.NAMED)
+        self.passed += device in devices
+        if (number := self.within.pop(address, None)) is not None:
+            self.left[number] = event.time
+
+    def settle(self, packets: Sequence[tuple[int, int]], dropped: int) -> None:
+        """Ends the reading. `packets` has the time and the flow of each. If few were merged, nothing is kept."""
+        if not 0 < self.passed < MERGED * (len(self.left) - dropped):
+            self.left = times()
+        last: dict[int, int] = {}
+        for number, (time, flow) in enumerate(packets if self.left else ()):
+            left = self.left[number] or last.get(flow, 0)
+            last[flow] = self.left[number] = left if left >= time else 0
+
+    def sort(self, order: Sequence[int]) -> None:
+        """Reorders the packets: `order` has their numbers."""
+        self.left = array("Q", (self.left[number] for number in order if self.left))
+
+
+class Receiving(Reader):
     """The instances that poll `polled`, with packets of the devices `senders`; if no sender is known, packets that `receivers` receive.
     `routes` finds the instance of a sent packet; without it all polls count as those of one instance. `options` are the machine's for the
     recorded settings. Times are in ns.
     """
-
-    span: tuple[int, int]
-    sent: array[int]
-    sent_on: array[int]
-    sent_by: list[str]
-    sent_to: list[Optional[Place]]
-    sending: set[str]
-    unplaced: dict[str, int]
-    moved: Counter[int]
-    ended: array[int]
-    begun: array[int]
-    work: array[int]
-    on: array[int]
-    places: list[Place]
-    run: array[int]
-    interrupts: array[int]
-    entries: defaultdict[int, array[int]]
-    timers: Counter[int]
-    reads: list[tuple[int, int]]
-    reading: dict[int, int]
-    mark: dict[Marked, int]
-    received: dict[str, list[Received]]
-    taken: defaultdict[int, list[Received]]
-    packets_of: Counter[Place]
-    known: Optional[Deliveries]
 
     def __init__(
         self,
         polled: set[str],
         senders: set[str],
         receivers: Iterable[str] = (),
-        routes: Optional[Routes] = None,
+        routes: Optional[Routes[int]] = None,
         options: Optional[Mapping[str, int]] = None,
     ) -> None:
         self.polled, self.senders, self.span, self.held = polled, senders, (0, 0), Held(options or {})
         self.routes = routes or Routes({}, {sender: "" for sender in senders})
-        self.receivers, self.begins, self.received = set(receivers), PollBegins(), {BY_POLL: [], BY_STACK: []}
+        self.receivers, self.begins, self.gro = set(receivers), PollBegins(), Gro()
+        self.received: dict[str, list[Received]] = {BY_POLL: [], BY_STACK: []}
         # When each packet was sent, and 1 unless a full ring dropped it.
-        self.sent, self.has_come = (array("Q"), bytearray())
+        self.sent, self.has_come = times(), bytearray()
         # The processor, the device and the tasks that sent it; the instance that gets it, if that is known.
-        self.sent_on, self.sent_by, self.sending, self.sent_to = (array("H"), [], set(), [])
+        self.sent_on, self.sent_by, self.sending = array("H"), list[str](), set[str]()
+        self.sent_to = list[Optional[Place]]()
         self.flows = array("L")  # of a card's packets: the hash of the flow, or 0
-        # The packets whose instance isn't known yet; how many packets a backlog received since its last poll.
-        self.unplaced, self.moved, self.taken = {}, Counter(), defaultdict(list)
+        # By processor: how many packets a backlog received since its last poll, and those that a card's poll took.
+        self.moved, self.taken = Counter[int](), defaultdict[int, list[Received]](list)
         # Polls in which a backlog took packets of other devices too; packets that softirqs sent while a NAPI thread had the processor.
         self.shared = self.by_threads = 0
         # For each poll.
-        self.ended, self.begun, self.work, self.on, self.is_thread, self.by_timer = (
-            array("Q"),
-            array("Q"),
-            array("L"),
-            array("H"),
-            bytearray(),
-            bytearray(),
-        )
+        self.ended, self.begun, self.work, self.on = times(), times(), array("L"), array("H")
+        self.is_thread, self.by_timer = bytearray(), bytearray()
         # Its instance, and the number of its softirq among the entries on its processor, or 0.
-        self.places, self.run, self.packets_of = [], array("L"), Counter()
-        self.interrupts = array("Q")  # a card's that asked for polls
-        # By processor: when its softirqs began; its NAPI timers.
-        self.entries, self.timers = (defaultdict(lambda: array("Q")), Counter())
-        self.reads, self.reading = [], {}  # for each read its end, and the beginning of the next read by that task
-        self.mark, self.tasks, self.known = {}, Tasks(), None
+        self.places, self.run, self.packets_of = list[Place](), array("L"), Counter[Place]()
+        self.interrupts = times()  # a card's that asked for polls
+        # By processor: when its softirqs began; when interrupts that may ask for polls ended; its NAPI timers.
+        self.entries: defaultdict[int, array[int]] = defaultdict(times)
+        self.asked: defaultdict[int, array[int]] = defaultdict(times)
+        self.timers = Counter[int]()
+        # The name of the interrupt that each processor handles, and how many of each name asked for something.
+        self.handler, self.handled = dict[int, str](), Counter[str]()
+        # For each read its end, and the beginning of the next read by that task.
+        self.read_ended, self.next_begun, self.reading = times(), times(), dict[int, int]()
+        self.mark, self.tasks = dict[Marked, int](), Tasks()
+        self.known: Optional[Deliveries] = None
+        self.cuts = times()  # the beginnings of windows but the first
 
     def looks_at(self, name: str) -> list[Look]:
         """Returns what handles the events of this name."""
@@ -151,18 +203,45 @@ class Receiving:
             "softirq_exit": self.mark_softirq,
             "hrtimer_expire_entry": self.count_timer,
             "sched_switch": self.switch,
+            **{f"{kind}_exit": self.end_handler for kind in BETWEEN},
+            "irq_handler_entry": self.begin_interrupt,
+            "irq_handler_exit": self.end_interrupt,
         }
         if name.startswith("sys_"):
             return [self.end_read if name.startswith("sys_exit_") else self.begin_read]
         own = [looks[name]] if name in looks else []
         return [*self.begins.looks_at(name), *own] if self.receivers else own
 
+    def cut(self, time: int) -> None:
+        """Forgets what was under way, at the beginning of a window."""
+        self.mark.clear()
+        self.moved.clear()
+        self.taken.clear()
+        self.handler.clear()
+        self.reading.clear()
+        self.held.before.clear()
+        self.gro.within.clear()
+        self.routes.cut()
+        self.begins.cut()
+        self.cuts.append(time)
+
     def mark_softirq(self, event: Event) -> None:
-        if int(event.parts(SOFTIRQ)[0]) != NET_RX:
+        if not event.parts(IS_NET_RX):
             return
         self.mark[event.cpu] = event.time if event.name == "softirq_entry" else 0
         if self.mark[event.cpu]:
             self.entries[event.cpu].append(event.time)
+
+    def begin_interrupt(self, event: Event) -> None:
+        self.handler[event.cpu] = event.parts(HANDLER)[1] or ""
+
+    def end_interrupt(self, event: Event) -> None:
+        """Counts a card's interrupt, unless its handler left it to that of another card on the same line."""
+        self.handled[self.handler.get(event.cpu, "")] += "ret=handled" in event.said
+        self.end_handler(event)
+
+    def end_handler(self, event: Event) -> None:
+        self.asked[event.cpu].append(event.time)
 
     def count_timer(self, event: Event) -> None:
         found = TIMER[event.said]
@@ -170,7 +249,7 @@ class Receiving:
 
     def switch(self, event: Event) -> None:
         found = self.tasks.switch(event)
-        if found.last[0].startswith("napi/"):
+        if found.was_napi:
             self.mark["thread", found.last[1]] = 0  # some kernels record no switch from the idle task to it
         if found.is_napi:
             self.mark["thread", found.next[1]] = event.time
@@ -180,17 +259,18 @@ class Receiving:
 
     def begin_read(self, event: Event) -> None:
         if event.pid in self.reading:
-            self.reads.append((self.reading.pop(event.pid), event.time))
+            self.read_ended.append(self.reading.pop(event.pid))
+            self.next_begun.append(event.time)
 
     def add_packet(self, event: Event) -> None:
         sender, _, code = event.parts(SENT)
         if sender in self.senders:
-            place, packet = self.routes.of_sent(sender, event)
-            self.append_packet(event.time, code in ("0", "0x0"), event.cpu, sender, place)
+            has_come = code in ("0", "0x0")
+            place = self.routes.of_sent(sender, event, len(self.sent) if has_come else None)
+            self.append_packet(event.time, has_come, event.cpu, sender, place)
+            self.gro.enter(event)
             self.sending.add(event.task)
             self.by_threads += event.task.startswith("napi/")
-            if place is None and self.has_come[-1]:
-                self.unplaced[packet] = len(self.sent) - 1
 
     def append_packet(self, time: int, has_come: bool, cpu: int, by: str, place: Optional[Place]) -> None:
         self.sent.append(time)
@@ -200,19 +280,23 @@ class Receiving:
         self.sent_to.append(place)
 
     def add_received(self, event: Event) -> None:
-        if self.unplaced and event.name == BY_STACK:
-            place, address = self.routes.of_received(event)
-            if place and address in self.unplaced:
-                self.sent_to[self.unplaced.pop(address)] = place
-                self.moved[event.cpu] += 1
+        if self.routes.moved and event.name == BY_STACK:
+            place, number = self.routes.of_received(event)
+            self.moved[event.cpu] += place is not None
+            if number is not None:
+                self.sent_to[number] = place
+        elif event.name == BY_STACK:
+            self.gro.leave(event, self.polled)
         if not self.receivers:
             return
         name, _, flow = packet_of(event)
         if name in self.receivers:
-            by_card = self.begins.by_card.get(event.cpu, False)
-            packet = Received(self.begins.of(event), name, event.cpu, flow, by_card)
-            self.received[KINDS[event.name]].append(packet)
-            self.taken[event.cpu].append(packet)
+            by_card, own = self.begins.by_card.get(event.cpu, False), self.received[KINDS[event.name]]
+            own.append(Received(self.begins.of(event), name, event.cpu, flow, by_card, event.time))
+            if own is self.received[BY_POLL]:
+                self.gro.enter(event)
+            if own is self.received[BY_POLL] or not self.received[BY_POLL]:  # a driver without GRO
+                self.taken[event.cpu].append(own[-1])
 
     def add_poll(self, event: Event) -> None:
         napi, device, count, _ = event.parts(POLLED)
@@ -249,10 +333,15 @@ class Receiving:
         self.tasks.end(*self.span)
         self.leave_out({place for place in set(self.places) if place != ANY and not self.packets_of[place]})
         kind = next((kind for kind, packets in self.received.items() if packets), "")
-        if self.senders or not kind:
+        packets = self.received[kind] if kind and not self.senders else []
+        flows = [(packet.taken, packet.flow) for packet in packets] or [(time, 0) for time in self.sent]
+        self.gro.settle(flows, self.dropped)
+        if not packets:
             self.place_dropped()
             return ""
-        for packet in sorted(self.received[kind], key=lambda packet: packet.time):
+        order = sorted(range(len(packets)), key=lambda number: packets[number].time)
+        self.gro.sort(order)
+        for packet in (packets[number] for number in order):
             self.append_packet(packet.time, True, packet.cpu, packet.device, packet.place)
             self.flows.append(packet.flow)
         return kind
@@ -269,6 +358,7 @@ class Receiving:
         self.sent, self.has_come = array("Q", times), bytearray(b"\1" * count)
         self.sent_on, self.sent_by = array("H", [self.processor] * count), [device] * count
         self.sent_to = [self.places[0]] * count
+        self.gro.left = self.gro.left[self.waiting_before(range(count), range(len(self.ended))) :]
 
     def leave_out(self, places: Collection[Place]) -> None:
         """Removes the polls of some instances, if there are others."""
@@ -284,7 +374,7 @@ class Receiving:
         self.places = [self.places[number] for number in kept]
 
     def place_dropped(self) -> None:
-        """Gives packets whose instance isn't known, which a backlog dropped, to that of the packet before."""
+        """Assigns packets whose instance isn't known, because a backlog dropped them, to the instance of the packet before."""
         last = next((place for place in self.sent_to if place), ANY)
         for number, place in enumerate(self.sent_to):
             last = self.sent_to[number] = place or last
@@ -335,45 +425,42 @@ class Receiving:
     def place_of(place: Optional[Place]) -> Place:
         return place or ANY
 
-    def came_by_place(self) -> dict[Place, list[int]]:
+    def came_by_place(self) -> dict[Place, array[int]]:
         """Returns for each instance the indices of the packets that it got and that weren't dropped."""
-        came: dict[Place, list[int]] = {}
+        came: defaultdict[Place, array[int]] = defaultdict(times)
         for number, (place, has) in enumerate(zip(self.sent_to, self.has_come)):
             if has:
-                came.setdefault(self.place_of(place), []).append(number)
+                came[place or ANY].append(number)
         return came
 
-    def polls_by_place(self) -> dict[Place, list[int]]:
+    def polls_by_place(self) -> dict[Place, array[int]]:
         """Returns for each instance the indices of its polls."""
-        polls: dict[Place, list[int]] = {}
+        polls: defaultdict[Place, array[int]] = defaultdict(times)
         for number, place in enumerate(self.places):
-            polls.setdefault(place, []).append(number)
+            polls[place].append(number)
         return polls
 
     def waiting_before(self, came: Sequence[int], polls: Sequence[int]) -> int:
         """Returns how many packets of the first polls were sent before the recording began. A poll that isn't full takes all earlier packets."""
-        given, times = 0, [self.sent[number] for number in came]
+        given, sent = 0, array("Q", (self.sent[number] for number in came))
         least: Optional[int] = None
         for number in polls:
             given += self.work[number]
             if self.begun[number] and self.work[number] < FULL:
-                more = given - bisect.bisect_right(times, self.begun[number])
+                more = given - bisect.bisect_right(sent, self.begun[number])
                 least = more if least is None else min(least, more)
         return max(0, least or 0)
 
-    def matched(self, came: Sequence[int], polls: Sequence[int]) -> list[tuple[int, int, int]]:
-        """Returns for each packet that an instance delivered its index, that of its poll, and how many packets of the poll came after it, in the
-        order in which an instance delivers packets; nothing if packets and polls don't match."""
-        at = -self.waiting_before(came, polls)
-        found = []
+    def matched(self, came: array[int], polls: Sequence[int]) -> Matched:
+        """Returns the packets that an instance delivered; nothing if packets and polls don't match."""
+        at, found = -self.waiting_before(came, polls), Matched()
         for number in polls:
-            work = self.work[number]
-            found += [
-                (came[at + each], number, work - 1 - each) for each in range(max(0, -at), min(work, len(came) - at))
-            ]
-            at += work
-        times = [(self.sent[packet], self.ended[poll]) for packet, poll, _ in found]
-        return found if at <= len(came) and agree(times) else []
+            end = at + self.work[number]
+            if end > 0 and at < len(came):
+                found.add(came[max(0, at) : end], number, max(0, end - len(came)))
+            at = end
+        pairs = ((self.sent[packet], self.ended[poll]) for packet, poll, _ in found)
+        return found if at <= len(came) and agree(pairs) else Matched()
 
     def deliveries(self) -> Deliveries:
         """Returns the matched packets of each instance; those that are known already, because arrivals may have been
@@ -382,8 +469,29 @@ class Receiving:
             return self.known
         if not self.ended or ANY in self.places and len(set(self.sent_by)) != 1:
             return {}
-        came = self.came_by_place()
-        return {place: self.matched(came.get(place, []), polls) for place, polls in self.polls_by_place().items()}
+        came, polls = self.came_by_place(), self.polls_by_place()
+        return {place: self.matched_in_windows(came.get(place, times()), polls[place]) for place in polls}
+
+    def matched_in_windows(self, came: array[int], polls: array[int]) -> Matched:
+        """Returns what `matched` does in each window; nothing if they don't match in one of them."""
+        if not self.cuts:
+            return self.matched(came, polls)
+        found = Matched()
+        windows = zip(
+            self.in_windows(came, [self.sent[each] for each in came]),
+            self.in_windows(polls, [self.ended[each] for each in polls]),
+        )
+        for packets, own in windows:
+            some = self.matched(packets, own)
+            if not some and any(self.work[number] for number in own):
+                return Matched()
+            found.extend(some)
+        return found
+
+    def in_windows(self, many: Sequence[Any], at: Sequence[float]) -> list[Any]:
+        """Splits what was at these times into that of each window."""
+        edges = [bisect.bisect_left(at, cut) for cut in self.cuts]
+        return [many[begin:end] for begin, end in zip([0, *edges], [*edges, len(many)])]
 
     def delivered(self, cost: float = 0) -> list[tuple[int, float]]:
         """Returns for each delivered packet its sending and delivery times, in the order of the polls. A packet's delivery precedes the end of its
@@ -396,12 +504,24 @@ class Receiving:
         return [(self.sent[packet], self.delivery(packet, poll, after, cost)) for packet, poll, after in pairs]
 
     def delivery(self, packet: int, poll: int, after: int, cost: float) -> float:
-        """Returns when a poll delivered a packet."""
-        return max(self.sent[packet], self.ended[poll] - cost * after)
+        """Returns when a poll delivered a packet, or when it left GRO if GRO merged packets."""
+        left = self.gro.left[packet] if self.gro.left else 0
+        return max(self.sent[packet], left or self.ended[poll] - cost * after)
 
     def used(self) -> list[tuple[int, int]]:
         """Returns for each used packet its sending time and the beginning of the next read; nothing if reads and packets don't match."""
-        pairs, reads = self.delivered(), self.reads
+        pairs, found = self.delivered(), list[tuple[int, int]]()
+        of_pairs = self.in_windows(pairs, [time for time, _ in pairs])
+        for packets, reads in zip(of_pairs, self.in_windows([*zip(self.read_ended, self.next_begun)], self.read_ended)):
+            own = self.used_of(packets, reads)
+            if own is None:
+                return []
+            found += own
+        return found
+
+    @staticmethod
+    def used_of(pairs: Sequence[tuple[int, float]], reads: Sequence[tuple[int, int]]) -> list[tuple[int, int]] | None:
+        """Returns the used packets of a window; None if its reads and packets don't match."""
         place = next((place for place, read in enumerate(reads) if pairs and read[0] >= pairs[0][0]), len(reads))
         # The first reads may be of packets that were delivered before the recording began.
         for skipped in range(MOST_UNREAD):
@@ -410,7 +530,7 @@ class Receiving:
                 break
             if agree([(time, read[0]) for read, (time, _) in zip(known, pairs)]):
                 return [(time, max(time, read[1])) for read, (time, _) in zip(known, pairs)]
-        return []
+        return None
 
     def other_tasks(self, known: Collection[int], processor: int | None = None) -> dict[str, float]:
         """Returns the shares of a processor's time that other tasks had, by default on the processor with most polls: tasks that neither poll nor

@@ -2,12 +2,10 @@
 
 from __future__ import annotations
 
-from functools import partial
-
 from fintaqush_tools import card_costs, drivers, predicting
-from fintaqush_tools.advice import options_of
-from fintaqush_tools.blame import check_waits
-from fintaqush_tools.captured import arrivals_within
+from fintaqush_tools.advice import options_of, pinning
+from fintaqush_tools.blame import MOVE, check_waits
+from fintaqush_tools.captured import arrivals_within, check_matches
 from fintaqush_tools.errors import Refusal
 from fintaqush_tools.instances import ANY, NapiInstance, Routes, instances_in
 from fintaqush_tools.layout import Layout
@@ -40,21 +38,22 @@ class Recording:
         self.capture, self.is_captured = words.capture, bool(words.capture) and not self.sender
         self.check_head()
         pairs = {self.sender: self.device} if self.sender else {}
-        receivers, routes = set[str]() if pairs else {self.device}, Routes(self.head, pairs)
+        receivers, routes = set[str]() if pairs else {self.device}, Routes[int](self.head, pairs)
         self.seen = Receiving({self.polled}, set(pairs), receivers, routes, options_of(self.head, self.device, 0))
 
-    def read(self, times: Timeline | None = None, goal: str = "") -> Recording:
+    def read(self, times: Timeline | None = None, goal: str = "", to_delivery: bool = False) -> Recording:
         """Reads the events, also for `times`, which costs are estimated from. Fails if the recording can't be predicted, and early if other tasks make the
-        waits that the goal is about."""
+        waits to delivery that the goal is about."""
         lost: list[str] = []
         are_several = len({cpu for each in self.own_instances() for cpu in each.polls}) > 1
-        ends_with_delivery = are_several or not self.program_pids()
-        look = (
-            partial(check_waits, self.seen, goal, self.program_pids())
-            if goal in ("p50", "p99") and ends_with_delivery
-            else None
-        )
-        read(self.path, lost, lambda _: [self.seen, *([times] if times else [])], look)
+        ends_with_delivery = to_delivery or are_several or not self.program_pids()
+        # With deferral packets wait for the timer, whatever runs meanwhile.
+        is_judged = goal in ("p50", "p99") and ends_with_delivery and not self.seen.held.deferrals
+
+        def look() -> None:
+            check_waits(self.seen, goal, self.program_pids(), self.remedy())
+
+        read(self.path, lost, lambda _: [self.seen, *([times] if times else [])], look if is_judged else None)
         check_lost(lost)
         self.by = self.seen.settle()
         self.check()
@@ -69,6 +68,7 @@ class Recording:
         self.is_captured = not self.by or self.seen.share_in_polls(times) < BY_KERNEL
         if self.is_captured:
             self.seen.replace_arrivals(times, self.device)
+            check_matches(self.seen, self.capture)
             self.take_gap()
 
     def take_gap(self) -> None:
@@ -82,6 +82,8 @@ class Recording:
         """Returns the device to examine, and the other end of its veth pair."""
         devices, senders = self.head.get("device", "").split(), self.head.get("sender", "").split()
         polled = [name for name in self.head.get("polled", "").split() if name in devices] or devices
+        if not devices:
+            raise Refusal("its head has no device, which fintaqush record always writes")
         if not self.head.get("polled"):
             raise Refusal(f"it has no polls of {shown(', '.join(devices))}: record while packets arrive")
         if named and named not in devices:
@@ -133,6 +135,12 @@ class Recording:
     def program_pids(self) -> set[int]:
         return {int(each) for each in self.head.get("program.pids", "").split()}
 
+    def remedy(self) -> str:
+        """Says what to do against other tasks that the packets wait for."""
+        seen, history = self.seen, self.seen.tasks.history
+        others = sorted(history.keys() - {seen.processor}, key=lambda each: len(history[each][0])) or [seen.processor]
+        return pinning(self.head, self.device, seen.processor, others[0]) or MOVE
+
     def disturbing(self, processor: int | None = None) -> dict[str, float]:
         """Returns other tasks that ran on the processor, each with its share of the time, if together their share is notable."""
         others = self.seen.other_tasks(self.program_pids(), processor)
@@ -144,5 +152,4 @@ def arrivals_in(recording: Recording, words: Words) -> tuple[str, str]:
     if not recording.seen.sent:
         raise Refusal(NO_ARRIVAL)
     text = predicting.arrivals_of(recording.seen.sent, recording.layout.devices)
-    lines = text.splitlines(True)
-    return text, "".join(lines[: words.packets + 1])
+    return text, predicting.first_of(text, words.packets)

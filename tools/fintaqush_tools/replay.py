@@ -6,21 +6,22 @@ import csv
 import errno
 import os
 import re
-import shlex
+import shutil
 import subprocess
 import threading
 from collections.abc import Iterator, Sequence
+from itertools import islice
 from typing import IO, Any, Optional
 
 from fintaqush_tools import builds, errors
-from fintaqush_tools.builds import build, child, crates, kit, write
+from fintaqush_tools.builds import build, child, crates, elsewhere, in_module, kit, write
 from fintaqush_tools.errors import Refusal
 from fintaqush_tools.files import write_whole
 from fintaqush_tools.places import IS_CHECKOUT, TEMPLATES, TOP, usage_text, version
 from fintaqush_tools.progress import say, show
-from fintaqush_tools.reports import lines_of
-from fintaqush_tools.settings import RANGES, judge
-from fintaqush_tools.texts import quoted
+from fintaqush_tools.reports import DEVICES, TOTALS, lines_of, objects_of, sums_of
+from fintaqush_tools.settings import MOST, RANGES, judge
+from fintaqush_tools.texts import argument, is_number, quoted
 
 Answer = tuple[int, Optional[bytes], str]  # status, output if it was kept, messages
 
@@ -46,8 +47,7 @@ PACKED = {  # by what the file begins with
 
 def for_bash(name: str) -> str:
     """Returns the name itself if it is printable, otherwise quoted for bash, so that a terminal doesn't interpret it."""
-    raw = re.sub(rb"[^ -~]|['\\]", lambda it: b"\\%03o" % ord(it[0]), os.fsencode(name))
-    return name if name.isprintable() else f"$'{raw.decode()}'"
+    return name if name.isprintable() else argument(name)
 
 
 def cause_of(fault: int, line: str, fields: int) -> str:
@@ -113,11 +113,15 @@ class Run:
 
 
 class First:
-    """The report of an unproved run, which is printed once, as soon as it is complete, while the program is still being proved and
-    built."""
+    """The report of the module, or of an unproved run, which is printed once, as soon as it is complete, while the program is still being
+    proved and built."""
 
     def __init__(self, call: Call) -> None:
-        self.call, self.run = call, call.begin_unproved()
+        self.call, found = call, in_module(call.crate.name, is_same=True)
+        self.what, self.end_run = found[1] if found else "an UNPROVED run", call.end if found else call.end_unproved
+        how_long = "" if found else ", in up to a minute"
+        say(f"the program is to be proved and built: meanwhile the answer of {self.what}{how_long}")
+        self.run = call.run(found[0], True) if found else call.begin_unproved()
         self.answer: Answer | None = None
 
     def tell(self) -> None:
@@ -126,14 +130,14 @@ class First:
             result = self.run.result()
             show("")
             more = "Ctrl-C leaves what is proved by then, and the next call goes on from there"
-            self.answer = self.call.end_unproved(result, f"this was an UNPROVED run; the proof goes on. {more}")
+            self.answer = self.end_run(result, f"this was {self.what}; the proof goes on. {more}")
 
     def look(self) -> None:
         if self.run.is_over():
             self.tell()
 
     def end(self) -> Answer | None:
-        """Ends the unproved run, if it isn't over yet; returns what it printed."""
+        """Ends the run, if it isn't over yet; returns what it printed."""
         if not self.answer:
             self.run.process.terminate()
         return self.answer
@@ -146,12 +150,19 @@ class Call:
 
     def __init__(self, given: Sequence[str]) -> None:
         self.words, self.files, self.own, self.json, rest = list[str](), list[str](), set[str](), "", iter(given)
+        self.limits: list[str] = []
+        self.restarts: Optional[str] = None  # of --raise
         for word in rest:
+            name, is_given, after = word.partition("=")
             if word in ("-h", "--help", "--version", "--unproved", "--build", "--json"):
                 self.own.add(word)
             elif word.startswith("--json="):
                 self.own.add("--json")
-                self.json = word.partition("=")[2]
+                self.json = after
+            elif name == "--raise":
+                self.restarts = after if is_given else "all"
+            elif name == "--fail-if":
+                self.limits.append(after if is_given else next(rest, ""))
             elif word == "-" or word and word[0] != "-":
                 self.files.append(word)
             else:
@@ -174,19 +185,73 @@ class Call:
             if self.own != {"--build"} or self.words or self.files:
                 raise Refusal(f"--build replays nothing, and stands alone (see {CALLED} --help)", 64)
             return build(["napi_serial", "napi_replay"])
+        self.check_own()
         is_unproved = "--unproved" in self.own
         is_ready = is_unproved or self.crate.is_built()
-        self.check(self.open(), is_ready)
+        other = None if is_ready or shutil.which("rt") else elsewhere(self.crate.name)
+        self.check(self.open(), is_ready or bool(other))
         if is_unproved and not IS_CHECKOUT:
             why = "--unproved runs the sources of a checkout, and this is an installed program, which is proved"
             raise Refusal(why, 64)
+        if self.restarts and (status := self.add_runs(self.restarts)):
+            return status
         if is_unproved:
             say("an unproved run: the program is made anew each time and nothing is checked (up to a minute)")
-            return self.end_unproved(self.begin_unproved().result(), "this was an UNPROVED run")[0]
-        return self.proved(self.built(is_ready))
+            return self.limited(self.end_unproved(self.begin_unproved().result(), "this was an UNPROVED run"))
+        if other:
+            say(other[1])
+            result = self.run(other[0], self.is_kept()).result()
+            self.finish(*result)
+            return self.limited(result)
+        return self.limited(self.proved(self.built(is_ready)))
+
+    def check_own(self) -> None:
+        """Parses the conditions of --fail-if, and checks --raise."""
+        if self.restarts and self.restarts != "all" and not is_number(self.restarts, 99999):
+            raise Refusal(f"--raise={quoted(self.restarts)}: it is a number of runs, 0..=99999", 64)
+        if self.restarts and "threads" in " ".join(self.words):
+            raise Refusal("--raise adds softirq rows, which threads mode doesn't have", 64)
+        if self.limits:
+            from argparse import ArgumentTypeError
+
+            from fintaqush_tools.thresholds import condition_of
+
+            try:
+                self.conditions = [condition_of(text, (*TOTALS, *DEVICES)) for text in self.limits]
+            except ArgumentTypeError as error:
+                raise Refusal(f"--fail-if: {error}", 64) from None
+
+    def is_kept(self) -> bool:
+        """Returns whether the report is read here, and not only passed on."""
+        return "--json" in self.own or bool(self.limits)
+
+    def add_runs(self, restarts: str) -> int:
+        """Adds to the trace the runs that the kernel would make, by napi_series. Returns its status if it fails."""
+        from fintaqush_tools.processes import program
+        from fintaqush_tools.trace import raise_option
+
+        words, settings = iter(self.words), list[str]()
+        for word in words:
+            each = [word] if "=" in word else [word, *islice(words, 1)]
+            settings += each if word.partition("=")[0].removeprefix("--") in MOST else []
+        option = raise_option(None if restarts == "all" else restarts)
+        status, rows, said = Run(self, [program("napi_series"), option, "--rows", *settings]).result()
+        if status:
+            return self.finish(status, None, said)
+        self.kept, self.rest = bytearray(), iter([rows or b""])
+        return 0
+
+    def limited(self, result: Answer) -> int:
+        """Returns the exit status after a result: that of --fail-if, if a condition holds."""
+        status, output, _ = result
+        if status or not self.limits:
+            return status
+        from fintaqush_tools.thresholds import status_of
+
+        return status_of(self.conditions, [("", sums_of(objects_of((output or b"").decode())))])
 
     def check(self, wrong: str, is_ready: bool) -> None:
-        """Fails if the trace can't be read, or an option is invalid: a mistyped one takes its value for a trace."""
+        """Fails if the trace can't be read, or an option is invalid; the value of a mistyped option looks like a trace."""
         if (wrong or not is_ready) and (why := judge(self.words)):
             raise Refusal(f"{why} (see {CALLED} --help)", 64)
         if wrong:
@@ -195,10 +260,11 @@ class Call:
 
     def built(self, is_ready: bool) -> Optional[Answer]:
         """Builds the program. On a terminal a first result is printed while it is still being proved, and returned."""
+        if not is_ready and not IS_CHECKOUT:
+            raise Refusal(f"{self.crate.made}: not a program; the variable PROGRAM names another one", 69)
         if is_ready or not os.isatty(1) or not kit() or any(len(self.kept) > MOST_KEPT for _ in self.parts()):
             build([self.crate.name])
             return None
-        say("the program is to be proved and built: meanwhile the answer of an UNPROVED run, in up to a minute")
         beside = First(self)
         try:
             build([self.crate.name], beside.look)
@@ -207,16 +273,16 @@ class Call:
             raise
         return beside.end()
 
-    def proved(self, first: Optional[Answer]) -> int:
-        """Runs the program, and prints its report unless that is the first result. Returns its status."""
-        memory = 0 if self.memory == "unlimited" else int(self.memory)
-        last = Run(self, [self.crate.made, *self.words], memory, bool(first) or "--json" in self.own).result()
+    def proved(self, first: Optional[Answer]) -> Answer:
+        """Runs the program, and prints its report unless that is the first result. Returns its result."""
+        last = self.run(self.crate.made, bool(first) or self.is_kept()).result()
         if first and first[:2] == last[:2] and last[2] in first[2]:
             say("the proved program gives the same bytes")
-            return last[0]
+            return last
         if first:
             say("the proved program gives OTHER bytes, and these count:")
-        return self.finish(*last)
+        self.finish(*last)
+        return last
 
     def open(self) -> str:
         """Opens the trace, or returns the reason why it can't. The launcher passes it on to the program, because not every input can be
@@ -256,6 +322,11 @@ class Call:
             process.kill()
         to.close()
 
+    def run(self, made: str, is_kept: bool) -> Run:
+        """Starts a program with the memory that it may have. The module limits its own, because node reserves more than it uses."""
+        is_free = self.memory == "unlimited" or made.startswith(f"{TOP}/web/")
+        return Run(self, [made, *self.words], 0 if is_free else int(self.memory), is_kept)
+
     def begin_unproved(self) -> Run:
         """Starts `rt try`, which runs the sources without their proofs and leaves no program."""
         command = [f"{kit()}/bin/rt", "try", "--steps", "4000000000", "--seconds", "600", "--", *self.words]
@@ -266,9 +337,12 @@ class Call:
         status, output, said = result
         status = status if re.search("^run=ended ", said, re.M) else 70
         said = re.sub("^(checked: |races: |run=).*\n", "", said, flags=re.M)
-        self.finish(status, output, said)
+        return self.end((status, output, said), line)
+
+    def end(self, result: Answer, line: str) -> Answer:
+        self.finish(*result)
         say(line)
-        return status, output, said
+        return result
 
     def finish(self, status: int, output: bytes | None, said: str) -> int:
         """Prints the output, if it was kept, and the messages; then one line that explains the error, if there is more to say."""
@@ -286,7 +360,12 @@ class Call:
             say(f"{self.which}: it takes more memory than the program may have, {most}")
         elif status not in (0, 141) and not said:  # (141: who read the report has enough)
             say(f"{self.crate.name} ended with status {status}, and no line of it is there")
-        elif fault and len(self.kept) <= MOST_KEPT and (why := self.explain(int(fault[1]), int(fault[2]))):
+        elif (
+            fault
+            and not self.restarts
+            and len(self.kept) <= MOST_KEPT
+            and (why := self.explain(int(fault[1]), int(fault[2])))
+        ):
             say(f"{self.which}{why}")
         return status
 
@@ -305,7 +384,7 @@ class Call:
         data = bytes(self.kept)
         packed = [packed for first, packed in PACKED.items() if fault == 1 and re.match(first, data)]
         if packed:
-            return f": the file is {packed[0]}{' ' + shlex.quote(self.name) if self.name else ''} | {CALLED}"
+            return f": the file is {packed[0]}{' ' + argument(self.files[0]) if self.name else ''} | {CALLED}"
         text = data.decode("latin-1").removeprefix("\xef\xbb\xbf")
         by_cr = "\n" not in text and re.search("\r[^\r]", text)
         lines = [f"{it.rstrip(chr(13))}\n" for it in re.split("\r" if by_cr else "\n", text)]

@@ -34,6 +34,8 @@ SHAPES = [line.split() for line in LINES.splitlines()]
 STATES = {"FLAG": ("0", "1"), "STATE": ("on", "off", "pending")}
 NUMBERS = ("N", "Z", "ROW", "DEVICE")  # of which Z may be negative
 ROWS = ("softirq", "kthread", "busy")
+# What --fail-if may name: values of the last line, and sums over all devices.
+TOTALS, DEVICES = ("runs", "polls", "work", "squeezed"), ("arrived", "dropped", "left")
 
 
 def names_of(word: int) -> list[str]:
@@ -123,6 +125,15 @@ def check_whole(objects: Sequence[Line]) -> None:
     ]
     if not all(wholes):
         raise Refusal("the report is cut: its lines don't match its total line")
+
+
+def sums_of(objects: Sequence[Line]) -> dict[str, int]:
+    """Returns the values of a report for --fail-if. Those that a report in threads mode doesn't have are 0."""
+    devices = of_kind(objects, "device")
+    return {
+        **{name: objects[-1].get(name, 0) for name in TOTALS},
+        **{name: sum(told.get(name, 0) for told in devices) for name in DEVICES},
+    }
 
 
 def of_kind(objects: Sequence[Line], *kinds: str) -> list[Line]:

@@ -18,7 +18,7 @@ RANGES = {
     "--mode": "serial, shared or threads",
     **{name: f"a whole number, 1..={most}" for name, most in NUMBERS.items()},
 }
-OPTIONS = (*RANGES, "--unproved", "--json", "--build", "--version", "--help")
+OPTIONS = (*RANGES, "--raise", "--fail-if", "--unproved", "--json", "--build", "--version", "--help")
 
 
 def nearest_to(word: str, options: Sequence[str]) -> str:

@@ -1,14 +1,14 @@
-"""The time that a hypervisor took from a virtual machine's processors during a recording. It makes costs and waits higher, which no prediction has."""
+"""The time that a hypervisor took from a virtual machine's processors during a recording. It makes costs and waits higher, and predictions don't include it."""
 
 from __future__ import annotations
 
-import re
 from collections.abc import Iterable, Mapping
 from typing import Any
 
+from fintaqush_tools.recording import rise_of
+
 MOST = 0.01  # share of a processor's time above which bands held fewer than nine of ten measured values
 RARE = 0.01  # share of polls or reads, up to which their processor doesn't count
-TIMES = re.compile(r"(\d{1,15}) (\d{1,15})")
 AGAIN = f"record again when it takes at most {100 * MOST:.0f} %"
 UNKNOWN = "what a hypervisor took isn't in recordings of this age: on a virtual machine bands may be too narrow"
 
@@ -19,9 +19,9 @@ Shares = Mapping[int, float]  # of the time, by processor
 def shares_in(head: Mapping[str, Any], *counts: Counts) -> dict[int, float]:
     """Returns the share of a recording that a hypervisor took from each of the processors that poll or read, if the recording says it."""
     used = {each for some in counts for each, count in some.items() if count > RARE * sum(some.values())}
-    found = {each: TIMES.fullmatch(head.get(f"stolen.{each}", "")) for each in sorted(used)}
-    whole = 1000 * float(head.get("seconds", 0))
-    return {each: (int(times[2]) - int(times[1])) / whole for each, times in found.items() if times and whole > 0}
+    found = {each: rise_of(head, f"stolen.{each}") for each in sorted(used)}
+    whole = 1000 * float(head.get("seconds") or 0)
+    return {each: rise / whole for each, rise in found.items() if rise is not None and whole > 0}
 
 
 def most_in(recordings: Iterable[Shares]) -> dict[int, float]:

@@ -16,7 +16,16 @@ HEADINGS = {
     **{name: name.replace("_percent", " %") for name in VALUES if name.endswith("_percent")},
 }
 P99 = "used_p99"
-QUIET = ("queues_of_a_processor", "late", "delivered_p999", "used_p999", "timers", "wakes")  # only in CSV or JSON
+QUIET = (
+    "queues_of_a_processor",
+    "late",
+    "delivered_p90",
+    "used_p90",
+    "delivered_p999",
+    "used_p999",
+    "timers",
+    "wakes",
+)  # only in CSV or JSON
 
 
 def digits(value: float) -> str:
@@ -27,7 +36,7 @@ def digits(value: float) -> str:
 def cell(name: str, text: Any) -> str:
     """Formats a value with the unit of its column."""
     value = float(text)
-    if name in WAITS or name in IN_NS:
+    if name in WAITS or name.replace("_", "-") in IN_NS:
         return digits(value / 1000) if value else "0"
     if name == "used_per_second":
         return digits(value / 1000)
@@ -42,7 +51,7 @@ def shown_cell(name: str, row: Row) -> str:
 
 
 def heading(name: str) -> str:
-    return HEADINGS.get(name, f"{name} µs" if name in IN_NS else name)
+    return HEADINGS.get(name, f"{name} µs" if name.replace("_", "-") in IN_NS else name)
 
 
 def table(rows: Sequence[Row], varied: Iterable[str]) -> list[str]:
@@ -76,23 +85,34 @@ def listed(places: Sequence[int]) -> str:
     return f"row{'s' if len(places) > 1 else ''} {', '.join(map(str, places))}"
 
 
+def in_order(rows: Sequence[Row]) -> list[int]:
+    """Returns the indices of the rows by their 99th percentile of waits to the end of use, the lowest one first: of those at the highest load, and of
+    these those that lose no packet."""
+    top = max((float(row["load"]) for row in rows), default=0)
+    whole = [place for place, row in enumerate(rows) if float(row["load"]) == top and not lost(row) and int(row[P99])]
+    return sorted(whole, key=lambda place: int(rows[place][P99]))
+
+
 def of_waits(rows: Sequence[Row]) -> list[str]:
     """Returns which row has the lowest 99th percentile of waits, and how far the others are from it."""
-    waits = [int(row[P99]) for row in rows]
+    waits, order = [int(row[P99]) for row in rows], in_order(rows)
     if len(rows) < 2:
         return []
     if len(set(waits)) == 1:
         return ["no setting here changes the 99th percentile of waits to the end of use"]
-    best, worst = min(waits), max(waits)
-    places = listed([place for place, wait in enumerate(waits, 1) if wait == best])
+    if not order:
+        return ["no row has the lowest 99th percentile of waits, because each loses packets at the highest load"]
+    best, worst = waits[order[0]], max(waits)
+    places = listed([place + 1 for place in sorted(order) if waits[place] == best])
+    of = " without losses" * any(map(lost, rows)) + " at the highest load" * (len({row["load"] for row in rows}) > 1)
     least, most = f"{digits(best / 1000)} µs", f"{digits(worst / 1000)} µs, of row {waits.index(worst) + 1}"
-    return [f"{places}: the lowest 99th percentile of waits to the end of use, {least}; the highest is {most}"]
+    return [f"{places}: the lowest 99th percentile of waits to the end of use{of}, {least}; the highest is {most}"]
 
 
 def of_seeds(rows: Sequence[Row]) -> list[str]:
     """Returns a warning if the order of the two best rows may be chance, because their ranges over the seeds overlap."""
-    order = sorted(range(len(rows)), key=lambda place: int(rows[place][P99]))
-    if len(rows) < 2 or f"{P99}_least" not in rows[0] or rows[order[0]][P99] == rows[order[1]][P99]:
+    order = in_order(rows)
+    if len(order) < 2 or f"{P99}_least" not in rows[0] or rows[order[0]][P99] == rows[order[1]][P99]:
         return []
     if int(rows[order[0]][f"{P99}_most"]) < int(rows[order[1]][f"{P99}_least"]):
         return []

@@ -23,6 +23,16 @@ def quoted(text: str, most: int = 40) -> str:
     return f"'{text[: most - 2]}..'" if len(text) > most else f"'{text}'"
 
 
+def argument(name: str) -> str:
+    """Returns a name as an argument in a command that is printed: quoted for a shell, and for bash if it isn't printable."""
+    import os
+    import re
+    import shlex
+
+    raw = re.sub(rb"[^ -~]|['\\]", lambda it: b"\\%03o" % ord(it[0]), os.fsencode(name))
+    return shlex.quote(name) if name.isprintable() else f"$'{raw.decode()}'"
+
+
 def nearest(name: str, names: Sequence[str], least: int, most: int, cutoff: float) -> list[str]:
     """Returns the names that begin with this one, if it has at least `least` letters; otherwise those that are near to it, at most `most`."""
     import difflib

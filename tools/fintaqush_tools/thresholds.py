@@ -2,6 +2,7 @@
 
 from __future__ import annotations
 
+import functools
 import operator
 import re
 from collections.abc import Mapping, Sequence
@@ -10,6 +11,7 @@ from typing import Any, NamedTuple
 
 from fintaqush_tools.options import Parser, wrong
 from fintaqush_tools.progress import say
+from fintaqush_tools.texts import shown
 
 FAILED = 3  # the exit status
 SIGNS = {">=": operator.ge, "<=": operator.le, "==": operator.eq, "!=": operator.ne, ">": operator.gt, "<": operator.lt}
@@ -57,21 +59,23 @@ def parsed(text: str, example: str) -> Condition:
     return Condition(text.strip(), name, sign, Decimal(side + limit), unit or "", bool(side))
 
 
+def condition_of(text: str, names: Sequence[str], times: Sequence[str] = (), example: str = "'dropped>0'") -> Condition:
+    """Parses a condition for results with these names; `times` are those in ns."""
+    condition = parsed(text, example)
+    if condition.is_relative:
+        raise wrong(text, "a limit for one result; fintaqush compare has those for the change between two")
+    if condition.name not in names:
+        raise wrong(text, f"of a result; these are: {' '.join(names)}")
+    units = "%" if condition.name.endswith("_percent") else "ns, us, ms or s" if condition.name in times else "none"
+    if condition.unit == "%" and units != "%" or condition.unit in UNITS and condition.name not in times:
+        raise wrong(text, f"in the unit of {condition.name}, which is {units}")
+    return condition._replace(unit=condition.unit or "ns" * (condition.name in times))
+
+
 def add_fail_if(parser: Parser, names: Sequence[str], times: Sequence[str] = ()) -> None:
     """Adds the option, for results with these names; `times` are those in ns."""
     example = "'dropped>0'" + (f" or '{next(iter(times))}>200us'" if times else "")
-
-    def read(text: str) -> Condition:
-        condition = parsed(text, example)
-        if condition.is_relative:
-            raise wrong(text, "a limit for one result; fintaqush compare has those for the change between two")
-        if condition.name not in names:
-            raise wrong(text, f"of a result; these are: {' '.join(names)}")
-        units = "%" if condition.name.endswith("_percent") else "ns, us, ms or s" if condition.name in times else "none"
-        if condition.unit == "%" and units != "%" or condition.unit in UNITS and condition.name not in times:
-            raise wrong(text, f"in the unit of {condition.name}, which is {units}")
-        return condition._replace(unit=condition.unit or "ns" * (condition.name in times))
-
+    read = functools.partial(condition_of, names=names, times=times, example=example)
     add_condition(parser, read, f"for a result, as {example}")
 
 
@@ -104,5 +108,5 @@ def status_of(conditions: Sequence[Condition], results: Sequence[Result], before
         if held:
             (which, told), status = held[0], FAILED
             more = f", and so for {len(held) - 1} more" if len(held) > 1 else ""
-            say(f"--fail-if '{condition.text}': {told}{f' with {which}' if which else ''}{more}")
+            say(f"--fail-if '{condition.text}': {told}{f' with {shown(which)}' if which else ''}{more}")
     return status

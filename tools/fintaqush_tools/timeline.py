@@ -9,21 +9,23 @@ from dataclasses import dataclass, field
 from functools import partial
 from typing import Any, Optional
 
-from fintaqush_tools.instances import Place, Routes
+from fintaqush_tools.instances import EARLY, Place, Routes
 from fintaqush_tools.recording import (
     BACKLOG,
-    NET_RX,
+    IS_NET_RX,
     POLLED,
     SENT,
-    SOFTIRQ,
     SWITCH,
     Event,
+    Known,
     Look,
+    Reader,
     fields_by,
     is_by_thread,
 )
-from fintaqush_tools.splitting import Known
 
+Arrival = tuple[int, int]  # a sent packet's time and its sender's processor
+Kind = tuple[bool, bool]  # whether a poll woke the program, and whether its completion started NAPI's timer
 Handler = list[Any]  # its name, its beginning, and whether it may request polls
 
 HANDLER = fields_by(r"irq=(\d{1,9})(?: name=(.*))?")
@@ -38,7 +40,6 @@ HANDLERS = BETWEEN | APIC | {"irq_handler", "local_timer", "irq_work", "x86_plat
 SOON = 50_000  # ns, from the end of an interrupt to the softirq that it requested
 SAME_CLOCK = 1_000_000  # ns
 RARE = 0.01  # share of the polls
-EARLY = 100_000  # ns by which a poll may precede its sender's event, which follows the sending
 
 
 def returned_in(text: str) -> int:
@@ -71,6 +72,7 @@ class Processor:
     task: tuple[str, int, int] = ("", 0, 0)  # the one that runs: name, number, beginning
     before: tuple[str, int, int] = ("", 0, 0)  # the one before it
     due: int | None = None  # expiry of the last NAPI timer
+    arms: bool = False  # NAPI's timer was started since the last poll
 
     def handled(self, time: int) -> int:
         """Returns how long handlers took until this time."""
@@ -102,29 +104,42 @@ class Reads:
         self.processors, self.tasks, self.is_by_recv = processors, set[int](), False
         # For each packet that waits for its read: when its poll ended, and whether the poll delivered only that packet.
         self.delivered: deque[tuple[int, bool]] = deque()
+        # The last read, if its task has run since: task, time, processor, packets, what was taken there until then.
+        self.last: tuple[int, int, int, int, int] | None = None
         self.forget()
+
+    def cut(self) -> None:
+        """Forgets what was delivered and begun."""
+        self.delivered.clear()
+        self.called.clear()
+        self.slept.clear()
+        self.ahead.clear()
+        self.last = None
 
     def forget(self) -> None:
         """Forgets all reads."""
+        self.is_asleep = False  # the program slept, and no packet was delivered since
         # For each task in a call: when the call began, and what was taken then.
         self.called: dict[int, tuple[int, int]] = {}
         # For each task that slept since its last read: when it last did, and whether in a call.
         self.slept: dict[int, tuple[int, bool]] = {}
         # Reads before the end of the packet's poll: the time of each, and whether the program had slept.
         self.ahead: list[tuple[int, bool]] = []
-        # The last read, if its task has run since: task, time, processor, packets, what was taken there until then.
-        self.last: tuple[int, int, int, int, int] | None = None
+        self.last = None
         self.calls, self.uses, self.wakes = [list[float]() for _ in range(3)]
         self.on, self.count, self.unmatched = Counter[int](), 0, 0
 
-    def deliver(self, began: int, time: int, work: int) -> None:
-        """Delivers the packets of a poll; those that were read since the poll began belong to it."""
+    def deliver(self, began: int, time: int, work: int) -> bool:
+        """Delivers the packets of a poll; those that were read since the poll began belong to it. Returns whether that woke the program."""
+        woke = work > 0 and self.is_asleep
+        self.is_asleep = self.is_asleep and not woke
         known = [read for read in self.ahead if read[0] >= began][:work]
         if work == 1 and known and known[0][1]:
             self.wakes.append(known[0][0] - time)
         self.unmatched += len(self.ahead) - len(known)
         self.ahead.clear()
         self.delivered.extend([(time, work == 1)] * (work - len(known)))
+        return woke
 
     def enter(self, event: Event) -> None:
         self.tasks.add(event.pid)
@@ -133,6 +148,7 @@ class Reads:
     def leave_processor(self, task: int, time: int, is_sleep: bool) -> None:
         if is_sleep and task in self.tasks:
             self.slept[task] = time, task in self.called
+            self.is_asleep = True
         if self.last and self.last[0] == task:
             self.last = None
 
@@ -180,13 +196,15 @@ class Polls:
 
     polls: list[tuple[int, int]] = field(default_factory=list)  # packets and ns of each poll
     on: list[int] = field(default_factory=list)  # the processor of each poll
+    kinds: list[Kind] = field(default_factory=list)  # the kind of each poll
     by_threads: int = 0
     handlers: defaultdict[str, list[int]] = field(default_factory=lambda: defaultdict(list))  # which runs followed
     without: int = 0  # how many runs followed none
 
-    def add(self, work: int, took: int, by_thread: bool, cpu: int) -> None:
+    def add(self, work: int, took: int, by_thread: bool, cpu: int, kind: Kind) -> None:
         self.polls.append((work, took))
         self.on.append(cpu)
+        self.kinds.append(kind)
         self.by_threads += by_thread
 
     @property
@@ -199,7 +217,8 @@ class Waiting:
     """The packets that wait for the polls of an instance, each with its sending time and its sender's processor."""
 
     def __init__(self) -> None:
-        self.packets, self.owed = deque[tuple[int, int]](), 0  # packets that were polled before their event
+        self.packets, self.owed = deque[Arrival](), 0  # packets that were polled before their event
+        self.received = 0  # packets that the stack received since the last poll of a backlog
         self.poll_end, self.was_full = 0, False  # of the last poll
 
     def came(self, time: int, cpu: int) -> None:
@@ -222,12 +241,14 @@ class Waiting:
         return unmatched
 
 
-class Timeline:
+class Timeline(Reader):
     """Sums up the times of a recording."""
+
+    is_probed = is_sampled = True
 
     def __init__(
         self,
-        routes: Optional[Routes] = None,
+        routes: Optional[Routes[Arrival]] = None,
         polled: Iterable[str] = (),
         irq: str | None = None,
         interrupts: Iterable[str] = (),
@@ -241,8 +262,9 @@ class Timeline:
         # Wake-ups by packets and by timers, on a processor that slept; and on one that ran another task.
         self.wakes, self.busy_wakes = [defaultdict[str, list[int]](list) for _ in range(2)]
         self.due: dict[str, int] = {}  # for each timer
+        # What handlers of receive queues took that interrupted a softirq or a thread; and the names of these interrupts.
+        self.early, self.of_queues = list[int](), set[str]()
         self.waiting: defaultdict[Place, Waiting] = defaultdict(Waiting)
-        self.unplaced: dict[str, tuple[int, int]] = {}  # packets whose instance isn't known yet
         self.came = self.dropped = self.given = self.unmatched = self.strays = 0
         self.sent_on, self.tasks = Counter[int](), defaultdict[int, Counter[str]](Counter)
 
@@ -270,6 +292,14 @@ class Timeline:
         }
         return [looks[name]] if name in looks else []
 
+    def cut(self, time: int) -> None:
+        """Forgets what was under way, at the beginning of a window."""
+        self.on.clear()
+        self.due.clear()
+        self.waiting.clear()
+        self.routes.cut()
+        self.reads.cut()
+
     def begin_handler(self, name: str, may_request: bool, event: Event) -> None:
         """Handles the beginning of a handler: of a card's interrupt, of one between processors, or of the local timer."""
         processor = self.on[event.cpu]
@@ -291,9 +321,12 @@ class Timeline:
         self.begin_handler(name, not self.interrupts or name in self.interrupts, event)
 
     def end_interrupt(self, event: Event) -> None:
-        handlers = self.on[event.cpu].handlers
-        if handlers and handlers[-1][0] == self.irq:
-            self.of["", ""].handlers[handlers[-1][0]].append(event.time - handlers[-1][1])
+        processor = self.on[event.cpu]
+        name, began, _ = processor.handlers[-1] if processor.handlers else ("", 0, False)
+        if name and name == self.irq:
+            self.of["", ""].handlers[name].append(event.time - began)
+        if name in self.of_queues and (processor.entered or processor.thread):
+            self.early.append(event.time - began)
         self.end_handler(event)
 
     def timer(self, event: Event) -> None:
@@ -303,6 +336,7 @@ class Timeline:
         if event.name == "hrtimer_start":
             timer, expires = event.parts(EXPIRES)
             self.due[timer] = int(expires)
+            self.on[event.cpu].arms = True
         elif event.name == "hrtimer_expire_entry":
             processor = self.on[event.cpu]
             timer, stamp = event.parts(EXPIRED)
@@ -314,7 +348,7 @@ class Timeline:
 
     def softirq(self, event: Event) -> None:
         """Handles NET_RX: it begins, requested by the last handler, or ends."""
-        if int(event.parts(SOFTIRQ)[0]) != NET_RX:
+        if not event.parts(IS_NET_RX):
             return
         processor, time = self.on[event.cpu], event.time
         handled = processor.handled(time)
@@ -351,23 +385,19 @@ class Timeline:
         if sender not in self.routes.receivers:
             return
         self.sent_on[event.cpu] += 1
-        place, packet = self.routes.of_sent(sender, event)
-        if code not in ("0", "0x0"):
-            self.dropped += code in ("1", "0x1")
-            return
-        self.came += 1
-        if place:
+        has_come = code in ("0", "0x0")
+        place = self.routes.of_sent(sender, event, (event.time, event.cpu) if has_come else None)
+        self.came += has_come
+        self.dropped += code in ("1", "0x1")
+        if place and has_come:
             self.waiting[place].came(event.time, event.cpu)
-        else:
-            self.unplaced[packet] = event.time, event.cpu
 
     def receive(self, event: Event) -> None:
         """Handles a packet that the current poll of a backlog took."""
-        if not self.unplaced:
-            return
-        place, packet = self.routes.of_received(event)
-        if place and packet in self.unplaced:
-            self.waiting[place].packets.append(self.unplaced.pop(packet))
+        place, sent = self.routes.of_received(event) if self.routes.moved else (None, None)
+        if place:
+            self.waiting[place].received += 1
+            self.waiting[place].packets.extend([sent] if sent else [])
 
     def poll(self, event: Event) -> None:
         napi, device, packets, budget = event.parts(POLLED)
@@ -380,15 +410,17 @@ class Timeline:
         if not self.polled or device in self.polled:
             place, waiting = (device, napi), self.waiting[self.routes.of_poll(device, napi)]
             self.strays += not began
+            if began and processor.is_first:
+                self.run_begins(processor, began[0], work, self.of[place], waiting, event.cpu)
+            woke = self.deliver(event.time, work, not is_full, began[0] if began else waiting.poll_end, waiting)
             if began:
-                self.of[place].add(work, mark[0] - began[0] - (mark[1] - began[1]), by_thread, event.cpu)
-                if processor.is_first:
-                    self.run_begins(processor, began[0], work, self.of[place], waiting)
-            self.deliver(event.time, work, not is_full, began[0] if began else waiting.poll_end, waiting)
+                took = mark[0] - began[0] - (mark[1] - began[1])
+                self.of[place].add(work, took, by_thread, event.cpu, (woke, processor.arms))
             waiting.poll_end, waiting.was_full = event.time, is_full
         processor.is_first, processor.by, processor.due, processor.ended = False, None, None, None
+        processor.arms = False
 
-    def run_begins(self, processor: Processor, began: int, work: int, polls: Polls, waiting: Waiting) -> None:
+    def run_begins(self, processor: Processor, began: int, work: int, polls: Polls, waiting: Waiting, cpu: int) -> None:
         """Handles the first poll of a softirq or a thread: which handler requested it, and the time from its cause to its beginning."""
         name, took, _ = processor.by or (None, 0, 0)
         if name is not None and not self.irq:
@@ -398,7 +430,7 @@ class Timeline:
             self.add_wake("timers", processor, processor.due, began - processor.due - took)
         elif work and waiting.packets and waiting.poll_end <= waiting.packets[0][0] <= began:
             came, sent_on = waiting.packets[0]
-            if sent_on == polls.on[-1]:
+            if sent_on == cpu:
                 self.wakes["packets"].append(began - came - took)
             else:
                 self.add_wake("packets", processor, came, began - came - took)
@@ -411,13 +443,14 @@ class Timeline:
         elif name and since <= time and pid not in self.reads.tasks and not name.startswith(("napi/", "ksoftirqd/")):
             self.busy_wakes[kind].append(took)
 
-    def deliver(self, time: int, work: int, is_empty: bool, began: int, waiting: Waiting) -> None:
-        """Delivers the packets of a poll. A backlog may have packets of other devices, which don't count."""
+    def deliver(self, time: int, work: int, is_empty: bool, began: int, waiting: Waiting) -> bool:
+        """Delivers the packets of a poll. A backlog may have packets of other devices, which don't count. Returns whether that woke the
+        program."""
         if self.routes.moved:
-            work = len(waiting.packets)
+            work, waiting.received = waiting.received, 0
         self.given += work
         self.unmatched += waiting.deliver(work, is_empty, began)
-        self.reads.deliver(began, time, work)
+        return self.reads.deliver(began, time, work)
 
     def chosen(self) -> list[Polls]:
         """Returns the polls of the instances that count: those of the named devices, else all of them; a processor's backlog only if nothing else
@@ -439,6 +472,7 @@ class Timeline:
         chosen = self.chosen()
         self.polls = [poll for each in chosen for poll in each.polls]
         self.places = [cpu for each in chosen for cpu in each.on]
+        self.kinds = [kind for each in chosen for kind in each.kinds]
         self.handlers: defaultdict[str, list[int]] = defaultdict(list)
         for each in chosen:
             for name, took in each.handlers.items():

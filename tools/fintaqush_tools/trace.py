@@ -8,9 +8,10 @@ from collections.abc import Iterable, Iterator, Sequence
 from itertools import islice
 
 from fintaqush_tools.errors import Refusal
-from fintaqush_tools.files import told_notes, write_all
+from fintaqush_tools.files import write_all
 from fintaqush_tools.options import Parser, Words, add_force, pair
 from fintaqush_tools.processes import program, run_program
+from fintaqush_tools.progress import tell
 from fintaqush_tools.texts import lines_of, shown
 
 Row = tuple[int, int, str, int]  # time, device, event, value
@@ -47,10 +48,12 @@ def check_flows(words: Words) -> None:
 
 
 def write_files(words: Words, told: str, notes: list[str], **texts: str | Iterable[str]) -> None:
-    """Writes the files, each by its ending, and prints what is in them."""
-    texts = {"notes": lines_of(notes), **texts}
+    """Writes the files, each by its ending, and prints what is in them, with the first notes."""
+    texts = {"notes": lines_of(map(shown, notes)), **texts}
     write_all({f"{words.name}.{end}": text for end, text in texts.items()}, words.force)
-    print(f"{shown(words.name)}.csv: {told}; {told_notes(f'{words.name}.notes', notes)}")
+    count = f"{len(notes)} note{'s' * (len(notes) != 1)} in {words.name}.notes"
+    end = ", which begins" * (len(notes) > 3) + ":" * bool(notes)
+    tell(f"{words.name}.csv: {told}; {count}{end}", *(f"  {note}" for note in notes[:3]))
 
 
 def records_of(text: bytes) -> list[Row]:

@@ -7,29 +7,23 @@ import errno
 import os
 import re
 import time
-from collections.abc import Collection, Iterator
+from collections.abc import Collection, Iterable, Iterator
 from dataclasses import dataclass
 from typing import Any
 
+from fintaqush_tools import ring_buffer
 from fintaqush_tools.errors import Refusal, unfinished
-from fintaqush_tools.texts import shown
 
 PLACES = ("/sys/kernel/tracing", "/sys/kernel/debug/tracing")
 NAME = "fintaqush-{}"
-CLOCK_SOURCE = "/sys/devices/system/clocksource/clocksource0/current_clocksource"
 NEW_MOUNTS, RECURSIVE, PRIVATE = 0x20000, 0x4000, 0x40000  # CLONE_NEWNS, MS_REC, MS_PRIVATE
 NET_RX = 3
 POLLS = ("napi/napi_poll", "irq/softirq_entry", "irq/softirq_exit")  # without these no poll is known
 TIMERS = ("timer/hrtimer_start", "timer/hrtimer_expire_entry")
-FILTERS = {
-    **dict.fromkeys(POLLS[1:], f"vec == {NET_RX}"),
-    **dict.fromkeys(TIMERS, "function.function == napi_watchdog"),
-}
+FILTERS = dict.fromkeys(POLLS[1:], f"vec == {NET_RX}")
 STACK, START = "net/netif_receive_skb", "net/net_dev_start_xmit"
 RECEIVED = ("net/napi_gro_receive_entry", "net/napi_gro_frags_entry", STACK)
 READS = ("recvfrom", "recvmsg", "recvmmsg", "read", "readv")
-MARK = "fintaqush mark"
-MARKS = 16  # at the beginning, and again at the end
 MEGABYTE = 1 << 20
 
 
@@ -74,6 +68,15 @@ def of_devices(names: Collection[str]) -> str:
     return " || ".join(f'name == "{each}"' for each in names)
 
 
+def watchdog() -> str:
+    """Returns the filter for NAPI's timer: by the address of its function, or by its name (Linux 6.2) if addresses are hidden (kptr_restrict)."""
+    with contextlib.suppress(OSError), open("/proc/kallsyms", encoding="ascii", errors="replace") as symbols:
+        address = next((line.split()[0] for line in symbols if line.endswith(" napi_watchdog\n")), "0")
+        if int(address, 16):
+            return f"function == 0x{address}"
+    return "function.function == napi_watchdog"
+
+
 def is_alive(pid: str) -> bool:
     return os.path.exists(f"/proc/{pid}")
 
@@ -86,8 +89,6 @@ class Instance:
     def __init__(self, folder: str) -> None:
         self.folder = folder
         self.path = f"{folder}/instances/{NAME.format(os.getpid())}"
-        # For each number when it was written, by CLOCK_MONOTONIC, before and after.
-        self.marks = dict[int, tuple[int, int]]()
 
     def __enter__(self) -> Instance:
         self.remove_abandoned()
@@ -114,7 +115,7 @@ class Instance:
         with contextlib.suppress(OSError):
             with open(f"{path}/tracing_on", "w", encoding="ascii") as file:
                 file.write("0")
-        for _ in range(50):  # the kernel may still use it
+        for _ in range(500):  # the kernel, or who reads its files, may still use it
             try:
                 return os.rmdir(path)
             except FileNotFoundError:
@@ -136,20 +137,10 @@ class Instance:
     def has(self, name: str) -> bool:
         return os.path.exists(f"{self.path}/{name}")
 
-    def set_clock(self) -> str:
-        """Selects the processor's counter, if the kernel keeps time by it, because the text of any other clock has only microseconds."""
-        with open("/proc/cpuinfo", encoding="utf-8", errors="replace") as file:
-            flags = file.read()
-        with contextlib.suppress(OSError), open(CLOCK_SOURCE, encoding="ascii") as file:
-            if "constant_tsc" in flags and "nonstop_tsc" in flags and file.read().strip() == "tsc":
-                self.write("trace_clock", "x86-tsc")
-                return "tsc"
-        self.write("trace_clock", "mono")
-        return "mono"
-
     def set_buffers(self, megabytes: int, processors: set[int] | None) -> None:
-        """Sets the buffer size of each processor, and which processors are recorded."""
+        """Sets the clock, the buffer size of each processor, and which processors are recorded."""
         self.write("tracing_on", "0")
+        self.write("trace_clock", "mono")
         self.processors = processors
         try:
             self.write("buffer_size_kb", str(megabytes * 1024))
@@ -172,7 +163,7 @@ class Instance:
         interrupts = interrupts or ["ipi/ipi_entry", "ipi/ipi_exit"]
         events = [*POLLS, "net/net_dev_xmit", "irq/irq_handler_entry", "irq/irq_handler_exit", *interrupts]
         events += ["sched/sched_switch", *TIMERS]
-        chosen = {name: FILTERS.get(name) for name in events}
+        chosen = {**dict.fromkeys(events), **FILTERS, **dict.fromkeys(TIMERS, watchdog())}
         chosen |= {name: of_devices(sources.receivers) for name in RECEIVED if sources.receivers}
         if sources.moved:
             chosen[STACK] = of_devices([*sources.receivers, *sources.moved])
@@ -190,97 +181,42 @@ class Instance:
             if not self.has(f"events/{name}"):
                 missing.append(name)
                 continue
-            with contextlib.suppress(OSError):  # a kernel without such a filter records all of them
+            try:
                 if only:
                     self.write(f"events/{name}/filter", only)
+            except OSError:
+                missing.append(name)  # without the filter it would have events of another kind
+                continue
             self.write(f"events/{name}/enable", "1")
             recorded.append(name)
         if lacking := [name for name in POLLS if name in missing]:
             raise Refusal(f"this kernel has no event {', '.join(lacking)}, without which no poll is known")
         return recorded, missing
 
-    def mark(self) -> None:
-        """Writes marks, which relate the counter to CLOCK_MONOTONIC."""
-        marker, before = os.open(f"{self.path}/trace_marker", os.O_WRONLY), os.sched_getaffinity(0)
-        try:
-            os.sched_setaffinity(0, self.processors or before)  # the others write no marks
-            for number in range(len(self.marks), len(self.marks) + MARKS):
-                text = f"{MARK} {number}".encode()
-                begin = time.monotonic_ns()
-                os.write(marker, text)
-                self.marks[number] = begin, time.monotonic_ns()
-        finally:
-            os.close(marker)
-            os.sched_setaffinity(0, before)
-
-    def begin(self) -> None:
-        self.write("tracing_on", "1")
-        self.mark()
-
-    def end(self) -> None:
-        self.mark()
-        self.write("tracing_on", "0")
+    def formats(self, events: Iterable[str]) -> Iterator[tuple[str, str]]:
+        """Yields what a recording's head has on the pages: where a page has its events, and the format of each event by its number."""
+        yield "pages", " ".join(map(str, ring_buffer.Layout.of(self.read("events/header_page"))))
+        for name in events:
+            text = self.read(f"events/{name}/format")
+            number = text.partition("\nID: ")[2].partition("\n")[0]
+            yield f"format.{number}", ring_buffer.told_format(name.rpartition("/")[2], text)
 
     @contextlib.contextmanager
-    def pipe(self) -> Iterator[int]:
-        """Opens the buffers; what is read is removed from them."""
-        pipe = os.open(f"{self.path}/trace_pipe", os.O_RDONLY | os.O_NONBLOCK)
-        try:
-            yield pipe
-        finally:
-            os.close(pipe)
+    def pipes(self) -> Iterator[dict[int, int]]:
+        """Opens the buffers of the recorded processors; what is read is removed from them."""
+        with contextlib.ExitStack() as opened:
+            pipes = {}
+            for name in sorted(os.listdir(f"{self.path}/per_cpu"), key=lambda each: int(each[3:])):
+                if not self.processors or int(name[3:]) in self.processors:
+                    flags = os.O_RDONLY | os.O_NONBLOCK
+                    pipes[int(name[3:])] = os.open(f"{self.path}/per_cpu/{name}/trace_pipe_raw", flags)
+                    opened.callback(os.close, pipes[int(name[3:])])
+            yield pipes
 
-    def statistics(self) -> Iterator[tuple[int, int]]:
-        """Yields for each processor the bytes in its buffer, and its lost events."""
+    def statistics(self) -> Iterator[tuple[int, int, int]]:
+        """Yields for each processor the bytes in its buffer, its lost events, and those that were read."""
         for name in sorted(os.listdir(f"{self.path}/per_cpu")):
             lines = (line.partition(": ") for line in self.read(f"per_cpu/{name}/stats").splitlines())
             values = {key: int(value) for key, _, value in lines if value.isdigit()}
             lost = sum(values.get(each, 0) for each in ("overrun", "commit overrun", "dropped events"))
-            yield values.get("bytes", 0), lost
-
-
-class Stamps:
-    """Converts the counter's stamps in the trace's lines to seconds of CLOCK_MONOTONIC with nine digits."""
-
-    LINE = re.compile(rb"(.{16}-\d+\s+\[\d+\] \S+ +)(\d+)(?:\.(\d{1,9}))?(: .*)", re.S)
-    WRITTEN = re.compile(rb" (\d+): tracing_mark_write: " + MARK.encode() + rb" (\d+)\s*$")
-
-    def __init__(self, clock: str, marks: dict[int, tuple[int, int]]) -> None:
-        self.clock, self.marks = clock, marks
-        self.seen = dict[int, int]()  # the stamp of each mark
-
-    @staticmethod
-    def is_mark(line: bytes) -> bool:
-        return MARK.encode() in line
-
-    def look(self, line: bytes) -> bool:
-        """Stores a mark's stamp. Returns whether the line is a mark."""
-        if self.is_mark(line) and (found := self.WRITTEN.search(line)):
-            self.seen[int(found[2])] = int(found[1])
-        return self.is_mark(line)
-
-    def settle(self) -> None:
-        """Chooses, among the marks at each end, the one that was written fastest."""
-        if self.clock != "tsc":
-            return
-        ends = []
-        for numbers in (range(MARKS), range(len(self.marks) - MARKS, len(self.marks))):
-            known = [number for number in numbers if number in self.seen]
-            if not known:
-                raise Refusal("the marks of its clock are lost: record for a shorter time, or by a larger --buffer")
-            best = min(known, key=lambda number: self.marks[number][1] - self.marks[number][0])
-            ends.append((self.seen[best], sum(self.marks[best]) // 2))
-        (self.stamp, self.time), (stamp, moment) = ends
-        self.ticks, self.took = stamp - self.stamp, moment - self.time
-
-    def changed(self, line: bytes) -> tuple[int, bytes]:
-        """Returns the line's time in ns, and the line with it in seconds, without brackets in a task's name, so that its fields can be parsed."""
-        found = self.LINE.match(line)
-        if not found:
-            begin = shown(line[:60].decode("utf-8", "replace"))
-            raise Refusal(f"the kernel's trace has a line of an unknown format: {begin!r}")
-        front = found[1][:16].replace(b"[", b"_") + found[1][16:]
-        if self.clock != "tsc":
-            return int(found[2]) * 10**9 + int(found[3].ljust(9, b"0")), front + found[2] + b"." + found[3] + found[4]
-        at = self.time + (int(found[2]) - self.stamp) * self.took // self.ticks
-        return at, b"%b%d.%09d%b" % (front, at // 10**9, at % 10**9, found[4])
+            yield values.get("bytes", 0), lost, values.get("read events", 0)

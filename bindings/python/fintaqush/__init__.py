@@ -7,13 +7,13 @@ from ._abi import VERSION, DeviceState, Kind, Next, Rearm, Status, What, Word
 from ._driver import Cards, DeviceShown, Driver, Todo
 from ._faults import ArrivalsFault, Fault, SettingFault, TraceFault
 from ._machine import Application, MachineReport, Processor, Queue, Times, Waits, machine
-from ._objects import Counts, Dql, List, Packet, Ring, RunReport, SerialNapi, TxRing, TxState
+from ._objects import Counts, Dql, List, Packet, PlaceIn, PlaceOut, Ring, RunReport, SerialNapi, TxRing, TxState, place_ring
 from ._report import Device, Report, Transmit, Turn, raise_runs, replay
 from ._shared import Answers, Caller, Control, Input, shared
 
 __version__ = VERSION
 __all__ = ["Answers", "Application", "ArrivalsFault", "Caller", "Cards", "Control", "Counts", "Device", "DeviceShown",
            "DeviceState", "Dql", "Driver", "Fault", "Input", "Kind", "List", "MachineReport", "Next", "Packet",
-           "Processor", "Queue", "Rearm", "Report", "Ring", "RunReport", "SerialNapi", "SettingFault", "Status", "Times",
+           "PlaceIn", "PlaceOut", "Processor", "Queue", "Rearm", "Report", "Ring", "RunReport", "SerialNapi", "SettingFault", "Status", "Times",
            "Todo", "TraceFault", "Transmit", "Turn", "TxRing", "TxState", "Waits", "What", "Word", "machine",
-           "raise_runs", "replay", "shared"]
+           "place_ring", "raise_runs", "replay", "shared"]

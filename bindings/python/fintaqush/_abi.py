@@ -8,7 +8,7 @@ from typing import Any
 
 u8, u16, u32, u64, i64 = ctypes.c_uint8, ctypes.c_uint16, ctypes.c_uint32, ctypes.c_uint64, ctypes.c_int64
 size, boolean, text, pointer = ctypes.c_size_t, ctypes.c_bool, ctypes.c_char_p, ctypes.POINTER
-VERSION = "2.0.0"
+VERSION = "3.0.0"
 MESSAGE_ROOM = 96
 UNTIL_EMPTY = 4294967295
 FAULTS = {
@@ -19,8 +19,8 @@ FAULTS = {
 
 class Status(enum.IntEnum):
     """The statuses that calls return, each with the calls that it is of, if not of all, and its message. 0: success. 1 to 15: errors of a
-    queue limit; the operation isn't made. 16 to 99: results. After FQ_NOT_THERE, FQ_BUSY, FQ_CHANGED, FQ_STOPPED, FQ_MORE_THAN_SENT and
-    FQ_NOT_DUE nothing has changed, and after FQ_FULL neither, except for a burst. 100 and above: errors; the operation isn't made."""
+    queue limit; the operation isn't made. 16 to 99: results. After FQ_NOT_THERE, FQ_BUSY, FQ_CHANGED, FQ_STOPPED and FQ_NOT_DUE nothing has
+    changed, and after FQ_FULL neither, except for a burst. 100 and above: errors; the operation isn't made."""
 
     OK = 0
     BAD_BOUNDS = 1
@@ -40,7 +40,6 @@ class Status(enum.IntEnum):
     FULL = 26
     DONE = 27
     STOPPED = 28
-    MORE_THAN_SENT = 29
     NOT_DUE = 30
     NOT_ALLOWED = 100
     BAD_KIND = 101
@@ -59,6 +58,8 @@ class Status(enum.IntEnum):
     BAD_SIZE = 122
     BAD_SETTING = 123
     BAD_ARRIVALS = 124
+    MORE_THAN_SENT = 125
+    NOT_REPORTED = 126
 
 
 class Kind(enum.IntEnum):
@@ -109,11 +110,11 @@ class What(enum.IntEnum):
 
 class Rearm(enum.IntEnum):
     """Whether a fetch also unmasked the card and then looked at it, as FQ_TODO_UNMASK and FQ_TODO_LOOK do. A fetch that unmasked the card
-    has to be reported. A number that isn't listed counts as FQ_REARM_MORE."""
+    has to be reported. FQ_REARM_MORE costs at most one poll without packets, and a number that isn't listed counts as it."""
 
     NO = 0
-    EMPTY = 1
-    MORE = 2
+    MORE = 1
+    EMPTY = 2
 
 
 class DeviceState(enum.IntEnum):
@@ -200,8 +201,8 @@ class RunReport(ctypes.Structure):
 
 class Todo(ctypes.Structure):
     _fields_ = [
-        ("size", size), ("number", u64), ("what", u32), ("device", u32), ("most", u32), ("packets", u32), ("status", u32), ("rearm", u32),
-        ("nanoseconds", u64), ("run", RunReport),
+        ("number", u64), ("nanoseconds", u64), ("what", u32), ("device", u32), ("most", u32), ("packets", u32), ("rearm", u32),
+        ("status", u16), ("mask", boolean), ("squeezed", boolean),
     ]
 
 
@@ -227,7 +228,7 @@ class MachineSettings(ctypes.Structure):
         ("weight", u32), ("window", u32), ("time_limit", u32), ("rx_nsecs", u32), ("rx_frames", u32), ("defer_hard_irqs", u32),
         ("gro_flush_timeout", u32), ("threaded", u32), ("apart", u32), ("app_wake", u32), ("interrupt", u32), ("poll", u32),
         ("packet", u32), ("use_time", u32), ("wake", u32), ("heedless", u32), ("rx_gap", u32), ("timer", u32), ("timer_wake", u32),
-        ("latched", u32), ("gro_batch", u32), ("take", u32),
+        ("latched", u32), ("gro_batch", u32), ("take", u32), ("early", u32), ("poll_wake", u32), ("arm", u32),
     ]
 
 
@@ -236,7 +237,7 @@ class MachineRan(ctypes.Structure):
 
 
 # The structs whose size the library returns, by their numbers.
-SIZES: dict[type[ctypes.Structure], int] = {Handle: 0, Dql: 1, Napi: 2, Packet: 3, TxWatchdog: 4}
+SIZES: dict[type[ctypes.Structure], int] = {Handle: 0, Dql: 1, Napi: 2, Packet: 3, TxWatchdog: 4, Todo: 5}
 
 # The calls, by their names without fq_: the type of the result, and those of the arguments.
 CALLS: dict[str, tuple[Any, dict[str, Any]]] = {
@@ -278,6 +279,9 @@ CALLS: dict[str, tuple[Any, dict[str, Any]]] = {
     "ring_show_sized": (Status, {"ring": pointer(Ring), "shown": pointer(RingShown)}),
     "ring_split": (Status, {"ring": pointer(Ring), "out": pointer(Ring)}),
     "ring_finish_sized": (Status, {"ring": pointer(Ring), "totals": pointer(Totals)}),
+    "ring_places": (Status, {"ring": pointer(Ring), "out": pointer(Ring), "capacity": size}),
+    "ring_claim": (Status, {"ring": pointer(Ring), "publish": size, "want": size, "first": pointer(size), "count": pointer(size)}),
+    "ring_peek": (Status, {"ring": pointer(Ring), "release": size, "want": size, "first": pointer(size), "count": pointer(size)}),
     "tx_new": (Status, {"tx": pointer(Tx), "capacity": size, "min": u32, "max": u32, "hold_ms": u64, "now_ms": u64}),
     "tx_send": (Status, {"tx": pointer(Tx), "bytes": u32}),
     "tx_done": (Status, {"tx": pointer(Tx), "count": u32, "now_ms": u64}),
@@ -316,10 +320,11 @@ CALLS: dict[str, tuple[Any, dict[str, Any]]] = {
     "driver_new_salted": (Status, {"driver": pointer(Driver), "devices": u32, "budget": u32, "weight": u32, "window": u32, "salt": u16}),
     "driver_open": (Status, {"driver": pointer(Driver), "device": u32}),
     "driver_stop": (Status, {"driver": pointer(Driver), "device": u32}),
+    "driver_turn": (Status, {"driver": pointer(Driver), "interrupts": u64, "todo": pointer(Todo)}),
     "driver_interrupt": (Status, {"driver": pointer(Driver), "device": u32}),
-    "driver_next_sized": (Status, {"driver": pointer(Driver), "todo": pointer(Todo)}),
+    "driver_next": (Status, {"driver": pointer(Driver), "todo": pointer(Todo)}),
     "driver_done": (Status, {"driver": pointer(Driver), "todo": pointer(Todo)}),
-    "driver_step_sized": (Status, {"driver": pointer(Driver), "todo": pointer(Todo)}),
+    "driver_step": (Status, {"driver": pointer(Driver), "todo": pointer(Todo)}),
     "driver_timer": (Status, {"driver": pointer(Driver), "device": u32}),
     "driver_set_sized": (Status, {"driver": pointer(Driver), "device": u32, "settings": pointer(DeviceSettings)}),
     "driver_end_run": (Status, {"driver": pointer(Driver)}),

@@ -2,7 +2,7 @@
 from __future__ import annotations
 
 import itertools
-from typing import NamedTuple, Protocol
+from typing import Any, NamedTuple, Protocol
 
 from . import _abi as abi
 from . import _library as c
@@ -15,12 +15,13 @@ _made = itertools.count()
 
 class Todo:
     """An action: mask or unmask the card of `device`, look whether it has packets, fetch at most `most` of them, or set its timer to
-    `nanoseconds`; `run` is the report of
-    a run that ended, with ENDED and SLEEP. `packets` are those that a look found or a fetch took, set for the report; before, 1 for a look.
-    `rearm` says whether a fetch also unmasked the card and looked at it. A new one is no action."""
+    `nanoseconds`. Before a fetch, mask the card if `mask` is true. `run` is the report of a run that ended, with ENDED and SLEEP.
+    `packets` are those that a look found or a fetch took, set for the report; before, 1 for a look. `rearm` says whether a fetch also
+    unmasked the card and looked at it. `status` is NOT_DUE if the driver didn't wait for the last report any more, an error with FAILED,
+    otherwise OK. A new one is no action."""
 
     def __init__(self) -> None:
-        self._raw = c.sized(abi.Todo)
+        self._raw = abi.Todo()
 
     @property
     def what(self) -> What:
@@ -32,7 +33,15 @@ class Todo:
 
     @property
     def most(self) -> int:
-        return int(self._raw.most)
+        return int(self._raw.most) if self.what is What.FETCH else 0
+
+    @property
+    def mask(self) -> bool:
+        return bool(self._raw.mask)
+
+    @property
+    def status(self) -> Status:
+        return Status(self._raw.status)
 
     @property
     def nanoseconds(self) -> int:
@@ -40,7 +49,7 @@ class Todo:
 
     @property
     def packets(self) -> int:
-        return int(self._raw.packets)
+        return 0 if self._ends_a_run else int(self._raw.packets)
 
     @packets.setter
     def packets(self, packets: int) -> None:
@@ -56,7 +65,18 @@ class Todo:
 
     @property
     def run(self) -> RunReport:
-        return RunReport(self._raw.run.polls, self._raw.run.work, self._raw.run.squeezed)
+        return RunReport(self._raw.most, self._raw.packets, self._raw.squeezed) if self._ends_a_run else RunReport(0, 0, False)
+
+    @property
+    def _ends_a_run(self) -> bool:
+        return self.what in (What.ENDED, What.SLEEP)
+
+
+def _raw_of(todo: Todo) -> Any:
+    """Returns the struct of an action."""
+    if not isinstance(todo, Todo):
+        raise TypeError(f"an action is a Todo, not a {type(todo).__name__}")
+    return todo._raw
 
 
 class Cards(Protocol):
@@ -96,21 +116,30 @@ class Driver(_Owned):
         False if it isn't open. BAD_DEVICE."""
         return bool(c.driver_stop(self._at, device) == Status.OK)
 
+    def turn(self, interrupts: int, todo: Todo) -> What:
+        """Reports that the action in `todo` was done, with `todo.packets`, then the interrupts of the devices whose bits are set, and sets
+        `todo` to what has to be done now, which it returns. A loop needs only this call, and keeps its Todo; a new one reports nothing.
+        After an error `todo` is FAILED: BAD_DEVICE for a bit without a device, and nothing has changed; NOT_REPORTED if the driver waits
+        for the report of another action, which `next` returns again; BAD_WORK if a fetch took more than `most`."""
+        c.driver_turn(self._at, interrupts, _raw_of(todo))
+        return todo.what
+
     def interrupt(self, device: int) -> Status:
         """Reports an interrupt of a card (`napi_schedule`), at any time: GRANTED, MISSED or DISABLED. BAD_DEVICE. Report those that came before
-        each act: a device that always has packets keeps the driver from sleeping."""
+        each step or act: a device that always has packets keeps the driver from sleeping."""
         return Status(c.driver_interrupt(self._at, device))
 
     def timer(self, device: int) -> bool:
         """Reports that the timer of a device expired (`napi_watchdog`), at any time; returns whether that requested a poll. BAD_DEVICE."""
         return bool(c.driver_timer(self._at, device) == Status.GRANTED)
 
-    def set(self, device: int, weight: int = 64, defer_hard_irqs: int = 0, gro_flush_timeout: int = 0, empty_polls: int = 0) -> bool:
+    def set(self, device: int, weight: int = 64, defer_hard_irqs: int = 0, gro_flush_timeout: int = 0, empty_polls: int = 0) -> None:
         """Sets the weight of a closed device, the deferral of its interrupt, for `gro_flush_timeout` nanoseconds (`napi_defer_hard_irqs`), and
-        busy polling until `empty_polls` empty polls in a row. Returns False if it isn't closed. BAD_DEVICE, BAD_WEIGHT."""
+        busy polling until `empty_polls` empty polls in a row. BAD_DEVICE, BAD_WEIGHT; BAD_SETTING for `defer_hard_irqs` without
+        `gro_flush_timeout`; NOT_ALLOWED if it isn't closed."""
         settings = c.sized(abi.DeviceSettings, weight=weight, defer_hard_irqs=defer_hard_irqs, gro_flush_timeout=gro_flush_timeout,
                            empty_polls=empty_polls)
-        return bool(c.driver_set_sized(self._at, device, settings) == Status.OK)
+        c.driver_set_sized(self._at, device, settings)
 
     def end_run(self) -> bool:
         """Ends the run in progress, by a clock of the caller (`netdev_budget_usecs`): a fetch that is due already is still made, and then the
@@ -120,21 +149,20 @@ class Driver(_Owned):
     def next(self) -> Todo:
         """Returns what has to be done now. An action that isn't reported is returned again."""
         todo = Todo()
-        c.driver_next_sized(self._at, todo._raw)
+        c.driver_next(self._at, todo._raw)
         return todo
 
     def done(self, todo: Todo, packets: int | None = None) -> bool:
         """Reports that an action was done, with the packets of a look or a fetch, if they aren't set in `todo`. Returns False if the driver
         doesn't wait for this report any more. BAD_WORK if a fetch took more than `most`."""
+        raw = _raw_of(todo)
         if packets is not None:
             todo.packets = packets
-        return bool(c.driver_done(self._at, todo._raw) == Status.OK)
+        return bool(c.driver_done(self._at, raw) == Status.OK)
 
     def step(self, todo: Todo) -> What:
-        """Reports that the action in `todo` was done, with `todo.packets`, and sets `todo` to what has to be done now, which it returns:
-        `done` and `next` in one call. A new Todo() reports nothing. BAD_WORK if a fetch took more than `most`; then `todo` is FAILED, and
-        nothing else changes."""
-        c.driver_step_sized(self._at, todo._raw)
+        """Like `turn`, without interrupts; to mask a card is always an action of its own."""
+        c.driver_step(self._at, _raw_of(todo))
         return todo.what
 
     def act(self, cards: Cards) -> What:
@@ -142,9 +170,9 @@ class Driver(_Owned):
         nothing is reported, and the same action is due again. BAD_WORK if a fetch took more than `most`."""
         todo, packets = self.next(), 0
         what = todo.what
-        if what is What.MASK:
+        if todo.mask or what is What.MASK:
             cards.mask(todo.device)
-        elif what is What.UNMASK:
+        if what is What.UNMASK:
             cards.unmask(todo.device)
         elif what is What.LOOK:
             packets = int(bool(cards.look(todo.device)))
@@ -155,7 +183,7 @@ class Driver(_Owned):
             rearm = getattr(cards, "rearm", None)
             if rearm and packets < todo.most:
                 todo.rearm = Rearm.MORE if rearm(todo.device) else Rearm.EMPTY
-        else:
+        elif what is not What.MASK:
             return what
         self.done(todo, packets)
         return what

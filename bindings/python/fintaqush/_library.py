@@ -13,7 +13,7 @@ from typing import Any, Callable, TypeVar
 from ._abi import CALLS, MESSAGE_ROOM, SIZES, VERSION, Status, size, u32, u64
 from ._faults import Fault
 
-SONAME = "libfintaqush.so.2"
+SONAME = "libfintaqush.so.3"
 MOST: dict[Any, int] = {u32: 2**32 - 1, u64: 2**64 - 1, size: 2**64 - 1}
 LONG = ("replay_sized", "raise_sized", "machine_sized")  # they release the interpreter's lock, and return their status whatever it is
 Tuple = TypeVar("Tuple")

@@ -164,6 +164,13 @@ class _Owned(_One):
             abandon(self._at.handle)
 
 
+class _Part(_Owned):
+    """A part of an object, which the library has made."""
+
+    def __init__(self, at: Any) -> None:
+        self._at = at
+
+
 class Ring(_Owned):
     """A receive ring of capacity 1 to 65536. BAD_CAPACITY."""
 
@@ -186,6 +193,39 @@ class Ring(_Owned):
         return c.shown(Counts, abi.Counts, c.count_sized, self._at.handle)
 
 
+class PlaceIn(_Part):
+    """The input end of a ring of places, which publishes packets."""
+
+    def claim(self, publish: int, want: int) -> range:
+        """Publishes the packets in the first elements that were claimed last, this many, and claims up to `want` elements, at most 64:
+        returns their indices. They are fewer at the end of the list, or if the ring is full. NOT_ALLOWED if fewer were claimed."""
+        return _places(c.ring_claim, self._at, publish, want)
+
+
+class PlaceOut(_Part):
+    """The output end of a ring of places, which takes packets."""
+
+    def peek(self, release: int, want: int) -> range:
+        """Releases the first elements that were peeked at last, this many, and peeks at up to `want` published packets, at most 64, the
+        oldest ones: returns their indices. They are fewer at the end of the list, or if no more were published. NOT_ALLOWED if fewer
+        were peeked at."""
+        return _places(c.ring_peek, self._at, release, want)
+
+
+def _places(call: Callable[..., Any], at: Any, done: int, want: int) -> range:
+    first, count = abi.size(), abi.size()
+    call(at, done, want, first, count)
+    return range(first.value, first.value + count.value)
+
+
+def place_ring(capacity: int) -> tuple[PlaceIn, PlaceOut]:
+    """Makes a ring of places, 1 to 65536, and returns its ends. The packets are in a list of yours with as many elements, of which an end
+    uses only those that it claimed, or peeked at. BAD_CAPACITY."""
+    first, second = abi.Ring(), abi.Ring()
+    c.ring_places(first, second, capacity)
+    return PlaceIn(first), PlaceOut(second)
+
+
 class TxRing(_Owned):
     """A transmit ring of 1 to 65536 packets under a byte queue limit between min and max: it keeps the sizes of the packets that were
     sent and aren't completed. Times are milliseconds of your own clock. BAD_BOUNDS, BAD_CAPACITY."""
@@ -199,9 +239,9 @@ class TxRing(_Owned):
         TOO_LARGE, TOO_MUCH_IN_FLIGHT."""
         return Status(c.tx_send(self._at, bytes))
 
-    def done(self, count: int, now_ms: int) -> bool:
-        """Completes the oldest packets (`netdev_tx_completed_queue`); returns False, and completes none, if the device holds fewer."""
-        return bool(c.tx_done(self._at, count, now_ms) == Status.OK)
+    def done(self, count: int, now_ms: int) -> None:
+        """Completes the oldest packets (`netdev_tx_completed_queue`). MORE_THAN_SENT, and completes none, if the device holds fewer."""
+        c.tx_done(self._at, count, now_ms)
 
     def watch(self, limit_ms: int, now_ms: int) -> bool:
         """Returns whether it has been stopped, with no byte completed, for limit_ms since the first call that found it so

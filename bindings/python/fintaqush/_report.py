@@ -10,7 +10,7 @@ from ._faults import TraceFault
 
 
 class Turn(NamedTuple):
-    """What a softirq, kthread or busy row did; the device of a softirq is 0, and only a softirq can be squeezed."""
+    """What a row did that polls: its event says how. The device of a softirq is 0, and only a softirq can be squeezed."""
     event: str
     row: int
     polls: int
@@ -71,7 +71,7 @@ def replay(trace: bytes, budget: int = 300, weight: int = 64, window: int = 1024
 
 
 def raise_runs(trace: bytes, budget: int = 300, weight: int = 64, window: int = 1024, restarts: int | None = None) -> bytes:
-    """Adds to a trace the runs that the kernel would make with these settings (fintaqush raise), at most `restarts` after a row, and
+    """Adds to a trace the runs that the kernel would make with these settings (`fintaqush replay --raise`), at most `restarts` after a row, and
     returns its bytes. Errors are those of `replay`; a fault names a row of the longer trace, and is TooManyRows if that would have more
     than 100000."""
     most = abi.UNTIL_EMPTY if restarts is None else restarts

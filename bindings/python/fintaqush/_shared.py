@@ -7,7 +7,7 @@ from . import _abi as abi
 from . import _library as c
 from ._abi import Kind, Next, Status, Word
 from ._faults import Fault
-from ._objects import Counts, Packet, _Owned
+from ._objects import Counts, Packet, _Part
 
 
 class Answers(NamedTuple):
@@ -26,13 +26,6 @@ def _decided(call: Callable[..., Any], *values: Any) -> Status:
     while (said := Status(call(*values))) is Status.CHANGED:
         pass
     return said
-
-
-class _Part(_Owned):
-    """A part of an instance, which the library has made."""
-
-    def __init__(self, at: Any) -> None:
-        self._at = at
 
 
 class Input(_Part):

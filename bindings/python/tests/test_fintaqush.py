@@ -11,7 +11,7 @@ import unittest
 
 import fintaqush
 from fintaqush import (ArrivalsFault, DeviceState, Driver, Fault, Kind, Dql, List, SerialNapi, Next, Packet, Ring, SettingFault, Status, TraceFault,
-                       Transmit, Turn, TxRing, TxState, What, Word, machine, raise_runs, replay, shared)
+                       Transmit, Turn, TxRing, TxState, What, Word, machine, place_ring, raise_runs, replay, shared)
 
 TOP = pathlib.Path(__file__).resolve().parents[3]
 sys.path += [str(TOP / "tools"), str(TOP / "bindings/python/examples")]
@@ -73,11 +73,12 @@ class TestLimit(Refusals):
                                    (replay, (b"", 2**32 + 300), "budget")):
             with self.assertRaisesRegex(ValueError, line):
                 call(*values)
-        for call, values in ((Dql, (1.5,)), (limit.queued, ("1",)), (replay, ("moment,device,event,value\n",)), (replay, (None,))):
+        for call, values in ((Dql, (1.5,)), (limit.queued, ("1",)), (replay, ("moment,device,event,value\n",)), (replay, (None,)),
+                             (Driver(1).done, (5,)), (Driver(1).done, (None, 1)), (Driver(1).step, ("x",))):
             self.raised(TypeError, call, *values)
 
     def test_nothing_is_copied(self):
-        for one in Dql(), SerialNapi(), Ring(1), List(), TxRing(1), Driver(1), *shared(1)[:2], *shared(1)[2]:
+        for one in Dql(), SerialNapi(), Ring(1), List(), TxRing(1), Driver(1), *place_ring(1), *shared(1)[:2], *shared(1)[2]:
             for copied in copy.copy, copy.deepcopy, pickle.dumps:
                 with self.assertRaisesRegex(TypeError, "isn't copied"):
                     copied(one)
@@ -178,19 +179,40 @@ class TestRing(Refusals):
         self.assertEqual(ring.counts.packets, 30000)
 
 
+class TestPlaces(Refusals):
+    def test_packets_stay_where_they_are(self):
+        (first, second), packets = place_ring(5), [None] * 5
+        self.assertEqual((first.claim(0, 3), second.peek(0, 64)), (range(0, 3), range(0)))
+        packets[0:3] = "abc"
+        self.assertEqual(first.claim(3, 64), range(3, 5))
+        self.assertEqual([packets[i] for i in second.peek(0, 64)], ["a", "b", "c"])
+        self.assertEqual((second.peek(2, 0), first.claim(2, 64), second.peek(0, 64)), (range(2, 2), range(0, 2), range(2, 5)))
+
+    def test_what_is_refused(self):
+        for capacity in 0, 65537:
+            self.refused(Status.BAD_CAPACITY, place_ring, capacity)
+        first, second = place_ring(2)
+        self.refused(Status.NOT_ALLOWED, first.claim, 1, 1)
+        self.refused(Status.NOT_ALLOWED, second.peek, 1, 1)
+        self.assertEqual(first.claim(0, 1), range(0, 1))
+
+
 class TestTx(Refusals):
     def test_it_is_stopped_and_started(self):
         ring = TxRing(2, 1000, 1000)
         self.assertEqual((ring.send(600), ring.state), (Status.OK, TxState(600, 0, 1000, 400, False)))
-        self.assertEqual((ring.send(600), ring.send(1), ring.done(3, 1)), (Status.OK, Status.STOPPED, False))
-        self.assertEqual((ring.state, ring.done(1, 1)), (TxState(1200, 0, 1000, -200, True), True))
+        self.assertEqual((ring.send(600), ring.send(1)), (Status.OK, Status.STOPPED))
+        self.refused(Status.MORE_THAN_SENT, ring.done, 3, 1)
+        self.assertEqual(ring.state, TxState(1200, 0, 1000, -200, True))
+        ring.done(1, 1)
         self.assertEqual((ring.send(100), ring.send(100)), (Status.OK, Status.FULL))
 
     def test_it_is_watched(self):
         ring = TxRing(1, 0, 1)
         self.assertEqual((ring.watch(0, 0), ring.send(60)), (False, Status.OK))
         self.assertEqual([ring.watch(500, now) for now in (10, 509, 510, 5)], [False, False, True, False])
-        self.assertEqual((ring.done(1, 1000), ring.watch(0, 2000)), (True, False))
+        ring.done(1, 1000)
+        self.assertFalse(ring.watch(0, 2000))
 
     def test_what_is_refused(self):
         self.refused(Status.BAD_BOUNDS, TxRing, 2, 2, 1)
@@ -438,15 +460,61 @@ class TestDriver(Refusals):
             elif what is What.FETCH:
                 todo.packets = 9
                 self.refused(Status.BAD_WORK, driver.step, todo)
-                self.assertEqual((todo.what, driver.step(todo)), (What.FAILED, What.FETCH))
+                self.assertEqual((todo.what, todo.status), (What.FAILED, Status.BAD_WORK))
+                self.refused(Status.NOT_REPORTED, driver.step, todo)
+                todo = driver.next()
                 todo.packets = card.fetch(0, todo.most)
         self.assertEqual((card.masked, card.taken, driver.shown(0).polls, driver.shown(0).packets), (False, 100, 13, 100))
         driver.stop(0)
         mask = driver.next()
         self.assertTrue(driver.done(mask))
-        self.assertEqual((driver.step(mask), mask.what), (What.SLEEP, What.SLEEP))  # it was reported already
+        self.assertEqual((driver.step(mask), mask.what, mask.status), (What.SLEEP, What.SLEEP, Status.NOT_DUE))  # it was reported already
         with self.assertRaises(ValueError):
             todo.packets = -1
+
+    def turns(self, driver, todo, cards, interrupts):
+        """Does what the driver says after each turn, until it sleeps; the fetches unmask and look. Returns how many masked first."""
+        masks = 0
+        while (what := driver.turn(interrupts, todo)) is not What.SLEEP:
+            interrupts, card = 0, cards[todo.device]
+            masks += todo.mask
+            if todo.mask or what is What.MASK:
+                card.mask(0)
+            if what is What.UNMASK:
+                card.unmask(0)
+            elif what is What.LOOK:
+                todo.packets = card.look(0)
+            elif what is What.FETCH:
+                self.assertTrue(card.masked)
+                todo.packets = card.fetch(0, todo.most)
+                if todo.packets < todo.most:
+                    card.unmask(0)
+                    todo.rearm = fintaqush.Rearm.MORE if card.look(0) else fintaqush.Rearm.EMPTY
+        return masks
+
+    def test_turns(self):
+        driver, cards, todo = Driver(2, weight=8), (Card(), Card()), fintaqush.Todo()
+        for device, card in enumerate(cards):
+            card.waiting = 100
+            driver.open(device)
+        self.turns(driver, todo, cards, 0)
+        self.assertEqual([(card.masked, card.taken) for card in cards], [(False, 100), (False, 100)])
+        cards[1].waiting = 1
+        self.assertEqual((self.turns(driver, todo, cards, 1 << 1), todo.run), (1, (1, 1, False)))
+        self.assertEqual((cards[1].masked, cards[1].taken, todo.packets, todo.most), (False, 101, 0, 0))
+        self.refused(Status.BAD_DEVICE, driver.turn, 1 << 2, todo)
+        todo, none = fintaqush.Todo(), fintaqush.Todo()
+        self.assertEqual((driver.turn(1 << 0, todo), todo.mask, todo.most, todo.run), (What.FETCH, True, 8, (0, 0, False)))
+        self.refused(Status.NOT_REPORTED, driver.turn, 0, none)
+        self.assertEqual((none.what, none.status), (What.FAILED, Status.NOT_REPORTED))
+        todo.packets = 9
+        self.refused(Status.BAD_WORK, driver.turn, 0, todo)
+        todo = driver.next()
+        self.assertEqual((todo.what, todo.mask, driver.turn(0, todo)), (What.FETCH, True, What.UNMASK))
+        driver.stop(0)
+        self.assertEqual((driver.turn(0, todo), todo.status), (What.MASK, Status.NOT_DUE))
+        for wrong in -1, 1 << 64:
+            self.raised(ValueError, driver.turn, wrong, todo)
 
     def test_settings(self):
         driver, card, timers = Driver(1), Card(), []
@@ -454,10 +522,11 @@ class TestDriver(Refusals):
         card.timer = lambda device, nanoseconds: timers.append((device, nanoseconds))
         self.refused(Status.BAD_WEIGHT, driver.set, 0, 65)
         self.refused(Status.BAD_DEVICE, driver.set, 1)
-        self.assertTrue(driver.set(0, weight=8, defer_hard_irqs=1, gro_flush_timeout=5000))
+        self.refused(Status.BAD_SETTING, driver.set, 0, 8, 1)
+        driver.set(0, weight=8, defer_hard_irqs=1, gro_flush_timeout=5000)
         self.assertFalse(driver.timer(0))
         driver.open(0)
-        self.assertFalse(driver.set(0, empty_polls=3))
+        self.refused(Status.NOT_ALLOWED, driver.set, 0, 8)
         acted(driver, card)
         self.assertEqual(timers, [(0, 5000)])
         self.assertTrue(driver.timer(0))
@@ -529,7 +598,7 @@ class TestMachine(Refusals):
             self.assertEqual((fault.status, fault.number, fault.row, str(fault)), (Status.BAD_ARRIVALS, number, row, line))
             self.assertEqual(str(pickle.loads(pickle.dumps(fault))), line)
         for settings in ({"weight": 65}, {"backlog": 2}, {"wake": 10**9 + 1}, {"timer": 10**9 + 1}, {"processors": 0},
-                         {"rx_gap": 20000, "rx_frames": 2}, {"take": 501, "packet": 500}):
+                         {"rx_gap": 20000, "rx_frames": 2}, {"take": 501, "packet": 500}, {"early": 1500, "heedless": 1}):
             fault = self.raised(SettingFault, machine, self.ARRIVALS, **settings)
             self.assertEqual(str(fault), f"FQ_BAD_SETTING: {next(iter(settings))}")
         for arrivals, settings in ((self.ARRIVALS.decode(), {}), (self.ARRIVALS, {"size": 96}), (self.ARRIVALS, {"use": 1})):

@@ -28,6 +28,8 @@ pub enum What {
         device: u32,
         /// The most packets that may be taken.
         most: u32,
+        /// Whether the interrupt of the card has to be masked first.
+        mask: bool,
     },
     /// Set the timer of this device, so that it expires once, and then report it by [`Driver::timer`].
     Timer {
@@ -40,20 +42,30 @@ pub enum What {
     Ended(RunReport),
 }
 
-/// An action that has to be done, and then reported by [`Driver::step`] or [`Driver::done`].
+/// An action that has to be done, and then reported by [`Driver::turn`], [`Driver::step`] or [`Driver::done`].
 #[derive(Clone, Copy, Debug, PartialEq, Eq)]
 pub struct Todo {
     raw: sys::fq_todo,
 }
 
 impl Todo {
-    /// No action, for the first [`Driver::step`]: there is nothing to report.
+    /// No action, for the first [`Driver::turn`]: there is nothing to report.
     pub const NONE: Todo = Todo {
-        raw: sys::fq_todo::INIT,
+        raw: sys::fq_todo {
+            number: 0,
+            nanoseconds: 0,
+            what: sys::FQ_TODO_SLEEP,
+            device: 0,
+            most: 0,
+            packets: 0,
+            rearm: sys::FQ_REARM_NO,
+            status: sys::FQ_OK as u16,
+            mask: false,
+            squeezed: false,
+        },
     };
 
-    /// Sets the packets that a look found or a fetch took, for the report by [`Driver::step`]. Without it, a look counts as one
-    /// that found packets.
+    /// Sets the packets that a look found or a fetch took, for the report. Without it, a look counts as one that found packets.
     pub fn set_packets(&mut self, packets: u32) {
         self.raw.packets = packets;
     }
@@ -70,7 +82,22 @@ impl Todo {
 
     /// Returns the report of the run that ended, if one did: it comes with [`What::Ended`] or [`What::Sleep`].
     pub fn run(&self) -> Option<RunReport> {
-        (self.raw.run.polls > 0).then_some(self.raw.run)
+        let is_at_a_device = !matches!(self.raw.what, sys::FQ_TODO_ENDED | sys::FQ_TODO_SLEEP);
+        (!is_at_a_device && self.raw.most > 0).then(|| self.report())
+    }
+
+    /// Returns whether the driver waited for the last report. If not, an interrupt, an open or a stop had come before it.
+    pub fn was_due(&self) -> bool {
+        u32::from(self.raw.status) != sys::FQ_NOT_DUE
+    }
+
+    fn report(&self) -> RunReport {
+        RunReport {
+            polls: self.raw.most,
+            work: self.raw.packets,
+            squeezed: self.raw.squeezed,
+            ..RunReport::INIT
+        }
     }
 
     /// Returns the action.
@@ -78,21 +105,22 @@ impl Todo {
         let sys::fq_todo {
             device,
             most,
+            mask,
             nanoseconds,
             ..
         } = self.raw;
         match self.raw.what {
-            // a failed step has returned why
+            // a call that failed has returned why
             sys::FQ_TODO_SLEEP | sys::FQ_TODO_FAILED => What::Sleep,
             sys::FQ_TODO_MASK => What::Mask(device),
             sys::FQ_TODO_UNMASK => What::Unmask(device),
             sys::FQ_TODO_LOOK => What::Look(device),
-            sys::FQ_TODO_FETCH => What::Fetch { device, most },
+            sys::FQ_TODO_FETCH => What::Fetch { device, most, mask },
             sys::FQ_TODO_TIMER => What::Timer {
                 device,
                 nanoseconds,
             },
-            sys::FQ_TODO_ENDED => What::Ended(self.raw.run),
+            sys::FQ_TODO_ENDED => What::Ended(self.report()),
             what => unexpected("driver_next", what),
         }
     }
@@ -170,6 +198,47 @@ pub struct DeviceShown {
 /// [`What::Sleep`] only if the card of each open device was unmasked, was looked at after that and had no packets, or its timer was
 /// set, and no poll is requested.
 ///
+/// A loop needs only [`turn`](Driver::turn). A packet that interrupts takes two turns: the first says to mask the card and to fetch,
+/// the second, if the fetch also unmasked the card and looked at it, to sleep.
+///
+/// ```
+/// use fintaqush::{Driver, Fault, Todo, Weight, What};
+///
+/// # fn main() -> Result<(), Fault> {
+/// let (mut masked, mut packets, mut interrupts) = (true, 100, 0);
+/// let mut driver = Driver::new(1, 300, Weight::MAX, 1024)?;
+/// driver.open(0)?;
+/// let mut todo = Todo::NONE;
+/// for _ in 0..2 {
+///     loop {
+///         match driver.turn(std::mem::take(&mut interrupts), &mut todo)? {
+///             What::Sleep => break,
+///             What::Mask(_) => masked = true,
+///             What::Unmask(_) => masked = false,
+///             What::Look(_) => todo.set_packets(packets),
+///             What::Fetch { most, mask, .. } => {
+///                 masked |= mask;
+///                 let taken = most.min(packets);
+///                 packets -= taken;
+///                 todo.set_packets(taken);
+///                 if packets == 0 {
+///                     masked = false;
+///                     todo.set_rearmed(packets > 0); // looks again, because packets may have come before the unmask
+///                 }
+///             }
+///             What::Timer { .. } | What::Ended(_) => {}
+///         }
+///     }
+///     assert_eq!((masked, packets), (false, 0));
+///     (packets, interrupts) = (1, 1 << 0); // a packet, which interrupts
+/// }
+/// assert_eq!(driver.shown(0)?.packets, 101);
+/// # Ok(())
+/// # }
+/// ```
+///
+/// With [`Cards`], [`act`](Driver::act) does the actions:
+///
 /// ```
 /// use fintaqush::{Cards, Driver, Fault, Weight, What};
 ///
@@ -205,34 +274,6 @@ pub struct DeviceShown {
 /// # Ok(())
 /// # }
 /// ```
-///
-/// A loop that has its cards at hand does without [`Cards`]:
-///
-/// ```
-/// # use fintaqush::{Driver, Fault, Todo, Weight, What};
-/// # fn main() -> Result<(), Fault> {
-/// let (mut masked, mut packets) = (true, 100);
-/// let mut driver = Driver::new(1, 300, Weight::MAX, 1024)?;
-/// driver.open(0)?;
-/// let mut todo = Todo::NONE;
-/// loop {
-///     match driver.step(&mut todo)? {
-///         What::Sleep => break,
-///         What::Mask(_) => masked = true,
-///         What::Unmask(_) => masked = false,
-///         What::Look(_) => todo.set_packets(packets),
-///         What::Fetch { most, .. } => {
-///             let taken = most.min(packets);
-///             packets -= taken;
-///             todo.set_packets(taken);
-///         }
-///         What::Timer { .. } | What::Ended(_) => {}
-///     }
-/// }
-/// assert_eq!((masked, packets), (false, 0));
-/// # Ok(())
-/// # }
-/// ```
 #[derive(Debug)]
 pub struct Driver {
     at: Handle<sys::fq_driver>,
@@ -263,6 +304,16 @@ impl Driver {
         Fault::unless_made(calls::driver_stop(self.at.raw(), device))
     }
 
+    /// Reports that the action in `todo` was done, then the interrupts of the devices whose bits are set, and sets `todo` to what has to
+    /// be done now, which it returns. [`Todo::NONE`] reports nothing. A report that the driver doesn't wait for any more changes
+    /// nothing ([`Todo::was_due`]). If it fails, `todo` is no action: with [`BAD_DEVICE`](Fault::BAD_DEVICE) for a bit without a
+    /// device, and nothing has changed; with [`NOT_REPORTED`](Fault::NOT_REPORTED) if the driver waits for the report of another
+    /// action, which [`next`](Driver::next) returns again; with [`BAD_WORK`](Fault::BAD_WORK) if a fetch took too many packets.
+    pub fn turn(&mut self, interrupts: u64, todo: &mut Todo) -> Result<What, Fault> {
+        let said = calls::driver_turn(self.at.raw(), interrupts, &mut todo.raw);
+        Fault::unless_made(said).map(|()| todo.what())
+    }
+
     /// Reports an interrupt of a card (`napi_schedule`), at any time. Report those that came before each step or act: a device
     /// that always has packets keeps the driver from sleeping. Fails with [`BAD_DEVICE`](Fault::BAD_DEVICE).
     pub fn interrupt(&mut self, device: u32) -> Result<Prep, Fault> {
@@ -285,8 +336,9 @@ impl Driver {
     }
 
     /// Sets the settings of a closed device: its weight, the deferral of its interrupt, and busy polling. Fails with
-    /// [`NOT_DUE`](Fault::NOT_DUE) if it isn't closed, with [`BAD_WEIGHT`](Fault::BAD_WEIGHT) if its weight is above the driver's, and
-    /// with [`BAD_DEVICE`](Fault::BAD_DEVICE).
+    /// [`NOT_ALLOWED`](Fault::NOT_ALLOWED) if it isn't closed, with [`BAD_WEIGHT`](Fault::BAD_WEIGHT) if its weight is above the
+    /// driver's, with [`BAD_SETTING`](Fault::BAD_SETTING) for `defer_hard_irqs` without `gro_flush_timeout`, and with
+    /// [`BAD_DEVICE`](Fault::BAD_DEVICE).
     pub fn set(&mut self, device: u32, settings: DeviceSettings) -> Result<(), Fault> {
         let raw = sys::fq_device_settings {
             weight: settings.weight.get() as u32,
@@ -307,7 +359,7 @@ impl Driver {
     /// Returns what has to be done now. An action that isn't reported is returned again.
     pub fn next(&mut self) -> Todo {
         let raw = set_by("driver_next", Todo::NONE.raw, |raw| {
-            calls::driver_next_sized(self.at.raw(), raw)
+            calls::driver_next(self.at.raw(), raw)
         });
         Todo { raw }
     }
@@ -323,16 +375,10 @@ impl Driver {
         Fault::unless_made(calls::driver_done(self.at.raw(), &raw))
     }
 
-    /// Reports that the action in `todo` was done, with its packets, and sets `todo` to what has to be done now, which it
-    /// returns: [`done`](Driver::done) and [`next`](Driver::next) in one call. [`Todo::NONE`] reports nothing, and a report that
-    /// the driver doesn't wait for any more changes nothing. Fails with [`BAD_WORK`](Fault::BAD_WORK) if a fetch took too many
-    /// packets; then `todo` is no action, and nothing else has changed.
+    /// Like [`turn`](Driver::turn), without interrupts; to mask a card is always an action of its own.
     pub fn step(&mut self, todo: &mut Todo) -> Result<What, Fault> {
-        match calls::driver_step_sized(self.at.raw(), &mut todo.raw) {
-            sys::FQ_OK | sys::FQ_NOT_DUE => Ok(todo.what()),
-            sys::FQ_BAD_WORK => Err(Fault::BAD_WORK),
-            said => unexpected("driver_step", said),
-        }
+        let said = calls::driver_step(self.at.raw(), &mut todo.raw);
+        Fault::unless_made(said).map(|()| todo.what())
     }
 
     /// Does one action at a card, reports it, and returns it; returns [`What::Sleep`] if there is nothing to do,
@@ -359,7 +405,10 @@ impl Driver {
                 cards.timer(device, nanoseconds);
                 0
             }
-            What::Fetch { device, most } => {
+            What::Fetch { device, most, mask } => {
+                if mask {
+                    cards.mask(device);
+                }
                 let taken = cards.fetch(device, most);
                 if let Some(has_more) = (taken < most).then(|| cards.rearm(device)).flatten() {
                     todo.set_rearmed(has_more);

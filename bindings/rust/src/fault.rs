@@ -34,8 +34,6 @@ impl Fault {
     pub const FULL: Fault = Fault(sys::FQ_FULL);
     /// Send: the limit has stopped the queue.
     pub const STOPPED: Fault = Fault(sys::FQ_STOPPED);
-    /// Done: more packets are completed than were sent.
-    pub const MORE_THAN_SENT: Fault = Fault(sys::FQ_MORE_THAN_SENT);
     /// Driver: this is not due, and nothing has changed.
     pub const NOT_DUE: Fault = Fault(sys::FQ_NOT_DUE);
     /// The state of the object does not allow this call.
@@ -68,10 +66,14 @@ impl Fault {
     pub const BAD_DEVICE: Fault = Fault(sys::FQ_BAD_DEVICE);
     /// A struct's size is not one that the library knows.
     pub const BAD_SIZE: Fault = Fault(sys::FQ_BAD_SIZE);
-    /// Machine: a setting of the machine is out of its range, or excludes another.
+    /// Driver, machine: a setting is out of its range, or doesn't go with another.
     pub const BAD_SETTING: Fault = Fault(sys::FQ_BAD_SETTING);
     /// Machine: the bytes are not arrivals.
     pub const BAD_ARRIVALS: Fault = Fault(sys::FQ_BAD_ARRIVALS);
+    /// Done: more packets are completed than were sent.
+    pub const MORE_THAN_SENT: Fault = Fault(sys::FQ_MORE_THAN_SENT);
+    /// Driver: an action waits for its report, and this is not it.
+    pub const NOT_REPORTED: Fault = Fault(sys::FQ_NOT_REPORTED);
     // scripts/abi.py: end
 
     /// Returns its number.

@@ -38,8 +38,8 @@ objects! { fq_ring fq_tx fq_caller fq_control fq_list fq_driver }
 pub(crate) struct Handle<O: Object>(pub(crate) O);
 
 // SAFETY: a handle may move from thread to thread if one call is ordered before the next. Safe Rust orders a move between
-// threads by a release and its acquire; on x86-64, the only platform of the library, these order its accesses as a lock or a
-// thread's start and join do.
+// threads by a release and its acquire; on x86-64 and arm64, the platforms of the library, these order its accesses as a lock or
+// a thread's start and join do.
 unsafe impl<O: Object> Send for Handle<O> {}
 
 impl Handle<sys::fq_caller> {

@@ -8,6 +8,7 @@
 //!   next one.
 //! - [`Bare`]: such an instance without a ring.
 //! - [`Ring`]: a receive ring, without an instance.
+//! - [`place_ring`]: a ring without copies, over elements of any type.
 //! - [`Word`]: pending bits, which other threads raise for a list's poller.
 //! - [`TxRing`]: a transmit ring under a byte queue limit.
 //! - [`List`]: a poll list, and runs over it.
@@ -60,6 +61,7 @@ mod handle;
 mod list;
 mod machine;
 mod packets;
+mod places;
 mod polling;
 mod replay;
 mod ring;
@@ -81,6 +83,7 @@ pub use fault::Fault;
 pub use list::{List, Polled, Pushes, RunReport};
 pub use machine::{machine, MachineFault, MachineSettings};
 pub use packets::{Answers, Batch, Counts, Packet, RingShown, Totals, Weight};
+pub use places::{place_ring, PlaceIn, PlaceOut};
 pub use polling::Polling;
 pub use replay::{raise_runs, replay, NoReport, Settings};
 pub use ring::{Input, Output, Ring};

@@ -66,7 +66,7 @@ pub fn replay(trace: &[u8], settings: &Settings) -> Result<Vec<u8>, NoReport> {
     written(|out, replayed| calls::replay_sized(settings, trace, out, replayed))
 }
 
-/// Adds to a trace the runs that the kernel would make with these settings, as `fintaqush raise` does, and returns the trace.
+/// Adds to a trace the runs that the kernel would make with these settings, as `fintaqush replay --raise` does, and returns the trace.
 ///
 /// A trace has only the runs of the machine where it was recorded. If a run leaves devices on the poll list, because budget or
 /// weight is smaller than there, the kernel raises the softirq again (`net_rx_action`). So a softirq row that leaves devices on

@@ -43,8 +43,6 @@ pub const FQ_FULL: u32 = 26;
 pub const FQ_DONE: u32 = 27;
 /// Send: the limit has stopped the queue.
 pub const FQ_STOPPED: u32 = 28;
-/// Done: more packets are completed than were sent.
-pub const FQ_MORE_THAN_SENT: u32 = 29;
 /// Driver: this is not due, and nothing has changed.
 pub const FQ_NOT_DUE: u32 = 30;
 /// The state of the object does not allow this call.
@@ -77,10 +75,14 @@ pub const FQ_BAD_TRACE: u32 = 120;
 pub const FQ_BAD_DEVICE: u32 = 121;
 /// A struct's size is not one that the library knows.
 pub const FQ_BAD_SIZE: u32 = 122;
-/// Machine: a setting of the machine is out of its range, or excludes another.
+/// Driver, machine: a setting is out of its range, or doesn't go with another.
 pub const FQ_BAD_SETTING: u32 = 123;
 /// Machine: the bytes are not arrivals.
 pub const FQ_BAD_ARRIVALS: u32 = 124;
+/// Done: more packets are completed than were sent.
+pub const FQ_MORE_THAN_SENT: u32 = 125;
+/// Driver: an action waits for its report, and this is not it.
+pub const FQ_NOT_REPORTED: u32 = 126;
 
 /// `FQ_STRUCT_HANDLE` of `enum fq_struct`.
 pub const FQ_STRUCT_HANDLE: u32 = 0;
@@ -92,6 +94,8 @@ pub const FQ_STRUCT_NAPI: u32 = 2;
 pub const FQ_STRUCT_PACKET: u32 = 3;
 /// `FQ_STRUCT_TX_WATCHDOG` of `enum fq_struct`.
 pub const FQ_STRUCT_TX_WATCHDOG: u32 = 4;
+/// `FQ_STRUCT_TODO` of `enum fq_struct`.
+pub const FQ_STRUCT_TODO: u32 = 5;
 
 /// On a poll list.
 pub const FQ_LIST: u32 = 0;
@@ -109,7 +113,8 @@ pub const FQ_NEXT_REPOLL: u32 = 3;
 /// Its instance wasn't queued there.
 pub const FQ_NEXT_ABSENT: u32 = 4;
 
-/// Nothing, until the next interrupt, open or stop; `run` is the report of the run that ended, if one did.
+/// Nothing, until the next interrupt, open or stop; `fq_todo_run` returns the report of the run that ended, if one
+/// did.
 pub const FQ_TODO_SLEEP: u32 = 0;
 /// Mask the interrupt of the device's card.
 pub const FQ_TODO_MASK: u32 = 1;
@@ -118,11 +123,12 @@ pub const FQ_TODO_UNMASK: u32 = 2;
 /// Look whether the card has packets, and set `packets` to how many, or to 1 if it has any, or to 0: after a full
 /// memory fence, if the card works at the same time.
 pub const FQ_TODO_LOOK: u32 = 3;
-/// Take packets from the card, at most `most` of them, deliver them, and set `packets` to how many. If the card has
-/// no more, you may unmask it and then look at it, and set `rearm`: this saves the steps for UNMASK and LOOK.
+/// Mask the card if `mask` is set; then take packets from it, at most `most` of them, deliver them, and set `packets`
+/// to how many. If the card has no more, you may unmask it and then look at it, and set `rearm`: this saves the turns
+/// for UNMASK and LOOK.
 pub const FQ_TODO_FETCH: u32 = 4;
-/// A run ended, with the report `run` (`net_rx_action`): it was squeezed, or devices wait for the next run. Do other
-/// work first, if there is some.
+/// A run ended (`net_rx_action`), whose report `fq_todo_run` returns: it was squeezed, or devices wait for the next
+/// run. Do other work first, if there is some.
 pub const FQ_TODO_ENDED: u32 = 5;
 /// Nothing, because the call failed, with the error `status`: a loop has to end.
 pub const FQ_TODO_FAILED: u32 = 6;
@@ -132,10 +138,10 @@ pub const FQ_TODO_TIMER: u32 = 7;
 
 /// It didn't: the card is still masked.
 pub const FQ_REARM_NO: u32 = 0;
-/// It did, and the card had no packets.
-pub const FQ_REARM_EMPTY: u32 = 1;
 /// It did, and the card had packets.
-pub const FQ_REARM_MORE: u32 = 2;
+pub const FQ_REARM_MORE: u32 = 1;
+/// It did, and the card had no packets.
+pub const FQ_REARM_EMPTY: u32 = 2;
 
 /// Closed, and its card is masked.
 pub const FQ_DEVICE_CLOSED: u32 = 0;
@@ -465,52 +471,33 @@ impl fq_run_report {
     };
 }
 
-/// An action that has to be done.
+/// An action that has to be done: 40 bytes, all 0 at first.
 #[repr(C)]
-#[derive(Clone, Copy, Debug, PartialEq, Eq)]
+#[derive(Clone, Copy, Debug, Default, PartialEq, Eq)]
 pub struct fq_todo {
-    /// The size of this struct.
-    pub size: usize,
     /// The number under which to report it: each action has another one; 0 if there is nothing to report.
     pub number: u64,
+    /// The time of `FQ_TODO_TIMER`; 0 for anything else.
+    pub nanoseconds: u64,
     /// What has to be done.
     pub what: u32,
     /// The device; 0 if the action is at none.
     pub device: u32,
-    /// The packets that a fetch may take, the device's weight; 0 for anything else.
+    /// The packets that a fetch may take, the device's weight; 0 for any other action at a device. `fq_todo_run`
+    /// reads it, `packets` and `squeezed` after `FQ_TODO_ENDED` and `FQ_TODO_SLEEP`.
     pub most: u32,
-    /// Set by the program after a look and a fetch; before that 1 for a look, so that packets aren't forgotten, else
-    /// 0.
+    /// Set by the program after a look and a fetch; before that 1 for a look, so that packets aren't forgotten, and 0
+    /// for any other action at a device.
     pub packets: u32,
-    /// The error after `FQ_TODO_FAILED`, otherwise `FQ_OK`.
-    pub status: u32,
     /// Set by the program after a fetch that also unmasked the card and looked at it; before that `FQ_REARM_NO`.
     pub rearm: u32,
-    /// The time of `FQ_TODO_TIMER`; 0 for anything else.
-    pub nanoseconds: u64,
-    /// The report of the run that ended, for `FQ_TODO_ENDED` and `FQ_TODO_SLEEP`; its numbers are 0 if none did.
-    pub run: fq_run_report,
-}
-
-impl fq_todo {
-    /// Its size, and zeros.
-    pub const INIT: fq_todo = fq_todo {
-        size: std::mem::size_of::<fq_todo>(),
-        number: 0,
-        what: 0,
-        device: 0,
-        most: 0,
-        packets: 0,
-        status: 0,
-        rearm: 0,
-        nanoseconds: 0,
-        run: fq_run_report {
-            size: std::mem::size_of::<fq_run_report>(),
-            polls: 0,
-            work: 0,
-            squeezed: false,
-        },
-    };
+    /// The error after `FQ_TODO_FAILED`; `FQ_NOT_DUE` if the driver didn't wait for the last report any more, because
+    /// of an interrupt, an open or a stop; otherwise `FQ_OK`.
+    pub status: u16,
+    /// Whether a fetch has to mask the card first; `fq_driver_step` never sets it.
+    pub mask: bool,
+    /// Whether the run that ended was squeezed.
+    pub squeezed: bool,
 }
 
 /// The settings of a device.
@@ -521,7 +508,8 @@ pub struct fq_device_settings {
     pub size: usize,
     /// The packets that a fetch may take (`netif_napi_add_weight`), 1 to the driver's weight, which is its default.
     pub weight: u32,
-    /// How many completions in a row defer the interrupt after the last fetch with packets (`napi_defer_hard_irqs`).
+    /// How many completions in a row defer the interrupt after the last fetch with packets (`napi_defer_hard_irqs`):
+    /// 0, or it needs `gro_flush_timeout`.
     pub defer_hard_irqs: u32,
     /// For how many nanoseconds each does (`gro_flush_timeout`); 0, the default, turns deferral off.
     pub gro_flush_timeout: u64,
@@ -626,8 +614,7 @@ impl fq_replayed {
 pub struct fq_machine_settings {
     /// The size of this struct.
     pub size: usize,
-    /// Processors that receive; queue q belongs to processor (q - 1) mod N, and each serves at most 64 queues, 1 to
-    /// 64 (1).
+    /// Processors that receive; queue q belongs to processor (q - 1) mod N; each serves at most 64, 1 to 64 (1).
     pub processors: u32,
     /// Queues of each device, chosen by the packet's flow (RSS: ethtool -L, -X), 1 to 64 (1).
     pub queues: u32,
@@ -641,8 +628,8 @@ pub struct fq_machine_settings {
     /// Packets after which a run ends and is squeezed (net.core.`netdev_budget`); 0: no polls, an interrupt for each
     /// packet, 0 to 65535 (300).
     pub budget: u32,
-    /// Packets that one poll takes at most (`NAPI_POLL_WEIGHT` for most cards; of a backlog net.core.`dev_weight`
-    /// times `dev_weight_rx_bias`), 1 to 64 (64).
+    /// Packets that one poll takes at most (`NAPI_POLL_WEIGHT`; of a backlog net.core.`dev_weight` times
+    /// `dev_weight_rx_bias`), 1 to 64 (64).
     pub weight: u32,
     /// Polls after which a run ends and is squeezed; Linux has no such limit, 1 to 65535 (1024).
     pub window: u32,
@@ -653,8 +640,8 @@ pub struct fq_machine_settings {
     pub rx_nsecs: u32,
     /// Packets at which the interrupt comes before that time (ethtool -C rx-frames); 0: never, 0 to 65535 (0).
     pub rx_frames: u32,
-    /// Polls without packets, one after each timeout, of which the last unmasks the queue (`napi_defer_hard_irqs`), 0
-    /// to 65535 (0).
+    /// Polls without packets, one after each timeout; the last unmasks the queue (`napi_defer_hard_irqs`), 0 to 65535
+    /// (0).
     pub defer_hard_irqs: u32,
     /// Time until a queue that stays masked is polled again (`gro_flush_timeout`); 0: none does, 0 to 1000000000 ns
     /// (0).
@@ -663,8 +650,8 @@ pub struct fq_machine_settings {
     pub threaded: u32,
     /// 1: the application has a processor of its own (taskset), 0 to 1 (0).
     pub apart: u32,
-    /// Time from waking the application until it runs; on the processor that polls it is a part of the use, 0 to
-    /// 1000000000 ns (0).
+    /// Time from waking the application until it runs; on the processor that polls a part of the use, 0 to 1000000000
+    /// ns (0).
     pub app_wake: u32,
     /// Time of an interrupt, 0 to 1000000000 ns (4000).
     pub interrupt: u32,
@@ -676,11 +663,11 @@ pub struct fq_machine_settings {
     pub use_time: u32,
     /// Time to wake an idle processor, which counts as interrupt time, 0 to 1000000000 ns (0).
     pub wake: u32,
-    /// 1: the driver unmasks the queue whatever `napi_complete_done` returns (vmxnet3, tg3, be2net, mana), 0 to 1
-    /// (0).
+    /// 1: the driver unmasks the queue whatever `napi_complete_done` returns (vmxnet3, tg3, be2net, mana, bnx2,
+    /// cxgb4, qede and others), 0 to 1 (0).
     pub heedless: u32,
-    /// Least time between two interrupts of a card (ethtool -C rx-usecs of igb, ixgbe, e1000, e1000e, in us there);
-    /// not with rx-nsecs or rx-frames, 0 to 1000000000 ns (0).
+    /// Least time between two interrupts of a card (ethtool -C rx-usecs of igb, igc, ixgbe, e1000, e1000e, i40e, in
+    /// us there); not with rx-nsecs, rx-frames, 0 to 1000000000 ns (0).
     pub rx_gap: u32,
     /// Time of the interrupt of an expired NAPI timer (`napi_watchdog`), 0 to 1000000000 ns (`UINT32_MAX`: that of
     /// interrupt).
@@ -688,15 +675,22 @@ pub struct fq_machine_settings {
     /// Time to wake an idle processor by an expired NAPI timer, which counts as interrupt time, 0 to 1000000000 ns
     /// (`UINT32_MAX`: that of wake).
     pub timer_wake: u32,
-    /// 1: a packet that comes while the interrupt is raised or masked sets a cause, which raises the interrupt when
-    /// the driver unmasks it (igb, igc, ixgbe, vmxnet3); 2: the interrupt's handler also clears it (e1000, e1000e
-    /// without MSI-X), 0 to 2 (0).
+    /// 1: a packet while the interrupt is raised or masked sets a cause, which raises it when the driver unmasks it
+    /// (igb, igc, ixgbe, vmxnet3); 2: its handler clears the cause too (e1000, e1000e without MSI-X), 0 to 2 (0).
     pub latched: u32,
-    /// Packets that a poll takes before it hands them over (net.core.`gro_normal_batch`), for drivers that call
-    /// `napi_gro_receive`; 0: each at once, 0 to 64 (0).
+    /// Packets that a poll takes before it hands them over (net.core.`gro_normal_batch`), with `napi_gro_receive`; 0:
+    /// each at once, 0 to 64 (0).
     pub gro_batch: u32,
     /// With gro-batch the part of packet that taking one from the ring and GRO take, 0 to 1000000000 ns (0).
     pub take: u32,
+    /// Time of an interrupt between a driver's asking for it and `napi_complete_done` (`virtio_net`); 0: other
+    /// drivers; not with heedless, 0 to 1000000000 ns (0).
+    pub early: u32,
+    /// Time by which a delivery that wakes the application takes longer (`sock_def_readable`); not with apart, 0 to
+    /// 1000000000 ns (0).
+    pub poll_wake: u32,
+    /// Time by which a poll that starts the NAPI timer takes longer (`hrtimer_start`), 0 to 1000000000 ns (0).
+    pub arm: u32,
 }
 
 impl fq_machine_settings {
@@ -731,6 +725,9 @@ impl fq_machine_settings {
         latched: 0,
         gro_batch: 0,
         take: 0,
+        early: 0,
+        poll_wake: 0,
+        arm: 0,
     };
 }
 
@@ -746,8 +743,8 @@ pub struct fq_machine_ran {
     pub row: u64,
     /// The number of that fault, 1 to 8; 0 if they have none.
     pub fault: u32,
-    /// The first setting that is out of its range, or `rx_gap` if it excludes another, or take if it is above packet:
-    /// 1 for processors, 2 for queues and so on; 0 if none is rejected.
+    /// The first setting that is out of its range, or `rx_gap` if it excludes another, or take if it is above packet,
+    /// or early if it excludes heedless: 1 for processors, 2 for queues and so on; 0 if none is rejected.
     pub setting: u32,
     /// The message of the fault of the arrivals, as `napi_machine` prints it, with a terminating 0; otherwise empty.
     pub message: [c_char; 64],
@@ -786,7 +783,6 @@ pub fn fq_status_name(status: u32) -> &'static str {
         FQ_FULL => "FQ_FULL",
         FQ_DONE => "FQ_DONE",
         FQ_STOPPED => "FQ_STOPPED",
-        FQ_MORE_THAN_SENT => "FQ_MORE_THAN_SENT",
         FQ_NOT_DUE => "FQ_NOT_DUE",
         FQ_NOT_ALLOWED => "FQ_NOT_ALLOWED",
         FQ_BAD_KIND => "FQ_BAD_KIND",
@@ -805,6 +801,8 @@ pub fn fq_status_name(status: u32) -> &'static str {
         FQ_BAD_SIZE => "FQ_BAD_SIZE",
         FQ_BAD_SETTING => "FQ_BAD_SETTING",
         FQ_BAD_ARRIVALS => "FQ_BAD_ARRIVALS",
+        FQ_MORE_THAN_SENT => "FQ_MORE_THAN_SENT",
+        FQ_NOT_REPORTED => "FQ_NOT_REPORTED",
         _ => "?",
     }
 }

@@ -634,8 +634,9 @@ fn an_open_asks_once_and_a_request_goes_by_the_word() {
         assert!(card.masked);
         assert_eq!(interrupts.request(), (Prep::Missed, Next::Gone));
         let polling = poller.take(kind).expect("it was asked for");
-        let End::Over(poller, next) = polling.end(false) else {
-            panic!("it is over")
+        let (poller, next) = match polling.end(false) {
+            End::Over(poller, next) => (poller, next),
+            _ => panic!("it is over"),
         };
         assert_eq!(next, Next::Again(kind));
         let polling = poller.take(kind).expect("again");
@@ -841,7 +842,8 @@ fn the_structs_have_the_sizes_that_the_library_tells() {
     assert_eq!(told(FQ_STRUCT_NAPI), size_of::<fq_napi>());
     assert_eq!(told(FQ_STRUCT_PACKET), size_of::<fq_packet>());
     assert_eq!(told(FQ_STRUCT_TX_WATCHDOG), size_of::<fq_tx_watchdog>());
-    assert_eq!(told(FQ_STRUCT_TX_WATCHDOG + 1), 0);
+    assert_eq!(told(FQ_STRUCT_TODO), size_of::<fq_todo>());
+    assert_eq!(told(FQ_STRUCT_TODO + 1), 0);
 }
 
 // A card with edge-triggered interrupts: packets that arrive while it is masked raise none.
@@ -891,6 +893,7 @@ fn a_driver_polls_what_came_before_it_was_opened() {
     let fetch = What::Fetch {
         device: 1,
         most: 64,
+        mask: false,
     };
     let wanted = [
         What::Unmask(1),
@@ -963,9 +966,14 @@ fn a_device_defers_its_interrupt() {
     let mut driver = Driver::new(1, 300, Weight::MAX, 1024).unwrap();
     assert_eq!(driver.set(1, settings), Err(Fault::BAD_DEVICE));
     driver.set(0, settings).unwrap();
+    let without_timeout = DeviceSettings {
+        gro_flush_timeout: 0,
+        ..settings
+    };
+    assert_eq!(driver.set(0, without_timeout), Err(Fault::BAD_SETTING));
     assert_eq!(driver.timer(0), Ok(false));
     driver.open(0).unwrap();
-    assert_eq!(driver.set(0, settings), Err(Fault::NOT_DUE));
+    assert_eq!(driver.set(0, settings), Err(Fault::NOT_ALLOWED));
     while driver.act(&mut card) != Ok(What::Sleep) {}
     assert_eq!((card.masked, card.packets, card.timer), (true, 0, 5000));
     assert_eq!(driver.shown(0).unwrap().polls, 2);
@@ -1014,6 +1022,7 @@ fn a_fetch_may_unmask_and_look() {
     let fetch = What::Fetch {
         device: 0,
         most: 64,
+        mask: false,
     };
     assert_eq!((todo.what(), todo.run()), (fetch, None));
     todo.set_packets(card.fetch(0, 64));
@@ -1045,10 +1054,12 @@ fn a_loop_needs_only_steps() {
             What::Mask(device) => card.mask(device),
             What::Unmask(device) => card.unmask(device),
             What::Look(device) => todo.set_packets(card.look(device).into()),
-            What::Fetch { device, most } => {
+            What::Fetch { device, most, mask } => {
+                assert!(!mask);
                 todo.set_packets(9);
                 assert_eq!(driver.step(&mut todo), Err(Fault::BAD_WORK));
-                assert_eq!(driver.step(&mut todo), Ok(What::Fetch { device, most }));
+                assert_eq!(driver.step(&mut todo), Err(Fault::NOT_REPORTED));
+                todo = driver.next();
                 todo.set_packets(card.fetch(device, most));
             }
             What::Timer { .. } | What::Ended(_) => {}
@@ -1063,9 +1074,76 @@ fn a_loop_needs_only_steps() {
     let mask = driver.next();
     todo = mask;
     assert_eq!(driver.step(&mut todo), Ok(What::Sleep));
+    assert!(todo.was_due());
     todo = mask;
     assert_eq!(driver.step(&mut todo), Ok(What::Sleep)); // it was reported already
+    assert!(!todo.was_due());
     assert_eq!(driver.done(mask, 0), Err(Fault::NOT_DUE));
+}
+
+// Does what a driver says after each turn, until it sleeps; the fetches unmask and look. Returns how many fetches masked first.
+fn turns(driver: &mut Driver, todo: &mut Todo, cards: &mut [EdgeCard], mut interrupts: u64) -> u32 {
+    let mut masks = 0;
+    loop {
+        match driver.turn(interrupts, todo).unwrap() {
+            What::Sleep => return masks,
+            What::Mask(device) => cards[device as usize].mask(device),
+            What::Unmask(device) => cards[device as usize].unmask(device),
+            What::Look(device) => todo.set_packets(cards[device as usize].look(device).into()),
+            What::Fetch { device, most, mask } => {
+                let card = &mut cards[device as usize];
+                masks += u32::from(mask);
+                card.open &= !mask;
+                assert!(!card.open);
+                let taken = card.fetch(device, most);
+                todo.set_packets(taken);
+                if taken < most {
+                    card.unmask(device);
+                    todo.set_rearmed(card.look(device));
+                }
+            }
+            What::Timer { .. } | What::Ended(_) => {}
+        }
+        interrupts = 0;
+    }
+}
+
+#[test]
+fn a_packet_takes_two_turns() {
+    let mut driver = Driver::new(2, 300, Weight::new(8).unwrap(), 1024).unwrap();
+    let full = || EdgeCard {
+        waiting: 100,
+        ..EdgeCard::default()
+    };
+    let (mut cards, mut todo) = ([full(), full()], Todo::NONE);
+    driver.open(0).unwrap();
+    driver.open(1).unwrap();
+    turns(&mut driver, &mut todo, &mut cards, 0);
+    assert_eq!((cards[0].taken, cards[1].taken), (100, 100));
+    cards[1].waiting = 1;
+    assert_eq!(turns(&mut driver, &mut todo, &mut cards, 1 << 1), 1);
+    assert_eq!(todo.run().map(|run| (run.polls, run.work)), Some((1, 1)));
+    assert_eq!((cards[1].taken, cards[1].open), (101, true));
+
+    assert_eq!(driver.turn(1 << 2, &mut todo), Err(Fault::BAD_DEVICE));
+    todo = Todo::NONE;
+    let fetch = What::Fetch {
+        device: 0,
+        most: 8,
+        mask: true,
+    };
+    assert_eq!(driver.turn(1 << 0, &mut todo), Ok(fetch));
+    let mut none = Todo::NONE;
+    assert_eq!(driver.turn(0, &mut none), Err(Fault::NOT_REPORTED));
+    assert_eq!(none.what(), What::Sleep);
+    let mut many = todo;
+    many.set_packets(9);
+    assert_eq!(driver.turn(0, &mut many), Err(Fault::BAD_WORK));
+    assert_eq!(driver.next().what(), fetch);
+    assert_eq!(driver.turn(0, &mut todo), Ok(What::Unmask(0)));
+    driver.stop(0).unwrap();
+    assert_eq!(driver.turn(0, &mut todo), Ok(What::Mask(0)));
+    assert!(!todo.was_due());
 }
 
 #[test]
@@ -1092,7 +1170,14 @@ fn a_driver_refuses_what_is_not_due() {
     let todo = driver.next();
     driver.done(todo, 0).unwrap();
     let todo = driver.next();
-    assert_eq!(todo.what(), What::Fetch { device: 0, most: 8 });
+    assert!(matches!(
+        todo.what(),
+        What::Fetch {
+            device: 0,
+            most: 8,
+            ..
+        }
+    ));
     assert_eq!(driver.done(todo, 9), Err(Fault::BAD_WORK));
     let broken = catch_unwind(AssertUnwindSafe(|| {
         struct Broken(bool);
@@ -1113,7 +1198,14 @@ fn a_driver_refuses_what_is_not_due() {
     assert!(broken.is_err());
     let mut other = Driver::new(1, 300, Weight::MAX, 1024).unwrap();
     assert_eq!(other.done(todo, 1), Err(Fault::NOT_DUE)); // another driver's action
-    assert_eq!(driver.next().what(), What::Fetch { device: 0, most: 8 });
+    assert!(matches!(
+        driver.next().what(),
+        What::Fetch {
+            device: 0,
+            most: 8,
+            mask: true
+        }
+    ));
 }
 
 #[test]
@@ -1159,6 +1251,12 @@ fn the_machine_reports_what_its_program_does() {
         ..settings
     };
     assert_eq!(machine(arrivals, &both), Err(MachineFault::Setting(23)));
+    let early = MachineSettings {
+        early: 1500,
+        heedless: 1,
+        ..settings
+    };
+    assert_eq!(machine(arrivals, &early), Err(MachineFault::Setting(29)));
     let timer = MachineSettings {
         timer: 1_000_000_001,
         ..settings

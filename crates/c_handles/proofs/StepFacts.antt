@@ -1,12 +1,15 @@
 -- The status of a report, and what it means.
-use Rattle.std.specs.Prelude.{⊤, IsSome, if◌then◌else◌}
+use Rattle.std.specs.Prelude.{⊤, IsSome, if◌then◌else◌, ◌==◌, ◌&&◌, ◌||◌, not}
 use Rattle.std.proofs.Common.{◌≡◌, ◌≢◌, ◌∙◌, inl, inr, ℕ, Bool, true, false, is_some, Option, Result, Ok, Err, refl}
 use Rattle.std.proofs.Common.{sym, ap, subst, arith}
-use Rattle.std.proofs.lemmas.Bool.Decides.{eqb_tells}
-use Rattle.driver_core.specs.Driver.{AsksNext, AwaitsNothing, IsDone, IsReport, IsStep, Reports, polled_device, said_number_of}
-use Rattle.driver_core.specs.declared.{driver.Driver.Driver, todo.Todo.Todo}
+use Rattle.std.proofs.lemmas.Bool.{Decides.{eqb_tells}, eq-eqb}
+use Rattle.driver_core.specs.Driver.{AsksNext, AwaitsNothing, IsDone, IsReport, IsStep, IsTurn, Reports, awaits_another, polled_device}
+use Rattle.driver_core.specs.Driver.{said_number_of, said_of}
+use Rattle.driver_core.specs.declared.{device.Chore.Chore, driver.Driver.Driver, todo.Todo.Todo, todo.What.What}
 use Rattle.driver_core.specs.declared.todo.Refused.{Refused, TheVariants.{NotDue, TooMany}}
-use Rattle.c_handles.specs.Drivers.{IsDriverStep, IsTodoReport, Says, failed_in, rearm_in, report_status, todo_settled, todo_in}
+use Rattle.c_handles.specs.Drivers.{IsDriverStep, IsTodoReport, Says, TakesTurn, failed_in, rearm_in, report_status, step_status}
+use Rattle.c_handles.specs.Drivers.{todo_settled}
+use Rattle.c_handles.specs.Drivers.{todo_in}
 use Rattle.c_handles.specs.declared.drive.FqTodo.{FqTodo}
 use Rattle.c_handles.specs.Status.{OK, NOT_DUE, BAD_WORK}
 
@@ -99,15 +102,58 @@ refused_keeps number packets rearm d e todo h =
     cc both in
     (h.asks.again busy).0 ∙ back
 
-not_many : (number : ℕ) → report_status number (Err NotDue) ≡ BAD_WORK → ⊥
-not_many number bad = elim (eqb_tells number 0) [
-  | inl is ↦ let no : OK ≡ BAD_WORK = rw is.0 at bad in absurd (omega (arith, no))
-  | inr is ↦ let no : NOT_DUE ≡ BAD_WORK = rw is.0 at bad in absurd (omega (arith, no))
-]
+-- ---- while another action waits for its report
 
-pub says : (size : ℕ) (after : FqTodo) (b e : Driver) (todo : Todo) → AsksNext b todo e → after ≡ todo_in size todo.number todo.what
-    → Says size b after e
-says size after b e todo next is = rw is (record {
+and_false : (b : Bool) → (b && false) ≡ false
+and_false true = refl
+and_false false = refl
+
+other_number : (number : ℕ) (d : Driver) → awaits_another number d ≡ true → number ≢ said_number_of d
+other_number number d is same =
+    let no : awaits_another number d ≡ false =
+    ap (λ (b : Bool). not b && (is_some (polled_device d) || is_some (said_of d))) (eq-eqb number (said_number_of d) same) in
+    let both : true ≡ false = sym is ∙ no in
+    cc both
+
+other_busy : (number : ℕ) (d : Driver) → awaits_another number d ≡ true → ¬ AwaitsNothing d
+other_busy number d is free =
+    let none : (is_some (polled_device d) || is_some (said_of d)) ≡ false =
+    ap (λ (o : Option ℕ). is_some o || is_some (said_of d)) free.1
+    ∙ ap (λ (o : Option (ℕ × Chore)). is_some o) free.0 in
+    let no : awaits_another number d ≡ false =
+    ap (λ (b : Bool). not (number == said_number_of d) && b) none ∙ and_false (not (number == said_number_of d)) in
+    let both : true ≡ false = sym is ∙ no in
+    cc both
+
+-- then a step changes nothing
+other_keeps : (number packets rearm : ℕ) (d e : Driver) (reported : Result ⊤ Refused) (todo : Todo)
+    → awaits_another number d ≡ true → IsStep number packets (rearm_in rearm) d reported todo e → e ≡ d
+other_keeps number packets rearm d e (Ok done) todo is h = absurd (other_number number d is (h.reports.when.0 refl).0)
+other_keeps number packets rearm d e (Err why) todo is h =
+    let back : h.between ≡ d = h.reports.err in
+    let busy : ¬ AwaitsNothing h.between = subst (λ (x : Driver). ¬ AwaitsNothing x) (sym back) (other_busy number d is) in
+    (h.asks.again busy).0 ∙ back
+
+-- ---- what is written
+
+-- the report of a number that isn't due doesn't have too many packets
+not_many : (number : ℕ) → (report_status number (Err NotDue) == BAD_WORK) ≡ false
+not_many number =
+    let P : Bool → Type 0 = λ b. ((if b then OK else NOT_DUE) == BAD_WORK) ≡ false in
+    elim (eqb_tells number 0) [ inl is ↦ subst P (sym is.0) refl | inr is ↦ subst P (sym is.0) refl ]
+
+good_status : (said : ℕ) → (said == BAD_WORK) ≡ false → step_status false said ≡ OK
+good_status said h = ap (λ (b : Bool). if b then BAD_WORK else OK) h
+
+good_settled : (said : ℕ) (mask : Bool) (placed : FqTodo) (number : ℕ) (what : What) → (said == BAD_WORK) ≡ false
+    → placed ≡ todo_in OK false number what → todo_settled false said mask placed ≡ todo_in said mask number what
+good_settled said mask placed number what h is =
+    ap (λ (b : Bool). if b then failed_in BAD_WORK else record placed { status = said; mask = mask }) h
+    ∙ ap (λ (t : FqTodo). record t { status = said; mask = mask }) is
+
+pub says : (status : ℕ) (mask : Bool) (after : FqTodo) (b e : Driver) (todo : Todo) → AsksNext b todo e
+    → after ≡ todo_in status mask todo.number todo.what → Says status mask b after e
+says status mask after b e todo next is = rw is (record {
   what = todo.what;
   said = refl;
   due = next.due;
@@ -119,52 +165,103 @@ says size after b e todo next is = rw is (record {
   stops = next.stops;
 })
 
-step_says : (before after : FqTodo) (d e : Driver) (reported : Result ⊤ Refused) (todo : Todo)
-    → IsStep before.number before.packets (rearm_in before.rearm) d reported todo e → report_status before.number reported ≢ BAD_WORK
-    → after ≡ todo_in before.size todo.number todo.what
-    → IsDriverStep before after d (report_status before.number reported) e
-step_says before after d e reported todo h good is =
-    let report = todo_report before.number before.packets before.rearm d h.between reported h.reports in
+-- the action that is due was written, with whether it masks its card first
+pub next_made : (mask : Bool) (placed after : FqTodo) (d e : Driver) (todo : Todo) → AsksNext d todo e
+    → placed ≡ todo_in OK false todo.number todo.what → after ≡ todo_settled false OK mask placed → Says OK mask d after e
+next_made mask placed after d e todo asks takes is =
+    says OK mask after d e todo asks (is ∙ good_settled OK mask placed todo.number todo.what refl takes)
+
+-- ---- a step
+
+step_good : (before placed after : FqTodo) (d e : Driver) (reported : Result ⊤ Refused) (todo : Todo)
+    → false ≡ awaits_another before.number d → IsStep before.number before.packets (rearm_in before.rearm) d reported todo e
+    → (report_status before.number reported == BAD_WORK) ≡ false → placed ≡ todo_in OK false todo.number todo.what
+    → after ≡ todo_settled false (report_status before.number reported) false placed
+    → IsDriverStep before after d (step_status false (report_status before.number reported)) e
+step_good before placed after d e reported todo other h good takes is =
+    let said : ℕ = report_status before.number reported in
     record {
+      said = said;
       between = h.between;
-      reports = report;
-      status = report.status;
-      says = λ _. says before.size after h.between e todo h.asks is;
-      failed = λ bad. absurd (good bad);
+      reports = todo_report before.number before.packets before.rearm d h.between reported h.reports;
+      status = ap (λ (b : Bool). step_status b said) other;
+      says = λ _. says said false after h.between e todo h.asks (is ∙ good_settled said false placed todo.number todo.what good takes);
+      failed = λ bad. absurd (bad (good_status said good));
     }
 
-step_many : (before after : FqTodo) (d e : Driver) (todo : Todo)
-    → IsStep before.number before.packets (rearm_in before.rearm) d (Err TooMany) todo e
-    → after ≡ failed_in before.size BAD_WORK → IsDriverStep before after d BAD_WORK e
-step_many before after d e todo h is =
-    let report = todo_report before.number before.packets before.rearm d h.between (Err TooMany) h.reports in
+-- the next action was written, unless a fetch took too many packets or another action waits for its report
+pub step_made : (other : Bool) (before placed after : FqTodo) (d e : Driver) (reported : Result ⊤ Refused) (todo : Todo)
+    → other ≡ awaits_another before.number d → IsStep before.number before.packets (rearm_in before.rearm) d reported todo e
+    → (reported ≢ Err TooMany → placed ≡ todo_in OK false todo.number todo.what)
+    → after ≡ todo_settled other (report_status before.number reported) false placed
+    → IsDriverStep before after d (step_status other (report_status before.number reported)) e
+step_made true before placed after d e reported todo other h takes is = record {
+  said = report_status before.number reported;
+  between = h.between;
+  reports = todo_report before.number before.packets before.rearm d h.between reported h.reports;
+  status = ap (λ (b : Bool). step_status b (report_status before.number reported)) other;
+  says = λ bad. absurd (omega (arith, bad));
+  failed = λ _. (is, other_keeps before.number before.packets before.rearm d e reported todo (sym other) h);
+}
+step_made false before placed after d e (Ok done) todo other h takes is =
+    step_good before placed after d e (Ok done) todo other h refl (takes (λ bad. cc bad)) is
+step_made false before placed after d e (Err NotDue) todo other h takes is =
+    step_good before placed after d e (Err NotDue) todo other h (not_many before.number) (takes (λ bad. cc bad)) is
+step_made false before placed after d e (Err TooMany) todo other h takes is = record {
+  said = BAD_WORK;
+  between = h.between;
+  reports = todo_report before.number before.packets before.rearm d h.between (Err TooMany) h.reports;
+  status = ap (λ (b : Bool). step_status b BAD_WORK) other;
+  says = λ bad. absurd (omega (arith, bad));
+  failed = λ _. (is, refused_keeps before.number before.packets before.rearm d e todo h);
+}
+
+-- ---- a turn
+
+turn_good : (bits : ℕ) (before placed after : FqTodo) (d e : Driver) (reported : Result ⊤ Refused) (mask : Option ℕ) (todo : Todo)
+    → false ≡ awaits_another before.number d
+    → IsTurn bits before.number before.packets (rearm_in before.rearm) d reported mask todo e
+    → (report_status before.number reported == BAD_WORK) ≡ false → placed ≡ todo_in OK false todo.number todo.what
+    → after ≡ todo_settled false (report_status before.number reported) (is_some mask) placed
+    → TakesTurn bits before after d (step_status false (report_status before.number reported)) e
+turn_good bits before placed after d e reported mask todo other h good takes is =
+    let said : ℕ = report_status before.number reported in
     record {
-      between = h.between;
-      reports = report;
-      status = report.status;
-      says = λ bad. absurd (bad refl);
-      failed = λ _. (is, refused_keeps before.number before.packets before.rearm d e todo h);
+      reported = reported;
+      mask = mask;
+      todo = todo;
+      turns = h;
+      status = ap (λ (b : Bool). step_status b said) other;
+      says = λ _. is ∙ good_settled said (is_some mask) placed todo.number todo.what good takes;
+      failed = λ bad. absurd (bad (good_status said good));
     }
 
-done_good : OK ≡ BAD_WORK → ⊥
-done_good bad = omega (arith, bad)
-
-settled_late : (number : ℕ) (todo : FqTodo) → todo_settled (report_status number (Err NotDue)) todo ≡ todo
-settled_late number todo =
-    let P : Bool → Type 0 = λ b. todo_settled (if b then OK else NOT_DUE) todo ≡ todo in
-    elim (eqb_tells number 0) [ inl is ↦ subst P (sym is.0) refl | inr is ↦ subst P (sym is.0) refl ]
-
--- the next action was written, unless a fetch took too many packets
-pub step_made : (before placed after : FqTodo) (d e : Driver) (reported : Result ⊤ Refused) (todo : Todo)
-    → IsStep before.number before.packets (rearm_in before.rearm) d reported todo e
-    → (reported ≢ Err TooMany → placed ≡ todo_in before.size todo.number todo.what)
-    → (reported ≡ Err TooMany → placed ≡ before)
-    → after ≡ todo_settled (report_status before.number reported) placed
-    → IsDriverStep before after d (report_status before.number reported) e
-step_made before placed after d e (Ok done) todo h takes kept is =
-    step_says before after d e (Ok done) todo h done_good (is ∙ takes (λ bad. cc bad))
-step_made before placed after d e (Err NotDue) todo h takes kept is =
-    step_says before after d e (Err NotDue) todo h (not_many before.number)
-    (is ∙ settled_late before.number placed ∙ takes (λ bad. cc bad))
-step_made before placed after d e (Err TooMany) todo h takes kept is =
-    step_many before after d e todo h (is ∙ ap (λ (t : FqTodo). failed_in t.size BAD_WORK) (kept refl))
+-- the same of a turn
+pub turn_made : (bits : ℕ) (other : Bool) (before placed after : FqTodo) (d e : Driver) (reported : Result ⊤ Refused) (mask : Option ℕ)
+    (todo : Todo) → other ≡ awaits_another before.number d
+    → IsTurn bits before.number before.packets (rearm_in before.rearm) d reported mask todo e
+    → (reported ≢ Err TooMany → placed ≡ todo_in OK false todo.number todo.what)
+    → after ≡ todo_settled other (report_status before.number reported) (is_some mask) placed
+    → TakesTurn bits before after d (step_status other (report_status before.number reported)) e
+turn_made bits true before placed after d e reported mask todo other h takes is = record {
+  reported = reported;
+  mask = mask;
+  todo = todo;
+  turns = h;
+  status = ap (λ (b : Bool). step_status b (report_status before.number reported)) other;
+  says = λ bad. absurd (omega (arith, bad));
+  failed = λ _. is;
+}
+turn_made bits false before placed after d e (Ok done) mask todo other h takes is =
+    turn_good bits before placed after d e (Ok done) mask todo other h refl (takes (λ bad. cc bad)) is
+turn_made bits false before placed after d e (Err NotDue) mask todo other h takes is =
+    turn_good bits before placed after d e (Err NotDue) mask todo other h (not_many before.number) (takes (λ bad. cc bad)) is
+turn_made bits false before placed after d e (Err TooMany) mask todo other h takes is = record {
+  reported = Err TooMany;
+  mask = mask;
+  todo = todo;
+  turns = h;
+  status = ap (λ (b : Bool). step_status b BAD_WORK) other;
+  says = λ bad. absurd (omega (arith, bad));
+  failed = λ _. is;
+}

@@ -6,6 +6,8 @@ use Rattle.std.specs.Prelude.{◌≡◌, ℕ, ◌==◌, if◌then◌else◌, Lis
 use Rattle.c_handles.specs.Status.{BAD_HANDLE}
 use Rattle.c_handles.specs.{declared.handle.FqHandle.FqHandle, Status.{OK, FULL}}
 use Rattle.c_handles.specs.CallerCalls.{ctx_counts, caller_counts, controller_counts}
+use Rattle.place_ring.specs.Places.{IsPlacePair, input_capacity, output_capacity, published_of, claimed_of, released_of, peeked_of}
+use Rattle.place_ring.specs.declared.ends.{PlaceIn.PlaceIn, PlaceOut.PlaceOut}
 use Rattle.c_handles.specs.declared.body.Object.TheVariants as body
 
 -- the handle has this ring as its object
@@ -79,6 +81,32 @@ burst_status (Some x) count packets = burst_in x count packets
 pub record IsAfterPoll (weight : ℕ) (before : Ring) (given : List Packet) (after : Ring) : Type 0 where
   pub input : after.input ≡ before.input
   pub next : GivesNext weight before.ctx after.ctx given
+
+-- ---- rings of places
+
+-- the object is the input end of a ring of places with this property, or the output end
+abbrev pub IsPlaceInWith : (PlaceIn → Type 0) → Object → Type 0
+IsPlaceInWith P (body.PlaceIn input) = P input
+IsPlaceInWith P _ = ⊥
+
+abbrev pub LeadsToPlaceIn : (PlaceIn → Type 0) → Option Object → Type 0
+LeadsToPlaceIn P None = ⊥
+LeadsToPlaceIn P (Some x) = IsPlaceInWith P x
+
+abbrev pub IsPlaceOutWith : (PlaceOut → Type 0) → Object → Type 0
+IsPlaceOutWith P (body.PlaceOut output) = P output
+IsPlaceOutWith P _ = ⊥
+
+abbrev pub LeadsToPlaceOut : (PlaceOut → Type 0) → Option Object → Type 0
+LeadsToPlaceOut P None = ⊥
+LeadsToPlaceOut P (Some x) = IsPlaceOutWith P x
+
+-- the two ends of a new ring of places of this capacity
+pub record AreNewPlaces (capacity : ℕ) (input : PlaceIn) (output : PlaceOut) : Type 0 where
+  pub one : IsPlacePair input output
+  pub capacity_is : (input_capacity input ≡ capacity) × (output_capacity output ≡ capacity)
+  pub nothing_published : (published_of input ≡ 0) × (released_of output ≡ 0)
+  pub nothing_owned : (claimed_of input ≡ 0) × (peeked_of output ≡ 0)
 
 -- ---- what is counted
 

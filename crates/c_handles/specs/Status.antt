@@ -45,9 +45,6 @@ DONE = 27
 abbrev pub STOPPED : ℕ
 STOPPED = 28
 
-abbrev pub MORE_THAN_SENT : ℕ
-MORE_THAN_SENT = 29
-
 abbrev pub NOT_DUE : ℕ
 NOT_DUE = 30
 
@@ -92,6 +89,15 @@ BAD_DEVICE = 121
 
 abbrev pub BAD_SIZE : ℕ
 BAD_SIZE = 122
+
+abbrev pub BAD_SETTING : ℕ
+BAD_SETTING = 123
+
+abbrev pub MORE_THAN_SENT : ℕ
+MORE_THAN_SENT = 125
+
+abbrev pub NOT_REPORTED : ℕ
+NOT_REPORTED = 126
 
 -- the number of a queue limit's error, or OK if there is none
 abbrev pub dql_status : Option DqlFault → ℕ

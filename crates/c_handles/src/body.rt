@@ -5,6 +5,7 @@ use crate::caller::{CallerObject, Controller};
 use crate::input::RingInput;
 use crate::lister::ListObject;
 use driver_core::Driver;
+use place_ring::{PlaceIn, PlaceOut};
 use rx_ring::RxCtx;
 use std::alloc::Global;
 use tx_ring::TxRing;
@@ -29,6 +30,10 @@ pub enum Object {
     In(RingInput),
     /// The poll end of a ring, without an instance.
     Ctx(RxCtx),
+    /// The input end of a ring of places.
+    PlaceIn(PlaceIn),
+    /// The output end of a ring of places.
+    PlaceOut(PlaceOut),
     /// A poll list.
     List(Box<ListObject, Global>),
     /// A driver.

@@ -1,10 +1,10 @@
 //! The calls of a driver, and their statuses.
 
-ghost use Rattle.std.specs.Prelude.{◌≡◌, length, nat_lt};
+ghost use Rattle.std.specs.Prelude.{◌≡◌, ◌<◌, false, length, nat_lt};
 ghost use Rattle.driver_core.specs.Driver.{driver_devices};
-ghost use Rattle.c_handles.specs.Drivers.{device_in, most_in, rearm_in, unset_packets, reply_status, todo_run_in, nanoseconds_in, settings_in, shown_of, device_state_in, todo_in, what_in, IsDriverEndRun, IsDriverInterrupt, IsDriverNext, IsDriverOpen, IsDriverSet, IsDriverStep, IsDriverTimer, IsTodoReport, IsDriverShow, IsDriverStop, report_status};
+ghost use Rattle.c_handles.specs.Status.{OK};
+ghost use Rattle.c_handles.specs.Drivers.{device_in, most_in, rearm_in, unset_packets, reply_status, squeezed_in, nanoseconds_in, settings_in, shown_of, device_state_in, todo_in, what_in, IsDriverEndRun, IsDriverInterrupt, IsDriverNext, IsDriverOpen, IsDriverSet, IsDriverStep, IsDriverTimer, IsDriverTurn, IsTodoReport, IsDriverShow, IsDriverStop, TakesTurn, report_status};
 
-use crate::lister::FqRunReport;
 use crate::status;
 use driver_core::{
     DeviceSettings, Driver, DriverDevice, Rearm, Refused, Stage, Todo, TodoPlace, What,
@@ -16,26 +16,26 @@ use std::mem::size_of;
 #[repr(C)]
 #[derive(Clone, Copy)]
 pub struct FqTodo {
-    /// The size of this struct in bytes.
-    pub size: usize,
     /// The number under which to report it; 0 if there is nothing to report.
     pub number: u64,
+    /// The time after which the device's timer has to expire.
+    pub nanoseconds: u64,
     /// What has to be done (`enum fq_what`).
     pub what: u32,
     /// The device.
     pub device: u32,
-    /// The packets that a fetch may take.
+    /// The packets that a fetch may take; after the end of a run its polls.
     pub most: u32,
-    /// The packets that a fetch took, or a look found: set by the caller.
+    /// The packets that a fetch took, or a look found: set by the caller; after the end of a run its packets.
     pub packets: u32,
-    /// Why the call failed, if there is nothing to do because of that.
-    pub status: u32,
     /// Whether a fetch also unmasked the card and then looked at it (`enum fq_rearm`): set by the caller.
     pub rearm: u32,
-    /// The time after which the device's timer has to expire.
-    pub nanoseconds: u64,
-    /// The report of a run that ended.
-    pub run: FqRunReport,
+    /// Why the call failed, or that the report before it came too late.
+    pub status: u16,
+    /// Whether a fetch begins by masking the card.
+    pub mask: bool,
+    /// Whether the run that ended was squeezed.
+    pub squeezed: bool,
 }
 
 /// The settings of a device: `struct fq_device_settings`.
@@ -72,13 +72,6 @@ pub struct FqDeviceShown {
     pub packets: u64,
 }
 
-const NO_RUN: FqRunReport = FqRunReport {
-    size: size_of::<FqRunReport>(),
-    polls: 0,
-    work: 0,
-    squeezed: false,
-};
-
 // The number of no action, after a call that failed.
 const FAILED: u32 = 6;
 
@@ -98,18 +91,53 @@ fn what_in(what: What) -> u32
     }
 }
 
-// Returns the device of an action, and the packets that a fetch may take.
+// Returns the device of an action.
 #[inline(always)]
-fn where_in(what: What) -> (u32, u32)
-    ensures device { result.0 ≡ device_in what }
-    ensures most { result.1 ≡ most_in what }
+fn device_in(what: What) -> u32
+    ensures { result ≡ device_in what }
 {
     match what {
-        What::Mask(device) | What::Unmask(device) | What::Look(device) | What::Timer(device, _) => (
-            device, 0,
-        ),
-        What::Fetch(device, most) => (device, most),
-        What::Sleep(_) | What::Ended(_) => (0, 0),
+        What::Mask(device)
+        | What::Unmask(device)
+        | What::Look(device)
+        | What::Timer(device, _)
+        | What::Fetch(device, _) => device,
+        What::Sleep(_) | What::Ended(_) => 0,
+    }
+}
+
+// Returns the packets that a fetch may take, or the polls of the run that ended.
+#[inline(always)]
+fn most_in(what: What) -> u32
+    ensures { result ≡ most_in what }
+{
+    match what {
+        What::Fetch(_, most) => most,
+        What::Ended(report) | What::Sleep(report) => report.polls,
+        _ => 0,
+    }
+}
+
+// Returns the packets of an action that the caller doesn't set: a look that was forgotten leads to a poll; or those of the run that ended.
+#[inline(always)]
+fn unset_packets(what: What) -> u32
+    ensures { result ≡ unset_packets what }
+{
+    match what {
+        What::Look(_) => 1,
+        What::Ended(report) | What::Sleep(report) => report.work,
+        _ => 0,
+    }
+}
+
+// Returns whether the run that ended was squeezed.
+#[inline(always)]
+fn squeezed_in(what: What) -> bool
+    ensures { result ≡ squeezed_in what }
+{
+    match what {
+        What::Ended(report) | What::Sleep(report) => report.squeezed,
+        _ => false,
     }
 }
 
@@ -124,89 +152,69 @@ fn nanoseconds_in(what: What) -> u64
     }
 }
 
-// Returns the packets of an action that the caller doesn't set: a look that was forgotten leads to a poll.
-#[inline(always)]
-fn unset_packets(what: What) -> u32
-    ensures { result ≡ unset_packets what }
-{
-    match what {
-        What::Look(_) => 1,
-        _ => 0,
-    }
-}
-
-// Returns the report of the run that ended.
-#[inline(always)]
-fn todo_run_in(what: What) -> FqRunReport
-    ensures { result ≡ todo_run_in what }
-{
-    match what {
-        What::Ended(report) | What::Sleep(report) => FqRunReport {
-            size: size_of::<FqRunReport>(),
-            polls: report.polls,
-            work: report.work,
-            squeezed: report.squeezed,
-        },
-        _ => NO_RUN,
-    }
-}
-
 impl TodoPlace for FqTodo {
     ghost use Rattle.c_handles.specs.Drivers.{todo_in};
 
-    ghost takes = { λ before todo after. after ≡ todo_in before.size todo.number todo.what };
+    ghost takes = { λ before todo after. after ≡ todo_in OK false todo.number todo.what };
 
     #[inline(always)]
     fn put(&mut self, todo: Todo) {
         let Todo { number, what } = todo;
-        let (device, most) = where_in(what);
-        let run = todo_run_in(what);
         self.number = number;
-        self.what = what_in(what);
-        self.device = device;
-        self.most = most;
-        self.packets = unset_packets(what);
-        self.run.size = run.size;
-        self.run.polls = run.polls;
-        self.run.work = run.work;
-        self.run.squeezed = run.squeezed;
-        self.status = status::OK;
-        self.rearm = 0;
         self.nanoseconds = nanoseconds_in(what);
+        self.what = what_in(what);
+        self.device = device_in(what);
+        self.most = most_in(what);
+        self.packets = unset_packets(what);
+        self.rearm = 0;
+        self.status = 0;
+        self.mask = false;
+        self.squeezed = squeezed_in(what);
     }
 }
 
 impl FqTodo {
-    ghost use Rattle.c_handles.specs.Drivers.{failed_in, todo_settled};
+    ghost use Rattle.c_handles.specs.Drivers.{failed_in, step_status, todo_settled};
 
     /// Writes that a call failed with this status, which it returns: there is nothing to do.
     pub fn fail(&mut self, status: u32) -> u32
-        ensures written { self.new ≡ failed_in self.old.size status }
+        requires { status < 65536 }
+        ensures written { self.new ≡ failed_in status }
         ensures status { result ≡ status }
     {
         *self = FqTodo {
-            size: self.size,
             number: 0,
+            nanoseconds: 0,
             what: FAILED,
             device: 0,
             most: 0,
             packets: 0,
-            status,
             rearm: 0,
-            nanoseconds: 0,
-            run: NO_RUN,
+            status: status as u16,
+            mask: false,
+            squeezed: false,
         };
         status
     }
 
-    // Ends a step whose report had this status: after a report of too many packets nothing was written, and the step failed.
+    // Ends a call whose report had this status, and returns the call's own. If the report was of another action than the one that waits,
+    // or of too many packets, the call failed; else the next action was written, which the caller learns with the report's status, and
+    // whether to mask the card first.
     #[inline(always)]
-    fn settle(&mut self, said: u32)
-        ensures { self.new ≡ todo_settled said self.old }
+    fn settle(&mut self, is_other: bool, said: u32, mask: bool) -> u32
+        requires { said < 65536 }
+        ensures written { self.new ≡ todo_settled is_other said mask self.old }
+        ensures status { result ≡ step_status is_other said }
     {
-        if said == status::BAD_WORK {
-            self.fail(said);
+        if is_other {
+            return self.fail(status::NOT_REPORTED);
         }
+        if said == status::BAD_WORK {
+            return self.fail(said);
+        }
+        self.status = said as u16;
+        self.mask = mask;
+        status::OK
     }
 }
 
@@ -218,7 +226,7 @@ fn rearm_of(number: u32) -> Rearm
 {
     match number {
         0 => Rearm::No,
-        1 => Rearm::Empty,
+        2 => Rearm::Empty,
         _ => Rearm::More,
     }
 }
@@ -226,7 +234,8 @@ fn rearm_of(number: u32) -> Rearm
 // Returns the status of the report of an action with this number.
 #[inline(always)]
 fn report_status(number: u64, reported: Result<(), Refused>) -> u32
-    ensures { result ≡ report_status number reported }
+    ensures status { result ≡ report_status number reported }
+    ensures small { result < 65536 }
 {
     match reported {
         Ok(()) => status::OK,
@@ -251,13 +260,14 @@ pub fn done(driver: &mut Driver, todo: &FqTodo) -> u32
     report_status(todo.number, reported)
 }
 
-/// Sets `todo` to the next action (`Driver::next`).
+/// Sets `todo` to the next action (`Driver::next`). A fetch that is returned again, since it wasn't reported, masks the card again.
 #[inline(always)]
 pub fn next(driver: &mut Driver, todo: &mut FqTodo) -> u32
-    ensures { IsDriverNext todo.old todo.new driver.old result driver.new }
+    ensures { IsDriverNext todo.new driver.old result driver.new }
 {
+    let mask = driver.polled().is_some();
     driver.next_into(todo);
-    status::OK
+    todo.settle(false, status::OK, mask)
 }
 
 /// Reports that the action in `todo` was done, unless its number is 0, and sets `todo` to the next one (`Driver::step`).
@@ -268,10 +278,34 @@ pub fn step(driver: &mut Driver, todo: &mut FqTodo) -> u32
     let number = todo.number;
     let packets = todo.packets;
     let rearm = rearm_of(todo.rearm);
+    let is_other = driver.awaits_another(number);
     let (reported, _) = driver.step_into(number, packets, rearm, todo);
-    let said = report_status(number, reported);
-    todo.settle(said);
-    said
+    todo.settle(is_other, report_status(number, reported), false)
+}
+
+// Like `turn`, if each bit is that of a device.
+#[inline(always)]
+fn take_turn(driver: &mut Driver, interrupts: u64, todo: &mut FqTodo) -> u32
+    ensures { TakesTurn interrupts todo.old todo.new driver.old result driver.new }
+{
+    let number = todo.number;
+    let packets = todo.packets;
+    let rearm = rearm_of(todo.rearm);
+    let is_other = driver.awaits_another(number);
+    let (reported, mask, _) = driver.turn_into(interrupts, number, packets, rearm, todo);
+    todo.settle(is_other, report_status(number, reported), mask.is_some())
+}
+
+/// Reports that the action in `todo` was done, unless its number is 0, and the interrupts of the devices whose bits are set, and sets `todo` to the
+/// next action (`Driver::turn_into`).
+#[inline(always)]
+pub fn turn(driver: &mut Driver, interrupts: u64, todo: &mut FqTodo) -> u32
+    ensures { IsDriverTurn interrupts todo.old todo.new driver.old result driver.new }
+{
+    if !driver.has_devices(interrupts) {
+        return todo.fail(status::BAD_DEVICE);
+    }
+    take_turn(driver, interrupts, todo)
 }
 
 #[inline(always)]
@@ -332,9 +366,12 @@ pub fn set(driver: &mut Driver, device: u32, settings: &FqDeviceSettings) -> u32
     if settings.weight == 0 || settings.weight > driver.limits().weight {
         return status::BAD_WEIGHT;
     }
+    if settings.defer_hard_irqs > 0 && settings.gro_flush_timeout == 0 {
+        return status::BAD_SETTING;
+    }
     match driver.set(device, settings_of(settings)) {
         Ok(()) => status::OK,
-        Err(_) => status::NOT_DUE,
+        Err(_) => status::NOT_ALLOWED,
     }
 }
 

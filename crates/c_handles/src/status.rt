@@ -42,9 +42,6 @@ pub const DONE: u32 = 27;
 /// Send: the limit has stopped the queue.
 pub const STOPPED: u32 = 28;
 
-/// Done: more packets are completed than were sent.
-pub const MORE_THAN_SENT: u32 = 29;
-
 /// Driver: this is not due, and nothing has changed.
 pub const NOT_DUE: u32 = 30;
 
@@ -89,3 +86,12 @@ pub const BAD_DEVICE: u32 = 121;
 
 /// A struct's size is not one that the library knows.
 pub const BAD_SIZE: u32 = 122;
+
+/// Driver, machine: a setting is out of its range, or doesn't go with another.
+pub const BAD_SETTING: u32 = 123;
+
+/// Done: more packets are completed than were sent.
+pub const MORE_THAN_SENT: u32 = 125;
+
+/// Driver: an action waits for its report, and this is not it.
+pub const NOT_REPORTED: u32 = 126;

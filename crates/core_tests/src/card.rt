@@ -3,7 +3,7 @@
 ghost use Rattle.std.specs.Prelude.{◌≡◌, ◌≤◌, length, IfOk};
 ghost use Rattle.driver_core.specs.Driver.{driver_devices};
 
-use driver_core::{DeviceSettings, Driver, DriverDevice, Limits, Pacing, Rearm, Stage, What};
+use driver_core::{DeviceSettings, Driver, DriverDevice, Limits, Pacing, Rearm, Stage, Todo, What};
 use std::alloc::{AllocError, Global};
 
 /// A model of a card. It interrupts when a packet arrives, and loses that interrupt while it is masked.
@@ -36,6 +36,8 @@ pub enum Hand {
     ToSetTimer,
     /// It has to take packets from the card, at most this many.
     ToFetch(u32),
+    /// It has to mask the card first.
+    ToMaskFirst(u32),
     /// It has masked the card.
     Masked,
     /// It has unmasked the card.
@@ -69,6 +71,8 @@ pub enum DriverStep {
     Rearm,
     /// The thread reports that it did it.
     Report,
+    /// The thread reports that it did it, with the card's interrupt, and the driver returns what to do next, in one call.
+    Turn,
     /// The thread forgets what it was doing, done or not, and calls the driver again.
     Forget,
     /// The device is opened.
@@ -78,7 +82,7 @@ pub enum DriverStep {
 }
 
 /// All steps.
-pub const STEPS: [DriverStep; 10] = [
+pub const STEPS: [DriverStep; 11] = [
     DriverStep::Arrive,
     DriverStep::Interrupt,
     DriverStep::Expire,
@@ -86,6 +90,7 @@ pub const STEPS: [DriverStep; 10] = [
     DriverStep::Act,
     DriverStep::Rearm,
     DriverStep::Report,
+    DriverStep::Turn,
     DriverStep::Forget,
     DriverStep::Open,
     DriverStep::Stop,
@@ -212,7 +217,14 @@ impl DriverBench {
         if self.hand != Hand::Free || self.sleeps {
             return false;
         }
+        let masks = self.driver.polled().is_some();
         let todo = self.driver.next();
+        self.heed(todo, masks);
+        true
+    }
+
+    // The thread has to do this now; a fetch may have to mask the card first.
+    fn heed(&mut self, todo: Todo, masks: bool) {
         if todo.number != self.number {
             self.old = self.number;
             self.number = todo.number;
@@ -228,11 +240,14 @@ impl DriverBench {
             What::Look(_) => self.hand = Hand::ToLook,
             What::Timer(_, _) => self.hand = Hand::ToSetTimer,
             What::Fetch(_, most) => {
-                self.hand = Hand::ToFetch(most);
+                self.hand = if masks {
+                    Hand::ToMaskFirst(most)
+                } else {
+                    Hand::ToFetch(most)
+                };
                 self.run = self.run.or(Some(RunSoFar::NONE));
             }
         }
-        true
     }
 
     fn act(&mut self) -> bool {
@@ -249,6 +264,10 @@ impl DriverBench {
             Hand::ToSetTimer => {
                 self.card.timer = true;
                 Hand::TimerSet
+            }
+            Hand::ToMaskFirst(most) => {
+                self.card.masked = true;
+                Hand::ToFetch(most)
             }
             Hand::ToFetch(most) => {
                 let taken = self.card.packets.min(most);
@@ -272,26 +291,53 @@ impl DriverBench {
         true
     }
 
-    fn report(&mut self) -> bool {
-        let (packets, rearm) = match self.hand {
-            Hand::Masked | Hand::Unmasked | Hand::TimerSet => (0, Rearm::No),
-            Hand::Saw(has_more) => (u32::from(has_more), Rearm::No),
-            Hand::Took(taken) => (taken, Rearm::No),
-            Hand::Rearmed(taken, false) => (taken, Rearm::Empty),
-            Hand::Rearmed(taken, true) => (taken, Rearm::More),
-            _ => return false,
-        };
-        if matches!(self.hand, Hand::Took(_) | Hand::Rearmed(_, _)) {
-            self.count(packets, rearm);
+    // Returns the packets, and whether the card was unmasked, that the thread has to report, if it did what it had to.
+    fn outcome(&self) -> Option<(u32, Rearm)> {
+        match self.hand {
+            Hand::Masked | Hand::Unmasked | Hand::TimerSet => Some((0, Rearm::No)),
+            Hand::Saw(has_more) => Some((u32::from(has_more), Rearm::No)),
+            Hand::Took(taken) => Some((taken, Rearm::No)),
+            Hand::Rearmed(taken, false) => Some((taken, Rearm::Empty)),
+            Hand::Rearmed(taken, true) => Some((taken, Rearm::More)),
+            _ => None,
         }
+    }
+
+    fn report(&mut self) -> bool {
+        let Some((packets, rearm)) = self.outcome() else {
+            return false;
+        };
+        self.count_fetch(packets, rearm);
         // the report may not be due any more, which is no error here
         let _ = self.driver.done(self.number, packets, rearm);
         self.hand = Hand::Free;
         true
     }
 
-    // Counts a poll that is reported.
-    fn count(&mut self, taken: u32, rearm: Rearm) {
+    fn turn(&mut self) -> bool {
+        let (number, packets, rearm) = match self.outcome() {
+            Some((packets, rearm)) => (self.number, packets, rearm),
+            None => (0, 0, Rearm::No),
+        };
+        let rests = self.sleeps && !self.card.interrupting;
+        if number == 0 && (self.hand != Hand::Free || rests) {
+            return false;
+        }
+        self.count_fetch(packets, rearm);
+        let interrupts = u64::from(self.card.interrupting);
+        self.card.interrupting = false;
+        self.hand = Hand::Free;
+        self.sleeps = false;
+        let (_, mask, todo) = self.driver.turn(interrupts, number, packets, rearm);
+        self.heed(todo, mask.is_some());
+        true
+    }
+
+    // Counts a poll that is reported, if a fetch is.
+    fn count_fetch(&mut self, taken: u32, rearm: Rearm) {
+        if !matches!(self.hand, Hand::Took(_) | Hand::Rearmed(_, _)) {
+            return;
+        }
         let pacing = self.driver.pacing(0);
         let empty = if taken == 0 {
             pacing.empty.saturating_add(1)
@@ -373,6 +419,7 @@ impl DriverBench {
             DriverStep::Act => self.act(),
             DriverStep::Rearm => self.rearm(),
             DriverStep::Report => self.report(),
+            DriverStep::Turn => return self.turn(),
             DriverStep::Forget => self.forget(),
             DriverStep::Open => self.open(),
             DriverStep::Stop => self.stop(),

@@ -1,5 +1,6 @@
-//! Tests of the crates below the poll lists, of what no contract says: memory, texts of errors, threads, pauses, and what a
-//! poll finds; and of each interleaving of a card and its driver.
+//! Tests of the crates below the poll lists: of what no contract says (memory, texts of errors, threads, pauses, and what a poll
+//! finds), of each interleaving of a card and its driver, and of examples worked out by hand, with which the definitions are
+//! compared.
 #![tactic(auto)]
 
 #[cfg(test)]
@@ -23,9 +24,13 @@ mod faults;
 #[cfg(test)]
 mod interleavings;
 #[cfg(test)]
+mod limits;
+#[cfg(test)]
 mod model;
 #[cfg(test)]
 mod pausing;
+#[cfg(test)]
+mod places;
 #[cfg(test)]
 mod receive;
 #[cfg(test)]
@@ -34,5 +39,7 @@ mod threads;
 mod transmit;
 #[cfg(test)]
 mod turns;
+#[cfg(test)]
+mod two_callers;
 #[cfg(test)]
 mod word;

@@ -1,12 +1,12 @@
-//! Tests of a ring, of what no contract says: that later puts find room, that polls find what was put, and that both work from
-//! two threads.
+//! Tests of a ring: an example worked out by hand, and what no contract says: that later puts find room, that polls find what was
+//! put, and that both work from two threads.
 
 ghost use Rattle.std.specs.Prelude.{◌≤◌};
 ghost use Rattle.rx_ring.specs.Ends.{SameIn, SameCtx};
 ghost use Rattle.rx_ring.specs.ReceiveRing.{NAPI_POLL_WEIGHT};
 
 use crate::bed::put;
-use rx_ring::{Batch, Packet, RxCtx, RxIn, Totals, beside, finish, ring};
+use rx_ring::{Batch, Packet, RingFault, RxCounts, RxCtx, RxIn, Totals, beside, finish, ring};
 use std::alloc::Global;
 use std::process::Abort;
 use std::sync::Wait;
@@ -52,10 +52,44 @@ fn rings_of_many_capacities(rt: HostRuntime) -> Result<(), Fail> {
 /// Polls with this weight, which has to return these packets.
 pub fn polls(rt: &impl Abort, ctx: &mut RxCtx, weight: usize, packets: &[Packet])
     requires { (1 ≤ weight) × (weight ≤ NAPI_POLL_WEIGHT) }
+    ensures { SameCtx ctx.old ctx.new }
 {
     let mut batch = Batch::new();
     ctx.poll(weight, &mut batch);
     assert_eq!(rt; batch.as_slice(), packets);
+}
+
+#[test]
+fn receive_ring_of_two(rt: HostRuntime) -> Result<(), Fail> {
+    let (mut input, mut ctx) = ring(rt.alloc(), 2)?;
+    beside(&mut input, &mut ctx);
+    assert_eq!(rt; input.put(packet(1, 10)), Ok(()));
+    beside(&mut input, &mut ctx);
+    assert_eq!(rt; input.put(packet(2, 20)), Ok(()));
+    beside(&mut input, &mut ctx);
+    assert_eq!(rt; input.put(packet(3, 30)), Err(packet(3, 30)));
+    beside(&mut input, &mut ctx);
+    polls(&rt, &mut ctx, 64, &[packet(1, 10), packet(2, 20)]);
+    let counts = RxCounts {
+        polls: 1,
+        packets: 2,
+        bytes: 30,
+    };
+    assert_eq!(rt; ctx.counts(), counts);
+    beside(&mut input, &mut ctx);
+    assert_eq!(rt; input.put(packet(4, 40)), Ok(()));
+    let totals = Totals {
+        put: 3,
+        polled: 2,
+        left: 1,
+        bytes: 70,
+    };
+    assert_eq!(rt; finish(input, ctx), totals);
+    for capacity in [0, 65_537] {
+        let made = ring(rt.alloc(), capacity);
+        assert_eq!(rt; made.err(), Some(RingFault::BadCapacity));
+    }
+    Ok(())
 }
 
 // a poll right after `beside` returns what was in the ring then, and the next poll returns what was put since

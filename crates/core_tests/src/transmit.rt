@@ -1,10 +1,10 @@
-//! Tests of transmit rings: memory, and packets without bytes, which no trace has.
+//! Tests of transmit rings: memory, packets without bytes, which no trace has, and two examples worked out by hand.
 
 use dql_core::Dql;
 use std::alloc::Global;
 use std::process::Abort;
 use std::test::Fail;
-use tx_ring::{TxFault, TxRing, TxState};
+use tx_ring::{TxEvent, TxFault, TxRing, TxState};
 
 fn new_ring(alloc: Global, capacity: usize, min: u32) -> Result<TxRing, Fail> {
     Ok(TxRing::new(alloc, capacity, Dql::new(min, 1_879_048_192, 1000, 0)?)?)
@@ -67,5 +67,62 @@ fn packets_of_no_bytes(rt: HostRuntime) -> Result<(), Fail> {
     assert_eq!(rt; ring.state(), stopped);
     ring.done(1, 6)?;
     assert_eq!(rt; ring.state(), shown(10, 10, 10, 10, false));
+    Ok(())
+}
+
+// Events after which the limit is 3000 bytes.
+const GROWN: [TxEvent; 6] = [
+    TxEvent::Send(1500),
+    TxEvent::Finish(1, 6),
+    TxEvent::Send(1500),
+    TxEvent::Send(1500),
+    TxEvent::Finish(1, 6),
+    TxEvent::Finish(1, 7),
+];
+
+#[test]
+fn ring_over_the_limit(rt: HostRuntime) -> Result<(), Fail> {
+    let mut ring = new_ring(rt.alloc(), 8, 0)?;
+    assert_eq!(rt; ring.run(&GROWN), 0);
+    for bytes in [1000, 100, 1900] {
+        ring.send(bytes)?;
+    }
+    assert_eq!(rt; ring.state(), shown(7500, 4500, 3000, 0, false));
+    ring.done(1, 8)?;
+    assert_eq!(rt; ring.state(), shown(7500, 5500, 3000, 1000, false));
+    ring.done(1, 1100)?;
+    assert_eq!(rt; ring.state(), shown(7500, 5600, 200, -1700, false));
+    ring.send(1)?;
+    assert_eq!(rt; ring.state(), shown(7501, 5600, 200, -1701, true));
+    assert_eq!(rt; ring.send(1), Err(TxFault::Stopped));
+    Ok(())
+}
+
+#[test]
+fn transmit_refusals(rt: HostRuntime) -> Result<(), Fail> {
+    let mut ring = new_ring(rt.alloc(), 1, 1000)?;
+    ring.send(10)?;
+    assert_eq!(rt; ring.state(), shown(10, 0, 1000, 990, false));
+    assert_eq!(rt; ring.send(10), Err(TxFault::Full));
+    assert_eq!(rt; ring.done(2, 5), Err(TxFault::MoreThanSent));
+    ring.done(0, 5)?;
+    assert_eq!(rt; ring.state(), shown(10, 0, 1000, 990, false));
+    let mut ring = new_ring(rt.alloc(), 1, 1000)?;
+    let refused = ring.run(&[TxEvent::Send(10), TxEvent::Send(10), TxEvent::Finish(2, 5)]);
+    assert_eq!(rt; refused, 2);
+    let mut ring = new_ring(rt.alloc(), 2, 1000)?;
+    ring.send(10)?;
+    assert_eq!(rt; ring.send(268_435_456), Err(TxFault::TooLarge));
+    let mut ring = new_ring(rt.alloc(), 8, 1_073_741_823)?;
+    for bytes in [268_435_455, 268_435_455, 268_435_455, 268_435_455, 3] {
+        ring.send(bytes)?;
+    }
+    assert_eq!(rt; (ring.state().avail, ring.state().stopped), (0, false));
+    assert_eq!(rt; ring.send(1), Err(TxFault::TooMuchInFlight));
+    for capacity in [0, 65_537] {
+        let limit = Dql::new(1000, 1_879_048_192, 1000, 0)?;
+        let made = TxRing::new(rt.alloc(), capacity, limit);
+        assert_eq!(rt; made.err(), Some(TxFault::BadCapacity));
+    }
     Ok(())
 }

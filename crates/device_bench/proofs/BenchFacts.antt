@@ -9,9 +9,9 @@ use Rattle.device_places.specs.Places.{DeviceTable, at, changed, changed_from, e
 use Rattle.device_places.proofs.PlaceFacts.{at-index, at-set, below-some}
 
 -- a call that finds a device at a number finds it in the table's entry of that number
-pub here-at : {u : Bool} {xs : DeviceTable DeviceView} {o : Option DeviceView} {d : DeviceView} (n : ℕ) → IsKept u xs → n < 17
+pub here-at : (xs : DeviceTable DeviceView) {o : Option DeviceView} {d : DeviceView} (n : ℕ) → length xs ≡ 17 → n < 17
     → o ≡ get_or xs n o → o ≡ Some d → at n xs ≡ Some d
-here-at {xs = xs} {o = o} n k below read is = at-index xs n o (omega (arith, below, k.places)) (sym read) ∙ is
+here-at xs {o = o} n places below read is = at-index xs n o (omega (arith, below, places)) (sym read) ∙ is
 
 pub sound-at : {u : Bool} {xs : DeviceTable DeviceView} {d : DeviceView} (n : ℕ) → IsKept u xs → at n xs ≡ Some d → is_sound d ≡ true
 sound-at n k here = ap is_sound_at (sym here) ∙ k.sound n

@@ -4,10 +4,10 @@ use Rattle.std.proofs.{Common.{length-append, length-set, get_or-set_other, slic
 use Rattle.std.{proofs.lemmas.Bool.eqb-false, specs.Prelude.◌==◌}
 use Rattle.device_places.specs.Places.{DeviceTable, at}
 use Rattle.device_bench.specs.Bench.{BenchDevices}
-use Rattle.device_bench.specs.{DeviceView.DeviceView, Ending.IsEndedAt, Receive.ReceiveView}
+use Rattle.device_bench.specs.{DeviceView.DeviceView, Ending.IsEndedAt}
 
 -- the devices from this number on were ended, and those below it remain
-pub record EndedFrom {End : Type 0} (ended : ReceiveView → End → Type 0) (all left : BenchDevices) (ends : DeviceTable End) : Type
+pub record EndedFrom {End : Type 0} (ended : End → Type 0) (all left : BenchDevices) (ends : DeviceTable End) : Type
     0 where
   pub places : length ends ≡ 17
   pub most : length left ≤ 17
@@ -31,7 +31,7 @@ at-beyond (x ∷ xs) zero beyond = absurd (omega (arith, beyond))
 at-beyond (x ∷ xs) (suc number) beyond = at-beyond xs number (omega (arith, beyond))
 
 -- before the first was ended
-pub ended-none : {End : Type 0} (ended : ReceiveView → End → Type 0) (all : BenchDevices) (ends : DeviceTable End) → length all ≡ 17
+pub ended-none : {End : Type 0} (ended : End → Type 0) (all : BenchDevices) (ends : DeviceTable End) → length all ≡ 17
     → length ends ≡ 17 → ((number : ℕ) → number < 17 → at number ends ≡ None) → EndedFrom ended all all ends
 ended-none ended all ends many places none = record {
   places = places;
@@ -41,7 +41,7 @@ ended-none ended all ends many places none = record {
   done = λ number beyond. rw (at-beyond all number beyond, at-beyond ends number (omega (arith, many, places, beyond))) tt;
 }
 
-module _ {End : Type 0} (ended : ReceiveView → End → Type 0) (all : BenchDevices) where
+module _ {End : Type 0} (ended : End → Type 0) (all : BenchDevices) where
   module _ (left left' : BenchDevices) (place : Option DeviceView) (ends ends' : DeviceTable End) (more : left ≡ left' ++ place ∷ [])
       (was : EndedFrom ended all left ends) where
     longer : length left ≡ length left' + 1
@@ -78,7 +78,7 @@ module _ {End : Type 0} (ended : ReceiveView → End → Type 0) (all : BenchDev
         (ap (λ (l : DeviceTable End). at (length left') l) same ∙ was.none (length left') (omega (arith, longer)))
         (λ number apart. ap (λ (l : DeviceTable End). at number l) same)
 
-    pub ended-present : (d : DeviceView) (end : End) → place ≡ Some d → ended d.side end
+    pub ended-present : (d : DeviceView) (end : End) → place ≡ Some d → ended end
         → ends' ≡ slice_set ends (length left') (Some end) → EndedFrom ended all left' ends'
     ended-present d end present is set =
         let below : length left' < length ends = omega (arith, longer, was.most, was.places) in

@@ -1,17 +1,18 @@
 -- Polling a device by the polling rule has the result of executing the rule's plan on the device alone.
-use Rattle.std.proofs.Common.{◌≡◌, ◌∙◌, ℕ, Bool, true, false, List, [], ◌∷◌, ◌++◌, Option, Some, None, MatchBool, ap, arith, length, map}
+use Rattle.std.proofs.Common.{◌≡◌, ◌∙◌, ◌≤◌, ℕ, zero, suc, Bool, true, false, List, [], ◌∷◌, ◌++◌, Option, Some, None, MatchBool, ap}
+use Rattle.std.proofs.Common.{arith, length, map}
 use Rattle.std.{proofs.Common.{refl, subst, sum, sym, take}, specs.Prelude.{◌||◌, if◌then◌else◌, is_some, min, nat_le, not}}
-use Rattle.std.proofs.lemmas.{Bool.{leb-false, leb-true}, List.{length-take, take_all}}
-use Rattle.napi_model.specs.declared.state.{Flags.Flags, Kind.Kind, State.State}
+use Rattle.std.proofs.lemmas.{Bool.{leb-false, leb-true}, List.{length-take, take_all, Sums.sum_by-cons}}
+use Rattle.napi_model.specs.declared.state.{Flags.Flags, Kind.Kind, Seen.Seen, State.State}
 use Rattle.napi_model.specs.declared.event.{Call.Call, Done.{Done, TheVariants.{Released, Again, Held}}, Operation.Operation}
 use Rattle.napi_model.specs.declared.event.Operation.TheVariants.{Look, Take, Hand, Complete, BusyTake}
-use Rattle.napi_model.specs.Step.{CallerPolls, after, complete_reply, event, seen_of}
+use Rattle.napi_model.specs.Step.{CallerPolls, after, complete_reply, event, no_flags, seen_of}
 use Rattle.poll_runs.specs.Plan.{Answers, Action, Does, Follows, Plan, gave, made, ◌>>=◌, ends, asks, acts, polls}
 use Rattle.poll_runs.specs.Polling.{BusyPolls, Given, ThreadPolls, busy_poll_plan, busy_takes, completed, flags_in, gives, is_taken}
 use Rattle.poll_runs.specs.Polling.{makes, next_of, poll_once_plan, thread_poll_plan}
 use Rattle.device_bench.specs.Device.{acted, carried_out, counted_after, device_polled, polled_busily, polled_by_thread, polled_once}
 use Rattle.device_bench.specs.Device.{with_napi}
-use Rattle.device_bench.specs.{DeviceView.DeviceView, Instance.{AtOnce, DeviceDid, IsAnswer, IsDevicePolled}}
+use Rattle.device_bench.specs.{DeviceView.DeviceView, Instance.{AtOnce, DeviceDid, DidIf, IsAnswer, IsDevicePolled}}
 use Rattle.device_bench.specs.Receive.{answered, busy_taken, polled_bytes, done_by, given_of}
 use Rattle.device_bench.specs.Receive.{handed_again, is_idle, state_kind, poller_in, taker_of}
 use Rattle.napi_model.specs.declared.event.Call.TheVariants as call
@@ -180,3 +181,133 @@ does-complete d e again hand to is = by d.side.napi.flags.missed refl
           (ap (λ (r : Done). Complete r) (sym reply), rw (reply, none) at is),
           (Complete Released, Complete Released ∷ [], [], refl, refl, (refl, refl), refl),
         )
+
+-- ---- a receive side that isn't exact: the calls follow the rule, by some operations
+
+-- with some actions, the plan has this result
+abbrev pub Can : {A : Type 0} → Plan ℕ A → A → Type 0
+Can plan a = (deeds : List (Action ℕ)) × Follows AtOnce plan deeds a
+
+pub weaken : {A : Type 0} (exact : Bool) (plan : Plan ℕ A) (d : DeviceView) (a : A) (e : DeviceView) → Does AtOnce DeviceDid plan d a e
+    → Does AtOnce (DidIf exact) plan d a e
+weaken exact plan d a e p = (p.0, λ x. p.1, p.2)
+
+pub polled-once-if : (exact : Bool) (weight : ℕ) (d : DeviceView) (a : Given ℕ) (e : DeviceView) → exact ≡ true
+    → Does AtOnce (DidIf exact) (poll_once_plan true weight) d a e
+    → (a.once ≡ (polled_once weight d).0) × (e ≡ (polled_once weight d).1)
+polled-once-if exact weight d a e x p = polled-once weight d a e (p.0, p.1 x, p.2)
+
+pub polled-by-thread-if : (exact : Bool) (most weight : ℕ) (d : DeviceView) (a : ThreadPolls ℕ) (e : DeviceView) → exact ≡ true
+    → Does AtOnce (DidIf exact) (thread_poll_plan true weight most) d a e
+    → (a.polls ≡ (polled_by_thread most weight d).0) × (e ≡ (polled_by_thread most weight d).1)
+polled-by-thread-if exact most weight d a e x p = polled-by-thread most weight d a e (p.0, p.1 x, p.2)
+
+pub polled-busily-if : (exact : Bool) (rounds weight : ℕ) (d : DeviceView) (a : BusyPolls ℕ) (e : DeviceView) → exact ≡ true
+    → Does AtOnce (DidIf exact) (busy_poll_plan sum true weight rounds) d a e
+    → (a.report ≡ (polled_busily rounds weight d).0) × (e ≡ (polled_busily rounds weight d).1)
+polled-busily-if exact rounds weight d a e x p = polled-busily rounds weight d a e (p.0, p.1 x, p.2)
+
+pub either : {A : Type 0} (exact : Bool) (plan : Plan ℕ A) (d : DeviceView) (a : A) (e : DeviceView)
+    → (exact ≡ true → Does AtOnce DeviceDid plan d a e) → Can plan a → Does AtOnce (DidIf exact) plan d a e
+either true plan d a e told free = weaken true plan d a e (told refl)
+either false plan d a e told free = (free.0, λ x. cc x, free.1)
+
+pub free-call : {A : Type 0} (c : Call) (o : Operation) (go : Operation → A) → Answers c o
+    → Can (asks c (λ x. ends (go x))) (go o)
+free-call c o go a = (made o ∷ [], (o, o ∷ [], [], a, refl, (refl, refl), refl))
+
+pub free-act : (o : Operation) → Can (makes o) tt
+free-act o = (made o ∷ [], (o ∷ [], [], refl, (refl, refl), refl))
+
+pub free-busy-take : (taken : Bool) → Can busy_takes taken
+free-busy-take true = free-call call.BusyTake BusyTake is_taken refl
+free-busy-take false =
+    free-call call.BusyTake (Look (record { flags = record no_flags { sched = true }; handed = None })) is_taken (λ may. cc may.1)
+
+abbrev zeros : ℕ → List ℕ
+zeros zero = []
+zeros (suc n) = 0 ∷ zeros n
+
+zeros-length : (n : ℕ) → length (zeros n) ≡ n
+zeros-length zero = refl
+zeros-length (suc n) = ap suc (zeros-length n)
+
+zeros-sum : (n : ℕ) → sum (zeros n) ≡ 0
+zeros-sum zero = refl
+zeros-sum (suc n) = zeros-sum n
+
+sum-of : (load n : ℕ) → load ≡ sum (load ∷ zeros n)
+sum-of load n = omega (arith, sum_by-cons (λ (m : ℕ). m) load (zeros n), zeros-sum n)
+
+pub free-poll : (weight work load : ℕ) → work ≤ weight → (work ≡ 0 → load ≡ 0)
+    → (packets : List ℕ) × Can (gives weight) packets × (load ≡ sum packets) × (work ≡ length packets)
+free-poll weight zero load most least =
+    ([], (gave weight [] ∷ [], ([], [], omega arith, (refl, refl), refl)), least refl, refl)
+free-poll weight (suc n) load most least =
+    let packets = load ∷ zeros n in (
+      packets,
+      (gave weight packets ∷ [], (packets, [], omega (arith, most, zeros-length n), (refl, refl), refl)),
+      sum-of load n,
+      omega (arith, zeros-length n),
+    )
+
+pub either-poll : (exact : Bool) (weight : ℕ) (d e : DeviceView) (work load : ℕ) → (exact ≡ true → e ≡ device_polled weight d)
+    → (exact ≡ true → work ≡ given_of weight d.side) → (exact ≡ true → load ≡ polled_bytes weight d.side) → work ≤ weight
+    → (work ≡ 0 → load ≡ 0)
+    → (packets : List ℕ) × Does AtOnce (DidIf exact) (gives weight) d packets e × (load ≡ sum packets) × (work ≡ length packets)
+either-poll true weight d e work load is works loads most least =
+    let p = does-poll weight d e work load (is refl) (works refl) (loads refl) in
+    (p.0, weaken true (gives weight) d p.0 e p.1, p.2, p.3)
+either-poll false weight d e work load is works loads most least =
+    let p = free-poll weight work load most least in
+    (p.0, either false (gives weight) d p.0 e (λ x. cc x) p.1, p.2, p.3)
+
+abbrev queued : Bool → Seen
+queued threaded = record { flags = record no_flags { threaded = threaded }; handed = None }
+
+pub free-complete : (again : Option Kind) → Can (completed true) (next_of again)
+free-complete None = (made (Complete Released) ∷ [], (Complete Released, Complete Released ∷ [], [], refl, refl, (refl, refl), refl))
+free-complete (Some Kind.List) = (
+  made (Complete Again) ∷ made (Look (queued false)) ∷ made (Hand Kind.List) ∷ [],
+  (
+    Complete Again,
+    Complete Again ∷ [],
+    made (Look (queued false)) ∷ made (Hand Kind.List) ∷ [],
+    refl,
+    refl,
+    (
+      Look (queued false),
+      Look (queued false) ∷ [],
+      made (Hand Kind.List) ∷ [],
+      refl,
+      refl,
+      (Hand Kind.List ∷ [], [], refl, (refl, refl), refl),
+      refl,
+    ),
+    refl,
+  ),
+)
+free-complete (Some Kind.Thread) = (
+  made (Complete Again) ∷ made (Look (queued true)) ∷ made (Hand Kind.Thread) ∷ [],
+  (
+    Complete Again,
+    Complete Again ∷ [],
+    made (Look (queued true)) ∷ made (Hand Kind.Thread) ∷ [],
+    refl,
+    refl,
+    (
+      Look (queued true),
+      Look (queued true) ∷ [],
+      made (Hand Kind.Thread) ∷ [],
+      refl,
+      refl,
+      (Hand Kind.Thread ∷ [], [], refl, (refl, refl), refl),
+      refl,
+    ),
+    refl,
+  ),
+)
+
+pub hands-if : (taken : Bool) (P : Type 0) → (taken ≡ true → P) → MatchBool taken P (Unit {0})
+hands-if true P h = h refl
+hands-if false P h = tt

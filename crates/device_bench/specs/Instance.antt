@@ -1,5 +1,5 @@
 -- A device as its poller sees it, as an instance of the polling rule.
-use Rattle.std.specs.Prelude.{◌≡◌, ℕ, true, false, List, [], ◌∷◌, take}
+use Rattle.std.specs.Prelude.{◌≡◌, ℕ, Bool, true, false, List, [], ◌∷◌, take}
 use Rattle.napi_model.specs.{Step.{CallerPolls, reply_of, call_of}, declared.{event.{Call.Call, Operation.Operation}, state.State.State}}
 use Rattle.{napi_model.specs.declared.event.Operation.TheVariants.BusyTake, poll_runs.specs.Plan.{Action, gave, made}}
 use Rattle.device_bench.specs.{Device.{acted, device_polled}, DeviceView.DeviceView, Receive.{is_idle, poller_in}}
@@ -26,3 +26,7 @@ abbrev pub DeviceDid : DeviceView → List (Action ℕ) → DeviceView → Type 
 DeviceDid d [] e = e ≡ d
 DeviceDid d (made o ∷ deeds) e = IsAnswer o d.side.napi × DeviceDid (acted o d) deeds e
 DeviceDid d (gave weight packets ∷ deeds) e = (packets ≡ take weight d.side.packets) × DeviceDid (device_polled weight d) deeds e
+
+-- the same of a device whose receive side is exact; of another one, nothing is said
+abbrev pub DidIf : Bool → DeviceView → List (Action ℕ) → DeviceView → Type 0
+DidIf exact d deeds e = exact ≡ true → DeviceDid d deeds e

@@ -1,12 +1,12 @@
 //! The devices of a replay, by their numbers.
 
-ghost use Rattle.std.specs.Prelude.{◌≡◌, length};
+ghost use Rattle.std.specs.Prelude.{◌≡◌, length, true};
 ghost use Rattle.device_bench.specs.Kept.{IsKept};
 
 use crate::counts::DeviceCounts;
 use crate::device::{BenchDevice, PolledBytes};
 use crate::places::put_back;
-use crate::receive_side::ReceiveSide;
+use crate::receive_side::{KitSide, ReceiveSide};
 use crate::serial_receive::SerialReceive;
 use crate::table::{DeviceTable, empty_table};
 use crate::transmit::{Transmit, TxCounts};
@@ -30,7 +30,8 @@ pub struct DeviceBench<S: ReceiveSide> {
     transmits: DeviceTable<Transmit>,
     // Whether a disable may be pending on some device.
     unsettled: bool,
-    ghost kept: { IsKept unsettled devices.items },
+    ghost places: { length devices.items ≡ 17 },
+    ghost kept: { S.exact ≡ true → IsKept unsettled devices.items },
     ghost sides: { length transmits.items ≡ 17 },
 }
 
@@ -51,8 +52,23 @@ impl DeviceBench<SerialReceive> {
     }
 }
 
+impl<S: KitSide> DeviceBench<S> {
+    ghost use Rattle.std.specs.Prelude.{IfOk};
+    ghost use Rattle.device_places.specs.Places.{empty};
+    ghost use Rattle.device_bench.specs.DeviceBench.{ShowsTransmits, devices_of};
+
+    /// Returns a bench without devices, whose receive sides are opened with this kit. The table is allocated here, so only
+    /// `attach` allocates later.
+    pub fn new(kit: S::Kit, alloc: Global) -> Result<DeviceBench<S>, AllocError>
+        ensures devices { IfOk result (λ bench. devices_of bench ≡ empty) }
+        ensures transmits { IfOk result (λ bench. ShowsTransmits bench empty) }
+    {
+        DeviceBench::over(kit, alloc)
+    }
+}
+
 impl<S: ReceiveSide> DeviceBench<S> {
-    ghost use Rattle.std.specs.Prelude.{◌≡◌, ◌≤◌, ◌+◌, ℕ, IfOk, OnErr, OnOk, Some, is_some, not, true};
+    ghost use Rattle.std.specs.Prelude.{◌≡◌, ◌≤◌, ◌+◌, ℕ, IfOk, OnErr, OnOk, Some, is_some, not, true, ◌==◌, if◌then◌else◌};
     ghost use Rattle.device_bench.specs.Bench.{all_settled, after_arrival, attached, counts_at, handed_by};
     ghost use Rattle.device_bench.specs.Transmits.{Changes, KeepsTransmits, Transmits, is_used, tx_counts_of};
     ghost use Rattle.device_bench.specs.Device.{after_disable, after_enable, after_threaded, new_device, settled};
@@ -64,9 +80,8 @@ impl<S: ReceiveSide> DeviceBench<S> {
     ghost use Rattle.device_bench.specs.Transmit.{after_finish, after_tx, opened_transmit};
     ghost use Rattle.device_bench.specs.Waiting.{one_when, is_listed};
 
-    /// Returns a bench without devices, whose receive sides are opened with this kit. The table is allocated here, so only
-    /// `attach` allocates later.
-    pub fn over(kit: S::Kit, alloc: Global) -> Result<DeviceBench<S>, AllocError>
+    // Returns a bench without devices, whose receive sides are opened with this kit.
+    fn over(kit: S::Kit, alloc: Global) -> Result<DeviceBench<S>, AllocError>
         ensures devices { IfOk result (λ bench. devices_of bench ≡ empty) }
         ensures transmits { IfOk result (λ bench. ShowsTransmits bench empty) }
     {
@@ -89,10 +104,13 @@ impl<S: ReceiveSide> DeviceBench<S> {
     fn keep(&mut self, alloc: Global, device: u32, capacity: u32) -> Result<(), AllocError>
         requires device { IsWithin 1 16 device }
         requires capacity { IsWithin 1 65536 capacity }
-        ensures devices { OnOk result
+        ensures devices { S.exact ≡ true → OnOk result
             (devices_of self.new ≡ added device (new_device capacity) (devices_of self.old)) }
+        ensures attached { OnOk result ((number : ℕ)
+            → is_some (at number (devices_of self.new))
+            ≡ (if number == device then true else is_some (at number (devices_of self.old)))) }
         ensures transmits { self.new.transmits ≡ self.old.transmits }
-        ensures waiting { waiting_of self.new ≡ waiting_of self.old }
+        ensures waiting { S.exact ≡ true → waiting_of self.new ≡ waiting_of self.old }
         ensures refused { OnErr result (self.new ≡ self.old) }
     {
         if self.devices[device as usize].is_some() {
@@ -105,7 +123,10 @@ impl<S: ReceiveSide> DeviceBench<S> {
 
     // Tries a pending disable of this device once. Returns whether it is still pending.
     fn settle_one(&mut self, device: u32) -> bool
-        ensures devices { devices_of self.new ≡ changed settled device (devices_of self.old) }
+        ensures devices { S.exact ≡ true → devices_of self.new
+            ≡ changed settled device (devices_of self.old) }
+        ensures places { (number : ℕ) → is_some (at number (devices_of self.new))
+            ≡ is_some (at number (devices_of self.old)) }
         ensures transmits { self.new.transmits ≡ self.old.transmits }
         ensures unsettled { self.new.unsettled ≡ self.old.unsettled }
         ensures pending { result ≡ is_pending_at (at device (devices_of self.new)) }
@@ -121,10 +142,12 @@ impl<S: ReceiveSide> DeviceBench<S> {
     /// Handles the arrival of a packet of this size at a device (`napi_schedule`). Returns the queue in which that put the
     /// instance, if any; if it is the list, the caller still has to push the number.
     pub fn arrive(&mut self, device: u32, bytes: u32) -> Option<Kind>
-        ensures devices { devices_of self.new ≡ after_arrival device bytes (devices_of self.old) }
+        ensures devices { S.exact ≡ true → devices_of self.new
+            ≡ after_arrival device bytes (devices_of self.old) }
         ensures transmits { KeepsTransmits ShowsTransmits self.old self.new }
-        ensures kind { result ≡ handed_by bytes (at device (devices_of self.old)) }
-        ensures waiting { waiting_of self.old + one_when (is_listed result) ≤ waiting_of self.new }
+        ensures kind { S.exact ≡ true → result ≡ handed_by bytes (at device (devices_of self.old)) }
+        ensures waiting { S.exact ≡ true
+            → waiting_of self.old + one_when (is_listed result) ≤ waiting_of self.new }
     {
         if device < TABLE_LEN {
             if let Some(device) = &mut self.devices[device as usize] {
@@ -146,12 +169,12 @@ impl<S: ReceiveSide> DeviceBench<S> {
     ) -> Result<(), AllocError>
         requires device { IsWithin 1 16 device }
         requires capacity { IsWithin 1 65536 capacity }
-        ensures devices { OnOk result
+        ensures devices { S.exact ≡ true → OnOk result
             (devices_of self.new ≡ added device (new_device capacity) (devices_of self.old)) }
         ensures transmits { OnOk result
             (Changes ShowsTransmits (added device (opened_transmit capacity moment))
             self.old self.new) }
-        ensures waiting { waiting_of self.old ≤ waiting_of self.new }
+        ensures waiting { S.exact ≡ true → waiting_of self.old ≤ waiting_of self.new }
         ensures refused { OnErr result (self.new ≡ self.old) }
     {
         let transmit = Transmit::open(alloc, capacity, moment)?;
@@ -164,10 +187,10 @@ impl<S: ReceiveSide> DeviceBench<S> {
 
     /// Sends a packet of this size, or counts it as held if the ring rejects it (`netdev_tx_sent_queue`).
     pub fn send(&mut self, device: u32, bytes: u32)
-        ensures devices { devices_of self.new ≡ devices_of self.old }
+        ensures devices { S.exact ≡ true → devices_of self.new ≡ devices_of self.old }
         ensures transmits { Changes ShowsTransmits
             (changed (after_tx bytes) device) self.old self.new }
-        ensures waiting { waiting_of self.new ≡ waiting_of self.old }
+        ensures waiting { S.exact ≡ true → waiting_of self.new ≡ waiting_of self.old }
     {
         if device < TABLE_LEN {
             if let Some(transmit) = &mut self.transmits[device as usize] {
@@ -178,10 +201,10 @@ impl<S: ReceiveSide> DeviceBench<S> {
 
     /// Completes this many packets, or counts the completion as denied if the ring holds fewer (`netdev_tx_completed_queue`).
     pub fn done(&mut self, device: u32, count: u32, moment: u64)
-        ensures devices { devices_of self.new ≡ devices_of self.old }
+        ensures devices { S.exact ≡ true → devices_of self.new ≡ devices_of self.old }
         ensures transmits { Changes ShowsTransmits
             (changed (after_finish count moment) device) self.old self.new }
-        ensures waiting { waiting_of self.new ≡ waiting_of self.old }
+        ensures waiting { S.exact ≡ true → waiting_of self.new ≡ waiting_of self.old }
     {
         if device < TABLE_LEN {
             if let Some(transmit) = &mut self.transmits[device as usize] {
@@ -192,10 +215,10 @@ impl<S: ReceiveSide> DeviceBench<S> {
 
     /// Marks a disable on a device that is enabled (`napi_disable`). The disable takes effect later, in `settle`.
     pub fn disable(&mut self, device: u32)
-        ensures devices { devices_of self.new
+        ensures devices { S.exact ≡ true → devices_of self.new
             ≡ changed after_disable device (devices_of self.old) }
         ensures transmits { KeepsTransmits ShowsTransmits self.old self.new }
-        ensures waiting { waiting_of self.new ≡ waiting_of self.old }
+        ensures waiting { S.exact ≡ true → waiting_of self.new ≡ waiting_of self.old }
     {
         if device < TABLE_LEN {
             if let Some(device) = &mut self.devices[device as usize] {
@@ -208,11 +231,12 @@ impl<S: ReceiveSide> DeviceBench<S> {
     /// Enables a device that is disabled, with its threaded setting (`napi_enable`). Returns false if its disable is still
     /// pending.
     pub fn enable(&mut self, device: u32) -> bool
-        ensures devices { devices_of self.new
+        ensures devices { S.exact ≡ true → devices_of self.new
             ≡ changed after_enable device (devices_of self.old) }
         ensures transmits { KeepsTransmits ShowsTransmits self.old self.new }
-        ensures answer { result ≡ not (is_pending_at (at device (devices_of self.old))) }
-        ensures waiting { waiting_of self.new ≡ waiting_of self.old }
+        ensures answer { S.exact ≡ true → result
+            ≡ not (is_pending_at (at device (devices_of self.old))) }
+        ensures waiting { S.exact ≡ true → waiting_of self.new ≡ waiting_of self.old }
     {
         if device < TABLE_LEN {
             if let Some(device) = &mut self.devices[device as usize] {
@@ -226,10 +250,10 @@ impl<S: ReceiveSide> DeviceBench<S> {
 
     /// Sets the threaded setting of a device, and the flag THREADED (`dev_set_threaded`).
     pub fn set_threaded(&mut self, device: u32, threaded: bool)
-        ensures devices { devices_of self.new
+        ensures devices { S.exact ≡ true → devices_of self.new
             ≡ changed (after_threaded threaded) device (devices_of self.old) }
         ensures transmits { KeepsTransmits ShowsTransmits self.old self.new }
-        ensures waiting { waiting_of self.new ≡ waiting_of self.old }
+        ensures waiting { S.exact ≡ true → waiting_of self.new ≡ waiting_of self.old }
     {
         if device < TABLE_LEN {
             if let Some(device) = &mut self.devices[device as usize] {
@@ -240,9 +264,9 @@ impl<S: ReceiveSide> DeviceBench<S> {
 
     /// Tries each pending disable once, in the order of device numbers (the loop of `napi_disable`).
     pub fn settle(&mut self)
-        ensures devices { devices_of self.new ≡ all_settled (devices_of self.old) }
+        ensures devices { S.exact ≡ true → devices_of self.new ≡ all_settled (devices_of self.old) }
         ensures transmits { KeepsTransmits ShowsTransmits self.old self.new }
-        ensures waiting { waiting_of self.new ≡ waiting_of self.old }
+        ensures waiting { S.exact ≡ true → waiting_of self.new ≡ waiting_of self.old }
     {
         if !self.unsettled {
             return;
@@ -277,7 +301,8 @@ impl<S: ReceiveSide> DeviceBench<S> {
     /// Returns what the report shows of an attached device. A device has its transmit side since `attach`.
     pub fn counts(&self, device: u32) -> DeviceCounts
         requires attached { is_some (at device (devices_of self.now)) ≡ true }
-        ensures devices { (all : Transmits) → ShowsTransmits self.now all → Some result
+        ensures devices { S.exact ≡ true → (all : Transmits) → ShowsTransmits self.now all
+            → Some result
             ≡ counts_at (at device (devices_of self.now)) (tx_counts_of (at device all)) }
         ensures transmits { (all : Transmits) → ShowsTransmits self.now all
             → result.tx ≡ tx_counts_of (at device all) }

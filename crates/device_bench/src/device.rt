@@ -1,6 +1,6 @@
 //! One device: its receive side, and its counts.
 
-ghost use Rattle.std.specs.Prelude.{◌≡◌, if◌then◌else◌};
+ghost use Rattle.std.specs.Prelude.{◌≡◌, true, if◌then◌else◌};
 ghost use Rattle.napi_model.specs.declared.event.{Done.TheVariants.{Again, Released}, Operation.TheVariants.{Complete}};
 ghost use Rattle.device_bench.specs.Counter.{raised};
 ghost use Rattle.device_bench.specs.Device.{after_disable, after_enable, device_after_packet, after_request, after_threaded, is_pending, new_device, settled, device_state, counted_after};
@@ -60,7 +60,8 @@ impl<S: ReceiveSide> BenchDevice<S> {
 
     /// Returns what the report shows of the device, with its transmit side.
     pub(crate) fn counts(&self, tx: TxCounts) -> DeviceCounts
-        ensures { result ≡ device_counts self.now tx }
+        ensures counts { S.exact ≡ true → result ≡ device_counts self.now tx }
+        ensures tx { result.tx ≡ tx }
     {
         DeviceCounts {
             state: self.state(),
@@ -74,8 +75,8 @@ impl<S: ReceiveSide> BenchDevice<S> {
     // Requests a poll, as an interrupt does. If the request is granted, it queues the instance, and returns in which queue.
     #[tactic(auto, unfolding(crate::specs::Device::after_request))]
     fn request(&mut self) -> Option<Kind>
-        ensures device { self.new ≡ (after_request self.old).1 }
-        ensures kind { result ≡ (after_request self.old).0 }
+        ensures device { S.exact ≡ true → self.new ≡ (after_request self.old).1 }
+        ensures kind { S.exact ≡ true → result ≡ (after_request self.old).0 }
     {
         let (reply, kind) = self.side.request();
         match reply {
@@ -90,8 +91,8 @@ impl<S: ReceiveSide> BenchDevice<S> {
     /// queue in which that put the instance, if any.
     #[tactic(auto, unfolding(crate::specs::Device::device_after_packet))]
     pub(crate) fn arrive(&mut self, bytes: u32) -> Option<Kind>
-        ensures device { self.new ≡ (device_after_packet bytes self.old).1 }
-        ensures kind { result ≡ (device_after_packet bytes self.old).0 }
+        ensures device { S.exact ≡ true → self.new ≡ (device_after_packet bytes self.old).1 }
+        ensures kind { S.exact ≡ true → result ≡ (device_after_packet bytes self.old).0 }
     {
         self.counts.arrived = self.counts.arrived.saturating_add(1);
         if !self.side.put(bytes) {
@@ -120,13 +121,13 @@ impl<S: ReceiveSide> BenchDevice<S> {
     pub(crate) fn is_pending(&self) -> bool
         ensures { result ≡ is_pending self.now }
     {
-        self.side.seen().flags.disable
+        self.side.is_marked()
     }
 
     /// Marks a disable on a device that is enabled; in another state nothing changes.
     #[tactic(auto, unfolding(crate::specs::Device::after_disable))]
     pub(crate) fn disable(&mut self)
-        ensures { self.new ≡ after_disable self.old }
+        ensures { S.exact ≡ true → self.new ≡ after_disable self.old }
     {
         if self.state() == DeviceState::On {
             self.side.mark();
@@ -136,7 +137,7 @@ impl<S: ReceiveSide> BenchDevice<S> {
     /// Tries a pending disable once. Returns whether it is still pending.
     #[tactic(auto, unfolding(crate::specs::Device::settled))]
     pub(crate) fn settle(&mut self) -> bool
-        ensures device { self.new ≡ settled self.old }
+        ensures device { S.exact ≡ true → self.new ≡ settled self.old }
         ensures pending { result ≡ is_pending self.new }
     {
         self.is_pending() && !self.side.try_take()
@@ -145,7 +146,7 @@ impl<S: ReceiveSide> BenchDevice<S> {
     /// Enables a device that is disabled, with its threaded setting; in another state nothing changes.
     #[tactic(auto, unfolding(crate::specs::Device::after_enable))]
     pub(crate) fn enable(&mut self)
-        ensures { self.new ≡ after_enable self.old }
+        ensures { S.exact ≡ true → self.new ≡ after_enable self.old }
     {
         if self.state() == DeviceState::Off {
             self.side.enable(self.threaded);
@@ -155,7 +156,7 @@ impl<S: ReceiveSide> BenchDevice<S> {
     /// Sets the device's threaded setting, and the flag THREADED.
     #[tactic(auto, unfolding(crate::specs::Device::after_threaded))]
     pub(crate) fn set_threaded(&mut self, threaded: bool)
-        ensures { self.new ≡ after_threaded threaded self.old }
+        ensures { S.exact ≡ true → self.new ≡ after_threaded threaded self.old }
     {
         self.threaded = threaded;
         self.side.set_threaded(threaded);
@@ -163,7 +164,7 @@ impl<S: ReceiveSide> BenchDevice<S> {
 
     /// Ends the device's receive side.
     pub(crate) fn end(self) -> S::End
-        ensures { S.ended self.side result }
+        ensures { S.ended result }
     {
         let BenchDevice {
             side,
@@ -176,7 +177,7 @@ impl<S: ReceiveSide> BenchDevice<S> {
 
 impl<S: ReceiveSide> Instance for BenchDevice<S> {
     ghost use Rattle.std.specs.Prelude.{◌≡◌, refl, sum, true};
-    ghost use Rattle.device_bench.specs.Instance.{AtOnce, DeviceDid, IsDevicePolled};
+    ghost use Rattle.device_bench.specs.Instance.{AtOnce, DidIf, IsDevicePolled};
     ghost use Rattle.device_bench.specs.InstanceLaws.{did_joins};
 
     type Packet = u32;
@@ -191,7 +192,7 @@ impl<S: ReceiveSide> Instance for BenchDevice<S> {
 
     ghost tries = { AtOnce };
 
-    ghost did = { DeviceDid };
+    ghost did = { DidIf S.exact };
 
     ghost has = { λ load packets. load ≡ sum packets };
 
@@ -221,9 +222,9 @@ impl<S: ReceiveSide> Instance for BenchDevice<S> {
         again
     }
 
-    ghost nothing = { λ d. refl };
+    ghost nothing = { λ d x. refl };
 
-    ghost joins = { did_joins };
+    ghost joins = { λ a b c first second m n x. did_joins a b c first second (m x) (n x) };
 
     ghost same = { λ before after deeds did. refl };
 }

@@ -16,7 +16,7 @@ mod transmit;
 pub use bench::{DeviceBench, SerialBench};
 pub use counts::{DeviceCounts, DeviceState};
 pub use places::{put_back, take_out};
-pub use receive_side::ReceiveSide;
+pub use receive_side::{KitSide, ReceiveSide};
 pub use serial_receive::SerialReceive;
 pub use table::DeviceTable;
 pub use transmit::{Transmit, TxCounts};

@@ -74,7 +74,9 @@ impl ReceiveSide for SerialReceive {
 
     ghost side = { λ s. s };
 
-    ghost ended = { λ side end. Unit };
+    ghost exact = { true };
+
+    ghost ended = { λ end. Unit };
 
     fn open(_kit: &(), alloc: Global, capacity: u32) -> Result<SerialReceive, AllocError> {
         let ring = HeapCircularBuffer::with_capacity(alloc, capacity as usize)?;
@@ -93,6 +95,10 @@ impl ReceiveSide for SerialReceive {
 
     fn seen(&self) -> Seen {
         self.napi.look()
+    }
+
+    fn is_marked(&self) -> bool {
+        self.napi.flags().disable
     }
 
     fn is_off(&self) -> bool {

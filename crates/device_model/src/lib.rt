@@ -8,10 +8,11 @@
 #![tactic(auto)]
 
 pub use device_bench::{
-    DeviceBench, DeviceCounts, DeviceState, ReceiveSide, SerialBench, TxCounts,
+    DeviceBench as ReplayBench, DeviceCounts, DeviceState, KitSide, ReceiveSide, SerialBench,
+    TxCounts,
 };
 pub use device_rows::{
     Row, RowEvent as Event, Trace, TraceFault, first_fault_stands, first_records_decide, read_trace,
 };
-pub use device_shared::{ClosedSide, SharedBench};
+pub use device_shared::{ClosedSide, SharedBench, SharedReceive};
 pub use replay::{ScriptDevice, opening_of};

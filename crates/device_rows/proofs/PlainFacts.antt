@@ -4,14 +4,14 @@ use Rattle.std.proofs.Common.{sym, ap}
 use Rattle.std.proofs.Common.{append_assoc, arith, Some, slice_index_or, take-append-drop, length-take-le}
 use Rattle.std.proofs.lemmas.{Bool.{and_parts, le-leb, Decides.nat_tests}, List.{drop_more, take_more}}
 use Rattle.std.proofs.lemmas.Int.Digits.{digits_value_push}
-use Rattle.std.specs.{Prelude.{◌&&◌, nat_le}, Char.{digit_value, is_ascii_digit}, Str.all_ascii_digits}
+use Rattle.std.specs.{Prelude.{◌&&◌, codes, nat_le}, Char.{digit_value, is_ascii_digit}, Str.all_ascii_digits}
 use Rattle.csv.specs.{Machine.next_record, Reading.{default_config, strip_bom}, Writing.{default_writer, needs_byte}}
 use Rattle.csv.specs.Records.{field_at}
 use Rattle.csv.proofs.RoundTrip.{field-run, record-same}
 use Rattle.csv.specs.declared.parser.State.TheVariants as state
 use Rattle.device_rows.specs.Plain.{IsPlain, StartsWithEvent, StartsWithNumber, StartsWithRecord, StartsWithRow, StartsWithTitle}
 use Rattle.device_rows.specs.Plain.{StartsWithTitles}
-use Rattle.device_rows.specs.Record.{event_of, four_of, is_numeral, numeral, version_of}
+use Rattle.device_rows.specs.Record.{four_of, is_numeral, numeral, version_of}
 use Rattle.device_rows.specs.declared.{event.RowEvent.RowEvent}
 use Rattle.device_rows.proofs.{NumeralFacts.digits-push, ShortFacts.short-row}
 
@@ -118,21 +118,11 @@ number-more text place below digit =
     rw (take_more text place 0 below, ← digit-worth (slice_index_or text place 0) digit)
     (digits_value_push 10 (take place text) (slice_index_or text place 0))
 
-splits-at : (text : List ℕ) (place stop : ℕ) → place < length text → slice_index_or text place 0 ≡ stop
+pub splits-at : (text : List ℕ) (place stop : ℕ) → place < length text → slice_index_or text place 0 ≡ stop
     → text ≡ take place text ++ stop ∷ drop (place + 1) text
 splits-at text place stop below ends =
     sym (take-append-drop place text) ∙ ap (λ l. take place text ++ l) (drop_more text place 0 below)
     ∙ ap (λ s. take place text ++ s ∷ drop (place + 1) text) ends
-
--- if a text starts with the name of an event and a comma, they can be split off
-pub event-starts : (version : ℕ) (name : List ℕ) (event : RowEvent) (text prefix rest : List ℕ) → IsPlain name
-    → event_of version name ≡ Some event → prefix ≡ name ++ 44 ∷ [] → text ≡ prefix ++ rest → StartsWithEvent version text event rest
-event-starts version name event text prefix rest plain names is splits = record {
-  name = name;
-  splits = splits ∙ ap (λ p. p ++ rest) is ∙ append_assoc name (44 ∷ []) rest;
-  plain = plain;
-  is_its_name = names;
-}
 
 -- if a byte that isn't a digit follows a number, the number can be split off
 pub number-ends : (text : List ℕ) (place stop number : ℕ) → place < length text → 1 ≤ place → place ≤ 20
@@ -164,12 +154,10 @@ row-starts version text behind-m behind-d behind-e rest moment device value even
     }
 
 abbrev pub titles : List ℕ
-titles = 109 ∷ 111 ∷ 109 ∷ 101 ∷ 110 ∷ 116 ∷ 44 ∷ 100 ∷ 101 ∷ 118 ∷ 105 ∷ 99 ∷ 101 ∷ 44 ∷ 101 ∷ 118 ∷ 101 ∷ 110 ∷ 116 ∷ 44
-    ∷ 118 ∷ 97 ∷ 108 ∷ 117 ∷ 101 ∷ 10 ∷ []
+titles = codes "moment,device,event,value\n"
 
 abbrev pub titles-of-two : List ℕ
-titles-of-two = 109 ∷ 111 ∷ 109 ∷ 101 ∷ 110 ∷ 116 ∷ 44 ∷ 100 ∷ 101 ∷ 118 ∷ 105 ∷ 99 ∷ 101 ∷ 44 ∷ 101 ∷ 118 ∷ 101 ∷ 110 ∷ 116 ∷ 44
-    ∷ 118 ∷ 97 ∷ 108 ∷ 117 ∷ 101 ∷ 44 ∷ 50 ∷ 10 ∷ []
+titles-of-two = codes "moment,device,event,value,2\n"
 
 pub title-starts : (title : List ℕ) (fields : List (List ℕ)) (text rest : List ℕ)
     → ((rest : List ℕ) → next_record default_config state.StartRecord [] [] (title ++ rest) ≡ Some (fields, state.StartRecord, rest))
@@ -189,13 +177,11 @@ title-starts title fields text rest reads unmarked splits =
 pub titles-start : (text rest : List ℕ) → text ≡ titles ++ rest → StartsWithTitles text 1 rest
 unfolding next_record strip_bom version_of field_at
 titles-start text rest splits =
-    let fields : List (List ℕ) = (109 ∷ 111 ∷ 109 ∷ 101 ∷ 110 ∷ 116 ∷ []) ∷ (100 ∷ 101 ∷ 118 ∷ 105 ∷ 99 ∷ 101 ∷ [])
-    ∷ (101 ∷ 118 ∷ 101 ∷ 110 ∷ 116 ∷ []) ∷ (118 ∷ 97 ∷ 108 ∷ 117 ∷ 101 ∷ []) ∷ [] in
+    let fields : List (List ℕ) = codes "moment" ∷ codes "device" ∷ codes "event" ∷ codes "value" ∷ [] in
     record { fields = fields; title = title-starts titles fields text rest (λ rest. refl) (λ rest. refl) splits; tells = refl }
 
 pub titles-of-two-start : (text rest : List ℕ) → text ≡ titles-of-two ++ rest → StartsWithTitles text 2 rest
 unfolding next_record strip_bom version_of field_at
 titles-of-two-start text rest splits =
-    let fields : List (List ℕ) = (109 ∷ 111 ∷ 109 ∷ 101 ∷ 110 ∷ 116 ∷ []) ∷ (100 ∷ 101 ∷ 118 ∷ 105 ∷ 99 ∷ 101 ∷ [])
-    ∷ (101 ∷ 118 ∷ 101 ∷ 110 ∷ 116 ∷ []) ∷ (118 ∷ 97 ∷ 108 ∷ 117 ∷ 101 ∷ []) ∷ (50 ∷ []) ∷ [] in
+    let fields : List (List ℕ) = codes "moment" ∷ codes "device" ∷ codes "event" ∷ codes "value" ∷ codes "2" ∷ [] in
     record { fields = fields; title = title-starts titles-of-two fields text rest (λ rest. refl) (λ rest. refl) splits; tells = refl }

@@ -1,6 +1,6 @@
 -- The row of fields whose numbers and event were parsed.
 use Rattle.std.{proofs.{Common.{◌≡◌, ℕ, ◌<◌, ◌^◌, List, true, Some, refl, sym}, lemmas.Bool.lt-ltb}, specs.Prelude.{Ok, nat_lt}}
-use Rattle.device_rows.specs.{Record.{event_of, is_numeral, numeral, of_fields, ranged}, Row.{device_fits, value_fits}}
+use Rattle.device_rows.specs.{Record.{is_numeral, numeral, of_fields, ranged}, Row.{device_fits, event_of, value_fits}}
 use Rattle.device_rows.specs.declared.event.RowEvent.{RowEvent}
 
 pub short-row : (version moment device value : ℕ) (event : RowEvent) (m d e v : List ℕ)

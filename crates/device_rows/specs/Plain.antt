@@ -3,7 +3,7 @@ use Rattle.std.specs.Prelude.{◌≡◌, ℕ, true, false, List, [], ◌∷◌, 
 use Rattle.std.specs.List.{list_any}
 use Rattle.csv.specs.{Machine.next_record, Reading.{default_config, strip_bom}, Writing.{default_writer, needs_byte}}
 use Rattle.csv.specs.declared.parser.State.TheVariants as state
-use Rattle.device_rows.specs.{Record.{event_of, is_numeral, numeral, row_of, version_of}, Row.{device_fits, value_fits}}
+use Rattle.device_rows.specs.{Record.{is_numeral, numeral, row_of, version_of}, Row.{device_fits, event_of, value_fits}}
 use Rattle.device_rows.specs.declared.{event.RowEvent.RowEvent, row.Row.Row}
 
 -- a field without a comma, a quote or a line end

@@ -2,8 +2,7 @@
 use Rattle.std.specs.Prelude.{ℕ, ◌^◌, ◌==◌, ◌&&◌, Bool, false, List, length, Option, Some, None, option_and_then, if◌then◌else◌, nat_le}
 use Rattle.std.specs.{Prelude.{nat_lt, codes, Result, Ok, Err}, Str.{all_ascii_digits, bytes_eq, Parse.digits_value}}
 use Rattle.{csv.specs.Records.field_at}
-use Rattle.{device_rows.specs.{Row.{device_fits, value_fits}, declared.event.RowEvent.{RowEvent, TheVariants.Opened}}}
-use Rattle.device_rows.specs.declared.event.RowEvent.TheVariants.{Rx, Tx, Finish, Softirq, Kthread, Disable, Enable, Threaded, Busy}
+use Rattle.device_rows.specs.{Row.{device_fits, event_of, value_fits}, declared.event.RowEvent.RowEvent}
 use Rattle.device_rows.specs.declared.{fault.TraceFault.{TraceFault, TheVariants.{BadFields, BadNumber, BadEvent, OutOfRange}}, row.Row.Row}
 
 -- a sequence of steps that ends at the first None
@@ -32,21 +31,6 @@ is_numeral field = nat_le 1 (length field) && (nat_le (length field) 20 && all_a
 
 abbrev pub numeral : List ℕ → ℕ
 numeral field = digits_value 10 field
-
--- the event of a name, in a trace of this version: busy polling exists only in version 2
-unfoldable pub event_of : ℕ → List ℕ → Option RowEvent
-event_of version word =
-    if bytes_eq word (codes "open") then Some Opened
-    else if bytes_eq word (codes "rx") then Some Rx
-    else if bytes_eq word (codes "tx") then Some Tx
-    else if bytes_eq word (codes "done") then Some Finish
-    else if bytes_eq word (codes "softirq") then Some Softirq
-    else if bytes_eq word (codes "kthread") then Some Kthread
-    else if bytes_eq word (codes "disable") then Some Disable
-    else if bytes_eq word (codes "enable") then Some Enable
-    else if bytes_eq word (codes "threaded") then Some Threaded
-    else if version == 2 && bytes_eq word (codes "busy") then Some Busy
-    else None
 
 -- row n with these numbers, if they are in their ranges
 unfoldable pub ranged : ℕ → ℕ → ℕ → RowEvent → ℕ → Result Row TraceFault

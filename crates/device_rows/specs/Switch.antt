@@ -1,22 +1,16 @@
 -- Which rows the earlier rows of a device allow: errors 6 to 8. See docs/FORMATS.md, "The trace".
 use Rattle.std.specs.Prelude.{◌≡◌, ℕ, ◌+◌, ◌<◌, ◌==◌, true, List, [], ◌∷◌, map, filter, Option, Some, None, unwrap_or, slice_index_or}
 use Rattle.{std.specs.Prelude.{Result, Ok, Err}, device_rows.specs.{Row.{device_fits, value_fits}, declared.event.RowEvent.RowEvent}}
-use Rattle.device_rows.specs.declared.event.RowEvent.TheVariants.{Opened, Rx, Tx, Finish, Softirq, Kthread, Disable, Enable, Threaded, Busy}
+use Rattle.device_rows.specs.declared.event.RowEvent.TheVariants.{Opened, Softirq, Disable, Enable}
 use Rattle.device_rows.specs.declared.{fault.TraceFault.{TraceFault, TheVariants.{UnknownDevice, OpenTwice, WrongState}}, row.Row.Row}
 use Rattle.device_rows.specs.declared.switch.Switch.{Switch, TheVariants.{Unopened, On, Off}}
 
 -- the state in which a row of this event leaves its device, if it sets it
 abbrev pub set_by : RowEvent → Option Switch
 set_by Opened = Some On
-set_by Rx = None
-set_by Tx = None
-set_by Finish = None
-set_by Softirq = None
-set_by Kthread = None
-set_by Disable = Some Off
 set_by Enable = Some On
-set_by Threaded = None
-set_by Busy = None
+set_by Disable = Some Off
+set_by _ = None
 
 -- the events of a device, in order
 abbrev pub events_of : ℕ → List Row → List RowEvent
@@ -39,22 +33,12 @@ wants_open n Off = None
 -- the error of row n, if there is one, by the state in which earlier rows leave its device. Disable and enable alternate:
 -- `napi_disable` of a disabled instance waits forever, and `napi_enable` of an enabled one is a BUG (`net/core/dev.c`)
 abbrev pub refusal : ℕ → RowEvent → Switch → Option TraceFault
-refusal n Opened Unopened = None
-refusal n Opened On = Some (OpenTwice n)
-refusal n Opened Off = Some (OpenTwice n)
-refusal n Rx switch = wants_open n switch
-refusal n Tx switch = wants_open n switch
-refusal n Finish switch = wants_open n switch
 refusal n Softirq switch = None
-refusal n Kthread switch = wants_open n switch
-refusal n Disable Unopened = Some (UnknownDevice n)
-refusal n Disable On = None
+refusal n Opened Unopened = None
+refusal n Opened switch = Some (OpenTwice n)
 refusal n Disable Off = Some (WrongState n)
-refusal n Enable Unopened = Some (UnknownDevice n)
 refusal n Enable On = Some (WrongState n)
-refusal n Enable Off = None
-refusal n Threaded switch = wants_open n switch
-refusal n Busy switch = wants_open n switch
+refusal n event switch = wants_open n switch
 
 abbrev pub unless_refused : {A : Type 0} → Option TraceFault → A → Result A TraceFault
 unless_refused None x = Ok x

@@ -1,7 +1,8 @@
-//! The events of a trace, and their names.
+//! The events of a trace: the name of each, and the values of its rows.
 
-ghost use Rattle.std.specs.Prelude.{◌≡◌};
-ghost use Rattle.device_rows.specs.Record.{event_of};
+ghost use Rattle.std.specs.Prelude.{◌≡◌, ◌≤◌, IfSome, length};
+ghost use Rattle.device_rows.specs.Plain.{IsPlain};
+ghost use Rattle.device_rows.specs.Row.{event_name, event_of, value_fits};
 
 /// The event of a row. The name in the trace comes first.
 #[derive(Clone, Copy, Debug, PartialEq, Eq)]
@@ -29,40 +30,78 @@ pub enum RowEvent {
     Busy,
 }
 
+impl RowEvent {
+    /// Returns the name in the trace, which has at most 8 bytes.
+    #[inline(always)]
+    pub fn name(self) -> &'static [u8]
+        ensures name { result.now ≡ event_name self }
+        ensures short { length result.now ≤ 8 }
+        ensures plain { IsPlain result.now }
+    {
+        match self {
+            RowEvent::Opened => b"open".as_slice(),
+            RowEvent::Rx => b"rx".as_slice(),
+            RowEvent::Tx => b"tx".as_slice(),
+            RowEvent::Finish => b"done".as_slice(),
+            RowEvent::Softirq => b"softirq".as_slice(),
+            RowEvent::Kthread => b"kthread".as_slice(),
+            RowEvent::Disable => b"disable".as_slice(),
+            RowEvent::Enable => b"enable".as_slice(),
+            RowEvent::Threaded => b"threaded".as_slice(),
+            RowEvent::Busy => b"busy".as_slice(),
+        }
+    }
+
+    /// Returns whether a row of this event may have this value.
+    #[inline(always)]
+    pub(crate) fn takes(self, value: u128) -> bool
+        ensures { result ≡ value_fits self value }
+    {
+        match self {
+            RowEvent::Opened => 1 <= value && value <= 65536,
+            RowEvent::Rx | RowEvent::Tx | RowEvent::Busy => 1 <= value && value <= 65535,
+            RowEvent::Finish => value <= 65536,
+            RowEvent::Threaded => value <= 1,
+            _ => value == 0,
+        }
+    }
+}
+
 /// Returns the event with this name in a trace of this version, if there is one.
 #[inline(always)]
-#[tactic(auto, unfolding(crate::specs::Record::event_of))]
+#[tactic(auto, unfolding(crate::specs::Row::event_of))]
 pub(crate) fn event_of(version: u32, word: &[u8]) -> Option<RowEvent>
-    ensures { result ≡ event_of version word.now }
+    ensures event { result ≡ event_of version word.now }
+    ensures plain { IfSome result (λ _. IsPlain word.now) }
 {
-    if word == b"open".as_slice() {
+    if word == RowEvent::Opened.name() {
         return Some(RowEvent::Opened);
     }
-    if word == b"rx".as_slice() {
+    if word == RowEvent::Rx.name() {
         return Some(RowEvent::Rx);
     }
-    if word == b"tx".as_slice() {
+    if word == RowEvent::Tx.name() {
         return Some(RowEvent::Tx);
     }
-    if word == b"done".as_slice() {
+    if word == RowEvent::Finish.name() {
         return Some(RowEvent::Finish);
     }
-    if word == b"softirq".as_slice() {
+    if word == RowEvent::Softirq.name() {
         return Some(RowEvent::Softirq);
     }
-    if word == b"kthread".as_slice() {
+    if word == RowEvent::Kthread.name() {
         return Some(RowEvent::Kthread);
     }
-    if word == b"disable".as_slice() {
+    if word == RowEvent::Disable.name() {
         return Some(RowEvent::Disable);
     }
-    if word == b"enable".as_slice() {
+    if word == RowEvent::Enable.name() {
         return Some(RowEvent::Enable);
     }
-    if word == b"threaded".as_slice() {
+    if word == RowEvent::Threaded.name() {
         return Some(RowEvent::Threaded);
     }
-    if version == 2 && word == b"busy".as_slice() {
+    if version == 2 && word == RowEvent::Busy.name() {
         return Some(RowEvent::Busy);
     }
     None

@@ -1,13 +1,13 @@
 //! Plain rows, parsed in one pass: digits, commas, an event's name, a line feed. For any other row these functions return
 //! `None`.
 
-ghost use Rattle.std.specs.Prelude.{◌≡◌, true, IfSome, take};
+ghost use Rattle.std.specs.Prelude.{◌≡◌, ◌<◌, true, IfSome, length, slice_index_or, take};
 ghost use Rattle.std.specs.Str.{all_ascii_digits};
 ghost use Rattle.device_places.specs.Range.{IsWithin};
 ghost use Rattle.device_rows.specs.Plain.{StartsWithEvent, StartsWithNumber, StartsWithRow, StartsWithTitles};
 ghost use Rattle.device_rows.specs.Record.{numeral};
 
-use crate::event::RowEvent;
+use crate::event::{RowEvent, event_of};
 use crate::row::Row;
 
 // A number below this, with one more digit, fits into 64 bits.
@@ -55,44 +55,28 @@ pub fn number(text: &[u8], stop: u8) -> Option<(u64, &[u8])>
     None
 }
 
-// Returns the event whose name starts a text, if a comma ends the name, and the text after the comma. The names that most rows
-// have are tried first.
+// Returns the place of the first comma of a text.
+#[inline(always)]
+fn first_comma(text: &[u8]) -> Option<usize>
+    ensures below { IfSome result (λ place. place < length text.now) }
+    ensures comma { IfSome result (λ place. slice_index_or text.now place 0 ≡ 44) }
+{
+    for place in 0..text.len() {
+        if text[place] == b',' {
+            return Some(place);
+        }
+    }
+    None
+}
+
+// Returns the event whose name starts a text, if a comma ends the name, and the text after the comma.
 #[inline(always)]
 fn plain_event(version: u32, text: &[u8]) -> Option<(RowEvent, &[u8])>
     ensures { IfSome result (λ found. StartsWithEvent version text.now found.0 found.1.now) }
 {
-    if let Some(rest) = text.strip_prefix(b"rx,".as_slice()) {
-        return Some((RowEvent::Rx, rest));
-    }
-    if let Some(rest) = text.strip_prefix(b"tx,".as_slice()) {
-        return Some((RowEvent::Tx, rest));
-    }
-    if let Some(rest) = text.strip_prefix(b"done,".as_slice()) {
-        return Some((RowEvent::Finish, rest));
-    }
-    if let Some(rest) = text.strip_prefix(b"softirq,".as_slice()) {
-        return Some((RowEvent::Softirq, rest));
-    }
-    if let Some(rest) = text.strip_prefix(b"kthread,".as_slice()) {
-        return Some((RowEvent::Kthread, rest));
-    }
-    if let Some(rest) = text.strip_prefix(b"open,".as_slice()) {
-        return Some((RowEvent::Opened, rest));
-    }
-    if let Some(rest) = text.strip_prefix(b"disable,".as_slice()) {
-        return Some((RowEvent::Disable, rest));
-    }
-    if let Some(rest) = text.strip_prefix(b"enable,".as_slice()) {
-        return Some((RowEvent::Enable, rest));
-    }
-    if let Some(rest) = text.strip_prefix(b"threaded,".as_slice()) {
-        return Some((RowEvent::Threaded, rest));
-    }
-    if version != 2 {
-        return None;
-    }
-    let rest = text.strip_prefix(b"busy,".as_slice())?;
-    Some((RowEvent::Busy, rest))
+    let end = first_comma(text)?;
+    let event = event_of(version, &text[..end])?;
+    Some((event, &text[end + 1..]))
 }
 
 /// Returns the plain row at the start of a text, and the text after it. Its moment is unrestricted; its device and its value

@@ -47,15 +47,11 @@ pub fn number_below_21(field: &[u8]) -> Option<u128>
 pub(crate) fn fits(event: RowEvent, device: u128, value: u128) -> bool
     ensures { result ≡ (device_fits event device && value_fits event value) }
 {
-    let is_device = 1 <= device && device <= 16;
-    match event {
-        RowEvent::Opened => is_device && 1 <= value && value <= 65536,
-        RowEvent::Rx | RowEvent::Tx | RowEvent::Busy => is_device && 1 <= value && value <= 65535,
-        RowEvent::Finish => is_device && value <= 65536,
-        RowEvent::Threaded => is_device && value <= 1,
-        RowEvent::Kthread | RowEvent::Disable | RowEvent::Enable => is_device && value == 0,
-        RowEvent::Softirq => device == 0 && value == 0,
-    }
+    let is_device = match event {
+        RowEvent::Softirq => device == 0,
+        _ => 1 <= device && device <= 16,
+    };
+    is_device && event.takes(value)
 }
 
 // Returns row `number` with these numbers, if they are in their ranges.

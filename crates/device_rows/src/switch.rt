@@ -79,8 +79,7 @@ impl Switches {
         1 <= device && device <= 16 && !matches!(self.of[device as usize - 1], Switch::Unopened)
     }
 
-    /// Returns whether a row of this event changes no state, is accepted, and may name this device and have this value: one
-    /// match on the event decides all of it.
+    /// Returns whether a row of this event changes no state, is accepted, and may name this device and have this value.
     #[inline(always)]
     pub(crate) fn pass(&self, event: RowEvent, device: u32, value: u32) -> bool
         ensures { result ≡ true → (moment : ℕ)
@@ -88,14 +87,9 @@ impl Switches {
             (record { moment = moment; device = device; event = event; value = value }) }
     {
         match event {
-            RowEvent::Rx | RowEvent::Tx | RowEvent::Busy => {
-                self.has(device) && 1 <= value && value <= 65535
-            }
-            RowEvent::Finish => self.has(device) && value <= 65536,
-            RowEvent::Softirq => device == 0 && value == 0,
-            RowEvent::Kthread => self.has(device) && value == 0,
-            RowEvent::Threaded => self.has(device) && value <= 1,
             RowEvent::Opened | RowEvent::Disable | RowEvent::Enable => false,
+            RowEvent::Softirq => device == 0 && event.takes(u128::from(value)),
+            _ => self.has(device) && event.takes(u128::from(value)),
         }
     }
 

@@ -1,11 +1,3 @@
-pub mod Orders
-pub mod Parts
-pub mod ActingFacts
-pub mod EndingFacts
-pub mod Gathering
-pub mod ReceivingFacts
-pub mod Roles
-pub mod Reading
-pub mod WholeFacts
-pub mod RingFacts
+pub mod CallersFacts
+pub mod ClosingFacts
 pub mod OpeningFacts

@@ -1,7 +1,2 @@
-pub mod Seats
-pub mod Acting
-pub mod Meeting
-pub mod Receiving
-pub mod SharedReceive
-pub mod Opening
+pub mod Callers
 pub mod Ending

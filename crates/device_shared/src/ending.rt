@@ -1,16 +1,12 @@
 //! Closes a receive side: its instance and its ring.
 
-ghost use Rattle.std.specs.Prelude.{◌≡◌, [], ◌∷◌, length, vec_capacity};
+ghost use Rattle.std.specs.Prelude.{◌≡◌, [], ◌∷◌, Some, length, true, vec_capacity};
 ghost use Rattle.napi_calls.specs.Closed.{IsClosed};
 ghost use Rattle.napi_calls.specs.Instance.{IsSeatOf, callers_of};
 ghost use Rattle.rx_ring.specs.Ends.{IsOneRing, SameCtx, SameIn, put_list, received_list};
-ghost use Rattle.device_shared.specs.Ending.{IsLater, LeavesTurn, LetsGo};
-ghost use Rattle.device_shared.specs.Seats.{ArePollerSeats, AreTurned, IsSharedSeat, control_of, enabled_pass, polls_at};
-ghost use Rattle.device_shared.specs.SharedReceive.{HasCallerRoom};
+ghost use Rattle.device_shared.specs.Callers.{HasCallerRoom, IsSeat, Same, control_pass, fits_poller, state_pass};
 
-use crate::acting::try_at_rest;
-use crate::seats::{Enabled, Pollers, Turn};
-use napi_calls::{Caller, Control, Napi, Off};
+use napi_calls::{Caller, CallerState, Control, ControlState, Napi, Off, TryTake};
 use napi_model::Kind;
 use poll_shared::complete;
 use rx_ring::{Batch, MAX_WEIGHT, RxCtx, RxIn, beside};
@@ -60,70 +56,56 @@ pub(crate) fn empty(input: &mut RxIn, ctx: &mut RxCtx)
     }
 }
 
-/// Makes all callers release the instance, and disables it.
-pub(crate) fn disable<R: Wait>(rt: &R, napi: &Napi, turn: Turn) -> (Caller, Caller, Control<Off>)
-    requires { AreTurned napi.now turn }
-    ensures poller { IsSharedSeat napi.now result.0.pass }
-    ensures thread { IsSharedSeat napi.now result.1.pass }
-    ensures control { IsSharedSeat napi.now result.2.pass }
-    ensures later { IsLater (control_of turn) result.2.pass }
+// Makes a caller release the instance. If the instance waits in this queue, the caller takes it first.
+fn release<R: Wait>(rt: &R, napi: &Napi, state: CallerState, kind: Kind) -> Caller
+    requires state { fits_poller state ≡ true }
+    requires seat { IsSeat napi.now (state_pass state) }
+    ensures { IsSeatOf napi.now result.pass }
 {
-    let mut turn = turn;
+    let polling = match state {
+        CallerState::Rests(caller) => match caller.take(napi, kind) {
+            Ok(polling) => polling,
+            Err(caller) => return caller,
+        },
+        CallerState::Polls(polling) => polling,
+        CallerState::Busy(busy) => busy.stop(rt, napi),
+        _ => unreachable!(),
+    };
+    complete(rt, napi, polling, true).0
+}
+
+/// Makes the callers release the instance, and disables it.
+pub(crate) fn disable<R: Wait>(
+    rt: &R,
+    napi: &Napi,
+    poller: CallerState,
+    thread: CallerState,
+    control: ControlState,
+) -> (Caller, Caller, Control<Off>)
+    requires poller { fits_poller poller ≡ true }
+    requires poller_seat { IsSeat napi.now (state_pass poller) }
+    requires thread { fits_poller thread ≡ true }
+    requires thread_seat { IsSeat napi.now (state_pass thread) }
+    requires control { IsSeat napi.now (control_pass control) }
+    ensures poller { IsSeatOf napi.now result.0.pass }
+    ensures thread { IsSeatOf napi.now result.1.pass }
+    ensures control { Same (control_pass control) (Some result.2.pass) }
+{
+    let mut poller = release(rt, napi, poller, Kind::List);
+    let mut thread = release(rt, napi, thread, Kind::Thread);
+    let mut marked = match control {
+        ControlState::Off(control) => return (poller, thread, control),
+        ControlState::On(control) => control.mark(napi),
+        ControlState::Marked(control) => control,
+        ControlState::Gone => unreachable!(),
+    };
     for _ in rt.forever() {
-        match turn {
-            Turn::Off(poller, thread, control) => return (poller, thread, control),
-            Turn::On(pollers, enabled) => turn = Turn::leave(pollers, enabled, rt, napi),
+        match marked.try_take(napi) {
+            TryTake::Taken(control) => return (poller, thread, control),
+            TryTake::Busy(control) | TryTake::Changed(control) => marked = control,
         }
+        poller = release(rt, napi, CallerState::Rests(poller), Kind::List);
+        thread = release(rt, napi, CallerState::Rests(thread), Kind::Thread);
     }
     unreachable!()
-}
-
-impl Pollers {
-    // Makes one step towards a state in which no caller polls the instance.
-    fn release<R: Wait>(self, rt: &R, napi: &Napi) -> Pollers
-        requires { ArePollerSeats napi.now self }
-        ensures pollers { ArePollerSeats napi.now result }
-        ensures step { LetsGo (polls_at self) self result }
-    {
-        match self {
-            Pollers::Rest(poller, thread) => match poller.take(napi, Kind::List) {
-                Ok(polling) => Pollers::ListPolls(polling, thread),
-                Err(poller) => match thread.take(napi, Kind::Thread) {
-                    Ok(polling) => Pollers::ThreadPolls(poller, polling),
-                    Err(thread) => Pollers::Rest(poller, thread),
-                },
-            },
-            Pollers::ListPolls(polling, thread) => {
-                let (poller, _) = complete(rt, napi, polling, true);
-                Pollers::Rest(poller, thread)
-            }
-            Pollers::ThreadPolls(poller, polling) => {
-                let (thread, _) = complete(rt, napi, polling, true);
-                Pollers::Rest(poller, thread)
-            }
-            Pollers::PollsBusily(busy, thread) => Pollers::ListPolls(busy.stop(rt, napi), thread),
-        }
-    }
-}
-
-impl Turn {
-    /// Makes one step towards a state in which the controller owns the instance.
-    pub(crate) fn leave<R: Wait>(pollers: Pollers, enabled: Enabled, rt: &R, napi: &Napi) -> Turn
-        requires pollers { ArePollerSeats napi.now pollers }
-        requires control { IsSharedSeat napi.now (enabled_pass enabled) }
-        ensures turned { AreTurned napi.now result }
-        ensures later { IsLater (enabled_pass enabled) (control_of result) }
-        ensures step { LeavesTurn pollers enabled result }
-    {
-        match pollers.release(rt, napi) {
-            Pollers::Rest(poller, thread) => match enabled {
-                Enabled::On(control) => {
-                    let enabled = Enabled::Marked(control.mark(napi));
-                    Turn::On(Pollers::Rest(poller, thread), enabled)
-                }
-                Enabled::Marked(control) => try_at_rest(napi, poller, thread, control).0,
-            },
-            pollers => Turn::On(pollers, enabled),
-        }
-    }
 }

@@ -1,21 +1,23 @@
 //! The callers of an instance that was just made.
 
-ghost use Rattle.std.specs.Prelude.{◌≡◌, length, vec_capacity};
-ghost use Rattle.device_shared.specs.Opening.{AreNew, AreNewCallers};
+ghost use Rattle.std.specs.Prelude.{◌≡◌, ℕ, Some, length, slice_get, vec_capacity};
+ghost use Rattle.napi_calls.specs.Instance.{IsNewSeat};
+ghost use Rattle.napi_calls.specs.declared.types.Caller.{Caller};
 
-use crate::seats::{Seats, Turn};
-use napi_calls::{Caller, Control, Napi, Off, next_caller};
+use napi_calls::{Caller, Napi, next_caller};
 
 /// Takes the three callers out of their vector.
-pub(crate) fn new_seats(napi: &Napi, callers: &mut Vec<Caller>, control: Control<Off>) -> Seats
-    requires { AreNewCallers napi.now callers.old.items control.pass }
-    ensures new { AreNew napi.now result control.state.ctx }
+pub(crate) fn three_callers(napi: &Napi, callers: &mut Vec<Caller>) -> (Caller, Caller, Caller)
+    requires many { length callers.old.items ≡ 3 }
+    requires each { (k : ℕ) (c : Caller) → slice_get callers.old.items k ≡ Some c
+        → IsNewSeat napi.now k c.pass }
+    ensures new { IsNewSeat napi.now 0 result.0.pass × IsNewSeat napi.now 1 result.1.pass
+        × IsNewSeat napi.now 2 result.2.pass }
     ensures none { length callers.new.items ≡ 0 }
     ensures room { vec_capacity callers.new ≡ vec_capacity callers.old }
 {
     let thread = next_caller(napi, callers);
     let poller = next_caller(napi, callers);
     let interrupt = next_caller(napi, callers);
-    let turn = Turn::Off(poller, thread, control);
-    Seats { interrupt, turn }
+    (interrupt, poller, thread)
 }

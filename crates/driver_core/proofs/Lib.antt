@@ -3,3 +3,5 @@ pub mod QueueFacts
 pub mod LineFacts
 pub mod WorldFacts
 pub mod StepFacts
+pub mod TurnFacts
+pub mod JoinFacts

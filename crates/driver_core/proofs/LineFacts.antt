@@ -100,7 +100,10 @@ one-call before after polled (inr (inl (todo, asks, is))) = (asks.line.0, rw is 
 one-call before after polled (inr (inr (inl (id, to, puts, is)))) =
     let line = joined before after id to puts in
     (line.0, rw is line.1)
-one-call before after polled (inr (inr (inr (ends, is)))) =
+one-call before after polled (inr (inr (inr (inr (id, chore, does, is))))) =
+    let line = listed before after id _ does in
+    (line.0, rw is line.1)
+one-call before after polled (inr (inr (inr (inl (ends, is))))) =
     let line = stays before after (rw (ends.run, ends.list) refl) in
     (line.0, rw is line.1)
 

@@ -4,7 +4,8 @@ use Rattle.std.specs.Prelude.{◌||◌, not}
 use Rattle.driver_core.specs.Device.{in_stage, completed_at, after_interrupt, after_open, after_poll_at, after_stop, rearmed_at}
 use Rattle.driver_core.specs.Device.{after_timer}
 use Rattle.driver_core.specs.World.{Hand, World, DriverEvent, free, to_mask, to_unmask, to_look, to_fetch, did_mask, did_unmask, saw, took}
-use Rattle.driver_core.specs.World.{did_set_timer, rearming, rearmed_empty, rearmed_more, to_set_timer}
+use Rattle.driver_core.specs.World.{did_set_timer, rearming, rearmed_empty, rearmed_more, to_set_timer, to_mask_first, joins}
+use Rattle.driver_core.specs.World.{joins_by, joined_at}
 use Rattle.driver_core.specs.World.{arrives, expires, interrupts, says, acts, reports}
 use Rattle.driver_core.specs.World.{forgets, opens, rearms, stops, world_step, world_after}
 use Rattle.driver_core.specs.World.{new_world}
@@ -71,6 +72,8 @@ Good rearmed_more stage x m i t p = ⊥
 Good rearmed_empty (Listed true) x m i t p = m ≡ false
 Good rearmed_empty (Listed false) x m i t p = (m ≡ false) × (Quiet i p ⊎ (x ≡ true))
 Good rearmed_empty stage x m i t p = ⊥
+Good to_mask_first (Listed s) x m i t p = Unit {0}
+Good to_mask_first stage x m i t p = ⊥
 
 abbrev GoodAt : Hand → DriverDevice → Bool → Bool → Bool → ℕ → Type 0
 GoodAt hand d m i t p = Good hand d.stage d.missed m i t p
@@ -146,6 +149,11 @@ said free Unmasking x m i t p h = tt
 said free Deferring x m i t p h = h
 said hand stage x m i t p h = h
 
+joined : (hand : Hand) (stage : Stage) (x m i t : Bool) (p : ℕ) → Good hand stage x m i t p
+    → Good (joins_by hand stage) (joined_at hand stage) x m i t p
+joined free (Masking s) x m i t p h = tt
+joined hand stage x m i t p h = h
+
 acted : (taken : ℕ) (stays defers : Bool) (hand : Hand) (stage : Stage) (x m i t : Bool) (p : ℕ) → Good hand stage x m i t p
     → Good (hand_after p stays defers hand) stage x (masked_after hand m) i (timer_after hand t) (packets_after taken hand p)
 acted taken stays defers to_mask (Masking s) x m i t p h = refl
@@ -169,6 +177,8 @@ acted taken stays defers to_set_timer Closing x m i t p h = tt
 acted taken stays defers to_set_timer stage x m i t p h = absurd h
 acted taken stays defers to_fetch (Listed s) x m i t p h = h
 acted taken stays defers to_fetch stage x m i t p h = absurd h
+acted taken stays defers to_mask_first (Listed s) x m i t p h = refl
+acted taken stays defers to_mask_first stage x m i t p h = absurd h
 acted taken stays defers hand stage x m i t p h = h
 
 completed-to : (defers stopping missed m i t : Bool) (p : ℕ) → m ≡ true → GoodAt free (completed_at defers stopping missed).0 m i t p
@@ -277,6 +287,7 @@ forgot (took stays defers) stage x m i t p h = absurd h
 forgot rearming stage x m i t p h = h
 forgot rearmed_empty stage x m i t p h = h
 forgot rearmed_more stage x m i t p h = h
+forgot to_mask_first stage x m i t p h = h
 
 opened-by : (hand : Hand) (stage : Stage) (missed m i t : Bool) (p : ℕ) → Good hand stage missed m i t p
     → GoodAt hand (after_open (in_stage stage missed)) m i t p
@@ -332,6 +343,8 @@ stopped-by to_fetch (Listed s) missed m i t p h = h
 stopped-by to_fetch stage missed m i t p h = absurd h
 stopped-by (took stays defers) (Listed s) missed m i t p h = h
 stopped-by (took stays defers) stage missed m i t p h = absurd h
+stopped-by to_mask_first (Listed s) missed m i t p h = tt
+stopped-by to_mask_first stage missed m i t p h = absurd h
 stopped-by rearming (Listed s) missed m i t p h = h
 stopped-by rearming stage missed m i t p h = absurd h
 stopped-by rearmed_more (Listed s) missed m i t p h = h
@@ -344,6 +357,7 @@ keeps : (e : DriverEvent) (w : World) → IsGood w → IsGood (world_step e w)
 keeps arrives w g = arrived w.hand w.device.stage w.device.missed w.masked w.interrupting w.timer w.packets g
 keeps interrupts w g = interrupted-by w.hand w.device.stage w.device.missed w.masked w.interrupting w.timer w.packets g
 keeps says w g = said w.hand w.device.stage w.device.missed w.masked w.interrupting w.timer w.packets g
+keeps joins w g = joined w.hand w.device.stage w.device.missed w.masked w.interrupting w.timer w.packets g
 keeps expires w g = expired-by w.hand w.device.stage w.device.missed w.masked w.interrupting w.timer w.packets g
 keeps (acts taken stays defers) w g =
     acted taken stays defers w.hand w.device.stage w.device.missed w.masked w.interrupting w.timer w.packets g
@@ -379,6 +393,7 @@ masked-while (saw false) (Listed s) x w h = absurd h
 masked-while rearming (Listed s) x w h = tt
 masked-while rearmed_empty (Listed s) x w h = tt
 masked-while rearmed_more (Listed s) x w h = tt
+masked-while to_mask_first (Listed s) x w h = tt
 masked-while hand (Listed s) x w h = absurd h
 masked-while hand stage x w h = tt
 

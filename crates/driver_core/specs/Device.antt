@@ -55,6 +55,11 @@ timed_out_at stage = stage
 
 -- ---- an action was done: mask, unmask, look, set the timer
 
+-- the card has to be masked for a poll
+abbrev pub masks_for_poll : Stage → Bool
+masks_for_poll (Masking stopping) = true
+masks_for_poll stage = false
+
 -- After the card was masked, a granted instance goes on the poll list (`____napi_schedule`); an instance that was stopped while
 -- no poll was pending is disabled.
 abbrev pub masked_at : Stage → Stage

@@ -2,7 +2,8 @@
 use Rattle.std.specs.Prelude.{◌≡◌, ◌≢◌, ◌⊎◌, ◌≤◌, ◌<◌, ◌+◌, ℕ, Bool, true, false, List, [], ◌∷◌, ◌++◌, length, replicate}
 use Rattle.std.specs.Prelude.{slice_set, Option, Some, None, ◌&&◌, not, nat_lt, if◌then◌else◌, slice_index_or}
 use Rattle.std.specs.Prelude.{◌↔◌, ⊤, Result, IsOk, OnOk, OnErr, IfErr, IsSome}
-use Rattle.std.specs.List.{All}
+use Rattle.std.specs.{List.{All}, Int.{bit_at}}
+use Rattle.std.specs.Prelude.{Err, ◌==◌, ◌||◌, is_some}
 use Rattle.poll_runs.specs.{Laws.IsPlainRun, declared.run.RunReport.RunReport}
 use Rattle.driver_core.specs.declared.limits.Limits.{Limits}
 use Rattle.poll_runs.specs.{Driven.IsGoing, Steps.HoldsNothing, Plain.{NothingBehind, OwnPushes, all_held}, Polls.{Poll, work_of}}
@@ -13,8 +14,8 @@ use Rattle.driver_core.specs.declared.device.Rearm.{Rearm}
 use Rattle.driver_core.specs.{Counts.{count_one_poll, no_counts}, declared.counts.PollCounts.PollCounts}
 use Rattle.driver_core.specs.Pacing.{paced_after, defers, new_pacing, plain_settings, keeps_polling}
 use Rattle.driver_core.specs.declared.pacing.{DeviceSettings.DeviceSettings, Pacing.Pacing}
-use Rattle.driver_core.specs.Device.{in_stage, chore_at, did, stage_is_listed, after_driver_poll, completes, IsAtRest}
-use Rattle.driver_core.specs.Queue.{device_at, following}
+use Rattle.driver_core.specs.Device.{after_interrupt, in_stage, chore_at, did, stage_is_listed, after_driver_poll, completes, IsAtRest}
+use Rattle.driver_core.specs.Queue.{OnlyMask, device_at, following, occurs}
 use Rattle.driver_core.specs.Todo.{ended_in}
 use Rattle.driver_core.specs.declared.{driver.Driver.Driver, todo.Todo.Todo, todo.Refused.{Refused, TheVariants.TooMany}}
 use Rattle.driver_core.specs.declared.todo.What.{What, TheVariants.{Mask, Unmask, Look, Timer, Fetch, Ended, Sleep}}
@@ -89,6 +90,11 @@ said_number_of driver = driver.number
 -- the driver waits for no report
 abbrev pub AwaitsNothing : Driver → Type 0
 AwaitsNothing driver = (said_of driver ≡ None) × (polled_device driver ≡ None)
+
+-- an action waits for its report, and not under this number
+abbrev pub awaits_another : ℕ → Driver → Bool
+awaits_another number driver =
+    not (number == said_number_of driver) && (is_some (polled_device driver) || is_some (said_of driver))
 
 -- ---- the effect of calls
 
@@ -313,3 +319,50 @@ pub record IsStep (number packets : ℕ) (rearm : Rearm) (before : Driver) (repo
   pub between : Driver
   pub reports : IsDone number packets rearm before reported between
   pub asks : AsksNext between todo after
+
+-- ---- interrupts, a report and a question in one call
+
+-- the interrupts of these devices are reported, in this order
+abbrev pub InterruptsIn : List ℕ → Driver → Driver → Type 0
+InterruptsIn [] before after = after ≡ before
+InterruptsIn (id ∷ ids) before after =
+    (next : Driver) × (id < length (driver_devices before)) × PutsDevice id (after_interrupt (device_of before id)) before next
+    × InterruptsIn ids next after
+
+-- the interrupt of each device whose bit is set is reported once, and no other one
+pub record ReportsInterrupts (bits : ℕ) (before after : Driver) : Type 0 where
+  pub ids : List ℕ
+  pub each : (id : ℕ) → id < length (driver_devices before) → occurs id ids ≡ bit_at bits id
+  pub reports : InterruptsIn ids before after
+
+-- all that has to be done is to mask this device's card for a poll, no run is in progress, and nothing is on the list
+pub record MayJoin (id : ℕ) (driver : Driver) : Type 0 where
+  pub only : OnlyMask id (driver_devices driver)
+  pub rests : is_running driver ≡ false
+  pub list : list_of driver ≡ []
+
+-- the mask of this device's card is joined to the action that follows it; without a device none may be, and nothing changes
+abbrev pub JoinsMask : Option ℕ → Driver → Driver → Type 0
+JoinsMask None before after = (after ≡ before) × ((id : ℕ) → ¬ MayJoin id before)
+JoinsMask (Some id) before after = MayJoin id before × DoesChore id chore.Mask false before after
+
+-- what is asked for next, and the device whose card it masks first
+pub record AsksJoined (before : Driver) (mask : Option ℕ) (todo : Todo) (after : Driver) : Type 0 where
+  pub masked : Driver
+  pub joins : JoinsMask mask before masked
+  pub asks : AsksNext masked todo after
+
+-- the same, if a report may be awaited: a fetch that is returned again masks its card again
+pub record NextJoined (before : Driver) (mask : Option ℕ) (todo : Todo) (after : Driver) : Type 0 where
+  pub free : AwaitsNothing before → AsksJoined before mask todo after
+  pub busy : ¬ AwaitsNothing before → AsksNext before todo after × (mask ≡ polled_device before)
+
+-- the report, then the interrupts, then the question: each does to the driver what it does as a call of its own
+pub record IsTurn (bits number packets : ℕ) (rearm : Rearm) (before : Driver) (reported : Result ⊤ Refused) (mask : Option ℕ)
+    (todo : Todo) (after : Driver) : Type 0 where
+  pub between : Driver
+  pub reports : IsDone number packets rearm before reported between
+  pub interrupted : Driver
+  pub interrupts : ReportsInterrupts bits between interrupted
+  pub asks : reported ≢ Err TooMany → NextJoined interrupted mask todo after
+  pub refused : reported ≡ Err TooMany → AsksNext interrupted todo after × (mask ≡ None)

@@ -1,10 +1,10 @@
 -- What a driver stores about its devices. The poll list and the run over it have each listed device once, and no other one.
 -- There is a bit for each device whose card needs an action, and the action that was asked for last.
-use Rattle.std.specs.Prelude.{◌≡◌, ◌<◌, ◌≤◌, ◌==◌, ℕ, ◌+◌, Bool, false, List, length, slice_index_or, count_by, if◌then◌else◌}
+use Rattle.std.specs.Prelude.{◌≡◌, ◌≢◌, true, ◌<◌, ◌≤◌, ◌==◌, ℕ, ◌+◌, Bool, false, List, length, slice_index_or, count_by, if◌then◌else◌}
 use Rattle.std.specs.{List.All, Prelude.{Option, Some, None, is_some}, Int.bit_at}
 use Rattle.poll_runs.specs.{Driven.held, Turn.asked_for, declared.polling_run.PollingRun.PollingRun}
 use Rattle.driver_core.specs.declared.{limits.Limits.Limits, pacing.Pacing.Pacing}
-use Rattle.driver_core.specs.{Device.{in_stage, chore_at, stage_is_listed}}
+use Rattle.driver_core.specs.{Device.{in_stage, chore_at, masks_for_poll, stage_is_listed}}
 use Rattle.driver_core.specs.{declared.device.{Chore.Chore, DriverDevice.DriverDevice, Stage.TheVariants.Closed}}
 
 abbrev pub device_at : List DriverDevice → ℕ → DriverDevice
@@ -16,6 +16,12 @@ listed_at devices id = stage_is_listed (device_at devices id).stage
 -- bit n is set exactly if the card of device n needs an action
 abbrev pub MarksChores : List DriverDevice → ℕ → Type 0
 MarksChores devices bits = (id : ℕ) → id < 64 → bit_at bits id ≡ (if is_some (chore_at (device_at devices id).stage) then 1 else 0)
+
+-- all that has to be done is to mask this device's card for a poll
+pub record OnlyMask (id : ℕ) (devices : List DriverDevice) : Type 0 where
+  pub range : id < length devices
+  pub mask : masks_for_poll (device_at devices id).stage ≡ true
+  pub others : (k : ℕ) → k < length devices → k ≢ id → chore_at (device_at devices k).stage ≡ None
 
 -- how many devices are listed
 abbrev pub listed_in : List DriverDevice → ℕ

@@ -32,6 +32,8 @@ pub data Hand : Type 0 where
   -- it looked at the card then, which had none, or had packets
   rearmed_empty : Hand
   rearmed_more : Hand
+  -- a turn asked for a fetch that masks the card first
+  to_mask_first : Hand
 
 pub record World : Type 0 where
   pub device : DriverDevice
@@ -51,6 +53,8 @@ pub data DriverEvent : Type 0 where
   interrupts : DriverEvent
   -- the thread calls `next`
   says : DriverEvent
+  -- the thread calls `turn`, which joins the mask to its fetch
+  joins : DriverEvent
   -- the expiry of the timer is reported to the driver
   expires : DriverEvent
   -- the thread does what `next` asked for; a fetch takes this many packets, and the flags are those of `took`
@@ -79,6 +83,15 @@ abbrev pub says_by : Hand → Stage → Hand
 says_by free stage = said_at stage
 says_by hand stage = hand
 
+-- a mask is joined to its fetch: the device is listed at once
+abbrev pub joins_by : Hand → Stage → Hand
+joins_by free (Masking stopping) = to_mask_first
+joins_by hand stage = hand
+
+abbrev pub joined_at : Hand → Stage → Stage
+joined_at free (Masking stopping) = Listed stopping
+joined_at hand stage = stage
+
 abbrev pub has_any : ℕ → Bool
 has_any zero = false
 has_any (suc n) = true
@@ -89,6 +102,7 @@ hand_after packets stays defers to_unmask = did_unmask
 hand_after packets stays defers to_look = saw (has_any packets)
 hand_after packets stays defers to_fetch = took stays defers
 hand_after packets stays defers to_set_timer = did_set_timer
+hand_after packets stays defers to_mask_first = to_fetch
 hand_after packets stays defers hand = hand
 
 abbrev pub rearm_hand : ℕ → Hand → Hand
@@ -105,11 +119,13 @@ abbrev pub forgotten : Hand → Hand
 forgotten rearming = rearming
 forgotten rearmed_empty = rearmed_empty
 forgotten rearmed_more = rearmed_more
+forgotten to_mask_first = to_mask_first
 forgotten hand = free
 
 abbrev pub masked_after : Hand → Bool → Bool
 masked_after to_mask masked = true
 masked_after to_unmask masked = false
+masked_after to_mask_first masked = true
 masked_after hand masked = masked
 
 abbrev pub timer_after : Hand → Bool → Bool
@@ -144,6 +160,10 @@ abbrev pub world_step : DriverEvent → World → World
 world_step arrives w = record w { packets = w.packets + 1; interrupting = w.interrupting || not w.masked }
 world_step interrupts w = record w { device = (if w.interrupting then after_interrupt w.device else w.device); interrupting = false }
 world_step says w = record w { hand = says_by w.hand w.device.stage }
+world_step joins w = record w {
+  hand = joins_by w.hand w.device.stage;
+  device = in_stage (joined_at w.hand w.device.stage) w.device.missed;
+}
 world_step expires w = record w { device = after_timer w.device; timer = false }
 world_step (acts taken stays defers) w = record w {
   hand = hand_after w.packets stays defers w.hand;
@@ -191,6 +211,7 @@ abbrev pub IsMaskedWhileListed : Hand → Stage → World → Type 0
 IsMaskedWhileListed rearming (Listed stopping) w = Unit {0}
 IsMaskedWhileListed rearmed_empty (Listed stopping) w = Unit {0}
 IsMaskedWhileListed rearmed_more (Listed stopping) w = Unit {0}
+IsMaskedWhileListed to_mask_first (Listed stopping) w = Unit {0}
 IsMaskedWhileListed hand (Listed stopping) w = w.masked ≡ true
 IsMaskedWhileListed hand Closed w = w.masked ≡ true
 IsMaskedWhileListed hand stage w = Unit {0}

@@ -64,7 +64,7 @@ pub struct DriverDevice {
 
 impl DriverDevice {
     ghost use Rattle.std.specs.Prelude.{◌≡◌, ◌↔◌, IsTrue, true};
-    ghost use Rattle.driver_core.specs.Device.{in_stage, chore_at, completed_at, completes, did, after_interrupt, after_timer, stage_is_listed, after_look, masked, timer_set, after_open, after_driver_poll, after_stop, rearmed_at, unmasked, is_stopping, MayStop};
+    ghost use Rattle.driver_core.specs.Device.{in_stage, chore_at, completed_at, completes, did, after_interrupt, after_timer, masks_for_poll, stage_is_listed, after_look, masked, timer_set, after_open, after_driver_poll, after_stop, rearmed_at, unmasked, is_stopping, MayStop};
     ghost use Rattle.driver_core.specs.Steps.{stage_is_scheduled, napi_of};
     ghost use Rattle.napi_model.specs.Step.{schedule_reply};
 
@@ -102,6 +102,14 @@ impl DriverDevice {
         ensures { result ≡ stage_is_listed self.stage }
     {
         matches!(&self.stage, Stage::Listed(_))
+    }
+
+    // Returns whether its card has to be masked for a poll.
+    #[inline(always)]
+    pub(crate) fn masks_for_poll(self) -> bool
+        ensures { result ≡ masks_for_poll self.stage }
+    {
+        matches!(&self.stage, Stage::Masking(_))
     }
 
     // Returns whether it may be stopped: it is neither closed nor being stopped.

@@ -5,7 +5,7 @@ ghost use Rattle.std.specs.List.{All};
 ghost use Rattle.std.specs.Int.{bit_at};
 ghost use Rattle.driver_core.specs.Device.{in_stage, chore_at};
 ghost use Rattle.driver_core.specs.declared.device.Stage.TheVariants.{Closed};
-ghost use Rattle.driver_core.specs.Queue.{device_at, MarksChores};
+ghost use Rattle.driver_core.specs.Queue.{device_at, MarksChores, OnlyMask};
 
 use crate::device::{Chore, DriverDevice};
 use std::alloc::{AllocError, Global};
@@ -30,12 +30,24 @@ fn set_bit(bits: u64, device: u32) -> u64
 }
 
 #[inline(always)]
-fn clear_bit(bits: u64, device: u32) -> u64
+pub(crate) fn clear_bit(bits: u64, device: u32) -> u64
     requires { device < 64 }
     ensures same { bit_at result device ≡ 0 }
     ensures others { (k : ℕ) → k < 64 → k ≢ device → bit_at result k ≡ bit_at bits k }
 {
     bits & !(1u64 << device)
+}
+
+// Returns the place of the lowest bit that is set.
+#[tactic(auto, using(crate::proofs::ChoreFacts::lowest_set))]
+#[inline(always)]
+pub(crate) fn lowest_bit(bits: u64) -> u32
+    requires { 1 ≤ bits }
+    ensures small { result < 64 }
+    ensures set { bit_at bits result ≡ 1 }
+    ensures below { (k : ℕ) → k < result → bit_at bits k ≡ 0 }
+{
+    bits.trailing_zeros()
 }
 
 // Returns these bits, with the bit of one device set or cleared.
@@ -84,6 +96,26 @@ impl Devices {
     {
         self.all[device as usize] = to;
         self.chores = with_bit(self.chores, device, to.chore().is_some());
+    }
+
+    // Returns the device whose card has to be masked for a poll, if that is all that has to be done.
+    #[tactic(auto, using(crate::proofs::ChoreFacts::first_only, crate::proofs::ChoreFacts::no_only, crate::proofs::ChoreFacts::only_chore))]
+    #[inline(always)]
+    pub(crate) fn only_mask(&self) -> Option<u32>
+        ensures found { IfSome result (λ id. OnlyMask id self.now.all.items) }
+        ensures none { IfNone result ((id : ℕ) → ¬ OnlyMask id self.now.all.items) }
+    {
+        let Some((device, _chore)) = self.first_chore() else {
+            return None;
+        };
+        let others = clear_bit(self.chores, device);
+        if others != 0 {
+            return None;
+        }
+        if !self.get(device).masks_for_poll() {
+            return None;
+        }
+        Some(device)
     }
 
     // Returns the first device whose card needs an action, and the action.

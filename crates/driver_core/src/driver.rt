@@ -8,7 +8,7 @@ ghost use Rattle.driver_core.specs.Queue.{HasLimits, HasWeights, IsStillDue, IsQ
 
 use crate::counts::PollCounts;
 use crate::device::{Chore, DriverDevice, Rearm, Stage};
-use crate::devices::Devices;
+use crate::devices::{Devices, clear_bit, lowest_bit};
 use crate::limits::Limits;
 use crate::list::DriverList;
 use crate::pacing::{DeviceSettings, Pacing};
@@ -78,7 +78,7 @@ fn new_pacings(
 
 impl Driver {
     ghost use Rattle.std.specs.List.{All};
-    ghost use Rattle.std.specs.Prelude.{◌↔◌, ◌≢◌, ◌∷◌, ◌++◌, None, Some, Err, List, [], IsOk, IsSome, IfErr, IfNone, IfSome, OnOk, OnErr};
+    ghost use Rattle.std.specs.Prelude.{◌↔◌, ◌≢◌, ◌^◌, ◌∷◌, ◌++◌, nat_lt, None, Some, Err, List, [], IsOk, IsSome, IfErr, IfNone, IfSome, OnOk, OnErr};
     ghost use Rattle.poll_runs.specs.{Polls.{Poll}, Driven.{IsOver}, Plain.{NothingBehind, OwnPushes, all_held}};
     ghost use Rattle.napi_model.specs.Step.{schedule_reply};
     ghost use Rattle.driver_core.specs.declared.todo.{Refused.TheVariants.{TooMany}, What.TheVariants.{Ended}};
@@ -87,7 +87,7 @@ impl Driver {
     ghost use Rattle.driver_core.specs.Todo.{ended_in};
     ghost use Rattle.driver_core.specs.Device.{chore_at, after_interrupt, after_timer, stage_is_listed, after_open, after_stop, MayStop};
     ghost use Rattle.driver_core.specs.Steps.{is_unscheduled, napi_of};
-    ghost use Rattle.driver_core.specs.Driver.{poll_counts_of, pacing_of, weight_of, timeout_of, device_of, driver_devices, said_number_of, polled_device, poll_of, said_of, stage_of, is_running, driver_limits, list_of, is_ending, line_of, AddsToLine, AreClosed, ArePlain, AsksNext, Ends, EndsRun, DoesChore, IsDue, IsDriverReport, IsEndedEarly, EndsSqueezed, AwaitsNothing, IsIdle, IsNumberedTodo, IsNumberedWhat, IsReport, IsRunning, IsStep, IsUncounted, KeepsLimits, PutsDevice, Reports, SetsDevice};
+    ghost use Rattle.driver_core.specs.Driver.{poll_counts_of, pacing_of, weight_of, timeout_of, device_of, driver_devices, said_number_of, polled_device, poll_of, said_of, stage_of, is_running, driver_limits, list_of, is_ending, line_of, awaits_another, AddsToLine, AreClosed, ArePlain, AsksNext, AsksJoined, NextJoined, JoinsMask, ReportsInterrupts, IsTurn, Ends, EndsRun, DoesChore, IsDue, IsDriverReport, IsEndedEarly, EndsSqueezed, AwaitsNothing, IsIdle, IsNumberedTodo, IsNumberedWhat, IsReport, IsRunning, IsStep, IsUncounted, KeepsLimits, PutsDevice, Reports, SetsDevice};
 
     /// Creates a driver of this many devices, at most 64, all closed, each with the weight of `limits`. Drivers with different salts number their actions
     /// differently, for 2^48 actions, so that none takes another one's report.
@@ -126,6 +126,31 @@ impl Driver {
         ensures few { result ≤ 64 }
     {
         self.devices.all.len()
+    }
+
+    /// Returns whether each bit that is set is that of a device.
+    #[inline(always)]
+    pub fn has_devices(&self, bits: u64) -> bool
+        ensures { result ≡ nat_lt bits (2 ^ length (driver_devices self.now)) }
+    {
+        let count = self.len() as u32;
+        count == 64 || bits >> count == 0
+    }
+
+    /// Returns whether an action waits for its report, and not under this number.
+    #[inline(always)]
+    pub fn awaits_another(&self, number: u64) -> bool
+        ensures { result ≡ awaits_another number self.now }
+    {
+        number != self.number && (self.run.asked().is_some() || self.said.is_some())
+    }
+
+    /// Returns the device whose fetch waits for its report.
+    #[inline(always)]
+    pub fn polled(&self) -> Option<u32>
+        ensures { result ≡ polled_device self.now }
+    {
+        self.run.asked()
     }
 
     /// Returns the limits of its runs.
@@ -608,6 +633,134 @@ impl Driver {
         ensures { AsksNext self.old result self.new }
     {
         self.next_into(&mut Nowhere)
+    }
+
+    // Reports the interrupt of a device, if there is one with this number.
+    #[inline(always)]
+    fn report_interrupt(&mut self, device: u32)
+        ensures known { device < length (driver_devices self.old) → PutsDevice device
+            (after_interrupt (device_of self.old device)) self.old self.new }
+        ensures unknown { length (driver_devices self.old) ≤ device → self.new ≡ self.old }
+    {
+        if (device as usize) < self.len() {
+            let _reply = self.interrupt(device);
+        }
+    }
+
+    // Reports the interrupts of the devices whose bits are set; bits past the last device are left out.
+    fn report_interrupts(&mut self, interrupts: u64)
+        ensures reports { ReportsInterrupts interrupts self.old self.new }
+        ensures free { AwaitsNothing self.old → AwaitsNothing self.new }
+        ensures len { length (driver_devices self.new) ≡ length (driver_devices self.old) }
+    {
+        let mut left = interrupts;
+        for _ in 0..64u32 {
+            if left == 0 {
+                return;
+            }
+            let device = lowest_bit(left);
+            left = clear_bit(left, device);
+            self.report_interrupt(device);
+        }
+    }
+
+    // If all that has to be done is to mask one card for a poll, no run is in progress, and nothing is on the list, counts it as masked, and
+    // returns its device.
+    #[tactic(auto, using(crate::proofs::ChoreFacts::mask_chore))]
+    #[inline(always)]
+    fn join(&mut self) -> Option<u32>
+        requires free { AwaitsNothing self.old }
+        ensures joins { JoinsMask result self.old self.new }
+        ensures len { length (driver_devices self.new) ≡ length (driver_devices self.old) }
+    {
+        if self.runs || !self.list.is_empty() {
+            return None;
+        }
+        let device = self.devices.only_mask()?;
+        self.did(device, Chore::Mask, false);
+        Some(device)
+    }
+
+    // Like `ask_into`; a mask is joined to the fetch that follows it. Returns the device whose card the action masks first.
+    #[inline(always)]
+    fn ask_joined_into<P: TodoPlace>(&mut self, place: &mut P) -> (Option<u32>, Todo)
+        requires free { AwaitsNothing self.old }
+        ensures asks { AsksJoined self.old result.0 result.1 self.new }
+        ensures len { length (driver_devices self.new) ≡ length (driver_devices self.old) }
+        ensures takes { P.takes place.old result.1 place.new }
+    {
+        let mask = self.join();
+        let todo = self.ask_into(place);
+        (mask, todo)
+    }
+
+    // Like `next_into`, with joined masks. A fetch that is returned again masks its card again.
+    #[inline(always)]
+    fn next_joined_into<P: TodoPlace>(&mut self, place: &mut P) -> (Option<u32>, Todo)
+        ensures asks { NextJoined self.old result.0 result.1 self.new }
+        ensures len { length (driver_devices self.new) ≡ length (driver_devices self.old) }
+        ensures takes { P.takes place.old result.1 place.new }
+    {
+        if let Some(device) = self.run.asked() {
+            return (Some(device), self.next_into(place));
+        }
+        if self.said.is_some() {
+            return (None, self.next_into(place));
+        }
+        self.ask_joined_into(place)
+    }
+
+    /// Like [`turn`](Driver::turn); what it returns is also written to the place, unless a fetch took too many packets.
+    #[inline(always)]
+    pub fn turn_into<P: TodoPlace>(
+        &mut self,
+        interrupts: u64,
+        number: u64,
+        taken: u32,
+        rearm: Rearm,
+        place: &mut P,
+    ) -> (Result<(), Refused>, Option<u32>, Todo)
+        ensures turns { IsTurn interrupts number taken rearm self.old result.0 result.1 result.2
+            self.new }
+        ensures len { length (driver_devices self.new) ≡ length (driver_devices self.old) }
+        ensures takes { result.0 ≢ Err TooMany → P.takes place.old result.2 place.new }
+        ensures kept { result.0 ≡ Err TooMany → place.new ≡ place.old }
+    {
+        match self.done(number, taken, rearm) {
+            Ok(()) => {
+                self.report_interrupts(interrupts);
+                let (mask, todo) = self.ask_joined_into(place);
+                (Ok(()), mask, todo)
+            }
+            Err(Refused::NotDue) => {
+                self.report_interrupts(interrupts);
+                let (mask, todo) = self.next_joined_into(place);
+                (Err(Refused::NotDue), mask, todo)
+            }
+            Err(Refused::TooMany) => {
+                self.report_interrupts(interrupts);
+                (Err(Refused::TooMany), None, self.next())
+            }
+        }
+    }
+
+    /// Reports that the action with this number was done, then the interrupts of the devices whose bits are set, and returns what the
+    /// caller has to do next: [`done`](Driver::done), [`interrupt`](Driver::interrupt) for each, and [`next`](Driver::next). If all that
+    /// has to be done is to mask one card for a poll, no run is in progress and nothing is on the list, that is joined to the fetch which
+    /// follows it: the device is returned, whose card the caller has to mask first. A fetch that is returned again, since it wasn't
+    /// reported, masks its card again.
+    pub fn turn(
+        &mut self,
+        interrupts: u64,
+        number: u64,
+        packets: u32,
+        rearm: Rearm,
+    ) -> (Result<(), Refused>, Option<u32>, Todo)
+        ensures turns { IsTurn interrupts number packets rearm self.old result.0 result.1 result.2
+            self.new }
+        ensures len { length (driver_devices self.new) ≡ length (driver_devices self.old) }
+    {
+        self.turn_into(interrupts, number, packets, rearm, &mut Nowhere)
     }
 
     /// Like [`step`](Driver::step); what it returns is also written to the place, unless a fetch took too many packets.

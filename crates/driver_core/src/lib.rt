@@ -20,7 +20,10 @@ mod todo;
 pub use counts::PollCounts;
 pub use device::{Chore, DriverDevice, Rearm, Stage};
 pub use driver::Driver;
-pub use laws::{calls_are_legal, listed_is_masked, no_packet_waits_unseen, polled_in_turn};
+pub use laws::{
+    calls_are_legal, listed_is_masked, masked_first_is_fetched, no_packet_waits_unseen,
+    polled_in_turn, turns_are_calls,
+};
 pub use limits::Limits;
 pub use pacing::{DeviceSettings, Pacing};
 pub use place::TodoPlace;

@@ -12,7 +12,7 @@ use Rattle.files_c.specs.declared.settings.FqMachineSettings.{FqMachineSettings}
 
 -- both structs have this library's sizes
 abbrev pub HasSizes : FqMachineSettings → FqMachineRan → Type 0
-HasSizes asked ran = (asked.size ≡ 120) × (ran.size ≡ 96)
+HasSizes asked ran = (asked.size ≡ 136) × (ran.size ≡ 96)
 
 -- the text is the report of these arrivals with the requested settings
 abbrev pub IsMachineReport : FqMachineSettings → List ℕ → List ℕ → Type 0

@@ -6,7 +6,7 @@ use Rattle.text_io.specs.Fault.{replay_fault_number}
 use Rattle.text_io.specs.Outside.{IsOutside}
 use Rattle.text_io.specs.declared.fault.ReplayFault.{ReplayFault}
 use Rattle.text_io.specs.declared.settings.ReplaySettings.{ReplaySettings}
-use Rattle.replay_rows.specs.{Answer.replay_of, RaisedTrace.raised_trace}
+use Rattle.{replay_rows.specs.Answer.replay_of, replay_raised.specs.RaisedTrace.raised_trace}
 use Rattle.files_c.specs.ReplayFaults.{fault_status, fault_row}
 use Rattle.files_c.specs.declared.replay_calls.FqReplayed.{FqReplayed}
 use Rattle.files_c.specs.declared.replay_calls.FqSettings.{FqSettings}

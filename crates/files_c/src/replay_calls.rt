@@ -4,14 +4,15 @@
 ghost use Rattle.std.specs.Prelude.{◌≡◌, ◌≢◌, ◌<◌, ◌⊎◌, ◌↔◌, Ok, Err, IfOk, IfErr, IsTrue, Some, length, take, drop};
 ghost use Rattle.text_io.specs.Outside.{IsOutside};
 ghost use Rattle.replay_rows.specs.Answer.{replay_of};
-ghost use Rattle.replay_rows.specs.RaisedTrace.{raised_trace};
+ghost use Rattle.replay_raised.specs.RaisedTrace.{raised_trace};
 ghost use Rattle.files_c.specs.Status.{FILES_OK, FILES_NO_ROOM, FILES_BAD_SIZE, FILES_BAD_TRACE};
 ghost use Rattle.files_c.specs.ReplayFaults.{fault_status};
 ghost use Rattle.files_c.specs.Replay.{IsCallResult, AreSettingsOf, HasReplaySizes, HasWeight, HasBudget, Lacks, ReportsFault, computed_by};
 
 use crate::replay_fault::{fault_status, row_of};
 use crate::status;
-use replay_rows::{raise_trace, replay_serial};
+use replay_raised::raise_trace;
+use replay_rows::replay_serial;
 use std::alloc::Global;
 use std::mem::size_of;
 use text_io::{ReplayFault, ReplaySettings};

@@ -27,9 +27,9 @@ impl FqMachineSettings {
 #[unsafe(no_mangle)]
 pub extern "C" fn fq_machine_default_sized(settings: &mut FqMachineSettings) -> u32
     ensures default { result ≡ FILES_OK → settings.new.values ≡ option_defaults }
-    ensures size { result ≡ FILES_OK → settings.new.size ≡ 120 }
+    ensures size { result ≡ FILES_OK → settings.new.size ≡ 136 }
     ensures status { result ≢ FILES_OK → result ≡ FILES_BAD_SIZE }
-    ensures when { (result ≡ FILES_OK) ↔ (settings.old.size ≡ 120) }
+    ensures when { (result ≡ FILES_OK) ↔ (settings.old.size ≡ 136) }
     ensures kept { result ≢ FILES_OK → settings.new ≡ settings.old }
 {
     if settings.size != FqMachineSettings::SIZE {

@@ -1,80 +1,22 @@
 -- The fate of packets: each is delivered, in order.
 use Rattle.std.proofs.{Common.{◌≡◌, ◌∙◌, ℕ, ◌+◌, ◌<◌, Bool, true, false, Option, Some, None, List, [], ◌∷◌, ◌++◌, append_assoc, length}}
-use Rattle.std.proofs.{Common.{refl, sym, ap, subst, arith}, lemmas.{Bool.and_right, Grind.common_steps, List.append-nil}}
-use Rattle.std.specs.{List.AllByRecursion, Option.option_map_or, Prelude.{◌==◌, ◌&&◌, ◌||◌, drop, if◌then◌else◌, slice_get}}
-use Rattle.machine_model.proofs.{QueueFacts.{armed-by, packet-by}, TableFacts.{at-either, at-keeps, at-kept, at-same, map-kept, map_at}}
-use Rattle.machine_model.{proofs.TableFacts.{IfThere, map-there}, specs.Device.{QueueView, after_packet, armed, asks, expired, has_room}}
-use Rattle.machine_model.specs.Device.{holding, interrupted, new_queue, notified, queue_completed, queue_polled, raised_again, without_held}
-use Rattle.machine_model.specs.{Device.without_next, Devices.{QueueViews, asks_at, has_room_at, next_held_at, next_packet_at, with_device}}
-use Rattle.machine_model.specs.{Kept.polled_by, Processor.{ProcessorView, ends_current, happens, is_batching, is_polling, step, upcoming}}
-use Rattle.machine_model.specs.{Waits.saturated, declared.processor.{Upcoming.{Upcoming, TheVariants.{Never, Expires}}, Work.Work}}
-use Rattle.machine_model.specs.declared.settings.MachineSettings.{MachineSettings}
-use Rattle.machine_model.specs.declared.processor.Upcoming.TheVariants as upcomings
+use Rattle.std.proofs.{Common.{refl, sym, ap, arith}, lemmas.{Bool.{and_right, eqb-true}, Grind.common_steps, List.append-nil}}
+use Rattle.std.specs.{Option.option_map_or, Prelude.{◌==◌, ◌&&◌, ◌||◌, drop, if◌then◌else◌, slice_get}}
+use Rattle.machine_model.proofs.{QueueFacts.{armed-by, packet-by}, TableFacts.{at-changed, at-either, at-keeps, at-kept, at-same, map_at}}
+use Rattle.machine_model.specs.Device.{QueueView, after_packet, armed, expired, has_room, holding, interrupted, missed_early, new_queue}
+use Rattle.machine_model.specs.Device.{notified, queue_completed, queue_polled, raised_again, without_held, without_next}
+use Rattle.machine_model.specs.Devices.{QueueViews, has_room_at, next_held_at, next_packet_at, with_device}
+use Rattle.machine_model.specs.Processor.{ProcessorView, arrives, delivers, happens, is_batching, is_polling, step, upcoming}
+use Rattle.machine_model.specs.{Waits.{saturated}}
+use Rattle.machine_model.specs.declared.{settings.MachineSettings.MachineSettings}
 use Rattle.machine_model.specs.Device as device
 use Rattle.device_places.specs.Places.{added_at, at, changed}
-use Rattle.machine.proofs.{EndFacts.{Ends, Keeps, Looks, ends, ends-at, keeps-in, takes_out}, WorkFacts.{Goes, Life, devices_arrived}}
-use Rattle.machine.{proofs.WorkFacts.{expired_at, goes-on, life-arrives, life-happens, life-takes, work-ended}, specs.Fates.DeliversInOrder}
-use Rattle.machine.specs.Fates.{came, delivered_packets, next_delivery, delivery_by, delivery_of, finds_room, hand_of, packet_for}
-use Rattle.machine.specs.{Fates.{queue_ring, taken_in}, Lives.{MachineEvent, behind, next, packet}}
-
--- ---- a property of one queue
-
--- no work that begins and no timer that expires changes it
-pub record Steady (K : Option QueueView → Type 0) : Type 0 where
-  pub interrupted : (until : ℕ) (polling : Bool) (o : Option QueueView) → asks_at o ≡ true → K o → K (map_at (interrupted until polling) o)
-  pub expired : (o : Option QueueView) → K o → K (map_at expired o)
-
-pub steady-life : (s : MachineSettings) (K : Option QueueView → Type 0) → Steady K → (n : ℕ)
-    → Life s (λ p. K (at n p.devices)) (λ p. K (at n p.devices)) (λ p. K (at n p.devices))
-steady-life s K k n = record {
-  walk = record {
-    interrupt = λ m time counts p free h asks.
-        let until = saturated (p.clock + time) in
-        at-keeps K (interrupted until (is_polling p.settings)) m n p.devices
-        (λ here. k.interrupted until (is_polling p.settings) (at n p.devices) (at-same (λ o. asks_at o ≡ true) m n p.devices here asks)) h;
-    next = λ p free h. h;
-    asks = λ m p h asked. h;
-    over = λ counts p free h. h;
-    start = λ p h none polling some. h;
-    resume = λ rest p free h is quiet. h;
-    settle = λ tasks p h is. h;
-    thread = λ m more p free h threaded is. h;
-    uses = λ came more p free h none is quiet first. h;
-    stays = λ p free h still settled. h;
-  };
-  idle = λ p goes nothing h. h;
-  busy = λ p busy h. h;
-  aside = λ moment came counts p is h. h;
-  moved = λ e clock counts p h. expired-at e p h;
-}
-  where
-    expired-at : (e : Option ℕ) (p : ProcessorView) → K (at n p.devices) → K (at n (expired_at e p.devices))
-    expired-at None p h = h
-    expired-at (Some m) p h = at-keeps K expired m n p.devices (λ here. k.expired (at n p.devices)) h
-
--- a property of each queue that these keep
-pub steady-there : (P : QueueView → Type 0)
-    → ((until : ℕ) (polling : Bool) (d : QueueView) → asks d.phase ≡ true → P d → P (interrupted until polling d))
-    → ((d : QueueView) → P d → P (expired d)) → Steady (λ o. IfThere P o)
-unfolding map_at
-steady-there P interrupts expires = record {
-  interrupted = λ until polling o asked held. by until polling o asked held;
-  expired = λ o held. map-there P P expired o expires held;
-}
-  where
-    by : (until : ℕ) (polling : Bool) (o : Option QueueView) → asks_at o ≡ true → IfThere P o
-        → IfThere P (map_at (interrupted until polling) o)
-    by until polling None asked held = tt
-    by until polling (Some d) asked held = interrupts until polling d asked held
-
--- a part of a queue that these don't change
-pub steady-part : {A : Type 0} (g : Option QueueView → A) (x : A)
-    → ((until : ℕ) (polling : Bool) (d : QueueView) → g (Some (interrupted until polling d)) ≡ g (Some d))
-    → ((d : QueueView) → g (Some (expired d)) ≡ g (Some d)) → Steady (λ o. g o ≡ x)
-steady-part g x interrupts expires = record {
-  interrupted = λ until polling o asks is. map-kept g (interrupted until polling) o (interrupts until polling) ∙ is;
-  expired = λ o is. map-kept g expired o expires ∙ is;
-}
+use Rattle.machine.proofs.MoveFacts.{Change, Ending, Last, Move, arrival-of, arrived, changes, empty_end, event-of, expires}
+use Rattle.machine.proofs.MoveFacts.{finds_none, hands, holds, interrupt, interrupt_end, leaves-all, misses, no_end, no_interrupt}
+use Rattle.machine.proofs.MoveFacts.{packet_end, passes, polled, raises, takes}
+use Rattle.machine.{proofs.WorkFacts.{devices_arrived, goes-on}, specs.Fates.{DeliversInOrder, came, delivered_packets, delivery_by}}
+use Rattle.machine.specs.{Fates.{finds_room, hand_of, next_delivery, packet_for, queue_ring, taken_in}, Lives.{MachineEvent, behind}}
+use Rattle.machine.specs.Lives.{next, packet}
 
 -- ---- the packets of a queue
 
@@ -85,19 +27,11 @@ pub queued-interrupted : (until : ℕ) (polling : Bool) (d : QueueView) → queu
 unfolding queued interrupted
 queued-interrupted until polling d = grind (arith, common_steps)
 
-pub queued-expired : (d : QueueView) → queued (Some (expired d)) ≡ queued (Some d)
-unfolding queued
-queued-expired d = refl
-
-pub queued-raised : (d : QueueView) → queued (Some (raised_again d)) ≡ queued (Some d)
-unfolding queued
-queued-raised d = refl
-
 pub queued-delivered : (now came : ℕ) (d : QueueView) → queued (Some (device.queue_delivered now came d)) ≡ queued (Some d)
 unfolding queued
 queued-delivered now came d = refl
 
--- the card is unmasked_queue, and keeps its packets
+-- the driver unmasks the card, and the queue keeps its packets
 kept-armed : (now : ℕ) (s : MachineSettings) (d : QueueView) → ((armed now s d).taken ≡ d.taken) × ((armed now s d).ring ≡ d.ring)
 unfolding notified
 kept-armed now s d = armed-by (λ e. (e.taken ≡ d.taken) × (e.ring ≡ d.ring)) now s d (λ owed. (refl, refl)) (λ free. (refl, refl))
@@ -133,11 +67,6 @@ pub next-none-at : (backlog : Bool) (o : Option QueueView) → (backlog ≡ fals
 unfolding map_at queued
 next-none-at backlog o h1 h2 = grind (arith, common_steps, front-none)
 
--- the packets that are left have a property that all had
-pub next-keeps : (P : ℕ → Type 0) (backlog : Bool) (o : Option QueueView) → (backlog ≡ false → taken_in o ≡ [])
-    → AllByRecursion P (queued o) → AllByRecursion P (queued (map_at (without_next backlog) o))
-next-keeps P backlog o h1 h2 = grind (arith, common_steps, next-none-at, next-some-at)
-
 -- only this queue of the processor changes when a poll takes its next packet
 pub look-some : (backlog : Bool) (m n c : ℕ) (ds : QueueViews) → (backlog ≡ false → taken_in (at n ds) ≡ [])
     → next_packet_at backlog (at m ds) ≡ Some c
@@ -160,13 +89,6 @@ pub held-some-at : (o : Option QueueView) (c : ℕ) → next_held_at o ≡ Some 
 unfolding map_at queued
 held-some-at o c is = grind (arith, common_steps)
 
-pub held-keeps : (P : ℕ → Type 0) (o : Option QueueView) → AllByRecursion P (queued o) → AllByRecursion P (queued (map_at without_held o))
-unfolding map_at queued
-held-keeps P o h1 = grind (arith, common_steps)
-
-pub held-none-at : (o : Option QueueView) → next_held_at o ≡ None → taken_in o ≡ []
-held-none-at o is = grind (arith, common_steps, front-none)
-
 hand-some : (m n c : ℕ) (ds : QueueViews) → next_held_at (at m ds) ≡ Some c
     → (if m == n then c ∷ [] else []) ++ queued (at n (changed without_held m ds)) ≡ queued (at n ds)
 hand-some m n c ds is =
@@ -177,65 +99,136 @@ pub look-none : (backlog : Bool) (m n : ℕ) (ds : QueueViews) → (backlog ≡ 
     → next_packet_at backlog (at m ds) ≡ None → queued (at n (changed (without_next backlog) m ds)) ≡ queued (at n ds)
 look-none backlog m n ds h1 h2 = grind (arith, common_steps)
 
--- ---- when work ends
+-- ---- a queue keeps its packets by each move
 
--- the packets that a queue has: the one that a poll processes, those that `process_backlog` moved, and those in its ring
-abbrev pub holds : ℕ → QueueViews → Work → List ℕ
-holds n ds w = hand_of n w ++ queued (at n ds)
+-- packets leave the ring before they are processed: with a backlog or with batches
+abbrev pub takes_out : MachineSettings → Bool
+takes_out s = (s.backlog || is_batching s) && is_polling s
 
-looks-hold : (s : MachineSettings) (n m given now : ℕ) (more : List ℕ) (ds : QueueViews)
-    → (is_batching s ≡ false → s.backlog ≡ false → taken_in (at n ds) ≡ [])
-    → Looks (λ es w. more ++ holds n es w ≡ more ++ queued (at n ds)) s now m given ds
-looks-hold s n m given now more ds plain = record {
-  some = λ single came is. all (look-some s.backlog m n came ds (plain single) is);
-  none = λ single none.
-      let next = changed (without_next s.backlog) m ds in
-      all (at-kept queued (queue_polled now given s) m n next (queued-polled now given s)
-      ∙ look-none s.backlog m n ds (plain single) none);
-  full = λ single full. all (at-kept queued (queue_polled now given s) m n ds (queued-polled now given s));
-  takes = λ batch pulls. all (at-kept queued holding m n ds queued-holding);
-  hands = λ batch stops came is. all (hand-some m n came ds is);
-  over = λ batch stops none. all (at-kept queued (queue_polled now given s) m n ds (queued-polled now given s));
+abbrev pub IsPlain : ℕ → ProcessorView → Type 0
+IsPlain n p = takes_out p.settings ≡ false → taken_in (at n p.devices) ≡ []
+
+plain-in : (n : ℕ) (p : ProcessorView) → IsPlain n p → is_batching p.settings ≡ false → p.settings.backlog ≡ false
+    → taken_in (at n p.devices) ≡ []
+plain-in n p plain single none = grind (arith, common_steps)
+
+-- with polling the plain ring of a queue stays as it is if its poll takes a packet
+plain-next : (m n : ℕ) (p : ProcessorView) → is_polling p.settings ≡ true → IsPlain n p
+    → takes_out p.settings ≡ false → taken_in (at n (changed (without_next p.settings.backlog) m p.devices)) ≡ []
+plain-next m n p polling plain inside = grind (arith, common_steps, at-kept)
+
+-- the packets of a queue: the one that a poll processes, those that `process_backlog` moved or GRO holds, and those in its ring
+abbrev pub packets_of : ℕ → ProcessorView → List ℕ
+packets_of n p = hand_of n p.work ++ queued (at n p.devices)
+
+pub record Keeps (n : ℕ) (xs : List ℕ) (p : ProcessorView) : Type 0 where
+  pub plain : IsPlain n p
+  -- a queue that doesn't exist has no packet in the hands of a poll
+  pub there : at n p.devices ≡ None → hand_of n p.work ≡ []
+  pub order : packets_of n p ≡ xs
+
+none-changed : (f : QueueView → QueueView) (m n : ℕ) (ds : QueueViews) → at n (changed f m ds) ≡ None → at n ds ≡ None
+unfolding map_at
+none-changed f m n ds h1 = grind (arith, common_steps, at-changed)
+
+-- a queue that doesn't exist gives no packet
+pub gives-none : (g : Option QueueView → Option ℕ) (f : QueueView → QueueView) (m n came : ℕ) (ds : QueueViews) → g None ≡ None
+    → g (at m ds) ≡ Some came → at n (changed f m ds) ≡ None → (if m == n then came ∷ [] else []) ≡ []
+gives-none g f m n came ds empty is none = grind (arith, common_steps, none-changed, eqb-true)
+
+change-plain : (m n : ℕ) (p : ProcessorView) (f : QueueView → QueueView) → Change p m f → IsPlain n p
+    → takes_out p.settings ≡ false → taken_in (at n (changed f m p.devices)) ≡ []
+change-plain m n p f expires plain inside = at-kept taken_in expired m n p.devices (λ d. refl) ∙ plain inside
+change-plain m n p f (raises lone) plain inside = at-kept taken_in raised_again m n p.devices (λ d. refl) ∙ plain inside
+change-plain m n p f (finds_none polling single none) plain inside = plain-next m n p polling plain inside
+change-plain m n p f (holds polling batch) plain inside = takes-not p.settings polling batch inside
+  where
+    takes-not : (s : MachineSettings) → is_polling s ≡ true → is_batching s ≡ true → takes_out s ≡ false
+        → taken_in (at n (changed holding m p.devices)) ≡ []
+    takes-not s polling batch inside = grind (arith, common_steps)
+change-plain m n p f (polled given) plain inside =
+    at-kept taken_in (queue_polled p.clock given p.settings) m n p.devices (taken-polled p.clock given p.settings) ∙ plain inside
+change-plain m n p f (misses some) plain inside = at-kept taken_in missed_early m n p.devices (λ d. refl) ∙ plain inside
+
+change-queued : (m n : ℕ) (p : ProcessorView) (f : QueueView → QueueView) → Change p m f → IsPlain n p
+    → queued (at n (changed f m p.devices)) ≡ queued (at n p.devices)
+unfolding queued
+change-queued m n p f expires plain = at-kept queued expired m n p.devices (λ d. refl)
+change-queued m n p f (raises lone) plain = at-kept queued raised_again m n p.devices (λ d. refl)
+change-queued m n p f (finds_none polling single none) plain =
+    look-none p.settings.backlog m n p.devices (plain-in n p plain single) none
+change-queued m n p f (holds polling batch) plain = at-kept queued holding m n p.devices queued-holding
+change-queued m n p f (polled given) plain =
+    at-kept queued (queue_polled p.clock given p.settings) m n p.devices (queued-polled p.clock given p.settings)
+change-queued m n p f (misses some) plain = at-kept queued missed_early m n p.devices (λ d. refl)
+
+keeps-move : (n : ℕ) (xs : List ℕ) (p q : ProcessorView) → Move p q → Keeps n xs p → Keeps n xs q
+unfolding map_at
+keeps-move n xs p q (passes r settings devices hand) k = record {
+  plain = rw (settings, devices) k.plain;
+  there = rw (devices, hand n) k.there;
+  order = rw (devices, hand n) k.order;
+}
+keeps-move n xs p q (changes m f change) k = record {
+  plain = change-plain m n p f change k.plain;
+  there = λ none. k.there (none-changed f m n p.devices none);
+  order = ap (λ (ys : List ℕ). hand_of n p.work ++ ys) (change-queued m n p f change k.plain) ∙ k.order;
+}
+keeps-move n xs p q (takes m came given nothing polling single is) k = record {
+  plain = plain-next m n p polling k.plain;
+  there = gives-none (next_packet_at p.settings.backlog) (without_next p.settings.backlog) m n came p.devices refl is;
+  order = look-some p.settings.backlog m n came p.devices (plain-in n p k.plain single) is ∙ (rw nothing at k.order);
+}
+keeps-move n xs p q (hands m came given nothing is) k = record {
+  plain = λ no. at-keeps (λ o. taken_in o ≡ []) without_held m n p.devices (λ here. handed (at n p.devices)) (k.plain no);
+  there = gives-none next_held_at without_held m n came p.devices refl is;
+  order = hand-some m n came p.devices is ∙ (rw nothing at k.order);
 }
   where
-    all : {xs : List ℕ} → xs ≡ queued (at n ds) → more ++ xs ≡ more ++ queued (at n ds)
-    all same = ap (λ (ys : List ℕ). more ++ ys) same
+    handed : (o : Option QueueView) → taken_in o ≡ [] → taken_in (map_at without_held o) ≡ []
+    handed o h1 = grind (arith, common_steps)
 
--- no packets leave the ring before they are processed: without a backlog and without batches, or without polling
-abbrev pub IsPlain : MachineSettings → ℕ → QueueViews → Type 0
-IsPlain s n ds = takes_out s ≡ false → taken_in (at n ds) ≡ []
+keeps-last : (n : ℕ) (xs : List ℕ) (p q : ProcessorView) → Last p q → Keeps n xs p → Keeps n xs q
+keeps-last n xs p q no_interrupt k = k
+keeps-last n xs p q (interrupt m time softirq tasks counts nothing asks) k =
+    let until = saturated (p.clock + time) in
+    let polling = is_polling p.settings in
+    record {
+      plain = λ no. at-kept taken_in (interrupted until polling) m n p.devices (taken-interrupted until polling) ∙ k.plain no;
+      there = λ none. refl;
+      order = at-kept queued (interrupted until polling) m n p.devices (queued-interrupted until polling) ∙ (rw nothing at k.order);
+    }
 
-pub plain-in : (s : MachineSettings) (n : ℕ) (ds : QueueViews) → IsPlain s n ds → is_batching s ≡ false → s.backlog ≡ false
-    → taken_in (at n ds) ≡ []
-plain-in s n ds plain single none = plain (keeps-in s none single)
+-- the end of work: the packets that the queue keeps, after the packet that is delivered
+pub record Gives (n : ℕ) (gives : Option (ℕ × ℕ)) (p q : ProcessorView) : Type 0 where
+  pub keeps : Keeps n (packets_of n q) q
+  pub order : packet_for n gives ++ packets_of n q ≡ packets_of n p
 
-no-hand : (n : ℕ) (w : Work) → polled_by w ≡ None → hand_of n w ≡ []
-no-hand n w h1 = grind (arith, common_steps)
+keeps-end : (n : ℕ) (gives : Option (ℕ × ℕ)) (p q : ProcessorView) → Ending p gives q
+    → Keeps n (packets_of n p) p → Gives n gives p q
+unfolding delivers
+keeps-end n gives p q no_end k = record { keeps = k; order = refl }
+keeps-end n gives p q (empty_end counts application empty) k =
+    record { keeps = record { plain = k.plain; there = λ none. refl; order = refl }; order = rw (empty n) refl }
+keeps-end n gives p q (packet_end hand counts is) k = grind (arith, common_steps, at-kept, queued-delivered)
+keeps-end n gives p q (interrupt_end m came counts is lone first) k =
+    let deliver = device.queue_delivered p.ends came in
+    let one = changed (without_next false) m p.devices in
+    let plain : taken_in (at n p.devices) ≡ [] =
+    k.plain (and_right (p.settings.backlog || is_batching p.settings) (is_polling p.settings) lone) in
+    record {
+      keeps = record {
+        plain = λ no. at-kept taken_in deliver m n one (λ d. refl)
+            ∙ (at-kept taken_in (without_next false) m n p.devices (λ d. refl) ∙ plain);
+        there = λ none. refl;
+        order = refl;
+      };
+      order = rw is (ap (λ (xs : List ℕ). (if m == n then came ∷ [] else []) ++ xs)
+          (at-kept queued deliver m n one (queued-delivered p.ends came))
+          ∙ look-some false m n came p.devices (λ no. plain) first);
+    }
 
-ends-hold : (n : ℕ) (p : ProcessorView) → IsPlain p.settings n p.devices
-    → Ends (λ o ds w. packet_for n o ++ holds n ds w ≡ holds n p.devices p.work) p
-ends-hold n p plain = record {
-  rest = λ none polls. ap (λ (xs : List ℕ). xs ++ queued (at n p.devices)) (sym (no-hand n p.work none));
-  silent = λ m is lone none. rw is (at-kept queued raised_again m n p.devices queued-raised);
-  lone = λ m came is lone next.
-      let one = changed (without_next false) m p.devices in
-      let two = changed (device.queue_delivered p.ends came) m one in
-      rw is (ap (λ (xs : List ℕ). packet_for n (Some (m, came)) ++ xs) (at-kept queued raised_again m n two queued-raised
-      ∙ at-kept queued (device.queue_delivered p.ends came) m n one (queued-delivered p.ends came))
-      ∙ look-some false m n came p.devices
-      (λ no. plain (and_right (p.settings.backlog || is_batching p.settings) (is_polling p.settings) lone)) next);
-  poll = λ look is. rw is (looks-hold p.settings n look.device look.given p.ends [] p.devices (plain-in p.settings n p.devices plain));
-  packet = λ hand is.
-      let deliver = device.queue_delivered p.ends hand.came in
-      let ds = changed deliver hand.device p.devices in
-      let more : List ℕ = packet_for n (Some (hand.device, hand.came)) in
-      let l = looks-hold p.settings n hand.device (hand.given + 1) p.ends more ds
-      (λ single none. at-kept taken_in deliver hand.device n p.devices (λ d. refl) ∙ plain-in p.settings n p.devices plain single none) in
-      rw is (subst (λ (xs : List ℕ). Looks (λ es w. more ++ holds n es w ≡ more ++ xs) p.settings p.ends hand.device (hand.given + 1) ds)
-      (at-kept queued deliver hand.device n p.devices (queued-delivered p.ends hand.came)) l);
-}
-
--- ---- a packet arrives
+-- ---- when a packet arrives
 
 unfoldable pub made_at : ℕ → Option QueueView → QueueView
 made_at capacity None = new_queue capacity
@@ -262,22 +255,13 @@ pub at-arrived : (Q : Bool → Option QueueView → Type 0) (moment m n : ℕ) (
 unfolding map_at
 at-arrived Q moment m n p h1 h2 = grind (arith, common_steps, with-here, with-apart)
 
--- a property of one queue that an arrival keeps
-pub at-arrives : (K : Option QueueView → Type 0) (moment m n : ℕ) (p : ProcessorView)
-    → ((d : QueueView) → (d ≡ made_at p.settings.ring (at n p.devices)) → K (Some (after_packet moment p.settings d))) → K (at n p.devices)
-    → K (at n (devices_arrived moment m p))
-at-arrives K moment m n p here held =
-    at-arrived (λ b o. K o) moment m n p (λ same. here (made_at p.settings.ring (at n p.devices)) refl) (λ other. held)
-
 pub packet-queued : (moment : ℕ) (s : MachineSettings) (d : QueueView)
     → queued (Some (after_packet moment s d)) ≡ queued (Some d) ++ (if has_room d then moment ∷ [] else [])
 unfolding queued notified
 packet-queued moment s d =
-    packet-by (λ room e. queued (Some e) ≡ queued (Some d) ++ (if room then moment ∷ [] else [])) moment s d (
-      sym (append-nil (d.taken ++ d.ring)),
-      λ silent. sym (append_assoc d.taken d.ring (moment ∷ [])),
-      λ clear. sym (append_assoc d.taken d.ring (moment ∷ [])),
-    )
+    let more = sym (append_assoc d.taken d.ring (moment ∷ [])) in
+    packet-by (λ room e. queued (Some e) ≡ queued (Some d) ++ (if room then moment ∷ [] else [])) moment s d
+    (sym (append-nil (d.taken ++ d.ring)), λ silent. more, λ clear. more)
 
 pub packet-taken : (moment : ℕ) (s : MachineSettings) (d : QueueView) → (after_packet moment s d).taken ≡ d.taken
 unfolding notified
@@ -305,147 +289,58 @@ arrived-queued moment m n p =
 
 -- ---- over a processor's life
 
--- a property of each queue that no event changes
-pub record Lasts (s : MachineSettings) (K : Option QueueView → Type 0) : Type 0 where
-  pub none : K None
-  pub new : K (Some (new_queue s.ring))
-  pub steady : Steady K
-  pub packet : (moment : ℕ) (d : QueueView) → K (Some d) → K (Some (after_packet moment s d))
-  pub ends : (p : ProcessorView) → Goes s p → Keeps K p
+abbrev pub Kept : ℕ → MachineSettings → List MachineEvent → Type 0
+Kept n s events = Keeps n (packets_of n (behind s events)) (behind s events)
 
-pub lasts-on : (s : MachineSettings) (n : ℕ) (K : Option QueueView → Type 0) → Lasts s K → (events : List MachineEvent)
-    → K (at n (behind s events).devices)
-unfolding behind step made_at
-lasts-on s n K l [] = l.none
-lasts-on s n K l (packet moment m ∷ earlier) =
-    let p = behind s earlier in
-    let goes = goes-on s earlier in
-    let before = lasts-on s n K l earlier in
-    let now = at-arrives K moment m n p
-    (λ d is. rw goes.rests.settings (l.packet moment d (rw is (made (at n p.devices) before)))) before in
-    life-arrives (steady-life s K l.steady n) moment m p goes now (λ full. now)
-  where
-    made : (o : Option QueueView) → K o → K (Some (made_at (behind s earlier).settings.ring o))
-    made None held = rw (goes-on s earlier).rests.settings l.new
-    made (Some d) held = held
-lasts-on s n K l (next ∷ earlier) =
-    let p = behind s earlier in
-    let goes = goes-on s earlier in
-    let before = lasts-on s n K l earlier in
-    life-happens (steady-life s K l.steady n) (upcoming p) p goes before before (λ is. ends-at K n p (l.ends p goes) before)
+pub record Fates (n : ℕ) (s : MachineSettings) (events : List MachineEvent) : Type 0 where
+  pub keeps : Kept n s events
+  pub order : came true n s events ≡ delivered_packets n s events ++ packets_of n (behind s events)
 
-takes-not : (s : MachineSettings) (polled : Option ℕ) (m : ℕ) → takes_out s ≡ false → (is_polling s ≡ false → polled ≡ None)
-    → is_batching s ≡ true → polled ≡ Some m → ⊥
-takes-not s polled m plain none batch some = grind (arith, common_steps)
-
-backlog-not : (s : MachineSettings) (polled : Option ℕ) (m : ℕ) → takes_out s ≡ false → (is_polling s ≡ false → polled ≡ None)
-    → s.backlog ≡ true → polled ≡ Some m → ⊥
-backlog-not s polled m plain none backlog some = grind (arith, common_steps)
-
-pub ends-plain : (s : MachineSettings) (p : ProcessorView) → Goes s p → takes_out s ≡ false → Keeps (λ o. taken_in o ≡ []) p
-unfolding map_at
-ends-plain s p goes plain = record {
-  raised = λ lone o is. map-kept taken_in raised_again o (λ d. refl) ∙ is;
-  next = λ backlog o no polls is. next backlog o polls is;
-  holds = λ o batch m polled is.
-      absurd (takes-not s (polled_by p.work) m plain goes.polled
-      (sym (ap (λ (x : MachineSettings). is_batching x) goes.rests.settings) ∙ batch) polled);
-  hands = λ o batch is. handed o is;
-  delivered = λ came o is. map-kept taken_in (device.queue_delivered p.ends came) o (λ d. refl) ∙ is;
-  polled = λ given o is.
-      map-kept taken_in (queue_polled p.ends given p.settings) o (taken-polled p.ends given p.settings) ∙ is;
+keeps-arrived : (moment m n : ℕ) (p : ProcessorView) → Keeps n (packets_of n p) p
+    → Keeps n (packets_of n p ++ (if m == n && finds_room n p then moment ∷ [] else [])) (arrived moment m p)
+keeps-arrived moment m n p k = record {
+  plain = λ no. at-arrived (λ b o. taken_in o ≡ []) moment m n p
+      (λ here. packet-taken moment p.settings (made_at p.settings.ring (at n p.devices))
+      ∙ (made-part taken_in p.settings.ring (at n p.devices) refl ∙ k.plain no)) (λ other. k.plain no);
+  there = at-arrived (λ b o. o ≡ None → hand_of n p.work ≡ []) moment m n p (λ here is. cc is) (λ other. k.there);
+  order = ap (λ (xs : List ℕ). hand_of n p.work ++ xs) (arrived-queued moment m n p)
+      ∙ sym (append_assoc (hand_of n p.work) (queued (at n p.devices)) (if m == n && finds_room n p then moment ∷ [] else []));
 }
-  where
-    next : (backlog : Bool) (o : Option QueueView)
-        → (backlog ≡ true → (m : ℕ) × (polled_by p.work ≡ Some m) × (p.settings.backlog ≡ true)) → taken_in o ≡ []
-        → taken_in (map_at (without_next backlog) o) ≡ []
-    next false o polls is = map-kept taken_in (without_next false) o (λ d. refl) ∙ is
-    next true o polls is =
-        let polled = polls refl in
-        absurd (backlog-not s (polled_by p.work) polled.0 plain goes.polled
-        (sym (ap (λ (x : MachineSettings). x.backlog) goes.rests.settings) ∙ polled.2) polled.1)
 
-    handed : (o : Option QueueView) → taken_in o ≡ [] → taken_in (map_at without_held o) ≡ []
-    handed None is = refl
-    handed (Some d) is = rw is refl
+keeps-again : (n : ℕ) (xs : List ℕ) (p : ProcessorView) → Keeps n xs p → Keeps n (packets_of n p) p
+keeps-again n xs p k = record { plain = k.plain; there = k.there; order = refl }
 
-steady-plain : Steady (λ o. taken_in o ≡ [])
-steady-plain = steady-part taken_in [] taken-interrupted (λ d. refl)
-
-pub plain-on : (s : MachineSettings) (n : ℕ) (events : List MachineEvent) → IsPlain s n (behind s events).devices
-plain-on s n events plain = lasts-on s n (λ o. taken_in o ≡ []) (record {
-  none = refl;
-  new = refl;
-  steady = steady-plain;
-  packet = λ moment d is. packet-taken moment s d ∙ is;
-  ends = λ p goes. ends-plain s p goes plain;
-}) events
-
-pub plain-of : (s : MachineSettings) (n : ℕ) (events : List MachineEvent) → IsPlain (behind s events).settings n (behind s events).devices
-plain-of s n events plain = plain-on s n events (rw (goes-on s events).rests.settings at plain)
-
--- no event but the end of work and an arrival changes the packets that a queue has
-hold-life : (s : MachineSettings) (n : ℕ) (xs : List ℕ)
-    → Life s (λ p. queued (at n p.devices) ≡ xs) (λ p. holds n p.devices p.work ≡ xs) (λ p. holds n p.devices p.work ≡ xs)
-hold-life s n xs =
-    let l = steady-life s (λ o. queued o ≡ xs) (steady-part queued xs queued-interrupted queued-expired) n in
-    record {
-      walk = record {
-        interrupt = l.walk.interrupt;
-        next = λ p free h. h;
-        asks = λ m p h asked. h;
-        over = λ counts p free h. h;
-        start = λ p h none polling some. h;
-        resume = λ rest p free h is quiet. h;
-        settle = λ tasks p h is. h;
-        thread = λ m more p free h threaded is. h;
-        uses = λ came more p free h none is quiet first. h;
-        stays = λ p free h still settled. rw free.nothing h;
-      };
-      idle = λ p goes nothing h. rw nothing at h;
-      busy = λ p busy h. h;
-      aside = λ moment came counts p is h. rw is at h;
-      moved = λ e clock counts p h. by e p h;
-    }
-  where
-    by : (e : Option ℕ) (p : ProcessorView) → holds n p.devices p.work ≡ xs → holds n (expired_at e p.devices) p.work ≡ xs
-    by None p h = h
-    by (Some m) p h = ap (λ (ys : List ℕ). hand_of n p.work ++ ys) (at-kept queued expired m n p.devices queued-expired) ∙ h
-
--- the packets that a queue has, after one more event
-happens-hold : (s : MachineSettings) (n : ℕ) (u : Upcoming) (p : ProcessorView) → Goes s p → IsPlain p.settings n p.devices
-    → packet_for n (delivery_by u p) ++ holds n (happens u p).devices (happens u p).work ≡ holds n p.devices p.work
-happens-hold s n Never p goes plain = refl
-happens-hold s n upcomings.Ends p goes plain =
-    let q = ends_current p in
-    ap (λ (xs : List ℕ). packet_for n (delivery_of p.work p) ++ xs)
-    (life-takes (hold-life s n (holds n q.devices q.work)) q (work-ended s p goes) refl)
-    ∙ ends (λ o ds w. packet_for n o ++ holds n ds w ≡ holds n p.devices p.work) p (ends-hold n p plain)
-happens-hold s n (Expires timer) p goes plain =
-    life-happens (hold-life s n (holds n p.devices p.work)) (Expires timer) p goes refl refl (λ is. cc is)
-
-pub holds-order : (s : MachineSettings) (n : ℕ) (events : List MachineEvent)
-    → came n s events ≡ delivered_packets n s events ++ holds n (behind s events).devices (behind s events).work
+pub fates : (n : ℕ) (s : MachineSettings) (events : List MachineEvent) → Fates n s events
 unfolding behind came delivered_packets next_delivery step queued
-holds-order s n [] = refl
-holds-order s n (packet moment m ∷ earlier) =
+fates n s [] = record { keeps = record { plain = λ no. refl; there = λ none. refl; order = refl }; order = refl }
+fates n s (packet moment m ∷ earlier) =
     let p = behind s earlier in
+    let f = fates n s earlier in
     let extra : List ℕ = if m == n && finds_room n p then moment ∷ [] else [] in
-    let done = delivered_packets n s earlier in
-    let all = holds n p.devices p.work ++ extra in
-    let now : hand_of n p.work ++ queued (at n (devices_arrived moment m p)) ≡ all =
-    ap (λ (xs : List ℕ). hand_of n p.work ++ xs) (arrived-queued moment m n p)
-    ∙ sym (append_assoc (hand_of n p.work) (queued (at n p.devices)) extra) in
-    ap (λ (xs : List ℕ). xs ++ extra) (holds-order s n earlier) ∙ (append_assoc done (holds n p.devices p.work) extra
-    ∙ ap (λ (xs : List ℕ). done ++ xs) (sym (life-arrives (hold-life s n all) moment m p (goes-on s earlier) now (λ full. now))))
-holds-order s n (next ∷ earlier) =
+    let q = arrives moment m p in
+    let k = leaves-all (Keeps n (packets_of n p ++ extra)) (keeps-move n _) (keeps-last n _) (arrived moment m p) q
+    (arrival-of s moment m p (goes-on s earlier)) (keeps-arrived moment m n p f.keeps) in
+    record {
+      keeps = keeps-again n _ q k;
+      order = ap (λ (xs : List ℕ). xs ++ extra) f.order ∙ (append_assoc (delivered_packets n s earlier) (packets_of n p) extra
+          ∙ ap (λ (xs : List ℕ). delivered_packets n s earlier ++ xs) (sym k.order));
+    }
+fates n s (next ∷ earlier) =
     let p = behind s earlier in
     let u = upcoming p in
+    let f = fates n s earlier in
+    let q = happens u p in
+    let e = event-of s u p (goes-on s earlier) in
+    let g = keeps-end n _ p e.middle e.ends f.keeps in
+    let k = leaves-all (Keeps n (packets_of n e.middle)) (keeps-move n _) (keeps-last n _) e.middle q e.follows g.keeps in
+    let first = packet_for n (delivery_by u p) in
     let done = delivered_packets n s earlier in
-    holds-order s n earlier
-    ∙ (ap (λ (xs : List ℕ). done ++ xs) (sym (happens-hold s n u p (goes-on s earlier) (plain-of s n earlier)))
-    ∙ sym (append_assoc done (packet_for n (delivery_by u p)) (holds n (happens u p).devices (happens u p).work)))
+    record {
+      keeps = keeps-again n _ q k;
+      order = f.order ∙ (ap (λ (xs : List ℕ). done ++ xs) (sym g.order ∙ ap (λ (xs : List ℕ). first ++ xs) (sym k.order))
+          ∙ sym (append_assoc done first (packets_of n q)));
+    }
 
 pub delivers-in-order : DeliversInOrder
 unfolding queued
-delivers-in-order s n events = holds-order s n events
+delivers-in-order s n events = (fates n s events).order

@@ -6,9 +6,10 @@ use Rattle.circular_buffer.proofs.Places.{slice_get-set_other, slice_get-set_sam
 use Rattle.machine_model.specs.{Machine.{PacketArrives, Finishes, Machine, opened_machine}, Processor.{Advances, ProcessorView}}
 use Rattle.machine_model.specs.Processor.{processor_after, arrives, is_by, is_due, opened_processor, step, upcoming}
 use Rattle.machine_model.specs.declared.{processor.Upcoming.Upcoming, settings.MachineSettings.MachineSettings}
-use Rattle.machine.{proofs.RisingFacts.{Rises, rises-of}, specs.{Answer.TakesArrivals, Lives.{ArrivesAsOne, EachLives, Ended}}}
+use Rattle.machine.{proofs.RisingFacts.{Rises, rises-of, same-ok}, specs.{Answer.TakesArrivals, Lives.{ArrivesAsOne, EachLives, Ended}}}
 use Rattle.machine.specs.Lives.{MachineEvent, InTurn, Lived, RunsAsOne, Took, behind, next, own_packets, packet, packets_in}
-use Rattle.machine.specs.{Reports.{ReportsLives, arrived_packets}, declared.arrival.Arrival.Arrival}
+use Rattle.machine.specs.{Arrivals.arrivals_of, Report.machine_text, Reports.{HasOneReport, ReportsLives, arrived_packets}}
+use Rattle.machine.specs.declared.arrival.Arrival.{Arrival}
 use Rattle.device_rows.specs.Trace.{records_of}
 
 pub runs-as-one : RunsAsOne
@@ -194,3 +195,42 @@ reports-lives lives s bytes text r number p is =
     let none : Took s 0 [] (opened_machine s) = refl in
     let (until, fits, took) = took-more s 0 [] r.arrivals (opened_machine s) r.behind (omega arith) none rises r.taken in
     (lives s until (arrived_packets [] r.arrivals) r.behind took).1 r.finished fits r.finishes number p is
+
+-- ---- the bytes and the settings determine the report
+
+takes-one : (arrivals : List Arrival) (before after other : Machine) → TakesArrivals arrivals before after
+    → TakesArrivals arrivals before other
+    → after ≡ other
+takes-one [] before after other one two = one ∙ sym two
+takes-one (a ∷ arrivals) before after other one two =
+    let same : two.0 ≡ one.0 = arrives-as-one a.moment a.device before two.0 one.0 two.1 one.1 in
+    takes-one arrivals one.0 after other one.2 (rw same at two.2)
+
+same-list : (xs ys : List ProcessorView) → length xs ≡ length ys
+    → ((n : ℕ) (p : ProcessorView) → slice_get xs n ≡ Some p → slice_get ys n ≡ Some p) → xs ≡ ys
+same-list [] [] size each = refl
+same-list [] (y ∷ ys) size each = absurd (omega (arith, size))
+same-list (x ∷ xs) [] size each = absurd (omega (arith, size))
+same-list (x ∷ xs) (y ∷ ys) size each =
+    let head : x ≡ y = sym (same-some y x (each 0 x refl)) in
+    let tail : xs ≡ ys = same-list xs ys (omega (arith, size)) (λ n p is. each (suc n) p is) in rw (head, tail) refl
+
+finishes-one : (before after other : Machine) → Finishes before after → Finishes before other → after ≡ other
+finishes-one before after other one two = same-list after other (one.count ∙ sym two.count) (λ number p is. by number p is)
+  where
+    by : (number : ℕ) (p : ProcessorView) → slice_get after number ≡ Some p → slice_get other number ≡ Some p
+    by number p is =
+        let some = slice_get-some before number (omega (arith, one.count, slice_get_within after number p is)) in
+        let first = one.each number some.0 some.1 in
+        let second = two.each number some.0 some.1 in
+        let ready : first.2.0 ≡ second.2.0 = runs-as-one (2 ^ 64 - 1) some.0 first.2.0 second.2.0 first.2.1 second.2.1 in
+        let last : first.0 ≡ second.0 = rw (first.2.2, second.2.2, ready) refl in
+        rw (same-some p first.0 (sym is ∙ first.1), last) second.1
+
+pub has-one-report : HasOneReport
+has-one-report s bytes text other r q =
+    let same : r.arrivals ≡ q.arrivals = same-ok r.arrivals q.arrivals (arrivals_of s (records_of bytes)) r.read q.read in
+    let behind : r.behind ≡ q.behind =
+    takes-one q.arrivals (opened_machine s) r.behind q.behind (rw same at r.taken) q.taken in
+    let last : r.finished ≡ q.finished = finishes-one q.behind r.finished q.finished (rw behind at r.finishes) q.finishes in
+    r.told ∙ (ap (machine_text s) last ∙ sym q.told)

@@ -11,7 +11,7 @@ abbrev pub Rises : ℕ → List Arrival → Type 0
 Rises last [] = Unit {0}
 Rises last (arrival ∷ arrivals) = (last ≤ arrival.moment) × (arrival.moment < 2 ^ 62) × Rises arrival.moment arrivals
 
-same-ok : {A : Type 0} (x y : A) → (r : Result A MachineFault) → r ≡ Ok x → r ≡ Ok y → x ≡ y
+pub same-ok : {A : Type 0} (x y : A) → (r : Result A MachineFault) → r ≡ Ok x → r ≡ Ok y → x ≡ y
 same-ok x y r first second = cc (first, second)
 
 rises-ranged : (s : MachineSettings) (n last : ℕ) (row : Numbers) (a : Arrival) → arrival_in_range s n last row ≡ Ok a

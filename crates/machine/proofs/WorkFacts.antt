@@ -1,24 +1,26 @@
 -- A run's work is always less than budget plus weight; which queues a run or a thread polls; and how a property that each case
 -- preserves goes through the events of a processor.
-use Rattle.std.proofs.{Common.{◌≡◌, ◌∙◌, ℕ, ◌+◌, ◌-◌, ◌<◌, ◌≤◌, Bool, true, false, Option, Some, None, List, [], ◌∷◌, ◌++◌, length, refl}}
-use Rattle.std.proofs.{Common.{sym, ap, arith, zero, suc}, lemmas.{Bool.{and_left, and_right, ltb-true}, Grind.common_steps}}
+use Rattle.std.proofs.{Common.{◌≡◌, ◌∙◌, ℕ, ◌+◌, ◌-◌, ◌<◌, ◌≤◌, Bool, true, false, Option, Some, None, List, [], ◌∷◌, ◌++◌, refl}}
+use Rattle.std.proofs.{Common.{sym, ap, arith, zero, suc}, lemmas.{Bool.{ltb-true}, Grind.common_steps}}
 use Rattle.std.specs.{List.AllByRecursion, Prelude.{◌==◌, ◌&&◌, if◌then◌else◌, is_some, not, option_map}}
-use Rattle.poll_runs.specs.declared.bench.{Next.TheVariants.{Gone, Repoll}, Once.Once}
+use Rattle.poll_runs.specs.declared.bench.{Once.Once}
 use Rattle.machine_model.proofs.{LeftFacts.{left, load, step-asked}, ListedFacts.pushed-run, WalkFacts.{Walk, either, idle-is}}
-use Rattle.machine_model.proofs.WalkFacts.{is_scheduling, looks-by, nexted, polled-by, stirred, stirred-by, walk-any, waking}
-use Rattle.machine_model.specs.{Application.{takes_up_packet, use_length}, Device.{after_packet, expired, holding, raised_again}}
-use Rattle.machine_model.specs.{Device.{without_held, without_next}, Devices.{QueueViews, has_room_at, is_rescheduled_at, next_packet_at}}
-use Rattle.machine_model.specs.{Devices.{schedules_at, with_device}, Kept.{work_given, polled_by}, Processor.{ProcessorView, arrives}}
-use Rattle.machine_model.specs.Processor.{begins, delivers, delivers_oldest, disturbed, ends_by, ends_current, ends_interrupt, ends_poll}
-use Rattle.machine_model.specs.Processor.{happens, is_busy, is_polling, poll_looks, spent, step, takes_up, upcoming, Advances}
+use Rattle.machine_model.proofs.WalkFacts.{closes-by, looks-by, polled-by, stirred, stirred-by, walk-any, waking}
+use Rattle.machine_model.specs.{Device.{after_packet, expired, holding, missed_early, raised_again}}
+use Rattle.machine_model.specs.{Device.{without_held, without_next}, Devices.{QueueViews, has_room_at, next_packet_at}}
+use Rattle.machine_model.specs.{Devices.{with_device}, Kept.{work_given, polled_by}, Processor.{ProcessorView, arrives}}
+use Rattle.machine_model.specs.Processor.{begins, comes_early, delivers, delivers_oldest, disturbed, ends_by, ends_current, ends_interrupt}
+use Rattle.machine_model.specs.Processor.{closes_poll, hand_length, packet_length}
+use Rattle.machine_model.specs.Processor.{ends_poll, happens, interrupts_early, is_busy, is_completing, is_polling, notices, poll_looks}
+use Rattle.machine_model.specs.Processor.{spent, step, takes_up, upcoming, Advances}
 use Rattle.machine_model.specs.{Processor.{processor_after, is_due}, Softirq.{RunView, SoftirqView, asked_in, polled_run, pushed}}
 use Rattle.machine_model.specs.{Softirq.{run_ended, run_next, softirq_polled}, Tasks.{is_application, runnable, with_application}}
 use Rattle.machine_model.specs.{Waits.saturated, declared.processor.{ProcessorCounts.ProcessorCounts, Upcoming.Upcoming}}
 use Rattle.machine_model.specs.declared.processor.{Upcoming.TheVariants.{Never, Ends, Expires}, Work.{Work, TheVariants.Nothing}}
-use Rattle.machine_model.specs.declared.processor.Work.TheVariants.{Interrupt, Poll, Packet, Use}
-use Rattle.machine_model.specs.declared.{settings.MachineSettings.MachineSettings, tasks.RunnableTask.{RunnableTask, TheVariants.Thread}}
+use Rattle.machine_model.specs.declared.processor.Work.TheVariants.{Interrupt, Poll, Packet, Arm, Use}
+use Rattle.machine_model.specs.declared.{settings.MachineSettings.MachineSettings, tasks.RunnableTask.{RunnableTask}}
 use Rattle.device_places.specs.Places.{at, changed}
-use Rattle.machine.specs.{Deferrals.EveryRunEnds, Lives.{MachineEvent, behind, next, packet}, Times.WorksWithin}
+use Rattle.machine.specs.Lives.{EveryRunEnds, MachineEvent, WorksWithin, behind, next, packet}
 
 -- the invariant of a run with these settings
 pub record Runs (s : MachineSettings) (r : RunView) : Type 0 where
@@ -112,9 +114,6 @@ same-polling s p is = ap (λ (x : MachineSettings). is_polling x) is
 pub same-threaded : (s : MachineSettings) (p : ProcessorView) → p.settings ≡ s → p.settings.threaded ≡ s.threaded
 same-threaded s p is = ap (λ (x : MachineSettings). x.threaded) is
 
-pub same-apart : (s : MachineSettings) (p : ProcessorView) → p.settings ≡ s → p.settings.apart ≡ s.apart
-same-apart s p is = ap (λ (x : MachineSettings). x.apart) is
-
 -- ---- when work begins
 
 goes-begins : (s : MachineSettings) (work : Work) (time : ℕ) (p : ProcessorView) → Rests s p → Asks s (polled_by work) p.softirq
@@ -126,78 +125,21 @@ goes-free : (s : MachineSettings) (p : ProcessorView) → p.work ≡ Nothing →
 goes-free s p h1 h2 h3 = grind (arith, common_steps)
 
 pub work-walk : (s : MachineSettings) → Walk (Rests s) (Goes s)
-work-walk s = record {
-  interrupt = λ n time counts p free h asks.
-      let again = schedules_at (at n p.devices) in
-      let b = is_scheduling n p && not p.settings.threaded in
-      let none : asked_in (if b then pushed n p.softirq else p.softirq).run ≡ None =
-      ap asked_in (pushed-run b n p.softirq) ∙ free.unasked in
-      record {
-        rests = record {
-          settings = h.settings;
-          run = rw (pushed-run b n p.softirq) h.run;
-          soft = λ no.
-              rw (pushed-none (is_polling p.settings) again (not p.settings.threaded) n p.softirq
-              (ap (λ (x : MachineSettings). is_polling x && not x.threaded) h.settings ∙ no)) (h.soft no);
-          threads = λ no.
-              rw (thread-none (is_polling p.settings) again p.settings.threaded p.tasks (Thread n ∷ [])
-              (ap (λ (x : MachineSettings). is_polling x && x.threaded) h.settings ∙ no)) (h.threads no);
-        };
-        asks = record { list = λ t. none; none = λ t. none };
-        polled = λ no. refl;
-        given = fits s;
-      };
-  next = λ p free h. record {
-    settings = h.settings;
-    run = next-runs s p.softirq.list p.softirq.run p.softirq.began free.unasked h.run;
-    soft = λ no. next-none p.softirq.list p.softirq.run p.softirq.began (h.soft no);
-    threads = h.threads;
-  };
-  asks = λ n p h asked.
-      let unasked : (is_polling s && not s.threaded) ≡ false → ⊥ = λ no. cc (ap asked_in (h.soft no).1, asked) in
-      goes-begins s (Poll (record { device = n; given = 0 })) p.settings.poll (nexted p) h
-      (record { list = λ t. asked; none = λ t. absurd (unasked (and_right (is_polling s) (not s.threaded) (rw t refl))) })
-      (λ no. absurd (unasked (and_left (is_polling s) (not s.threaded) no))) (fits s);
-  over = λ counts p free h. record {
-    settings = h.settings;
-    run = rw (ended-run p.softirq) tt;
-    soft = λ no. (ended-none p.softirq.list p.softirq.run p.softirq.began (h.soft no), ended-run p.softirq);
-    threads = h.threads;
-  };
-  start = λ p h none polling some. record {
-    settings = h.settings;
-    run = record {
-      budget = ap (λ (x : MachineSettings). x.budget) h.settings;
-      work = omega (arith, s.weight_in.0);
-      asked = λ asked. cc asked;
-    };
-    soft = λ no. cc (rw (h.soft no).0 at some);
-    threads = h.threads;
-  };
-  resume = λ rest p free h is quiet.
-      goes-begins s (Use rest.came) rest.left (record p { rest = None })
-      (record { settings = h.settings; run = h.run; soft = h.soft; threads = h.threads })
-      (record { list = λ t. free.unasked; none = λ t. free.unasked }) (λ no. refl) (fits s);
-  settle = λ tasks p h is. record {
-    settings = h.settings;
-    run = h.run;
-    soft = h.soft;
-    threads = λ no. rw is (all-runnable (length p.application.socket.items == 0) p.tasks (h.threads no));
-  };
-  thread = λ n more p free h threaded is.
-      let t : s.threaded ≡ true = sym (same-threaded s p h.settings) ∙ threaded in
-      let both : (is_polling s && s.threaded) ≡ false → all_applications (Thread n ∷ more) = λ no. rw is at (h.threads no) in
-      goes-begins s (Poll (record { device = n; given = 0 })) p.settings.poll (record p { tasks = more })
-      (record { settings = h.settings; run = h.run; soft = h.soft; threads = λ no. (both no).1 })
-      (record { list = λ single. cc (single, t); none = λ t. free.unasked })
-      (λ no. cc ((both (and_left (is_polling s) s.threaded no)).0)) (fits s);
-  uses = λ came more p free h none is quiet first.
-      goes-begins s (Use came) (use_length p.settings p.application)
-      (record p { application = takes_up_packet more p.application })
-      (record { settings = h.settings; run = h.run; soft = h.soft; threads = h.threads })
-      (record { list = λ t. free.unasked; none = λ t. free.unasked }) (λ no. refl) (fits s);
-  stays = λ p free h still settled. goes-free s p free.nothing h free.unasked;
-}
+work-walk s = grind (
+  arith,
+  common_steps,
+  next-runs,
+  next-none,
+  ended-none,
+  ended-run,
+  pushed-none,
+  thread-none,
+  all-runnable,
+  fits,
+  pushed-run,
+  same-polling,
+  same-threaded,
+)
 
 -- ---- when work ends
 
@@ -219,25 +161,17 @@ polls-devices s n devices p h1 = grind (arith, common_steps)
 work-polled : (s : MachineSettings) (n given : ℕ) (p : ProcessorView) → Polls s n p → given ≤ s.weight → Goes s (ends_poll n given p)
 unfolding softirq_polled
 work-polled s n given p g few =
-    let h = g.rests in
-    let once : Once = record { work = given; next = if given == p.settings.weight then Repoll else Gone } in
-    polled-by (Goes s) n given p
-    (λ counts t. goes-free s _ g.nothing (record {
-      settings = h.settings;
-      run = h.run;
-      soft = h.soft;
-      threads = λ no. cc (rw (g.polling, sym (same-threaded s p h.settings) ∙ t) at no);
-    }) (g.asks.none (sym (same-threaded s p h.settings) ∙ t)))
-    (λ counts t.
-    let single : s.threaded ≡ false = sym (same-threaded s p h.settings) ∙ t in
-    let again = is_rescheduled_at given p.settings (at n p.devices) in
-    let same = pushed-run (not (given == p.settings.weight) && again) n (softirq_polled once p.softirq) in
-    goes-free s _ g.nothing (record {
-      settings = h.settings;
-      run = rw same (runs-told s p.softirq.run once n (g.asks.list single) few h.run);
-      soft = λ no. cc (rw (g.polling, single) at no);
-      threads = h.threads;
-    }) (ap asked_in same ∙ told-asks p.softirq.run once))
+    polled-by (Goes s) n given p (λ counts t. grind (arith, common_steps, goes-free, same-threaded))
+    (λ counts t. grind (arith, common_steps, goes-free, pushed-run, runs-told, same-threaded, told-asks))
+
+-- the poll ends, perhaps after its completion started the NAPI timer
+work-closes : (s : MachineSettings) (n given : ℕ) (p : ProcessorView) → Polls s n p → given ≤ s.weight → Goes s (closes_poll n given p)
+work-closes s n given p g few =
+    let weight : p.settings.weight ≡ s.weight = ap (λ (x : MachineSettings). x.weight) g.rests.settings in
+    closes-by (Goes s) n given p
+    (λ less. goes-begins s (Arm (record { device = n; given = given })) p.settings.arm p g.rests g.asks (λ no. cc (no, g.polling))
+    (omega (arith, ltb-true given p.settings.weight less, weight)))
+    (work-polled s n given p g few)
 
 work-looks : (s : MachineSettings) (n given : ℕ) (p : ProcessorView) → Polls s n p → given ≤ s.weight → Goes s (poll_looks n given p)
 work-looks s n given p g few =
@@ -245,18 +179,18 @@ work-looks s n given p g few =
     let weight : p.settings.weight ≡ s.weight = ap (λ (x : MachineSettings). x.weight) g.rests.settings in
     looks-by (Goes s) n given p (record {
       some = λ plain came is less.
-          takes (Packet (record { device = n; came = came; given = given })) p.settings.packet next refl
+          takes (Packet (record { device = n; came = came; given = given })) (packet_length p) next refl
           (omega (arith, ltb-true given p.settings.weight less, weight));
-      none = λ plain none. work-polled s n given (record p { devices = next }) (polls-devices s n next p g) few;
-      full = λ plain full. work-polled s n given p g few;
+      none = λ plain none. work-closes s n given (record p { devices = next }) (polls-devices s n next p g) few;
+      full = λ plain full. work-closes s n given p g few;
       takes = λ batch less pulls.
           takes (Poll (record { device = n; given = given + 1 })) p.settings.take (changed holding n p.devices) refl
           (omega (arith, ltb-true given p.settings.weight less, weight));
       hands = λ batch stops came is.
-          takes (Packet (record { device = n; came = came; given = given - 1 })) (p.settings.packet - p.settings.take)
+          takes (Packet (record { device = n; came = came; given = given - 1 })) (hand_length p)
           (changed without_held n p.devices) refl
           (omega (arith, few, fits s));
-      over = λ batch stops none. work-polled s n given p g few;
+      over = λ batch stops none. work-closes s n given p g few;
     })
   where
     takes : (work : Work) (time : ℕ) (devices : QueueViews) → polled_by work ≡ Some n → work_given work < s.weight
@@ -278,12 +212,7 @@ polls-delivers s n came p h1 = grind (arith, common_steps)
 work-lone : (s : MachineSettings) (n : ℕ) (o : Option ℕ) (p : ProcessorView) → Rests s p → p.work ≡ Nothing → asked_in p.softirq.run ≡ None
     → let q = delivers_oldest n o p in Goes s (record q { devices = changed raised_again n q.devices })
 unfolding delivers
-work-lone s n None p h nothing none =
-    goes-free s _ nothing (record { settings = h.settings; run = h.run; soft = h.soft; threads = h.threads }) none
-work-lone s n (Some came) p h nothing none =
-    let q : ProcessorView = record p { devices = changed (without_next false) n p.devices } in
-    let d = work-delivers s n came q (record { settings = h.settings; run = h.run; soft = h.soft; threads = h.threads }) in
-    goes-free s _ nothing (record { settings = d.settings; run = d.run; soft = d.soft; threads = d.threads }) none
+work-lone s n o p h1 h2 h3 = grind (arith, common_steps, goes-free, all-if, work-delivers)
 
 work-ends : (s : MachineSettings) (work : Work) (p : ProcessorView) → Rests s p → p.work ≡ Nothing → Asks s (polled_by work) p.softirq
     → (is_polling s ≡ false → polled_by work ≡ None) → work_given work < s.weight → Goes s (ends_by work p)
@@ -299,6 +228,8 @@ work-ends s (Poll look) p h nothing asks polled given =
 work-ends s (Packet hand) p h nothing asks polled given =
     work-looks s hand.device (hand.given + 1) (delivers hand.device hand.came p)
     (polls-delivers s hand.device hand.came p (polls-of s hand.device (Packet hand) p h nothing asks polled refl)) (omega (arith, given))
+work-ends s (Arm look) p h nothing asks polled given =
+    work-polled s look.device look.given p (polls-of s look.device (Arm look) p h nothing asks polled refl) (omega (arith, given))
 work-ends s (Use came) p h nothing asks polled given =
     goes-free s _ nothing (record { settings = h.settings; run = h.run; soft = h.soft; threads = h.threads })
     (asks-none s p.softirq asks)
@@ -333,6 +264,9 @@ pub record Life (s : MachineSettings) (P Q R : ProcessorView → Type 0) : Type 
       → Q (record p { work = Nothing; clock = moment; rest = Some (record { came = came; left = p.ends - moment }); counts = counts })
   pub moved : (e : Option ℕ) (clock : ℕ) (counts : ProcessorCounts) (p : ProcessorView) → Q p
       → Q (record p { clock = clock; counts = counts; devices = expired_at e p.devices })
+  pub early : (n clock ends : ℕ) (counts : ProcessorCounts) (p : ProcessorView) → is_busy p.work ≡ true → (p.settings.early == 0) ≡ false
+      → Q p
+      → R (record p { clock = clock; ends = ends; counts = counts; devices = changed missed_early n p.devices })
 
 pub life-takes : {s : MachineSettings} {P Q R : ProcessorView → Type 0} → Life s P Q R → (p : ProcessorView) → Goes s p → Q p
     → R (takes_up p)
@@ -376,6 +310,26 @@ life-happens {s = s} l (Expires timer) p goes same h ended =
     let q : ProcessorView = record p { devices = changed expired timer.device p.devices } in
     life-disturbed l timer.at q (work-moved s p.clock q.devices p goes) (l.moved (Some timer.device) p.clock p.counts p h)
 
+-- an interrupt comes before a completion only while a poll is in progress
+completing-busy : (n : ℕ) (s : MachineSettings) (work : Work) → is_completing n s work ≡ true → is_busy work ≡ true
+completing-busy n s Nothing is = cc is
+completing-busy n s (Interrupt m) is = refl
+completing-busy n s (Poll look) is = refl
+completing-busy n s (Packet hand) is = refl
+completing-busy n s (Arm look) is = refl
+completing-busy n s (Use came) is = refl
+
+early-busy : (n : ℕ) (p : ProcessorView) → comes_early n p ≡ true → (is_busy p.work ≡ true) × ((p.settings.early == 0) ≡ false)
+early-busy n p h1 = grind (arith, common_steps, completing-busy)
+
+life-noticed : {s : MachineSettings} {P Q R : ProcessorView → Type 0} → Life s P Q R → (moment n : ℕ) (p : ProcessorView) → Goes s p
+    → Q p
+    → R (notices moment n p)
+unfolding interrupts_early
+life-noticed {R = R} l moment n p goes h =
+    either R (comes_early n p) (interrupts_early n p) (disturbed moment p)
+    (λ early. let e = early-busy n p early in l.early n _ _ _ p e.0 e.1 h) (λ other. life-disturbed l moment p goes h)
+
 -- a packet arrives, with room for it or without
 pub life-arrives : {s : MachineSettings} {P Q R : ProcessorView → Type 0} → Life s P Q R → (moment n : ℕ) (p : ProcessorView) → Goes s p
     → (let q : ProcessorView = record p { clock = if is_busy p.work then p.clock else moment; devices = devices_arrived moment n p } in
@@ -384,8 +338,8 @@ unfolding arrives
 life-arrives {s = s} {R = R} l moment n p goes h full =
     let clock = if is_busy p.work then p.clock else moment in
     let q : ProcessorView = record p { clock = clock; devices = devices_arrived moment n p } in
-    either R (has_room_at (at n (with_device p.settings.ring n p.devices))) (disturbed moment q) q
-    (λ room. life-disturbed l moment q (work-moved s clock q.devices p goes) h) full
+    either R (has_room_at (at n (with_device p.settings.ring n p.devices))) (notices moment n q) q
+    (λ room. life-noticed l moment n q (work-moved s clock q.devices p goes) h) full
 
 -- ---- over a processor's life
 

@@ -1,9 +1,6 @@
 pub mod Lives
 pub mod Fates
-pub mod Times
-pub mod Deferrals
 pub mod Gaps
-pub mod Interrupts
 pub mod Reports
 pub use Rattle.machine_model.specs.Options
 pub use Rattle.machine_model.specs.declared.settings.MachineSettings

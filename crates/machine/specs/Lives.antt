@@ -1,5 +1,6 @@
 -- The life of a processor: a list of the packets that arrived and of the events between them.
-use Rattle.std.specs.Prelude.{◌≡◌, ◌≤◌, ◌<◌, ℕ, ◌-◌, ◌/◌, ◌%◌, ◌^◌, ◌==◌, true, false, List, [], ◌∷◌, Some, slice_get, if◌then◌else◌}
+use Rattle.std.specs.Prelude.{◌≡◌, ◌≤◌, ◌<◌, ℕ, ◌+◌, ◌-◌, ◌/◌, ◌%◌, ◌^◌, ◌==◌, true, false, List, [], ◌∷◌, IfSome, Some, slice_get}
+use Rattle.std.specs.Prelude.{if◌then◌else◌}
 use Rattle.{machine_model.specs.declared.settings.MachineSettings.MachineSettings}
 use Rattle.{machine_model.specs.Processor.{ProcessorView, Advances, arrives}}
 use Rattle.machine_model.specs.{Application.went_on, Machine.{PacketArrives, Finishes, Machine, opened_machine}}
@@ -73,3 +74,12 @@ EachLives = (s : MachineSettings) (until : ℕ) (packets : List (ℕ × ℕ)) (m
     → ((number : ℕ) (p : ProcessorView) → slice_get m number ≡ Some p → Lived s until (own_packets s.processors number packets) p)
     × ((after : Machine) → until < 2 ^ 64 → Finishes m after
     → (number : ℕ) (p : ProcessorView) → slice_get after number ≡ Some p → Ended s (own_packets s.processors number packets) p)
+
+-- Law: with no further packets, the events on a processor end.
+abbrev pub EveryRunEnds : Type 0
+EveryRunEnds = (s : MachineSettings) (until : ℕ) (events : List MachineEvent) → (q : ProcessorView) × Advances until (behind s events) q
+
+-- Law: a run's work is less than budget plus weight.
+abbrev pub WorksWithin : Type 0
+WorksWithin = (s : MachineSettings) (events : List MachineEvent)
+    → IfSome (behind s events).softirq.run (λ run. run.work < s.budget + s.weight)

@@ -16,3 +16,7 @@ abbrev pub ReportsLives : Type 0
 ReportsLives = (s : MachineSettings) (bytes text : List ℕ) (r : IsReportOf s bytes text) (number : ℕ) (p : ProcessorView)
     → slice_get r.finished number ≡ Some p
     → Ended s (own_packets s.processors number (arrived_packets [] r.arrivals)) p
+
+-- Law: the bytes of arrivals and the settings determine the report.
+abbrev pub HasOneReport : Type 0
+HasOneReport = (s : MachineSettings) (bytes text other : List ℕ) → IsReportOf s bytes text → IsReportOf s bytes other → text ≡ other

@@ -7,8 +7,8 @@
 //! the arrivals, the report and the errors are here. The program `napi_machine` makes these calls.
 //!
 //! `laws.rt` has what is proved about whole runs. `specs/` has the statements of these laws: `Lives` defines the life of a
-//! processor, `Fates` the fate of packets, `Times` times and work, `Deferrals` deferred interrupts, and `Reports` says that they
-//! hold for what a report shows. `specs/Lib.antt` also re-exports what other contracts cite.
+//! processor, `Fates` the fate of packets and the counts of a queue, `Gaps` the distance of interrupts, and `Reports` says that
+//! they hold for what a report shows. `specs/Lib.antt` also re-exports what other contracts cite.
 #![tactic(auto)]
 
 mod arrival;
@@ -23,9 +23,8 @@ pub use arrival::Arrival;
 pub use arrivals::Arrivals;
 pub use fault::{MachineFault, fault_line, status};
 pub use laws::{
-    arrives_as_one, clocks_never_fall, deferral_is_bounded, delivers_in_order, each_lives,
-    every_run_ends, interrupts_are_apart, no_wait_is_less, nothing_is_left, reports_live,
-    runs_as_one, tells_of_use, timers_are_near, uses_in_order, works_within,
+    arrives_as_one, counts_of_queue, delivers_in_order, each_lives, every_run_ends, has_one_report,
+    interrupts_are_apart, reports_live, runs_as_one, works_within,
 };
 pub use machine_model::{
     ApplicationReport, Machine, MachineOption, MachineSettings, OPTION_COUNT, OPTIONS,

@@ -1,10 +1,11 @@
 -- The invariant of each processor is preserved.
 use Rattle.std.proofs.{Common.{◌≡◌, ◌∙◌, ℕ, ◌<◌, ◌≤◌, Bool, true, false, Option, Some, None, refl, sym, arith}}
-use Rattle.std.{proofs.lemmas.Grind.common_steps, specs.{Prelude.{◌==◌, if◌then◌else◌}}}
+use Rattle.std.{proofs.lemmas.{Bool.ltb-true, Grind.common_steps}, specs.{Prelude.{◌==◌, ◌&&◌, if◌then◌else◌, nat_lt, not}}}
 use Rattle.machine_model.proofs.ListedFacts.{asked-polled, listed-again, listed-begun, listed-ended, next-keeps, pushed-run}
 use Rattle.machine_model.{proofs.{ListedFacts.weight-polled, PlacesFacts.scheduled-polled}, specs.{Device.queue_polled, Devices.QueueViews}}
 use Rattle.machine_model.specs.{Devices.is_rescheduled_at, Kept.{ProcessorKept, all_scheduled, work_given, has_list, polled_by}}
-use Rattle.machine_model.specs.{Processor.is_polling, Shown.listed, Softirq.{SoftirqView, asked_in, begun, poll_ended, run_ended, run_next}}
+use Rattle.machine_model.specs.{Processor.{is_polling, may_arm}, Shown.listed}
+use Rattle.machine_model.specs.{Softirq.{SoftirqView, asked_in, begun, poll_ended, run_ended, run_next}}
 use Rattle.machine_model.specs.declared.processor.Work.{Work, TheVariants.Nothing}
 use Rattle.machine_model.specs.declared.settings.MachineSettings.{MachineSettings}
 use Rattle.device_places.specs.Places.{at, changed}
@@ -25,6 +26,15 @@ pub kept-work : (s : MachineSettings) (w v : Work) (ds : QueueViews) (q : Softir
     → work_given v < s.weight → ProcessorKept s v ds q
 kept-work s w v ds q k same within =
     record { few = k.few; unused = k.unused; asked = rw same k.asked; weight = k.weight; within = within }
+
+-- a poll whose completion may take longer took less than its weight
+pub arms-within : (given : ℕ) (s : MachineSettings) → may_arm given s ≡ true → given < s.weight
+arms-within given s is = by (not (s.arm == 0)) (not s.backlog) is
+  where
+    by : (some own : Bool) → (some && own && nat_lt given s.weight) ≡ true → given < s.weight
+    by true true is = ltb-true given s.weight is
+    by true false is = cc is
+    by false own is = cc is
 
 list-is : (s : MachineSettings) → is_polling s ≡ true → s.threaded ≡ false → has_list s ≡ true
 list-is s polling threaded = grind (arith, common_steps)

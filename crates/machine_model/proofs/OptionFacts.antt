@@ -6,7 +6,8 @@ use Rattle.std.{proofs.lemmas.List.FromFn.fill_by_all, specs.{List.{AllZip, rang
 use Rattle.std.specs.{Prelude.{Bool, true, false, ◌&&◌, is_some, nat_le, nat_lt, if◌then◌else◌}, Result.result_ok}
 use Rattle.text_io.specs.Given.{Text, number_within, or_default}
 use Rattle.machine_model.specs.Options.{OptionRule, cost_number, machine_options, option_defaults, flag_number, own_cost, rule, AreInRange}
-use Rattle.machine_model.specs.Options.{IsOption, IsOptionInRange, IsRejected, exceeds, misfit, number_with, values_of, values_with}
+use Rattle.machine_model.specs.Options.{row_of_option, rule_row, IsOption, IsOptionInRange, IsRejected, exceeds, misfit, number_with}
+use Rattle.machine_model.specs.Options.{values_of, values_with}
 use Rattle.machine_model.specs.declared.settings.{MachineOption.MachineOption, MachineSettings.MachineSettings, TheConstants.OPTION_COUNT}
 
 -- ---- lists
@@ -65,22 +66,14 @@ pub in_range_at : (values : List ℕ) (k : ℕ) (o : OptionRule) (d : ℕ)
     → AreInRange values → k < OPTION_COUNT → IsOptionInRange (slice_index_or machine_options k o) (slice_index_or values k d)
 in_range_at values k o d h l = at IsOptionInRange machine_options values k o d h (omega (arith, l, length_options))
 
-abbrev Row : Type 0
-Row = Text × ℕ × ℕ × ℕ
-
-abbrev row_of : MachineOption → Row
-row_of m = (m.name.now, m.least, m.most, m.default)
-
-abbrev rule_row : OptionRule → Row
-rule_row o = (o.name, o.least, o.most, o.default)
-
 -- a table with the rows of the definition has its options
 pub option_at : (xs : List MachineOption) (k : ℕ) (d : MachineOption) (o : OptionRule) → length xs ≡ OPTION_COUNT → k < OPTION_COUNT
-    → map row_of xs ≡ map rule_row machine_options → IsOption (slice_index_or xs k d) (slice_index_or machine_options k o)
+    → map row_of_option xs ≡ map rule_row machine_options → IsOption (slice_index_or xs k d) (slice_index_or machine_options k o)
 option_at xs k d o n l same =
-    let row : row_of (slice_index_or xs k d) ≡ rule_row (slice_index_or machine_options k o) =
-    sym (get_or-map row_of xs k d (row_of d) (omega (arith, n, l))) ∙ ap (λ rows. slice_index_or rows k (row_of d)) same
-    ∙ get_or-map rule_row machine_options k o (row_of d) (omega (arith, l, length_options)) in
+    let row : row_of_option (slice_index_or xs k d) ≡ rule_row (slice_index_or machine_options k o) =
+    sym (get_or-map row_of_option xs k d (row_of_option d) (omega (arith, n, l)))
+    ∙ ap (λ rows. slice_index_or rows k (row_of_option d)) same
+    ∙ get_or-map rule_row machine_options k o (row_of_option d) (omega (arith, l, length_options)) in
     record { name = ap (λ r. r.0) row; least = ap (λ r. r.1) row; most = ap (λ r. r.2) row; default = ap (λ r. r.3) row }
 
 pub no_option : OptionRule

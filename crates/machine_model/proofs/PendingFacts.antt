@@ -5,8 +5,9 @@ use Rattle.std.proofs.lemmas.{Bool.cases_eq, Grind.{common_steps, get_or-set_at}
 use Rattle.std.{proofs.lemmas.{List.Sums.position_or_len_is, Nat.Bits.{bit_at-trailing_zeros, bit_at-zero}}, specs.Int.bit_at}
 use Rattle.std.specs.{Int.trailing_zeros, List.position_or_len, Option.option_map_or, Prelude.{◌==◌, drop, position, slice_get}}
 use Rattle.device_places.{proofs.PlaceFacts.at-index, specs.Places.{at, changed, changed_from}}
-use Rattle.machine_model.{proofs.WeightFacts.{named, soonest-is}, specs.Device.{QueueView, after_packet, holding, is_masked, new_queue}}
-use Rattle.machine_model.specs.{Device.{next_packet, without_held, without_next}, Devices.{QueueViews, asks_at, next_held_at}}
+use Rattle.machine_model.{proofs.WeightFacts.{named, soonest-is}, specs.Device.{QueueView, after_packet, asks, holding, is_masked}}
+use Rattle.machine_model.specs.{Device.{new_queue, next_packet, timer_of, without_held, without_next}, Devices.{QueueViews, asks_at}}
+use Rattle.machine_model.specs.Devices.{next_held_at}
 use Rattle.machine_model.specs.{Devices.{next_packet_at, soonest_from, sooner, timer_at}, Shown.{IsMask, IsPending, earlier, mask_bit}}
 use Rattle.machine_model.specs.{Shown.has_timer, declared.devices.{Pending.Pending, Timer.Timer}}
 use Rattle.machine_model.specs.declared.settings.MachineSettings.{MachineSettings}
@@ -246,7 +247,21 @@ changed-kept f xs n x d e below found some is old new now after now_is kept =
           (after f xs (now_is ∙ change) kept.1),
     )
 
--- what has to be shown for all queues is the same if the changed queue's phase stays the same
+-- what has to be shown for all queues is the same if the changed queue asks for an interrupt exactly as before, with the same timer
+pub asks-kept : (xs : QueueViews) (n : ℕ) (x : Option QueueView) (d e : QueueView) (old : Pending)
+    → n < length xs
+    → x ≡ slice_index_or xs n x
+    → x ≡ Some d
+    → asks e.phase ≡ asks d.phase
+    → timer_of e.phase ≡ timer_of d.phase
+    → (length xs ≤ 64) × IsPending xs old
+    → (length (slice_set xs n (Some e)) ≤ 64) × IsPending (slice_set xs n (Some e)) old
+asks-kept xs n x d e old below found some same timer kept =
+    let here = there xs n x d below found some in (
+      omega (arith, length-set xs n (Some e), kept.0),
+      pending-same xs n (Some e) old below kept.0 (rw (here, same) refl) (rw (here, timer) refl) (rw (here, timer) refl) kept.1,
+    )
+
 pub phase-kept : (xs : QueueViews) (n : ℕ) (x : Option QueueView) (d e : QueueView) (old : Pending)
     → n < length xs
     → x ≡ slice_index_or xs n x
@@ -255,10 +270,7 @@ pub phase-kept : (xs : QueueViews) (n : ℕ) (x : Option QueueView) (d e : Queue
     → (length xs ≤ 64) × IsPending xs old
     → (length (slice_set xs n (Some e)) ≤ 64) × IsPending (slice_set xs n (Some e)) old
 phase-kept xs n x d e old below found some same kept =
-    let here = there xs n x d below found some in (
-      omega (arith, length-set xs n (Some e), kept.0),
-      pending-same xs n (Some e) old below kept.0 (rw (here, same) refl) (rw (here, same) refl) (rw (here, same) refl) kept.1,
-    )
+    asks-kept xs n x d e old below found some (ap asks same) (ap timer_of same) kept
 
 pub phase-holding : (d : QueueView) → (holding d).phase ≡ d.phase
 phase-holding d = grind (arith, common_steps)

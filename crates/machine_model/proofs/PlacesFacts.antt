@@ -101,9 +101,6 @@ scheduled-expired n xs = scheduled-same expired n xs (λ d. expired-open d.phase
 pub same-next : (backlog : Bool) (d : QueueView) → is_scheduled (without_next backlog d).phase ≡ is_scheduled d.phase
 same-next backlog d = grind (arith, common_steps)
 
-pub same-holding : (d : QueueView) → is_scheduled (holding d).phase ≡ is_scheduled d.phase
-same-holding d = grind (arith, common_steps)
-
 pub same-held : (d : QueueView) → is_scheduled (without_held d).phase ≡ is_scheduled d.phase
 same-held d = refl
 

@@ -15,13 +15,6 @@ at-here-from f n ds o h1 = grind (arith, common_steps)
 pub at-changed : {A : Type 0} (f : A → A) (n : ℕ) (ds : DeviceTable A) → at n (changed f n ds) ≡ map_at f (at n ds)
 at-changed f n ds = at-here-from f n ds (at n ds) refl
 
-at-apart-from : {A : Type 0} (f : A → A) (m n : ℕ) (ds : DeviceTable A) (o : Option A) → (m == n) ≡ false → at n (changed_from f m o ds)
-    ≡ at n ds
-at-apart-from f m n ds o h1 = grind (arith, common_steps)
-
-pub at-apart : {A : Type 0} (f : A → A) (m n : ℕ) (ds : DeviceTable A) → (m == n) ≡ false → at n (changed f m ds) ≡ at n ds
-at-apart f m n ds other = at-apart-from f m n ds (at m ds) other
-
 pub at-same : {A : Type 0} (P : Option A → Type 0) (m n : ℕ) (ds : DeviceTable A) → (m == n) ≡ true → P (at m ds) → P (at n ds)
 at-same P m n ds same held = subst (λ (k : ℕ). P (at k ds)) (eqb-true m n same) held
 
@@ -34,16 +27,6 @@ at-either Q f m n ds h1 h2 = grind (arith, common_steps, at-changed)
 pub at-keeps : {A : Type 0} (K : Option A → Type 0) (f : A → A) (m n : ℕ) (ds : DeviceTable A)
     → ((m == n) ≡ true → K (at n ds) → K (map_at f (at n ds))) → K (at n ds) → K (at n (changed f m ds))
 at-keeps K f m n ds keeps held = at-either (λ b o. K o) f m n ds (λ here. keeps here held) (λ other. held)
-
--- a property of an entry, if there is one
-abbrev pub IfThere : {A : Type 0} → (A → Type 0) → Option A → Type 0
-IfThere P None = Unit {0}
-IfThere P (Some d) = P d
-
-pub map-there : {A : Type 0} (P Q : A → Type 0) (f : A → A) (o : Option A) → ((d : A) → P d → Q (f d)) → IfThere P o
-    → IfThere Q (map_at f o)
-unfolding map_at
-map-there P Q f o h1 h2 = grind (arith, common_steps)
 
 pub map-kept : {A B : Type 0} → (g : Option A → B) (f : A → A) (o : Option A) → ((d : A) → g (Some (f d)) ≡ g (Some d))
     → g (map_at f o) ≡ g o

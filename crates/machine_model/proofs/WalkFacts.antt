@@ -5,13 +5,15 @@ use Rattle.std.{proofs.lemmas.{Grind.common_steps, List.Quantifiers.position-Som
 use Rattle.std.specs.{Prelude.{◌||◌, if◌then◌else◌, is_some, not, nat_lt, position, slice_get}}
 use Rattle.device_places.specs.Places.{at, changed}
 use Rattle.machine_model.specs.{Device.{QueueView, holding, interrupted, queue_polled, without_held, without_next}, Devices.asks_at}
+use Rattle.machine_model.specs.Application.{waking_length}
 use Rattle.machine_model.specs.Devices.{is_rescheduled_at, is_fired_at, next_held_at, next_packet_at, pulls_at, schedules_at, QueueViews}
 use Rattle.machine_model.specs.Processor.{ProcessorView, batch_looks, begins, begins_run, ends_poll, ends_run, goes_on, interrupts}
-use Rattle.machine_model.specs.Processor.{is_batching, is_busy, plain_looks, interrupt_cost, is_polling, leaves_softirq, poll_looks, polls}
+use Rattle.machine_model.specs.Processor.{closes_poll, hand_length, packet_length, is_batching, is_busy, plain_looks}
+use Rattle.machine_model.specs.Processor.{interrupt_cost, is_polling, leaves_softirq, poll_looks, polls}
 use Rattle.machine_model.specs.{Processor.{rests, runs, runs_first, set_aside, takes_up, uses, wake_cost, woken}, Softirq.SoftirqView}
 use Rattle.machine_model.specs.{Softirq.{asked_in, begun, poll_ended, pushed, run_ended, run_next}, Tasks.{after_first, runnable}}
 use Rattle.machine_model.specs.{Waits.saturated, declared.processor.{ProcessorCounts.ProcessorCounts, Rest.Rest, Work.Work}}
-use Rattle.machine_model.specs.declared.processor.Work.TheVariants.{Nothing, Interrupt, Poll, Packet, Use}
+use Rattle.machine_model.specs.declared.processor.Work.TheVariants.{Nothing, Interrupt, Poll, Packet, Arm, Use}
 use Rattle.machine_model.specs.declared.{settings.MachineSettings.MachineSettings, tasks.RunnableTask.RunnableTask}
 use Rattle.machine_model.specs.declared.tasks.RunnableTask.TheVariants.{Application, Thread}
 
@@ -186,7 +188,7 @@ walk-interrupts {Q = Q} w n p free held asks =
     by (is_scheduling n p) p.settings.threaded (w.interrupt n time counts p free held asks)
   where
     time : ℕ
-    time = interrupt_cost (is_fired_at (at n p.devices)) p.settings
+    time = interrupt_cost (is_fired_at (at n p.devices)) (waking_length p.settings p.application) p.settings
 
     counts : ProcessorCounts
     counts = if is_fired_at (at n p.devices) then record p.counts { timers = saturated (p.counts.timers + 1) }
@@ -242,13 +244,21 @@ stirred-by Q moment p h1 h2 h3 h4 = grind (arith, common_steps)
 
 -- ---- when a poll looks for its next packet, and when it ends
 
+-- what has to be shown: the completion takes longer, or comes now
+pub closes-by : (Q : ProcessorView → Type 0) (n given : ℕ) (p : ProcessorView)
+    → (nat_lt given p.settings.weight ≡ true → Q (begins (Arm (record { device = n; given = given })) p.settings.arm p))
+    → Q (ends_poll n given p)
+    → Q (closes_poll n given p)
+unfolding closes_poll
+closes-by Q n given p h1 h2 = grind (arith, common_steps)
+
 plain-by : (Q : ProcessorView → Type 0) (n given : ℕ) (p : ProcessorView)
     → ((came : ℕ) → next_packet_at p.settings.backlog (at n p.devices) ≡ Some came → nat_lt given p.settings.weight ≡ true
-    → Q (begins (Packet (record { device = n; came = came; given = given })) p.settings.packet
+    → Q (begins (Packet (record { device = n; came = came; given = given })) (packet_length p)
     (record p { devices = changed (without_next p.settings.backlog) n p.devices })))
     → (next_packet_at p.settings.backlog (at n p.devices) ≡ None
-    → Q (ends_poll n given (record p { devices = changed (without_next p.settings.backlog) n p.devices })))
-    → (nat_lt given p.settings.weight ≡ false → Q (ends_poll n given p))
+    → Q (closes_poll n given (record p { devices = changed (without_next p.settings.backlog) n p.devices })))
+    → (nat_lt given p.settings.weight ≡ false → Q (closes_poll n given p))
     → Q (plain_looks n given p)
 unfolding plain_looks
 plain-by Q n given p h1 h2 h3 = grind (arith, common_steps)
@@ -261,9 +271,9 @@ batch-by : (Q : ProcessorView → Type 0) (n given : ℕ) (p : ProcessorView)
     → (nat_lt given p.settings.weight ≡ true → pulls_at p.settings.gro_batch given (at n p.devices) ≡ true
     → Q (begins (Poll (record { device = n; given = given + 1 })) p.settings.take (record p { devices = changed holding n p.devices })))
     → (stops given p.settings (at n p.devices) ≡ true → (came : ℕ) → next_held_at (at n p.devices) ≡ Some came
-    → Q (begins (Packet (record { device = n; came = came; given = given - 1 })) (p.settings.packet - p.settings.take)
+    → Q (begins (Packet (record { device = n; came = came; given = given - 1 })) (hand_length p)
     (record p { devices = changed without_held n p.devices })))
-    → (stops given p.settings (at n p.devices) ≡ true → next_held_at (at n p.devices) ≡ None → Q (ends_poll n given p))
+    → (stops given p.settings (at n p.devices) ≡ true → next_held_at (at n p.devices) ≡ None → Q (closes_poll n given p))
     → Q (batch_looks n given p)
 unfolding batch_looks
 batch-by Q n given p h1 h2 h3 = grind (arith, common_steps)
@@ -272,21 +282,21 @@ batch-by Q n given p h1 h2 h3 = grind (arith, common_steps)
 pub record Steps (Q : ProcessorView → Type 0) (n given : ℕ) (p : ProcessorView) : Type 0 where
   pub some : is_batching p.settings ≡ false → (came : ℕ) → next_packet_at p.settings.backlog (at n p.devices) ≡ Some came
       → nat_lt given p.settings.weight ≡ true
-      → Q (begins (Packet (record { device = n; came = came; given = given })) p.settings.packet
+      → Q (begins (Packet (record { device = n; came = came; given = given })) (packet_length p)
       (record p { devices = changed (without_next p.settings.backlog) n p.devices }))
   pub none : is_batching p.settings ≡ false → next_packet_at p.settings.backlog (at n p.devices) ≡ None
-      → Q (ends_poll n given (record p { devices = changed (without_next p.settings.backlog) n p.devices }))
-  pub full : is_batching p.settings ≡ false → nat_lt given p.settings.weight ≡ false → Q (ends_poll n given p)
+      → Q (closes_poll n given (record p { devices = changed (without_next p.settings.backlog) n p.devices }))
+  pub full : is_batching p.settings ≡ false → nat_lt given p.settings.weight ≡ false → Q (closes_poll n given p)
   -- with batches: it takes one more, hands one over, or ends
   pub takes : is_batching p.settings ≡ true → nat_lt given p.settings.weight ≡ true
       → pulls_at p.settings.gro_batch given (at n p.devices) ≡ true
       → Q (begins (Poll (record { device = n; given = given + 1 })) p.settings.take (record p { devices = changed holding n p.devices }))
   pub hands : is_batching p.settings ≡ true → stops given p.settings (at n p.devices) ≡ true → (came : ℕ)
       → next_held_at (at n p.devices) ≡ Some came
-      → Q (begins (Packet (record { device = n; came = came; given = given - 1 })) (p.settings.packet - p.settings.take)
+      → Q (begins (Packet (record { device = n; came = came; given = given - 1 })) (hand_length p)
       (record p { devices = changed without_held n p.devices }))
   pub over : is_batching p.settings ≡ true → stops given p.settings (at n p.devices) ≡ true → next_held_at (at n p.devices) ≡ None
-      → Q (ends_poll n given p)
+      → Q (closes_poll n given p)
 
 pub looks-by : (Q : ProcessorView → Type 0) (n given : ℕ) (p : ProcessorView) → Steps Q n given p → Q (poll_looks n given p)
 looks-by Q n given p steps = by (is_batching p.settings) refl

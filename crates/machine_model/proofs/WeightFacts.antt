@@ -156,7 +156,7 @@ unfolding map_at weight_at
 held-less w came None is = cc is
 held-less w came (Some d) is = weight-parts w d (without_held d) refl refl refl (omega (arith, drop-first d.taken came is))
 
--- the card is unmasked_queue, and asks for an interrupt if it has a cause or if packets are left
+-- the driver unmasks the card, which asks for an interrupt if it has a cause or if packets are left
 notified-line : (line : Line) (at_once : Bool) (until : ℕ) → line_weight (if at_once then Raised else coalesced until line) ≤ 4
 notified-line line at_once until = grind (arith, common_steps)
 
@@ -224,26 +224,31 @@ weight-completed w now given s d =
       arith,
       weight-napi w now given s d,
       weight-armed w now s (napi_completed now given s d),
-      again-missed (is_missed d.phase) (is_deferred given s d && not s.heedless) (finds_packets given s d) free,
+      again-missed (is_missed d.phase) ((is_deferred given s d || is_missed d.phase) && not s.heedless) (finds_packets given s d) free,
     ))
 
 weight-counts : (w : ℕ) (counts : QueueCounts) (d : QueueView) → weight_of w (record d { counts = counts }) ≡ weight_of w d
 unfolding weight_of
 weight-counts w counts d = refl
 
-packets-left : (given length defer : ℕ) → (given ≡ 0 → length ≡ 0)
-    → (if given == 0 then 0 else 5 * defer) + (if length == 0 then 0 else 4) ≤ (if given == 0 then 0 else 5 * defer + 4)
-packets-left given length defer none = grind (arith, common_steps)
+packets-left : (none : Bool) (given length defer : ℕ) → (none ≡ true → given ≡ 0) → (none ≡ true → length ≡ 0)
+    → (if given == 0 then 0 else 5 * defer) + (if length == 0 then 0 else 4) ≤ (if none then 0 else 5 * defer + 4)
+packets-left none given length defer h1 h2 = grind (arith, common_steps)
 
 -- if a poll took no packet, none is left in the ring
 abbrev pub EmptyIfNone : ℕ → Option QueueView → Type 0
 EmptyIfNone given o = (d : QueueView) → o ≡ Some d → given ≡ 0 → length d.ring ≡ 0
 
-pub weight-polled : (w now given : ℕ) (s : MachineSettings) (o : Option QueueView) → EmptyIfNone given o
+-- if `none`, the poll took no packet, and none is left in the ring
+pub record EmptyIf (none : Bool) (given : ℕ) (o : Option QueueView) : Type 0 where
+  pub zero : none ≡ true → given ≡ 0
+  pub clear : (d : QueueView) → o ≡ Some d → none ≡ true → length d.ring ≡ 0
+
+pub weight-polled : (w now given : ℕ) (s : MachineSettings) (o : Option QueueView) (none : Bool) → EmptyIf none given o
     → weight_at w (map_at (queue_polled now given s) o) + (if not (given == s.weight) && is_rescheduled_at given s o then 2 else 0)
-    ≤ weight_at w o + (if given == s.weight then 0 else (if given == 0 then 0 else 5 * s.defer_hard_irqs + 4))
+    ≤ weight_at w o + (if given == s.weight then 0 else (if none then 0 else 5 * s.defer_hard_irqs + 4))
 unfolding map_at weight_at queue_polled
-weight-polled w now given s o h1 = grind (arith, common_steps, packets-left, weight-completed, weight-counts)
+weight-polled w now given s o none h1 = grind (arith, common_steps, packets-left, weight-completed, weight-counts)
 
 expired-phase : (at : ℕ) (phase : Phase) → timer_of phase ≡ Some at → phase_weight (expired_phase phase) + 1 ≤ phase_weight phase
 expired-phase at phase is = grind (arith, common_steps)

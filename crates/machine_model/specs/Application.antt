@@ -1,5 +1,5 @@
 -- The application, which uses the packets of a socket: on the processor that receives, or on one of its own.
-use Rattle.std.specs.Prelude.{ℕ, ◌+◌, ◌-◌, ◌==◌, ◌&&◌, nat_le, nat_lt, Bool, true, false, List, [], ◌∷◌, ◌++◌, length, if◌then◌else◌}
+use Rattle.std.specs.Prelude.{ℕ, ◌+◌, ◌-◌, ◌==◌, ◌&&◌, not, nat_le, nat_lt, Bool, true, false, List, [], ◌∷◌, ◌++◌, length, if◌then◌else◌}
 use Rattle.{circular_buffer.specs.Buffer.{Buffer, buffer}, machine_model.specs.declared.settings.MachineSettings.MachineSettings}
 use Rattle.machine_model.specs.{declared.application.Activity.Activity, Waits.{WaitsView, counted, saturated, no_waits}}
 use Rattle.machine_model.specs.declared.application.Activity.TheVariants.{Asleep, Waking, Using}
@@ -31,6 +31,11 @@ used now came a = record a { waits = counted (now - came) a.waits }
 -- the time of a use; an application that sleeps is woken first
 abbrev pub use_length : MachineSettings → ApplicationView → ℕ
 use_length s a = s.use_time + (if a.sleeps then s.app_wake else 0)
+
+-- The delivery that wakes it takes so much more (`sock_def_readable`, `try_to_wake_up`). Later ones find a packet in the socket, until it
+-- sleeps again.
+abbrev pub waking_length : MachineSettings → ApplicationView → ℕ
+waking_length s a = if not s.apart && a.sleeps && length a.socket.items == 0 then s.poll_wake else 0
 
 -- it takes this packet, the oldest one, out of the socket, which has these packets after it
 abbrev pub takes_up_packet : List ℕ → ApplicationView → ApplicationView

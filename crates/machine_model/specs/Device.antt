@@ -158,6 +158,11 @@ after_packet moment s d =
     if not (has_room d) then record e { counts = record e.counts { dropped = saturated (d.counts.dropped + 1) } }
     else (if is_silent s d.phase then record f { caused = latched_cause moment s d } else notified moment s f)
 
+-- with `early`, a packet comes before the completion of a poll that found the ring empty: its interrupt is only remembered
+abbrev pub missed_early : QueueView → QueueView
+missed_early d =
+    record d { phase = record d.phase { state = Missed }; counts = record d.counts { interrupts = saturated (d.counts.interrupts + 1) } }
+
 -- ---- an interrupt is handled: that of the NAPI timer, or that of the card, which is then masked if there is polling
 
 -- the NAPI timer expired while the instance was scheduled
@@ -242,6 +247,10 @@ deferrals_after given s d = if given == 0 then d.deferrals else s.defer_hard_irq
 abbrev pub is_deferred : ℕ → MachineSettings → QueueView → Bool
 is_deferred given s d = not (deferrals_after given s d == 0) && not (s.gro_flush_timeout == 0)
 
+-- the completion starts the NAPI timer (`hrtimer_start`); an interrupt that a heedless driver's instance missed schedules it instead
+abbrev pub starts_timer : ℕ → MachineSettings → QueueView → Bool
+starts_timer given s d = is_deferred given s d && not (s.heedless && is_missed d.phase)
+
 -- the driver of a card without causes looks into the ring when it unmasks the card, and masks it again (`virtqueue_napi_complete`)
 abbrev pub finds_packets : ℕ → MachineSettings → QueueView → Bool
 finds_packets given s d = s.latched == 0 && not s.heedless && not (is_deferred given s d) && not (length d.ring == 0)
@@ -273,9 +282,10 @@ napi_completed now given s d =
     let phase = record d.phase { state = if is_rescheduled given s d then Scheduled else Idle; timer = timer } in
     record d { deferrals = deferrals_after given s d - 1; phase = phase }
 
--- then the driver unmasks the card, unless the interrupt is deferred, or it finds packets; a heedless driver unmasks it in any case
+-- then the driver unmasks the card, unless the interrupt is deferred or was missed, or it finds packets; a heedless driver unmasks it
+-- in any case
 abbrev pub stays_masked : ℕ → MachineSettings → QueueView → Bool
-stays_masked given s d = is_deferred given s d && not s.heedless || finds_packets given s d
+stays_masked given s d = (is_deferred given s d || is_missed d.phase) && not s.heedless || finds_packets given s d
 
 unfoldable pub queue_completed : ℕ → ℕ → MachineSettings → QueueView → QueueView
 queue_completed now given s d =

@@ -4,8 +4,8 @@ use Rattle.std.specs.Option.{option_and_then, option_map, option_map_or}
 use Rattle.device_places.specs.Places.{DeviceTable, added}
 use Rattle.machine_model.specs.declared.devices.Timer.{Timer}
 use Rattle.machine_model.specs.declared.settings.MachineSettings.{MachineSettings}
-use Rattle.machine_model.specs.Device.{QueueView, asks, is_rescheduled, is_fired, schedules, has_room, next_held, next_packet, new_queue}
-use Rattle.machine_model.specs.Device.{pulls, timer_of}
+use Rattle.machine_model.specs.Device.{QueueView, asks, is_missed, is_rescheduled, is_fired, schedules, has_room, next_held, next_packet}
+use Rattle.machine_model.specs.Device.{new_queue, pulls, starts_timer, timer_of}
 
 abbrev pub QueueViews : Type 0
 QueueViews = DeviceTable QueueView
@@ -24,6 +24,12 @@ is_fired_at place = option_map_or (λ d. is_fired d.phase) place false
 
 abbrev pub is_rescheduled_at : ℕ → MachineSettings → Option QueueView → Bool
 is_rescheduled_at given s place = option_map_or (λ d. is_rescheduled given s d) place false
+
+abbrev pub starts_timer_at : ℕ → MachineSettings → Option QueueView → Bool
+starts_timer_at given s place = option_map_or (λ d. starts_timer given s d) place false
+
+abbrev pub is_missed_at : Option QueueView → Bool
+is_missed_at place = option_map_or (λ d. is_missed d.phase) place false
 
 abbrev pub schedules_at : Option QueueView → Bool
 schedules_at place = option_map_or (λ d. schedules d.phase) place false

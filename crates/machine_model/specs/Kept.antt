@@ -4,7 +4,7 @@ use Rattle.{std.specs.Option.option_map_or, machine_model.specs.declared.setting
 use Rattle.machine_model.specs.Device.{QueueView, is_napi_idle}
 use Rattle.machine_model.specs.{Devices.QueueViews, Shown.{listed, weight_in}, Softirq.{SoftirqView, asked_in}}
 use Rattle.machine_model.specs.{Processor.{ProcessorView, is_polling}}
-use Rattle.machine_model.specs.declared.{device.Phase.Phase, processor.Work.{Work, TheVariants.{Poll, Packet}}}
+use Rattle.machine_model.specs.declared.{device.Phase.Phase, processor.Work.{Work, TheVariants.{Poll, Packet, Arm}}}
 
 -- how many queues are scheduled
 abbrev pub is_scheduled : Phase → Bool
@@ -16,15 +16,17 @@ scheduled_at place = option_map_or (λ d. if is_scheduled d.phase then 1 else 0)
 abbrev pub all_scheduled : QueueViews → ℕ
 all_scheduled devices = sum_by scheduled_at devices
 
--- the queue that is polled, and how many packets its poll took so far, without the last one
+-- the queue that is polled, and fewer packets than its weight: those that its poll took so far, mostly without the last one
 abbrev pub polled_by : Work → Option ℕ
 polled_by (Poll look) = Some look.device
 polled_by (Packet packet) = Some packet.device
+polled_by (Arm look) = Some look.device
 polled_by _ = None
 
 abbrev pub work_given : Work → ℕ
 work_given (Poll look) = look.given - 1
 work_given (Packet packet) = packet.given
+work_given (Arm look) = look.given
 work_given _ = 0
 
 -- the machine has a poll list: it polls, and without threads

@@ -59,6 +59,9 @@ machine_options =
     ∷ rule (codes "latched") (λ s. s.latched) 0 2 0
     ∷ rule (codes "gro-batch") (λ s. s.gro_batch) 0 64 0
     ∷ rule (codes "take") (λ s. s.take) 0 1000000000 0
+    ∷ rule (codes "early") (λ s. s.early) 0 1000000000 0
+    ∷ rule (codes "poll-wake") (λ s. s.poll_wake) 0 1000000000 0
+    ∷ rule (codes "arm") (λ s. s.arm) 0 1000000000 0
     ∷ []
 
 -- this is that option; its unit and its description are for readers only
@@ -67,6 +70,13 @@ pub record IsOption (m : MachineOption) (o : OptionRule) : Type 0 where
   pub least : m.least ≡ o.least
   pub most : m.most ≡ o.most
   pub default : m.default ≡ o.default
+
+-- a row of the table, without its texts for readers
+abbrev pub row_of_option : MachineOption → Text × ℕ × ℕ × ℕ
+row_of_option m = (m.name.now, m.least, m.most, m.default)
+
+abbrev pub rule_row : OptionRule → Text × ℕ × ℕ × ℕ
+rule_row o = (o.name, o.least, o.most, o.default)
 
 abbrev pub option_names : List Text
 option_names = map (λ (o : OptionRule). o.name) machine_options
@@ -115,9 +125,14 @@ excludes values =
 abbrev pub exceeds : List ℕ → Bool
 exceeds values = nat_lt (slice_index_or values 18 0) (slice_index_or values 27 0)
 
--- the number of the value that doesn't fit the others, if one doesn't: that of `rx-gap` or of `take`
+-- `early` excludes `heedless`: a driver that unmasks the card in any case asks for interrupts after the completion
+abbrev pub is_early_heedless : List ℕ → Bool
+is_early_heedless values = not (slice_index_or values 28 0 == 0) && not (slice_index_or values 21 0 == 0)
+
+-- the number of the value that doesn't fit the others, if one doesn't: that of `rx-gap`, of `take` or of `early`
 abbrev pub misfit : List ℕ → Option ℕ
-misfit values = if excludes values then Some 23 else (if exceeds values then Some 28 else None)
+misfit values =
+    if excludes values then Some 23 else (if exceeds values then Some 28 else (if is_early_heedless values then Some 29 else None))
 
 -- the values are rejected for the one with this number: the first that is out of its range, or, if none is, the one that doesn't fit
 abbrev pub IsRejected : List ℕ → ℕ → Type 0

@@ -1,21 +1,22 @@
 -- A processor: which work it begins, and what happens when work ends, timers expire and packets arrive.
-use Rattle.std.specs.Prelude.{◌≡◌, ℕ, zero, suc, ◌+◌, ◌-◌, ◌<◌, ◌==◌, ◌||◌, ◌&&◌, not, nat_le, nat_lt, Bool, true, false, List, [], ◌∷◌}
-use Rattle.std.specs.{Prelude.{◌++◌, length, position, slice_get, Option, Some, None, is_some, if◌then◌else◌}, Option.option_map_or}
+use Rattle.std.specs.Prelude.{◌≡◌, ℕ, zero, suc, ◌+◌, ◌-◌, ◌<◌, ◌%◌, ◌==◌, ◌||◌, ◌&&◌, not, nat_le, nat_lt, Bool, true, false, List, []}
+use Rattle.std.specs.{Prelude.{◌∷◌, ◌++◌, length, position, slice_get, Option, Some, None, is_some, if◌then◌else◌}, Option.option_map_or}
 use Rattle.std.specs.Prelude.{unwrap_or}
 use Rattle.device_places.specs.Places.{at, changed}
 use Rattle.{machine_model.specs.declared.settings.MachineSettings.MachineSettings}
 use Rattle.machine_model.specs.Device.{after_packet, queue_delivered, expired, holding, interrupted, queue_polled, raised_again}
-use Rattle.machine_model.specs.Device.{without_held, without_next}
-use Rattle.machine_model.specs.Devices.{QueueViews, asks_at, has_room_at, is_rescheduled_at, is_fired_at, next_held_at, next_packet_at}
-use Rattle.machine_model.specs.Devices.{schedules_at, soonest_from, pulls_at, with_device}
+use Rattle.machine_model.specs.Device.{missed_early, without_held, without_next}
+use Rattle.machine_model.specs.Devices.{QueueViews, asks_at, has_room_at, is_missed_at, is_rescheduled_at, is_fired_at}
+use Rattle.machine_model.specs.Devices.{next_held_at, starts_timer_at}
+use Rattle.machine_model.specs.Devices.{next_packet_at, schedules_at, soonest_from, pulls_at, with_device}
 use Rattle.machine_model.specs.Softirq.{SoftirqView, begun, asked_in, poll_ended, run_ended, is_run_spent, run_next, pushed}
 use Rattle.machine_model.specs.{Application.{ApplicationView, fed, has_place, opened_application}, Waits.saturated}
-use Rattle.machine_model.specs.Application.{takes_up_packet, use_ended, use_length}
+use Rattle.machine_model.specs.Application.{takes_up_packet, use_ended, use_length, waking_length}
 use Rattle.machine_model.specs.Tasks.{after_first, runnable, with_application}
 use Rattle.machine_model.specs.declared.{devices.Timer.Timer, tasks.RunnableTask.{RunnableTask, TheVariants.{Application, Thread}}}
 use Rattle.machine_model.specs.declared.processor.{ProcessorCounts.ProcessorCounts, TheConstants.ProcessorCounts.NONE, Work.Work}
 use Rattle.machine_model.specs.declared.processor.{Rest.Rest}
-use Rattle.machine_model.specs.declared.processor.{Work.TheVariants.{Nothing, Interrupt, Poll, Packet, Use}, Upcoming.Upcoming}
+use Rattle.machine_model.specs.declared.processor.{Work.TheVariants.{Nothing, Interrupt, Poll, Packet, Arm, Use}, Upcoming.Upcoming}
 use Rattle.machine_model.specs.declared.processor.Upcoming.TheVariants.{Never, Ends, Expires}
 
 pub record ProcessorView : Type 0 where
@@ -50,16 +51,18 @@ abbrev pub scheduled : ℕ → ProcessorView → ProcessorView
 scheduled number p =
     if p.settings.threaded then record p { tasks = p.tasks ++ Thread number ∷ [] } else record p { softirq = pushed number p.softirq }
 
--- the time of an interrupt of the card, or of the NAPI timer (`napi_watchdog`); without polling it also takes a packet
-abbrev pub interrupt_cost : Bool → MachineSettings → ℕ
-interrupt_cost is_timer s =
-    let time = if is_timer then unwrap_or s.timer s.interrupt else s.interrupt in if is_polling s then time else time + s.packet
+-- the time of an interrupt of the card, or of the NAPI timer (`napi_watchdog`); without polling it also takes a packet, and wakes the
+-- application
+abbrev pub interrupt_cost : Bool → ℕ → MachineSettings → ℕ
+interrupt_cost is_timer waking s =
+    let time = if is_timer then unwrap_or s.timer s.interrupt else s.interrupt in
+    if is_polling s then time else time + s.packet + waking
 
 unfoldable pub interrupts : ℕ → ProcessorView → ProcessorView
 interrupts number p =
     let polling = is_polling p.settings in
     let is_timer = is_fired_at (at number p.devices) in
-    let time = interrupt_cost is_timer p.settings in
+    let time = interrupt_cost is_timer (waking_length p.settings p.application) p.settings in
     let counts = if is_timer then record p.counts { timers = saturated (p.counts.timers + 1) }
     else record p.counts { interrupts = saturated (p.counts.interrupts + 1) } in
     let devices = changed (interrupted (saturated (p.clock + time)) polling) number p.devices in
@@ -165,9 +168,26 @@ ends_poll number given p =
     if p.settings.threaded then record q { tasks = if full || again then Thread number ∷ p.tasks else p.tasks }
     else record q { softirq = poll_ended number given full again p.softirq }
 
+-- With `arm`, a poll whose completion starts the NAPI timer takes so much longer after its last delivery (`napi_complete_done`).
+abbrev pub may_arm : ℕ → MachineSettings → Bool
+may_arm given s = not (s.arm == 0) && not s.backlog && nat_lt given s.weight
+
+unfoldable pub closes_poll : ℕ → ℕ → ProcessorView → ProcessorView
+closes_poll number given p =
+    if may_arm given p.settings && starts_timer_at given p.settings (at number p.devices) then
+    begins (Arm (record { device = number; given = given })) p.settings.arm p
+    else ends_poll number given p
+
 -- with `gro-batch`, polls hold the packets that they take, except those of a backlog
 abbrev pub is_batching : MachineSettings → Bool
 is_batching s = not s.backlog && not (s.gro_batch == 0)
+
+-- the time of a packet of a poll, or of one that GRO hands over, until its delivery
+abbrev pub packet_length : ProcessorView → ℕ
+packet_length p = p.settings.packet + waking_length p.settings p.application
+
+abbrev pub hand_length : ProcessorView → ℕ
+hand_length p = p.settings.packet - p.settings.take + waking_length p.settings p.application
 
 -- A poll that took this many packets takes its next one, or hands over one that GRO holds (`napi_gro_receive`). If GRO holds none
 -- then, it ends.
@@ -178,8 +198,8 @@ batch_looks number given p =
     let r = record p { devices = changed without_held number p.devices } in
     if nat_lt given s.weight && pulls_at s.gro_batch given (at number p.devices) then
     begins (Poll (record { device = number; given = given + 1 })) s.take q
-    else option_map_or (λ came. begins (Packet (record { device = number; came = came; given = given - 1 })) (s.packet - s.take) r)
-    (next_held_at (at number p.devices)) (ends_poll number given p)
+    else option_map_or (λ came. begins (Packet (record { device = number; came = came; given = given - 1 })) (hand_length p) r)
+    (next_held_at (at number p.devices)) (closes_poll number given p)
 
 -- a poll that processed this many packets takes its next one, or ends
 unfoldable pub plain_looks : ℕ → ℕ → ProcessorView → ProcessorView
@@ -187,10 +207,10 @@ plain_looks number given p =
     let backlog = p.settings.backlog in
     let q = record p { devices = changed (without_next backlog) number p.devices } in
     if nat_lt given p.settings.weight then
-    option_map_or (λ came. begins (Packet (record { device = number; came = came; given = given })) p.settings.packet q)
+    option_map_or (λ came. begins (Packet (record { device = number; came = came; given = given })) (packet_length p) q)
     (next_packet_at backlog (at number p.devices))
-    (ends_poll number given q)
-    else ends_poll number given p
+    (closes_poll number given q)
+    else closes_poll number given p
 
 abbrev pub poll_looks : ℕ → ℕ → ProcessorView → ProcessorView
 poll_looks number given p = if is_batching p.settings then batch_looks number given p else plain_looks number given p
@@ -200,6 +220,7 @@ ends_by Nothing p = p
 ends_by (Interrupt number) p = if is_polling p.settings then p else ends_interrupt number p
 ends_by (Poll look) p = poll_looks look.device look.given p
 ends_by (Packet packet) p = poll_looks packet.device (packet.given + 1) (delivers packet.device packet.came p)
+ends_by (Arm look) p = ends_poll look.device look.given p
 ends_by (Use came) p = record p { application = use_ended p.clock came p.application }
 
 -- the time that a piece of work took is added to the processor's counts
@@ -273,13 +294,41 @@ pub record Advances (moment : ℕ) (p q : ProcessorView) : Type 0 where
   pub last : q ≡ processor_after count p
   pub none : is_due moment q ≡ false
 
+-- The queue's poll found the ring empty before it took its whole weight, and hands over the last packets that GRO holds, or starts the
+-- NAPI timer (`napi_complete_done`).
+abbrev pub is_completing : ℕ → MachineSettings → Work → Bool
+is_completing number s (Packet hand) =
+    let given = hand.given + 1 in
+    hand.device == number && is_batching s && nat_lt given s.weight && not (given % s.gro_batch == 0)
+is_completing number s (Arm look) = look.device == number
+is_completing number s _ = false
+
+-- With `early`, the driver asked for interrupts before that (virtio_net: `virtqueue_napi_complete`, `virtqueue_enable_cb_prepare`). The
+-- first packet that comes then brings an interrupt.
+abbrev pub comes_early : ℕ → ProcessorView → Bool
+comes_early number p =
+    not (p.settings.early == 0) && is_completing number p.settings p.work && not (is_missed_at (at number p.devices))
+
+-- the instance is scheduled, so it only misses the interrupt, which delays the work in progress
+unfoldable pub interrupts_early : ℕ → ProcessorView → ProcessorView
+interrupts_early number p =
+    let time = p.settings.early in
+    let interrupts = saturated (p.counts.interrupts + 1) in
+    let counts = record p.counts { interrupts = interrupts; interrupt_time = saturated (p.counts.interrupt_time + time) } in
+    let devices = changed missed_early number p.devices in
+    record p { clock = saturated (p.clock + time); ends = saturated (p.ends + time); devices = devices; counts = counts }
+
+-- a packet found room in the ring of this queue
+abbrev pub notices : ℕ → ℕ → ProcessorView → ProcessorView
+notices moment number p = if comes_early number p then interrupts_early number p else disturbed moment p
+
 -- a packet arrives for a queue of a processor that has advanced to this time
 unfoldable pub arrives : ℕ → ℕ → ProcessorView → ProcessorView
 arrives moment number p =
     let devices = with_device p.settings.ring number p.devices in
     let clock = if is_busy p.work then p.clock else moment in
     let q = record p { clock = clock; devices = changed (after_packet moment p.settings) number devices } in
-    if has_room_at (at number devices) then disturbed moment q else q
+    if has_room_at (at number devices) then notices moment number q else q
 
 -- ---- a new processor
 

@@ -55,9 +55,9 @@ impl Model for Application {
 }
 
 impl Application {
-    ghost use Rattle.std.specs.Prelude.{◌≡◌, ◌==◌, IfNone, IfOk, IfSome, OnErr, OnOk, length, slice_get, drop};
+    ghost use Rattle.std.specs.Prelude.{◌≡◌, ◌≤◌, ◌==◌, IfNone, IfOk, IfSome, OnErr, OnOk, length, slice_get, drop};
     ghost use Rattle.machine_model.specs.Waits.{summary_of};
-    ghost use Rattle.machine_model.specs.Application.{fed, goes_on, has_place, is_awake, is_use_over, opened_application, takes_up_packet, use_ended, use_length, used, went_on, woken_by};
+    ghost use Rattle.machine_model.specs.Application.{fed, goes_on, has_place, is_awake, is_use_over, opened_application, takes_up_packet, use_ended, use_length, used, waking_length, went_on, woken_by};
 
     /// Returns an application with an empty socket.
     pub(crate) fn new(alloc: Global, settings: &MachineSettings) -> Result<Application, AllocError>
@@ -97,6 +97,18 @@ impl Application {
             settings.use_time + settings.app_wake
         } else {
             settings.use_time
+        }
+    }
+
+    /// Returns by how much the next delivery takes longer, because it wakes the application.
+    pub(crate) fn waking_length(&self, settings: &MachineSettings) -> u32
+        ensures length { result ≡ waking_length settings.now self.now }
+        ensures most { result ≤ 1000000000 }
+    {
+        if !settings.apart && self.sleeps && self.is_idle() {
+            settings.poll_wake
+        } else {
+            0
         }
     }
 

@@ -48,7 +48,7 @@ fn asked_by(matches: &ArgMatches<'_>) -> Option<MachineSettings>
 ///
 /// The arguments are options of [`OPTIONS`], each at most once, as `--ring`. Its value follows `=` in the same argument, or is the
 /// next argument. A value is one to ten ASCII digits, in the range of the option; for a flag it is 0 or 1. `--rx-gap` above 0 excludes
-/// `--rx-nsecs` and `--rx-frames` above 0, and `--take` is at most `--packet`.
+/// `--rx-nsecs` and `--rx-frames` above 0, `--take` is at most `--packet`, and `--early` above 0 excludes `--heedless 1`.
 ///
 /// # Errors
 ///

@@ -2,7 +2,7 @@
 
 ghost use Rattle.std.specs.Prelude.{◌≡◌, ◌≤◌, ◌<◌, Some, IfOk, OnErr, OnOk, length};
 ghost use Rattle.machine_model.specs.Machine.{queue_report};
-ghost use Rattle.machine_model.specs.Device.{after_packet, armed, asks, asks_later, deferrals_after, is_deferred, expired, finds_packets, gap_end, has_cause, has_room, holding, interrupted, is_at_once, is_fired, is_masked, is_missed, is_owed, is_rescheduled, is_silent, new_queue, next_held, next_packet, notified, queue_completed, queue_delivered, queue_polled, raised_again, schedules, pulls, timer_of, unmasked_line, without_held, without_next};
+ghost use Rattle.machine_model.specs.Device.{after_packet, armed, asks, asks_later, deferrals_after, is_deferred, expired, finds_packets, gap_end, has_cause, has_room, holding, interrupted, is_at_once, is_fired, is_masked, is_missed, is_owed, is_rescheduled, is_silent, missed_early, new_queue, next_held, next_packet, notified, queue_completed, queue_delivered, queue_polled, raised_again, schedules, starts_timer, pulls, timer_of, unmasked_line, without_held, without_next};
 
 use crate::settings::MachineSettings;
 use crate::waits::{WaitCounts, Waits};
@@ -437,6 +437,21 @@ impl ReceiveQueue {
         true
     }
 
+    /// Returns whether its instance missed an interrupt.
+    pub(crate) fn is_missed(&self) -> bool
+        ensures { result ≡ is_missed self.now.phase }
+    {
+        self.phase.is_missed()
+    }
+
+    /// Handles an interrupt that comes before the completion of its poll: the instance misses it.
+    pub(crate) fn miss(&mut self)
+        ensures { self.new ≡ missed_early self.old }
+    {
+        self.phase.state = NapiState::Missed;
+        self.counts.interrupts = self.counts.interrupts.saturating_add(1);
+    }
+
     /// Handles its interrupt, or that of its NAPI timer. The handler ends at the time `until`.
     #[tactic(auto, unfolding(crate::specs::Device::interrupted))]
     pub(crate) fn interrupt(&mut self, until: u64, polling: bool)
@@ -532,6 +547,13 @@ impl ReceiveQueue {
         self.deferrals_after(given, settings) != 0 && settings.gro_flush_timeout != 0
     }
 
+    /// Returns whether its completion after that poll starts the NAPI timer.
+    pub(crate) fn starts_timer(&self, given: u32, settings: &MachineSettings) -> bool
+        ensures { result ≡ starts_timer given settings.now self.now }
+    {
+        self.defers(given, settings) && !(settings.heedless && self.phase.is_missed())
+    }
+
     // Returns whether the driver finds packets after that poll, and schedules the instance again.
     fn finds_packets(&self, given: u32, settings: &MachineSettings) -> bool
         ensures { result ≡ finds_packets given settings.now self.now }
@@ -583,7 +605,7 @@ impl ReceiveQueue {
         }
     }
 
-    // Unmasks its interrupt, unless that is deferred (`napi_complete_done`); a heedless driver unmasks it in any case.
+    // Unmasks its interrupt, unless that is deferred or was missed (`napi_complete_done`); a heedless driver unmasks it in any case.
     #[tactic(auto, unfolding(crate::specs::Device::queue_completed))]
     fn complete(&mut self, now: u64, given: u32, settings: &MachineSettings)
         ensures { self.new ≡ queue_completed now given settings.now self.old }
@@ -600,7 +622,7 @@ impl ReceiveQueue {
         } else {
             NapiState::Idle
         };
-        if !(defers && !settings.heedless || finds_packets) {
+        if !((defers || is_missed) && !settings.heedless || finds_packets) {
             self.arm(now, settings);
         }
     }

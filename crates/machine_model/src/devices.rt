@@ -241,8 +241,8 @@ impl QueueTable {
     ghost use Rattle.std.specs.Option.{option_map};
     ghost use Rattle.machine_model.specs.Machine.{queue_report};
     ghost use Rattle.device_places.specs.Places.{at, changed};
-    ghost use Rattle.machine_model.specs.Device.{after_packet, queue_delivered, expired, holding, interrupted, queue_polled, raised_again, without_held, without_next};
-    ghost use Rattle.machine_model.specs.Devices.{asks_at, has_room_at, is_rescheduled_at, is_fired_at, next_held_at, next_packet_at, schedules_at, soonest_from, pulls_at, with_device};
+    ghost use Rattle.machine_model.specs.Device.{after_packet, queue_delivered, expired, holding, interrupted, missed_early, queue_polled, raised_again, without_held, without_next};
+    ghost use Rattle.machine_model.specs.Devices.{asks_at, has_room_at, is_missed_at, is_rescheduled_at, is_fired_at, next_held_at, next_packet_at, schedules_at, soonest_from, starts_timer_at, pulls_at, with_device};
     ghost use Rattle.machine_model.specs.Kept.{all_scheduled};
 
     /// Returns an empty table.
@@ -340,6 +340,32 @@ impl QueueTable {
         ensures { result ≡ is_rescheduled_at given settings.now (at number self.now) }
     {
         matches!(self.places.get(number), Some(Some(device)) if device.is_rescheduled(given, settings))
+    }
+
+    /// Returns whether the completion of a queue after a poll that processed this many packets starts its NAPI timer.
+    pub(crate) fn starts_timer(&self, number: usize, given: u32, settings: &MachineSettings) -> bool
+        ensures { result ≡ starts_timer_at given settings.now (at number self.now) }
+    {
+        matches!(self.places.get(number), Some(Some(device)) if device.starts_timer(given, settings))
+    }
+
+    /// Returns whether the instance of a queue missed an interrupt.
+    pub(crate) fn is_missed(&self, number: usize) -> bool
+        ensures { result ≡ is_missed_at (at number self.now) }
+    {
+        matches!(self.places.get(number), Some(Some(device)) if device.is_missed())
+    }
+
+    /// Handles an interrupt of a queue that comes before the completion of its poll: the instance misses it.
+    pub(crate) fn miss(&mut self, number: usize)
+        ensures devices { self.new ≡ changed missed_early number self.old }
+        ensures scheduled { all_scheduled self.old ≤ all_scheduled self.new }
+    {
+        if number < self.places.len() {
+            if let Some(device) = &mut self.places[number] {
+                device.miss();
+            }
+        }
     }
 
     /// Returns whether the interrupt of a queue schedules its instance.

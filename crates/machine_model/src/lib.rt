@@ -11,6 +11,7 @@
 
 mod application;
 mod args;
+mod costs;
 mod device;
 mod devices;
 mod machine;

@@ -1,17 +1,17 @@
 //! One processor: which work it begins, and what happens when work ends, timers expire and packets arrive.
 
-ghost use Rattle.std.specs.Prelude.{◌≡◌, ◌≤◌, ◌<◌, ◌+◌, true, false, None, Some, IfOk, OnOk, if◌then◌else◌};
+ghost use Rattle.std.specs.Prelude.{◌≡◌, ◌≤◌, ◌<◌, true, false, None, Some, IfOk, OnOk, if◌then◌else◌};
 ghost use Rattle.std.specs.Option.{option_map};
 ghost use Rattle.device_places.specs.Places.{at};
 ghost use Rattle.machine_model.specs.Devices.{asks_at};
 ghost use Rattle.machine_model.specs.Kept.{IsProcessorKept, all_scheduled, polled_by};
 ghost use Rattle.machine_model.specs.Machine.{ArrivesAt, FinishesAt, processor_report, queue_report};
-ghost use Rattle.machine_model.specs.Processor.{Advances, begins_run, delivers, disturbed, ends_current, ends_interrupt, ends_poll, ends_run, goes_on, interrupt_cost, interrupts, is_batching, is_due, is_polling, leaves_softirq, batch_looks, plain_looks, poll_looks, opened_processor, rests, runs_first, scheduled, set_aside, spent, step, takes_up, upcoming, uses, wake_cost, woken};
+ghost use Rattle.machine_model.specs.Processor.{Advances, begins_run, closes_poll, comes_early, delivers, disturbed, ends_current, ends_interrupt, ends_poll, ends_run, goes_on, interrupts, interrupts_early, is_batching, is_completing, is_due, is_polling, leaves_softirq, batch_looks, notices, plain_looks, poll_looks, opened_processor, rests, runs_first, scheduled, set_aside, spent, step, takes_up, upcoming, uses, woken};
 ghost use Rattle.machine_model.specs.Shown.{listed};
-ghost use Rattle.machine_model.specs.Waits.{saturated};
 ghost use Rattle.machine_model.specs.declared.processor.Work.TheVariants.{Nothing};
 
 use crate::application::{Application, ApplicationReport};
+use crate::costs::{end_after, interrupt_cost, is_batching, is_polling, may_arm, wake_cost};
 use crate::device::QueueReport;
 use crate::devices::{QueueTable, Timer};
 use crate::settings::MachineSettings;
@@ -52,6 +52,8 @@ pub enum Work {
     Poll(Looking),
     /// A packet that a poll processes, or hands over.
     Packet(InHand),
+    /// The end of a poll whose completion starts the NAPI timer, with `arm`.
+    Arm(Looking),
     /// The application uses a packet that arrived at this time.
     Use(u64),
 }
@@ -139,7 +141,9 @@ impl ProcessorCounts {
         match work {
             Work::Nothing => {}
             Work::Interrupt(_) => self.interrupt_time = self.interrupt_time.saturating_add(time),
-            Work::Poll(_) | Work::Packet(_) => self.poll_time = self.poll_time.saturating_add(time),
+            Work::Poll(_) | Work::Packet(_) | Work::Arm(_) => self.poll_time = self
+                .poll_time
+                .saturating_add(time),
             Work::Use(_) => self.use_time = self.use_time.saturating_add(time),
         }
     }
@@ -182,54 +186,6 @@ impl Model for Processor {
     ghost invariant = { λ p. ProcessorKept p.settings p.work p.devices p.softirq };
 }
 
-// Returns whether the machine polls, instead of delivering a packet per interrupt.
-fn is_polling(settings: &MachineSettings) -> bool
-    ensures { result ≡ is_polling settings.now }
-{
-    settings.budget != 0
-}
-
-// Returns whether polls hold the packets that they take, for GRO.
-fn is_batching(settings: &MachineSettings) -> bool
-    ensures { result ≡ is_batching settings.now }
-{
-    settings.gro_batch != 0 && !settings.backlog
-}
-
-// Returns the time of an interrupt of a card, or of a NAPI timer. Without polling it also takes a packet.
-fn interrupt_cost(is_timer: bool, settings: &MachineSettings) -> u32
-    ensures { result ≡ interrupt_cost is_timer settings.now }
-{
-    let time = if is_timer {
-        settings.timer.unwrap_or(settings.interrupt)
-    } else {
-        settings.interrupt
-    };
-    if is_polling(settings) {
-        time
-    } else {
-        time + settings.packet
-    }
-}
-
-// Returns the time to wake an idle processor by an interrupt of a card, or of a NAPI timer.
-fn wake_cost(is_timer: bool, settings: &MachineSettings) -> u32
-    ensures { result ≡ wake_cost is_timer settings.now }
-{
-    if is_timer {
-        settings.timer_wake.unwrap_or(settings.wake)
-    } else {
-        settings.wake
-    }
-}
-
-// Returns when work ends that begins at this time and takes this long.
-fn end_after(clock: u64, time: u32) -> u64
-    ensures { result ≡ saturated (clock + time) }
-{
-    clock.saturating_add(u64::from(time))
-}
-
 impl Processor {
     // Schedules the instance of a queue (`____napi_schedule`).
     fn schedule(&mut self, number: u32) -> Result<(), AllocError>
@@ -257,7 +213,8 @@ impl Processor {
         let polling = is_polling(&self.settings);
         let is_timer = self.devices.is_fired(number as usize);
         let schedules = self.devices.schedules(number as usize);
-        let ends = end_after(self.clock, interrupt_cost(is_timer, &self.settings));
+        let waking = self.application.waking_length(&self.settings);
+        let ends = end_after(self.clock, interrupt_cost(is_timer, waking, &self.settings));
         self.devices.interrupt(number as usize, ends, polling);
         if polling && schedules {
             self.schedule(number)?;
@@ -479,6 +436,30 @@ impl Processor {
         Ok(())
     }
 
+    // Ends a poll that processed this many packets, which takes longer if its completion starts the NAPI timer.
+    #[tactic(auto, unfolding(crate::specs::Processor::closes_poll))]
+    fn close_poll(&mut self, number: u32, given: u32) -> Result<(), AllocError>
+        requires polled { polled_by self.old.work ≡ Some number }
+        requires given { given ≤ self.old.settings.weight }
+        ensures { OnOk result
+            (self.new ≡ closes_poll number given (record self.old { work = Nothing })) }
+    {
+        let may = may_arm(given, &self.settings);
+        if may
+            && self
+                .devices
+                .starts_timer(number as usize, given, &self.settings)
+        {
+            self.work = Work::Arm(Looking {
+                device: number,
+                given,
+            });
+            self.ends = end_after(self.clock, self.settings.arm);
+            return Ok(());
+        }
+        self.end_poll(number, given)
+    }
+
     // Takes the next packet for a poll that took this many packets, or hands over one that GRO holds; without one, ends the poll.
     #[tactic(auto, unfolding(crate::specs::Processor::batch_looks))]
     fn batch_look(&mut self, number: u32, given: u32) -> Result<(), AllocError>
@@ -509,10 +490,11 @@ impl Processor {
                 came,
                 given: given.saturating_sub(1),
             });
-            self.ends = end_after(self.clock, packet - take);
+            let waking = self.application.waking_length(&self.settings);
+            self.ends = end_after(self.clock, packet - take + waking);
             return Ok(());
         }
-        self.end_poll(number, given)
+        self.close_poll(number, given)
     }
 
     // Takes the next packet for a poll that processed this many packets; without one, ends the poll.
@@ -531,11 +513,12 @@ impl Processor {
                     came,
                     given,
                 });
-                self.ends = end_after(self.clock, self.settings.packet);
+                let waking = self.application.waking_length(&self.settings);
+                self.ends = end_after(self.clock, self.settings.packet + waking);
                 return Ok(());
             }
         }
-        self.end_poll(number, given)
+        self.close_poll(number, given)
     }
 
     // Continues a poll that processed this many packets, or ends it.
@@ -573,6 +556,7 @@ impl Processor {
                 self.deliver(packet.device, packet.came)?;
                 self.look(packet.device, packet.given + 1)?;
             }
+            Work::Arm(look) => self.end_poll(look.device, look.given)?,
             Work::Use(came) => {
                 self.application.end_use(self.clock, came)?;
                 self.work = Work::Nothing;
@@ -620,6 +604,58 @@ impl Processor {
             self.set_aside(moment);
         }
         self.take_up()
+    }
+
+    // Returns whether the poll of a queue hands over the last packets that GRO holds, or starts the NAPI timer.
+    fn is_completing(&self, number: u32) -> bool
+        ensures { result ≡ is_completing number self.now.settings self.now.work }
+    {
+        match self.work {
+            Work::Packet(hand) => {
+                let given = hand.given + 1;
+                hand.device == number
+                    && is_batching(&self.settings)
+                    && given < self.settings.weight
+                    && given % self.settings.gro_batch != 0
+            }
+            Work::Arm(look) => look.device == number,
+            _ => false,
+        }
+    }
+
+    // Returns whether a packet that comes for a queue brings an interrupt before the completion of its poll.
+    fn comes_early(&self, number: u32) -> bool
+        ensures { result ≡ comes_early number self.now }
+    {
+        self.settings.early != 0
+            && self.is_completing(number)
+            && !self.devices.is_missed(number as usize)
+    }
+
+    // Handles an interrupt that comes before the completion of a queue's poll: the instance misses it, and the work in progress ends
+    // later.
+    #[tactic(auto, unfolding(crate::specs::Processor::interrupts_early))]
+    fn interrupt_early(&mut self, number: u32)
+        ensures { self.new ≡ interrupts_early number self.old }
+    {
+        let time = self.settings.early;
+        self.devices.miss(number as usize);
+        self.clock = end_after(self.clock, time);
+        self.ends = end_after(self.ends, time);
+        self.counts.interrupts = self.counts.interrupts.saturating_add(1);
+        let interrupts = self.counts.interrupt_time;
+        self.counts.interrupt_time = interrupts.saturating_add(u64::from(time));
+    }
+
+    // Takes notice of a packet that found room in the ring of a queue.
+    fn notice(&mut self, moment: u64, number: u32) -> Result<(), AllocError>
+        ensures { OnOk result (self.new ≡ notices moment number self.old) }
+    {
+        if self.comes_early(number) {
+            self.interrupt_early(number);
+            return Ok(());
+        }
+        self.disturb(moment)
     }
 
     // Returns the next event, if no packet arrives.
@@ -715,7 +751,7 @@ impl Processor {
             self.clock = moment;
         }
         if is_taken {
-            self.disturb(moment)?;
+            self.notice(moment, number)?;
         }
         Ok(())
     }

@@ -38,39 +38,42 @@ macro_rules! options {
 }
 
 /// The number of options.
-pub const OPTION_COUNT: usize = 28;
+pub const OPTION_COUNT: usize = 31;
 
 /// The options, in the order of the settings: name, least and greatest value, default, unit, and what it is. `scripts/options.py`
 /// reads this table, and writes what other languages, tools and pages have of it.
 pub const OPTIONS: [MachineOption; OPTION_COUNT] = options! {
-    ("processors", 1, 64, 1, "", "processors that receive; queue q belongs to processor (q - 1) mod N, and each serves at most 64 queues"),
+    ("processors", 1, 64, 1, "", "processors that receive; queue q belongs to processor (q - 1) mod N; each serves at most 64"),
     ("queues", 1, 64, 1, "", "queues of each device, chosen by the packet's flow (RSS: ethtool -L, -X)"),
     ("ring", 1, 65536, 256, "packets", "packets that the ring of a queue holds (ethtool -G); of a backlog net.core.netdev_max_backlog plus 1"),
     ("socket", 1, 65536, 512, "packets", "packets that the socket of a processor's application holds (SO_RCVBUF)"),
     ("backlog", 0, 1, 0, "", "1: polls take packets as a processor's backlog does (RPS: rps_cpus, process_backlog)"),
     ("budget", 0, 65535, 300, "packets", "packets after which a run ends and is squeezed (net.core.netdev_budget); 0: no polls, an interrupt for each packet"),
-    ("weight", 1, 64, 64, "packets", "packets that one poll takes at most (NAPI_POLL_WEIGHT for most cards; of a backlog net.core.dev_weight times dev_weight_rx_bias)"),
+    ("weight", 1, 64, 64, "packets", "packets that one poll takes at most (NAPI_POLL_WEIGHT; of a backlog net.core.dev_weight times dev_weight_rx_bias)"),
     ("window", 1, 65535, 1024, "polls", "polls after which a run ends and is squeezed; Linux has no such limit"),
     ("time-limit", 1, 1000000000, 8000000, "ns", "time after which a run ends and is squeezed (net.core.netdev_budget_usecs, in us there)"),
     ("rx-nsecs", 0, 1000000000, 0, "ns", "time by which a card delays its interrupt (ethtool -C rx-usecs, in us there)"),
     ("rx-frames", 0, 65535, 0, "packets", "packets at which the interrupt comes before that time (ethtool -C rx-frames); 0: never"),
-    ("defer-hard-irqs", 0, 65535, 0, "polls", "polls without packets, one after each timeout, of which the last unmasks the queue (napi_defer_hard_irqs)"),
+    ("defer-hard-irqs", 0, 65535, 0, "polls", "polls without packets, one after each timeout; the last unmasks the queue (napi_defer_hard_irqs)"),
     ("gro-flush-timeout", 0, 1000000000, 0, "ns", "time until a queue that stays masked is polled again (gro_flush_timeout); 0: none does"),
     ("threaded", 0, 1, 0, "", "1: each queue is polled by a thread of its own (/sys/class/net/DEV/threaded)"),
     ("apart", 0, 1, 0, "", "1: the application has a processor of its own (taskset)"),
-    ("app-wake", 0, 1000000000, 0, "ns", "time from waking the application until it runs; on the processor that polls it is a part of the use"),
+    ("app-wake", 0, 1000000000, 0, "ns", "time from waking the application until it runs; on the processor that polls a part of the use"),
     ("interrupt", 0, 1000000000, 4000, "ns", "time of an interrupt"),
     ("poll", 0, 1000000000, 1000, "ns", "time of a poll before its first packet"),
     ("packet", 0, 1000000000, 1000, "ns", "time of each packet of a poll"),
     ("use", 0, 1000000000, 2000, "ns", "time that the application takes for a packet"),
     ("wake", 0, 1000000000, 0, "ns", "time to wake an idle processor, which counts as interrupt time"),
-    ("heedless", 0, 1, 0, "", "1: the driver unmasks the queue whatever napi_complete_done returns (vmxnet3, tg3, be2net, mana)"),
-    ("rx-gap", 0, 1000000000, 0, "ns", "least time between two interrupts of a card (ethtool -C rx-usecs of igb, ixgbe, e1000, e1000e, in us there); not with rx-nsecs or rx-frames"),
+    ("heedless", 0, 1, 0, "", "1: the driver unmasks the queue whatever napi_complete_done returns (vmxnet3, tg3, be2net, mana, bnx2, cxgb4, qede and others)"),
+    ("rx-gap", 0, 1000000000, 0, "ns", "least time between two interrupts of a card (ethtool -C rx-usecs of igb, igc, ixgbe, e1000, e1000e, i40e, in us there); not with rx-nsecs, rx-frames"),
     ("timer", 0, 1000000000, 4294967295, "ns", "time of the interrupt of an expired NAPI timer (napi_watchdog)"),
     ("timer-wake", 0, 1000000000, 4294967295, "ns", "time to wake an idle processor by an expired NAPI timer, which counts as interrupt time"),
-    ("latched", 0, 2, 0, "", "1: a packet that comes while the interrupt is raised or masked sets a cause, which raises the interrupt when the driver unmasks it (igb, igc, ixgbe, vmxnet3); 2: the interrupt's handler also clears it (e1000, e1000e without MSI-X)"),
-    ("gro-batch", 0, 64, 0, "packets", "packets that a poll takes before it hands them over (net.core.gro_normal_batch), for drivers that call napi_gro_receive; 0: each at once"),
+    ("latched", 0, 2, 0, "", "1: a packet while the interrupt is raised or masked sets a cause, which raises it when the driver unmasks it (igb, igc, ixgbe, vmxnet3); 2: its handler clears the cause too (e1000, e1000e without MSI-X)"),
+    ("gro-batch", 0, 64, 0, "packets", "packets that a poll takes before it hands them over (net.core.gro_normal_batch), with napi_gro_receive; 0: each at once"),
     ("take", 0, 1000000000, 0, "ns", "with gro-batch the part of packet that taking one from the ring and GRO take"),
+    ("early", 0, 1000000000, 0, "ns", "time of an interrupt between a driver's asking for it and napi_complete_done (virtio_net); 0: other drivers; not with heedless"),
+    ("poll-wake", 0, 1000000000, 0, "ns", "time by which a delivery that wakes the application takes longer (sock_def_readable); not with apart"),
+    ("arm", 0, 1000000000, 0, "ns", "time by which a poll that starts the NAPI timer takes longer (hrtimer_start)"),
 };
 
 /// The settings of a receiving machine. Times are in nanoseconds.
@@ -128,8 +131,8 @@ pub struct MachineSettings {
     pub wake: u32,
     /// Whether the driver unmasks the queue whatever `napi_complete_done` returns, so that a deferred interrupt isn't masked.
     pub heedless: bool,
-    /// The least time between two interrupts of a card, 0 to 1000000000 (`ethtool -C rx-usecs` of igb, ixgbe, e1000 and e1000e). Above
-    /// 0 it takes the place of `rx_nsecs` and `rx_frames`.
+    /// The least time between two interrupts of a card, 0 to 1000000000 (`ethtool -C rx-usecs` of igb, igc, ixgbe, e1000, e1000e and
+    /// i40e). Above 0 it takes the place of `rx_nsecs` and `rx_frames`.
     pub rx_gap: u32,
     /// The time of the interrupt of an expired NAPI timer, 0 to 1000000000 (`napi_watchdog`); `None` if it is `interrupt`.
     pub timer: Option<u32>,
@@ -144,6 +147,16 @@ pub struct MachineSettings {
     pub gro_batch: u32,
     /// With `gro_batch`, the part of `packet` that it takes to get a packet from the ring to GRO, at most `packet`.
     pub take: u32,
+    /// With `gro_batch`, for drivers that ask for interrupts before `napi_complete_done` (virtio_net: `virtqueue_enable_cb_prepare`): the
+    /// time of an interrupt that comes between the two, 0 to 1000000000. It only makes the completion schedule the instance again. With 0
+    /// the driver asks for interrupts afterwards. Above 0 it excludes `heedless`.
+    pub early: u32,
+    /// The time by which the delivery that wakes the sleeping application takes longer, without `apart`, 0 to 1000000000
+    /// (`sock_def_readable`, `try_to_wake_up`).
+    pub poll_wake: u32,
+    /// The time by which a poll takes longer, after its last delivery, if its completion starts the NAPI timer, 0 to 1000000000
+    /// (`hrtimer_start` in `napi_complete_done`). With `backlog` it does nothing.
+    pub arm: u32,
     ghost processors_in: { (1 ≤ processors) × (processors ≤ 64) },
     ghost queues_in: { (1 ≤ queues) × (queues ≤ 64) },
     ghost ring_in: { (1 ≤ ring) × (ring ≤ 65536) },
@@ -168,18 +181,29 @@ pub struct MachineSettings {
     ghost latched_in: { latched ≤ 2 },
     ghost gro_batch_in: { gro_batch ≤ 64 },
     ghost take_in: { take ≤ packet },
+    ghost early_in: { early ≤ 1000000000 },
+    ghost poll_wake_in: { poll_wake ≤ 1000000000 },
+    ghost arm_in: { arm ≤ 1000000000 },
 }
 
 impl MachineOption {
-    ghost use Rattle.std.specs.Prelude.{◌≡◌, ◌<◌, ◌⊎◌, ◌↔◌, IsTrue, slice_index_or};
-    ghost use Rattle.machine_model.specs.Options.{IsOption, OptionRule, machine_options};
+    ghost use Rattle.std.specs.Prelude.{◌≡◌, ◌<◌, ◌⊎◌, ◌↔◌, IsTrue, map, slice_index_or};
+    ghost use Rattle.machine_model.specs.Options.{IsOption, OptionRule, machine_options, row_of_option, rule_row};
+
+    // Returns the table, whose texts the proof of a row then doesn't read.
+    fn table() -> [MachineOption; OPTION_COUNT]
+        ensures { map row_of_option result ≡ map rule_row machine_options }
+    {
+        OPTIONS
+    }
 
     /// Returns the option at this position of [`OPTIONS`].
     pub(crate) fn at(i: usize) -> MachineOption
         requires { i < OPTION_COUNT }
         ensures { (o : OptionRule) → IsOption result (slice_index_or machine_options i o) }
     {
-        OPTIONS[i]
+        let table = MachineOption::table();
+        table[i]
     }
 
     // Returns whether a value is in the range of this option, or its default.
@@ -223,6 +247,8 @@ impl MachineSettings {
             Some(23)
         } else if values[18] < values[27] {
             Some(28)
+        } else if values[28] != 0 && values[21] != 0 {
+            Some(29)
         } else {
             None
         }
@@ -270,6 +296,9 @@ impl MachineSettings {
             latched: values[25],
             gro_batch: values[26],
             take: values[27],
+            early: values[28],
+            poll_wake: values[29],
+            arm: values[30],
         }
     }
 
@@ -290,7 +319,8 @@ impl MachineSettings {
     /// # Errors
     ///
     /// The number of the first value that is out of its range, counted from 1. If there is none, the number of `rx-gap`, which isn't
-    /// 0, and nor is `rx-nsecs` or `rx-frames`; or else that of `take`, which is above `packet`.
+    /// 0, and nor is `rx-nsecs` or `rx-frames`; or else that of `take`, which is above `packet`; or else that of `early`, which isn't 0,
+    /// and nor is `heedless`.
     pub fn from_values(values: &[u32; OPTION_COUNT]) -> Result<MachineSettings, u32>
         ensures settings { IfOk result (λ settings. values_of settings ≡ values.now) }
         ensures fit { IfOk result (λ settings. misfit values.now ≡ None) }
@@ -338,6 +368,9 @@ impl MachineSettings {
             self.latched,
             self.gro_batch,
             self.take,
+            self.early,
+            self.poll_wake,
+            self.arm,
         ]
     }
 }

@@ -1,13 +1,13 @@
 //! Benches, and devices on them. Each function returns whether an allocation failed once.
 
 use anyhow::{Result, ensure};
-use device_model::{DeviceBench, ReceiveSide, SerialBench, SharedBench};
+use device_model::{ReceiveSide, ReplayBench, SerialBench, SharedBench};
 use poll_engine::Bench;
 use std::alloc::{AllocError, Global};
 use std::sync::Wait;
 
 // Attaches device 2 after device 1, which has a packet. If an allocation fails, it isn't attached, and device 1 is unchanged.
-fn device_is_attached<S: ReceiveSide>(alloc: Global, bench: &mut DeviceBench<S>) -> Result<bool> {
+fn device_is_attached<S: ReceiveSide>(alloc: Global, bench: &mut ReplayBench<S>) -> Result<bool> {
     let first = bench.attach(alloc, 1, 256, 0).is_err();
     if first {
         ensure!(
@@ -47,7 +47,7 @@ pub(crate) fn bench_is_made(alloc: Global) -> Result<bool> {
 }
 
 pub(crate) fn shared_bench_is_made<R: Wait + Copy + Drop>(rt: R, alloc: Global) -> Result<bool> {
-    let (refused, mut bench) = made!(SharedBench::over(rt, alloc), AllocError);
+    let (refused, mut bench) = made!(SharedBench::new(rt, alloc), AllocError);
     let attached = device_is_attached(alloc, &mut bench);
     bench.end();
     Ok(attached? || refused)

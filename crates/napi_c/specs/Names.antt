@@ -22,7 +22,6 @@ results =
     ∷ (26, (codes "FQ_FULL", codes "there is no room"))
     ∷ (27, (codes "FQ_DONE", codes "no poll is left in the run"))
     ∷ (28, (codes "FQ_STOPPED", codes "the limit has stopped the queue"))
-    ∷ (29, (codes "FQ_MORE_THAN_SENT", codes "more packets are completed than were sent"))
     ∷ (30, (codes "FQ_NOT_DUE", codes "this is not due, and nothing has changed"))
     ∷ []
 
@@ -44,8 +43,10 @@ refusals =
     ∷ (120, (codes "FQ_BAD_TRACE", codes "the bytes are not a trace, or a row of it can't be processed"))
     ∷ (121, (codes "FQ_BAD_DEVICE", codes "the driver has no device with this number"))
     ∷ (122, (codes "FQ_BAD_SIZE", codes "a struct's size is not one that the library knows"))
-    ∷ (123, (codes "FQ_BAD_SETTING", codes "a setting of the machine is out of its range, or excludes another"))
+    ∷ (123, (codes "FQ_BAD_SETTING", codes "a setting is out of its range, or doesn't go with another"))
     ∷ (124, (codes "FQ_BAD_ARRIVALS", codes "the bytes are not arrivals"))
+    ∷ (125, (codes "FQ_MORE_THAN_SENT", codes "more packets are completed than were sent"))
+    ∷ (126, (codes "FQ_NOT_REPORTED", codes "an action waits for its report, and this is not it"))
     ∷ []
 
 -- errors of a trace (`enum fq_fault`)

@@ -25,6 +25,15 @@ has_poll_end (body.Ring ring) = true
 has_poll_end (body.Ctx ctx) = true
 has_poll_end _ = false
 
+-- the input end of a ring of places, or its output end
+abbrev pub is_place_in : Object → Bool
+is_place_in (body.PlaceIn input) = true
+is_place_in _ = false
+
+abbrev pub is_place_out : Object → Bool
+is_place_out (body.PlaceOut output) = true
+is_place_out _ = false
+
 -- a transmit ring
 abbrev pub is_tx : Object → Bool
 is_tx (body.Tx ring) = true
@@ -34,6 +43,11 @@ is_tx _ = false
 abbrev pub is_caller : Object → Bool
 is_caller (body.Caller s) = true
 is_caller _ = false
+
+-- the controller of a shared instance
+abbrev pub is_controller : Object → Bool
+is_controller (body.Controller c) = true
+is_controller _ = false
 
 -- the caller polls or busy polls
 abbrev pub is_poller : CallerState → Bool

@@ -8,4 +8,5 @@ size_in which =
     else (if which == 2 then 16
     else (if which == 3 then 16
     else (if which == 4 then 16
-    else 0))))
+    else (if which == 5 then 40
+    else 0)))))

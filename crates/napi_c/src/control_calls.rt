@@ -4,6 +4,7 @@ ghost use Rattle.c_handles.specs.Freeing.{is_control_off};
 ghost use Rattle.c_handles.specs.Handles.{ControlDoes, ControlMakes, LeadsToController};
 ghost use Rattle.c_handles.specs.CallerCalls.{ControlEnables, ControlMarks, ControlTakes};
 ghost use Rattle.c_handles.specs.Status.{OK, BAD_HANDLE};
+ghost use Rattle.napi_c.specs.Objects.{is_caller, is_controller, is_object};
 ghost use Rattle.napi_c.specs.Rules.{ControlSteps, IsSwitched, ControlStops};
 
 use crate::attempts::{EnableAttempt, TakeAttempt, repeat};
@@ -73,7 +74,7 @@ fn stop(control: &mut Controller) -> u32
     }
 }
 
-// EnableAttempt the instance.
+// Enables the instance.
 fn start(control: &mut Controller, threaded: bool) -> u32
     ensures makes { ControlSteps true threaded control.old result control.new }
     ensures on { result ≡ OK → IsSwitched true control.new.state }
@@ -106,10 +107,14 @@ pub extern "C" fn fq_control_step(handle: &mut FqHandle, on: bool, threaded: boo
     }
 }
 
-/// Returns OK if the caller belongs to the controller's instance, otherwise BAD_HANDLE.
+/// Returns OK if the caller belongs to the controller's instance, otherwise BAD_HANDLE. Both handles keep their objects.
 #[unsafe(no_mangle)]
 pub extern "C" fn fq_control_has(handle: &mut FqHandle, caller: &mut FqHandle) -> u32
-    ensures { result ≢ OK → result ≡ BAD_HANDLE }
+    ensures status { result ≢ OK → result ≡ BAD_HANDLE }
+    ensures kinds { result ≡ OK → (is_object is_controller handle.old.held.body ≡ true)
+        × (is_object is_caller caller.old.held.body ≡ true) }
+    ensures kept { (handle.new.held.body ≡ handle.old.held.body)
+        × (caller.new.held.body ≡ caller.old.held.body) }
 {
     if !handle.is_set() || !caller.is_set() {
         return status::BAD_HANDLE;

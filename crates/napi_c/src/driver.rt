@@ -1,6 +1,6 @@
 //! Drivers for C.
 ghost use Rattle.std.specs.Prelude.{◌≡◌, ◌≢◌, ◌≤◌, ◌<◌, ◌↔◌, IsSome, IfOk};
-ghost use Rattle.c_handles.specs.Drivers.{failed_in, IsDriverEndRun, IsDriverInterrupt, IsNewDriver, IsDriverNext, IsDriverOpen, IsDriverSet, IsDriverShow, IsDriverStep, IsDriverStop, IsDriverTimer, IsTodoReport, new_status};
+ghost use Rattle.c_handles.specs.Drivers.{failed_in, IsDriverEndRun, IsDriverInterrupt, IsNewDriver, IsDriverNext, IsDriverOpen, IsDriverSet, IsDriverShow, IsDriverStep, IsDriverStop, IsDriverTimer, IsDriverTurn, IsTodoReport, new_status};
 ghost use Rattle.c_handles.specs.Handles.{DriverMakes, DriverMakesIn, IsDriverWith, LeadsToDriver};
 ghost use Rattle.c_handles.specs.Status.{OK, IN_USE, OUT_OF_MEMORY, BAD_HANDLE, BAD_SIZE};
 
@@ -163,18 +163,30 @@ pub extern "C" fn fq_driver_end_run(handle: &mut FqHandle) -> u32
     }
 }
 
+/// Reports that an action was done, unless its number is 0, and the interrupts of the devices whose bits are set, and sets `todo` to the next
+/// action, like `Driver::turn_into`.
+#[tactic(auto, using(crate::proofs::DriverFacts::turn_failed))]
+#[unsafe(no_mangle)]
+pub extern "C" fn fq_driver_turn(handle: &mut FqHandle, interrupts: u64, todo: &mut FqTodo) -> u32
+    ensures makes { DriverMakes (IsDriverTurn interrupts todo.old todo.new) handle.old result
+        handle.new }
+    ensures none { result ≡ BAD_HANDLE → todo.new ≡ failed_in BAD_HANDLE }
+{
+    if !handle.is_set() {
+        return todo.fail(status::BAD_HANDLE);
+    }
+    match handle.held.as_mut() {
+        Object::Driver(driver) => drive::turn(driver, interrupts, todo),
+        _ => todo.fail(status::BAD_HANDLE),
+    }
+}
+
 /// Sets `todo` to the next action, like `Driver::next`.
 #[unsafe(no_mangle)]
-pub extern "C" fn fq_driver_next_sized(handle: &mut FqHandle, todo: &mut FqTodo) -> u32
-    ensures size { todo.old.size ≢ 72 → (result ≡ BAD_SIZE) × (todo.new ≡ todo.old)
-        × (handle.new ≡ handle.old) }
-    ensures makes { todo.old.size ≡ 72
-        → DriverMakes (IsDriverNext todo.old todo.new) handle.old result handle.new }
-    ensures none { result ≡ BAD_HANDLE → todo.new ≡ failed_in todo.old.size BAD_HANDLE }
+pub extern "C" fn fq_driver_next(handle: &mut FqHandle, todo: &mut FqTodo) -> u32
+    ensures makes { DriverMakes (IsDriverNext todo.new) handle.old result handle.new }
+    ensures none { result ≡ BAD_HANDLE → todo.new ≡ failed_in BAD_HANDLE }
 {
-    if todo.size != size_of::<FqTodo>() {
-        return status::BAD_SIZE;
-    }
     if !handle.is_set() {
         return todo.fail(status::BAD_HANDLE);
     }
@@ -187,14 +199,9 @@ pub extern "C" fn fq_driver_next_sized(handle: &mut FqHandle, todo: &mut FqTodo)
 /// Reports that an action was done, like `Driver::done`.
 #[unsafe(no_mangle)]
 pub extern "C" fn fq_driver_done(handle: &mut FqHandle, todo: &FqTodo) -> u32
-    ensures size { todo.now.size ≢ 72 → (result ≡ BAD_SIZE) × (handle.new ≡ handle.old) }
-    ensures makes { todo.now.size ≡ 72
-        → DriverMakes (IsTodoReport todo.now.number todo.now.packets todo.now.rearm)
-        handle.old result handle.new }
+    ensures { DriverMakes (IsTodoReport todo.now.number todo.now.packets todo.now.rearm) handle.old
+        result handle.new }
 {
-    if todo.size != size_of::<FqTodo>() {
-        return status::BAD_SIZE;
-    }
     if !handle.is_set() {
         return status::BAD_HANDLE;
     }
@@ -205,17 +212,12 @@ pub extern "C" fn fq_driver_done(handle: &mut FqHandle, todo: &FqTodo) -> u32
 }
 
 /// Reports that an action was done, unless its number is 0, and sets `todo` to the next action, like `Driver::step`.
+#[tactic(auto, using(crate::proofs::DriverFacts::step_failed))]
 #[unsafe(no_mangle)]
-pub extern "C" fn fq_driver_step_sized(handle: &mut FqHandle, todo: &mut FqTodo) -> u32
-    ensures size { todo.old.size ≢ 72 → (result ≡ BAD_SIZE) × (todo.new ≡ todo.old)
-        × (handle.new ≡ handle.old) }
-    ensures makes { todo.old.size ≡ 72
-        → DriverMakes (IsDriverStep todo.old todo.new) handle.old result handle.new }
-    ensures none { result ≡ BAD_HANDLE → todo.new ≡ failed_in todo.old.size BAD_HANDLE }
+pub extern "C" fn fq_driver_step(handle: &mut FqHandle, todo: &mut FqTodo) -> u32
+    ensures makes { DriverMakes (IsDriverStep todo.old todo.new) handle.old result handle.new }
+    ensures none { result ≡ BAD_HANDLE → todo.new ≡ failed_in BAD_HANDLE }
 {
-    if todo.size != size_of::<FqTodo>() {
-        return status::BAD_SIZE;
-    }
     if !handle.is_set() {
         return todo.fail(status::BAD_HANDLE);
     }

@@ -12,6 +12,7 @@ mod free;
 mod limit;
 mod list;
 mod names;
+mod places;
 mod ring;
 mod rules;
 mod serial;

@@ -21,18 +21,18 @@ fn write(text: &[u8], to: &mut [u8]) -> usize
 #[unsafe(no_mangle)]
 pub extern "C" fn fq_version(to: &mut [u8]) -> usize
     ensures length { result ≡ 5 }
-    ensures written { to.new ≡ written (codes "2.0.0") to.old }
+    ensures written { to.new ≡ written (codes "3.0.0") to.old }
     ensures kept { length to.new ≤ result → to.new ≡ to.old }
 {
-    write(b"2.0.0", to)
+    write(b"3.0.0", to)
 }
 
 /// Returns the library's version as a number, as FQ_VERSION_NUMBER of the header.
 #[unsafe(no_mangle)]
 pub extern "C" fn fq_version_number() -> u32
-    ensures { result ≡ 20000 }
+    ensures { result ≡ 30000 }
 {
-    20000
+    30000
 }
 
 /// Writes the name of a status in the same way; "?" for an unknown number.
@@ -88,7 +88,6 @@ fn status_name(status: u32) -> &'static [u8]
         26 => b"FQ_FULL",
         27 => b"FQ_DONE",
         28 => b"FQ_STOPPED",
-        29 => b"FQ_MORE_THAN_SENT",
         30 => b"FQ_NOT_DUE",
         _ => refusal_name(status),
     }
@@ -116,6 +115,8 @@ fn refusal_name(status: u32) -> &'static [u8]
         122 => b"FQ_BAD_SIZE",
         123 => b"FQ_BAD_SETTING",
         124 => b"FQ_BAD_ARRIVALS",
+        125 => b"FQ_MORE_THAN_SENT",
+        126 => b"FQ_NOT_REPORTED",
         _ => b"?",
     }
 }
@@ -143,7 +144,6 @@ fn status_message(status: u32) -> &'static [u8]
         26 => b"there is no room",
         27 => b"no poll is left in the run",
         28 => b"the limit has stopped the queue",
-        29 => b"more packets are completed than were sent",
         30 => b"this is not due, and nothing has changed",
         _ => refusal_message(status),
     }
@@ -169,8 +169,10 @@ fn refusal_message(status: u32) -> &'static [u8]
         120 => b"the bytes are not a trace, or a row of it can't be processed",
         121 => b"the driver has no device with this number",
         122 => b"a struct's size is not one that the library knows",
-        123 => b"a setting of the machine is out of its range, or excludes another",
+        123 => b"a setting is out of its range, or doesn't go with another",
         124 => b"the bytes are not arrivals",
+        125 => b"more packets are completed than were sent",
+        126 => b"an action waits for its report, and this is not it",
         _ => b"?",
     }
 }

@@ -29,7 +29,7 @@ pub extern "C" fn fq_caller_schedule_prep(handle: &mut FqHandle) -> u32
     }
 }
 
-/// CompleteAttempt a poll (`napi_complete_done`): like `fq_caller_complete`, repeated while another thread interferes. Returns RELEASED
+/// Completes a poll (`napi_complete_done`): like `fq_caller_complete`, repeated while another thread interferes. Returns RELEASED
 /// or AGAIN; HELD if the caller busy polls; NOT_ALLOWED if it doesn't poll; CHANGED only after 2^64 attempts.
 #[unsafe(no_mangle)]
 pub extern "C" fn fq_caller_complete_done(handle: &mut FqHandle) -> u32
@@ -79,7 +79,7 @@ pub extern "C" fn fq_caller_hand_again(handle: &mut FqHandle, next: &mut u32) ->
     status::OK
 }
 
-// CompleteAttempt the poll, and queues the instance again if a request was missed.
+// Completes the poll, and queues the instance again if a request was missed.
 fn complete(caller: &mut CallerObject, next: &mut u32) -> u32
     requires { next.old ≡ NEXT_GONE }
     ensures makes { CallerFinishes caller.old result next.new caller.new }

@@ -5,7 +5,7 @@ ghost use Rattle.napi_c.specs.Sizes.{size_in};
 use crate::limit::FqDql;
 use crate::serial::FqNapi;
 use crate::watch::FqTxWatchdog;
-use c_handles::FqHandle;
+use c_handles::{FqHandle, FqTodo};
 use rx_ring::Packet;
 use std::mem::size_of;
 
@@ -20,6 +20,7 @@ pub extern "C" fn fq_struct_size(which: u32) -> usize
         2 => size_of::<FqNapi>(),
         3 => size_of::<Packet>(),
         4 => size_of::<FqTxWatchdog>(),
+        5 => size_of::<FqTodo>(),
         _ => 0,
     }
 }

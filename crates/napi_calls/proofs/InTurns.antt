@@ -3,7 +3,6 @@ use Rattle.std.proofs.Common.{◌≡◌, ◌≢◌, ℕ, zero, suc, ◌+◌, ◌
 use Rattle.std.proofs.Common.{eqb-true, true≢false, refl, sym, ap, ◌∙◌, arith}
 use Rattle.napi_model.specs.declared.event.Event.{Event}
 use Rattle.{napi_model.specs.{declared.event.Operation.Operation, History.own}, napi_word.specs.declared.table.Pass.Pass}
-use Rattle.napi_calls.proofs.Alone.{own_at, own_off}
 use Rattle.napi_calls.specs.{declared.types.Napi.Napi, Seats.{pass_number, own_list}, Instance.IsNewSeat, Made.{Made, events}}
 
 -- the own list of a pass that was new and then made these operations
@@ -12,6 +11,14 @@ pub own_of : (n : Napi) (c : ℕ) (p q : Pass) (os : List Operation) (h : List E
 own_of n c p q os h new m exact =
     ap (λ (k : ℕ). own k h) (sym (m.seat.number ∙ new.number_is)) ∙ exact ∙ m.grown
     ∙ ap (λ (l : List Event). l ++ events (pass_number p) os) new.nothing_done ∙ ap (λ (k : ℕ). events k os) new.number_is
+
+own_at : (c : ℕ) (e : Event) (es : List Event) → e.caller ≡ c → own c (e ∷ es) ≡ e ∷ own c es
+unfolding own
+own_at c e es is = rw (eq-eqb e.caller c is) refl
+
+own_off : (c : ℕ) (e : Event) (es : List Event) → e.caller ≢ c → own c (e ∷ es) ≡ own c es
+unfolding own
+own_off c e es apart = rw (ne_eqb e.caller c apart) refl
 
 abbrev Few : List Event → Type 0
 Few h = (c : ℕ) → 2 < c → own c h ≡ []

@@ -1,4 +1,3 @@
-pub mod Alone
 pub mod Dealing
 pub mod Ending
 pub mod Fresh
@@ -9,4 +8,3 @@ pub mod Serving
 pub mod Standing
 pub mod Steps
 pub mod Whole
-pub mod Surveyed

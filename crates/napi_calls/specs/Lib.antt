@@ -1,4 +1,3 @@
-pub mod Alone
 pub mod Calls
 pub mod Closed
 pub mod Dealt

@@ -27,7 +27,6 @@ mod kept;
 mod polling;
 mod sharing;
 mod state;
-mod surveying;
 mod types;
 
 pub use answers::{Completed, Sched, TryBusy, TryDone, TryPrep, TryStop, TryTake};
@@ -38,5 +37,4 @@ pub use instance::{CloseBack, NewBack, close, next_caller};
 pub use kept::DropBomb;
 pub use sharing::{is_sent, is_shared};
 pub use state::{CallerState, ControlState};
-pub use surveying::{none_is_lost, one_acts_alone, survey, survey_busy, survey_polling};
 pub use types::{Busy, Caller, Control, Granted, Marked, Mode, Napi, Off, On, Polling};

@@ -30,11 +30,11 @@ abbrev pub help_text : List ℕ
 help_text =
     codes "usage: napi_machine [--OPTION VALUE ..] < ARRIVALS\n"
     ++ codes "Predicts latency, drops and processor time of a receiving Linux machine.\n"
-    ++ codes "man napi_machine, or fintaqush machine --help, explains the options.\n"
+    ++ codes "man napi_machine explains the options.\n"
 
 -- the text that `--version` asks for
 abbrev pub version_text : List ℕ
-version_text = codes "napi_machine 2.0.0\n"
+version_text = codes "napi_machine 3.0.0\n"
 
 -- the machine's report of these bytes, or their error; otherwise the reader, an allocation or the writer failed
 abbrev pub AnswersMachine : Asked → List ℕ → Result (List ℕ) MachineFault → Type 0

@@ -25,9 +25,9 @@ enum Asked {
 }
 
 const HELP: &str =
-    "usage: napi_machine [--OPTION VALUE ..] < ARRIVALS\nPredicts latency, drops and processor time of a receiving Linux machine.\nman napi_machine, or fintaqush machine --help, explains the options.\n";
+    "usage: napi_machine [--OPTION VALUE ..] < ARRIVALS\nPredicts latency, drops and processor time of a receiving Linux machine.\nman napi_machine explains the options.\n";
 
-const VERSION: &str = "napi_machine 2.0.0\n";
+const VERSION: &str = "napi_machine 3.0.0\n";
 
 // Returns whether this is the only argument.
 fn is_only(words: &[String], name: &str) -> bool

@@ -10,8 +10,9 @@ use Rattle.poll_runs.specs.{Polls.{queued_by, repolled}, declared.bench.Next.Nex
 use Rattle.poll_runs.specs.declared.bench.Next.TheVariants.{Absent, Gone, Again, Repoll}
 use Rattle.text_io.specs.{declared.settings.ReplaySettings.ReplaySettings, Lines.flag, declared.fault.ReplayFault.ReplayFault}
 use Rattle.text_io.specs.declared.fault.ReplayFault.TheVariants.{Trace}
-use Rattle.replay_rows.specs.{After.{counts_after, is_used_after, list_after, polled_after}, RaisedTrace.{raised_trace, with_added_runs}}
-use Rattle.replay_rows.specs.{Replay.after_all_rows, TraceText.fields, Report.{lines_below, spaced, state_word}, ReplayState.ReplayState}
+use Rattle.replay_raised.specs.{RaisedTrace.{raised_trace, with_added_runs}, TraceText.fields}
+use Rattle.replay_rows.specs.After.{counts_after, is_used_after, list_after, polled_after}
+use Rattle.replay_rows.specs.{Replay.after_all_rows, Report.{lines_below, spaced, state_word}, ReplayState.ReplayState}
 use Rattle.replay_rows.specs.{RunLog.{list_before, polls_in, polls_of_row}, declared.line.PollRecord.PollRecord}
 use Rattle.replay_rows.specs.{declared.line.PollRecord.TheVariants.{Softirq, Kthread, Busy}, declared.run_log.RunPoll.RunPoll}
 

@@ -13,4 +13,3 @@ pub mod Meets
 pub mod Whole
 pub mod Counting
 pub mod Closing
-pub mod Syncing

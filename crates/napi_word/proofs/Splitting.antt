@@ -5,7 +5,7 @@ use Rattle.atomic_table.specs.Table.{Splits, Joins}
 use Rattle.{atomic_table.proofs.Lists.{at_longer, at_set, at_snoc, set_again}, napi_model.specs.declared.event.Event.Event}
 use Rattle.napi_word.specs.{declared.history.{Key.Key, LocalHistory.LocalHistory, Delivery.Delivery}, Knowledge.{Knowledge, is_pass}}
 use Rattle.napi_word.specs.Rule.{Fits, Kept, Holding, left_of, right_of, copy, copy_of, joined, spent_view}
-use Rattle.napi_word.{specs.Surveys.{front, with_front, but_last, last_alone}, proofs.Keeps.{St, opened, running}}
+use Rattle.napi_word.proofs.Keeps.{St, opened, running}
 use lib.ListN.{get_elem?}
 use mathlib.Core.Option as maybe
 
@@ -186,80 +186,3 @@ pub joins : (key : Key) (id : ℕ) (v : Knowledge) (other : ℕ) (w : Knowledge)
     → Joins (Holding key) id v other w (joined v w) spent_view
 joins key id v other w p s holding at apart beside =
     inr (merged key id v other w w (λ i z e. e) s (running key s holding id v at p) at apart beside)
-
-front_from : (w : Knowledge) (i : ℕ) (z : LocalHistory) → get_elem? (front w) i ≡ maybe.some z → get_elem? w i ≡ maybe.some z
-front_from (x ∷ xs) (suc i) z e = absurd (maybe.some-ne-none z (sym e))
-front_from w i z e = e
-
-pub joins_front : (key : Key) (id : ℕ) (v : Knowledge) (other : ℕ) (w : Knowledge) → is_pass v ≡ true
-    → Joins (Holding key) id v other w (with_front v w) spent_view
-joins_front key id v other w p s holding at apart beside =
-    inr (merged key id v other w (front w) (front_from w) s (running key s holding id v at p) at apart beside)
-
--- ---- the last local history is split off into a seat of its own
-module _ (key : Key) (id : ℕ) (xs : Knowledge) (y : LocalHistory) (s : St) (r : Kept key s)
-    (at : get_elem? s.views id ≡ maybe.some (xs ++ y ∷ [])) where
-  abbrev M : ℕ
-  M = length (set s.views id xs)
-
-  abbrev parted : ℕ × ℕ → ℕ × ℕ
-  parted p = cond (eqb p.0 id) (cond (eqb p.1 (length xs)) (M, 0) p) p
-
-  parts_from : (k c : ℕ) → k < length xs → r.seat c ≡ (id, k) → parted (r.seat c) ≡ (id, k)
-  parts_from k c low e = ap parted e ∙ ap (λ (b : Bool). cond b (cond (eqb k (length xs)) (M, 0) (id, k)) (id, k)) (eq-eqb id id refl)
-      ∙ ap (λ (b : Bool). cond b (M, 0) (id, k)) (ne_eqb k (length xs) (λ same. omega (arith, low, same)))
-
-  parts_last : (c : ℕ) → r.seat c ≡ (id, length xs) → parted (r.seat c) ≡ (M, 0)
-  parts_last c e = ap parted e
-      ∙ ap (λ (b : Bool). cond b (cond (eqb (length xs) (length xs)) (M, 0) (id, length xs)) (id, length xs)) (eq-eqb id id refl)
-      ∙ ap (λ (b : Bool). cond b (M, 0) (id, length xs)) (eq-eqb (length xs) (length xs) refl)
-
-  parts_not : (j k c : ℕ) → j ≢ id → r.seat c ≡ (j, k) → parted (r.seat c) ≡ (j, k)
-  parts_not j k c apart e = ap parted e ∙ ap (λ (b : Bool). cond b (cond (eqb k (length xs)) (M, 0) (j, k)) (j, k)) (ne_eqb j id apart)
-
-  at_length : (l : Knowledge) → get_elem? (l ++ y ∷ []) (length l) ≡ maybe.some y
-  at_length [] = refl
-  at_length (x ∷ l) = at_length l
-
-  stay_fit : (k : ℕ) (z : LocalHistory) → get_elem? xs k ≡ maybe.some z → Fits key r.history r.deliveries (λ c. parted (r.seat c)) (id, k) z
-  stay_fit k z e =
-      refit key r.history r.deliveries r.seat (λ c. parted (r.seat c)) (id, k) (id, k) z (λ c. parts_from k c (within_length xs z k e))
-      (r.histories id (xs ++ y ∷ []) at k z (at_longer xs (y ∷ []) k z e))
-
-  last_fit : (k : ℕ) (z : LocalHistory) → get_elem? (y ∷ []) k ≡ maybe.some z
-      → Fits key r.history r.deliveries (λ c. parted (r.seat c)) (M, k) z
-  last_fit zero z e = refit key r.history r.deliveries r.seat (λ c. parted (r.seat c)) (id, length xs) (M, 0) z parts_last
-      (r.histories id (xs ++ y ∷ []) at (length xs) z (at_length xs ∙ e))
-  last_fit (suc k) z e = absurd (maybe.some-ne-none z (sym e))
-
-  cut : Kept key record { words = s.words; homes = s.homes; views = set s.views id xs ++ (y ∷ []) ∷ [] }
-  cut = other_views r (λ c. parted (r.seat c)) (set s.views id xs ++ (y ∷ []) ∷ [])
-      (λ j u is k z e. ⊎_elim
-      (λ (t : get_elem? (set s.views id xs) j ≡ maybe.some u). ⊎_elim
-      (λ (d : (j ≡ id) × (xs ≡ u)). subst (λ (i : ℕ). Fits key r.history r.deliveries (λ c. parted (r.seat c)) (i, k) z) (sym d.0)
-      (stay_fit k z (ap (λ (v : Knowledge). get_elem? v k) d.1 ∙ e)))
-      (λ (d : (j ≢ id) × (get_elem? s.views j ≡ maybe.some u)). refit key r.history r.deliveries r.seat (λ c. parted (r.seat c)) (j, k)
-      (j, k) z (λ c. parts_not j k c d.0) (r.histories j u d.1 k z e))
-      (at_set s.views id j xs u t))
-      (λ (t : (j ≡ M) × (y ∷ [] ≡ u)). subst (λ (i : ℕ). Fits key r.history r.deliveries (λ c. parted (r.seat c)) (i, k) z) (sym t.0)
-      (last_fit k z (ap (λ (v : Knowledge). get_elem? v k) t.1 ∙ e)))
-      (at_end (set s.views id xs) (y ∷ []) u j is))
-
-pub but_last_is : (xs : Knowledge) (y : LocalHistory) → but_last (xs ++ y ∷ []) ≡ xs
-but_last_is (x ∷ z ∷ zs) y = ap (λ (l : Knowledge). x ∷ l) (but_last_is (z ∷ zs) y)
-but_last_is xs y = refl
-
-pub last_alone_is : (xs : Knowledge) (y : LocalHistory) → last_alone (xs ++ y ∷ []) ≡ y ∷ []
-last_alone_is (x ∷ z ∷ zs) y = last_alone_is (z ∷ zs) y
-last_alone_is xs y = refl
-
-pub parts_last_of : (key : Key) (id : ℕ) (xs : Knowledge) (y : LocalHistory) (v : Knowledge) → v ≡ xs ++ y ∷ [] → is_pass v ≡ true
-    → Splits (Holding key) id v (but_last v) (last_alone v)
-parts_last_of key id xs y v is p = subst (λ (u : Knowledge). Splits (Holding key) id u (but_last u) (last_alone u)) (sym is)
-    (λ s holding at. inr
-    (subst (λ (l : Knowledge).
-    Kept key record { words = s.words; homes = s.homes; views = set s.views id l ++ last_alone (xs ++ y ∷ []) ∷ [] })
-    (sym (but_last_is xs y))
-    (subst (λ (l : Knowledge). Kept key record { words = s.words; homes = s.homes; views = set s.views id xs ++ l ∷ [] })
-    (sym (last_alone_is xs y))
-    (cut key id xs y s (running key s holding id (xs ++ y ∷ []) at (ap is_pass (sym is) ∙ p)) at))))

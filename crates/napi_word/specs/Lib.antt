@@ -6,5 +6,3 @@ pub mod Operations
 pub mod Atoms
 pub mod Passes
 pub mod Ends
-pub mod Runs
-pub mod Surveys

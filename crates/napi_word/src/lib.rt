@@ -22,7 +22,6 @@ mod rule;
 mod slot;
 mod step_kinds;
 mod steps;
-mod surveying;
 mod table;
 
 pub use ending::{Ended, end};

@@ -1,7 +1,6 @@
 //! The kinds of steps. Each determines its operation, and how it moves the slot, from the word that it finds.
 ghost use Rattle.napi_word.specs.Rule.{left_of, right_of, copy_of, joined, spent_view};
 ghost use Rattle.napi_word.specs.Operations.{makes_as_seen, exchanged, table_begun, slot_returned};
-ghost use Rattle.napi_word.specs.Surveys.{Surveyed, with_front, but_last, last_alone};
 
 use crate::history::Knowledge;
 use atomic_table::{Join, Play, Split};
@@ -297,29 +296,4 @@ impl Join<Knowledge> for JoinsPass {
     ghost both = { joined };
 
     ghost spent = { spent_view };
-}
-
-/// One pass joins only the other's own local history.
-pub(crate) struct JoinsOwn;
-
-impl Join<Knowledge> for JoinsOwn {
-    ghost both = { with_front };
-
-    ghost spent = { spent_view };
-}
-
-/// The local history that was joined last is split off into a seat of its own.
-pub(crate) struct PartsLast;
-
-impl Split<Knowledge> for PartsLast {
-    ghost left = { but_last };
-
-    ghost right = { last_alone };
-}
-
-/// A look of the seat's own local history, which brings its other local histories up to date.
-pub(crate) struct Surveying;
-
-impl Play<Option<RxCtx>, Knowledge> for Surveying {
-    ghost then = { λ s. Surveyed };
 }

@@ -1,9 +1,9 @@
-//! Tests of the poll list to which several threads push.
+//! Tests of the poll list to which several threads push: two examples worked out by hand, and what no contract says.
 
 ghost use Rattle.std.specs.Prelude.{◌≡◌, [], ◌∷◌, IfOk};
 ghost use Rattle.poll_engine.specs.SharedLists.{IsInOf, IsNewList, in_hand, pushed_by};
 
-use poll_engine::{ListIn, PollList, SharedList, SoftList, shared_list};
+use poll_engine::{ListFault, ListIn, PollList, SharedList, SoftList, end_list, shared_list};
 use std::alloc::Global;
 use std::sync::Wait;
 use std::test::Fail;
@@ -35,6 +35,50 @@ fn spliced<R: Wait>(list: &mut SharedList<R>) -> SoftList
     let mut soft = SoftList::new();
     list.splice(&mut soft);
     soft
+}
+
+/// Returns a list with one number.
+fn only(id: u32) -> SoftList
+    ensures { result ≡ id ∷ [] }
+{
+    let mut soft = SoftList::new();
+    soft.append(id);
+    soft
+}
+
+// what is left, then what arrived meanwhile, then what is polled again
+#[test]
+fn shared_list_order(rt: HostRuntime) -> Result<(), Fail> {
+    let none = shared_list(&rt, rt.alloc(), 0).err();
+    assert_eq!(rt; none, Some(ListFault::BadSize));
+    let (mut list, mut first, _second) = two_ended(&rt, rt.alloc())?;
+    first.push(3);
+    first.push(5);
+    assert_eq!(rt; spliced(&mut list).ids(), [3, 5].as_slice());
+    first.push(9);
+    list.put_back(&only(7), &only(3));
+    assert_eq!(rt; spliced(&mut list).ids(), [7, 9, 3].as_slice());
+    Ok(())
+}
+
+#[test]
+fn list_read_off(rt: HostRuntime) -> Result<(), Fail> {
+    let (mut list, mut first, mut second) = two_ended(&rt, rt.alloc())?;
+    first.push(3);
+    second.push(4);
+    first.push(5);
+    let mut soft = SoftList::new();
+    assert_eq!(rt; list.splice(&mut soft), 3);
+    assert_eq!(rt; soft.ids(), [3, 4, 5].as_slice());
+    second.push(6);
+    let Err(mut back) = end_list(list, vec![in rt.alloc(); first]?) else {
+        panic!(rt; "ended with one of two ends");
+    };
+    assert_eq!(rt; back.fault, ListFault::NotAll);
+    back.ins.push(second).ok().ok_or("no memory")?;
+    let left = end_list(back.list, back.ins).ok().ok_or("not all")?;
+    assert_eq!(rt; left.ids(), [6].as_slice());
+    Ok(())
 }
 
 // an end fills the queue of 64 entries; a push at the poller's own end doesn't wait then, because the poller holds the queue's

@@ -12,10 +12,10 @@ pub use Rattle.text_io.specs.Stops
 pub use Rattle.text_io.specs.Written
 pub use Rattle.text_io.specs.declared.fault.ReplayFault
 pub use Rattle.replay_rows.specs.Answer
-pub use Rattle.replay_rows.specs.Raised
-pub use Rattle.replay_rows.specs.RaisedTrace
+pub use Rattle.replay_raised.specs.Raised
+pub use Rattle.replay_raised.specs.RaisedTrace
 pub use Rattle.replay_rows.specs.Report
-pub use Rattle.replay_rows.specs.TraceText
+pub use Rattle.replay_raised.specs.TraceText
 pub mod Script
 pub mod ScriptShown
 pub mod Dealing

@@ -2,8 +2,9 @@
 //! the exit status of an error. A replay runs on one thread, by one thread on instances that threads could share, or with
 //! threads. The crate also has the command line that selects one of these.
 //!
-//! This is a facade: `text_io` has the command line, the settings and the errors, and `replay_rows` the replay on one thread;
-//! the other two kinds are here. `specs/Lib.antt` re-exports what contracts cite. The program `napi_replay` makes these calls.
+//! This is a facade: `text_io` has the command line, the settings and the errors, `replay_rows` the replay on one thread, and
+//! `replay_raised` the runs that the kernel adds; the other two kinds of replay are here. `specs/Lib.antt` re-exports what
+//! contracts cite. The program `napi_replay` makes these calls.
 #![tactic(auto)]
 
 mod dealing;
@@ -15,7 +16,8 @@ mod stations;
 mod threads;
 
 pub use polled::Polled;
-pub use replay_rows::{raise_rows, raise_trace, raised_is_trace, replay_serial};
+pub use replay_raised::{raise_rows, raise_trace, raised_is_trace};
+pub use replay_rows::{Replay, replay_serial};
 pub use script::{ScriptDevice, opening_of};
 pub use shared::replay_shared;
 pub use text_io::{

@@ -1,4 +1,3 @@
 pub mod PlayFacts
-pub mod RaisedFacts
 pub mod RunFacts
 pub mod RunLogFacts

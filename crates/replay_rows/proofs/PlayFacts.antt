@@ -4,7 +4,8 @@ use Rattle.std.proofs.{Common.{append_assoc, take, drop, get_or, ap, refl, sym, 
 use Rattle.std.specs.Prelude.{Result, if◌then◌else◌}
 use Rattle.{device_bench.specs.Transmits.Transmits, device_rows.specs.declared.row.Row.Row}
 use Rattle.replay_rows.specs.{Replay.{after_row, after_rows, is_early, start, after_all_rows}, Report.{report_of, serial_report}}
-use Rattle.replay_rows.specs.{Refused.IsSerialFault, Transmits.{after_transmit, after_transmits, transmits_of}, ReplayState.ReplayState}
+use Rattle.replay_rows.specs.{Refused.{IsRowFault, IsSerialFault}, Transmits.{after_transmit, after_transmits, transmits_of}}
+use Rattle.replay_rows.specs.{ReplayState.ReplayState}
 use Rattle.text_io.specs.{declared.fault.ReplayFault.ReplayFault, declared.fault.ReplayFault.TheVariants.{OutputFailed, Pending}}
 use Rattle.text_io.specs.declared.settings.ReplaySettings.{ReplaySettings}
 
@@ -103,6 +104,10 @@ report_written s version rows e = by (after_all_rows s rows) refl e
 pub unwritten : (s : ReplaySettings) (rows : List Row) (fault : ReplayFault) → IsSerialFault s rows fault → fault ≡ OutputFailed → ⊥
 unwritten s rows fault (inl memory) = λ failed. cc (sym memory.0 ∙ failed)
 unwritten s rows fault (inr early) = λ failed. report_written s 1 rows (early 1 ∙ ap Err failed)
+
+pub unwritten-by : (fault : ReplayFault) → IsRowFault fault → fault ≡ OutputFailed → ⊥
+unwritten-by fault (inl memory) = λ failed. cc (sym memory.0 ∙ failed)
+unwritten-by fault (inr early) = λ failed. cc (sym early.1 ∙ failed)
 
 -- four parts of a text, concatenated in any grouping
 pub four-parts : (a b c d : List ℕ) → ((a ++ b) ++ c) ++ d ≡ a ++ (b ++ (c ++ d))

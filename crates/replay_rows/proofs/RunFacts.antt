@@ -1,6 +1,6 @@
 -- A run over the poll list is the one that the definition computes, and the list never has more entries than there are devices
 -- that wait on it.
-use Rattle.std.proofs.Common.{◌≡◌, ℕ, ◌+◌, ◌≤◌, cond, List, [], ◌∷◌, ◌++◌, length, length-append, take, drop, ap, refl, arith}
+use Rattle.std.proofs.Common.{◌≡◌, true, ℕ, ◌+◌, ◌≤◌, cond, List, [], ◌∷◌, ◌++◌, length, length-append, take, drop, ap, refl, arith}
 use Rattle.{std.{proofs.lemmas.List.{length-drop, length-take, Sums.sum_by-cons}, specs.Prelude.sum_by}}
 use Rattle.device_bench.specs.{Bench.{BenchDevices, polled_at}, DeviceBench.{IsListPoll, ShowsTransmits, devices_of, waiting_of}}
 use Rattle.device_bench.specs.{Transmits.KeepsTransmits, Waiting.leaves, declared.bench.DeviceBench.DeviceBench}
@@ -35,11 +35,11 @@ pub record IsRunOf (s : ReplaySettings) (devices : BenchDevices) (list : List �
 -- the law of runs on a view of the bench, for the view that shows its devices
 pub only-run : {S Kit End : Type 0} {g : Ghosts S Kit End} (s : ReplaySettings) (before after : DeviceBench S Kit End g)
     (list left : List ℕ) (polls : List Poll) (report : RunReport)
-    → Leads s before polls after → IsPlainRun s.budget s.window list polls left report
+    → g.exact ≡ true → Leads s before polls after → IsPlainRun s.budget s.window list polls left report
     → IsRunOf s (devices_of before) list polls (devices_of after) left report
-only-run s before after list left polls report leads run =
+only-run s before after list left polls report x leads run =
     let is =
-    run-is-shown IsListPoll devices_of polled_at (λ b a id weight once h. h.exact) s.budget s.weight s.window
+    run-is-shown IsListPoll devices_of polled_at (λ b a id weight once h. h.exact x) s.budget s.weight s.window
     s.budget_in.0 s.window_in.0 before after list left polls report leads run in
     record { polls_are = is.0; devices_after = is.1; list_after = is.2; reported = is.3 }
 
@@ -50,14 +50,14 @@ leavers polls = sum_by (λ poll. leaves poll.once.next) polls
 
 waits-less : {S Kit End : Type 0} {g : Ghosts S Kit End} (s : ReplaySettings) (before after : DeviceBench S Kit End g)
     (polls : List Poll)
-    → Leads s before polls after → waiting_of before ≤ waiting_of after + leavers polls
+    → g.exact ≡ true → Leads s before polls after → waiting_of before ≤ waiting_of after + leavers polls
 unfolding leavers
-waits-less s before after [] leads = rw leads (omega arith)
-waits-less s before after (poll ∷ polls) leads =
+waits-less s before after [] x leads = rw leads (omega arith)
+waits-less s before after (poll ∷ polls) x leads =
     omega (
       arith,
-      leads.1.waits,
-      waits-less s leads.0 after polls leads.2,
+      leads.1.waits x,
+      waits-less s leads.0 after polls x leads.2,
       sum_by-cons
           (λ (p : Poll). leaves p.once.next) poll polls,
     )
@@ -89,9 +89,9 @@ each-goes (poll ∷ polls) =
 
 pub run-room : {S Kit End : Type 0} {g : Ghosts S Kit End} (s : ReplaySettings) (before after : DeviceBench S Kit End g)
     (list left : List ℕ) (polls : List Poll) (report : RunReport)
-    → Leads s before polls after → IsPlainRun s.budget s.window list polls left report → length list ≤ waiting_of before
+    → g.exact ≡ true → Leads s before polls after → IsPlainRun s.budget s.window list polls left report → length list ≤ waiting_of before
     → length left ≤ waiting_of after
-run-room s before after list left polls report leads run room =
+run-room s before after list left polls report x leads run room =
     let afterwards = list-afterwards s.budget s.window list left polls report run in
     let all : List ℕ = list ++ queued_by polls in
     let polled : length (ids polls) ≡ length (take (length polls) all) = ap length afterwards.0 in
@@ -107,5 +107,5 @@ run-room s before after list left polls report leads run room =
       length-append list (queued_by polls),
       length-append (drop (length polls) all) (repolled polls),
       each-goes polls,
-      waits-less s before after polls leads,
+      waits-less s before after polls x leads,
     )

@@ -1,9 +1,6 @@
 pub mod After
 pub mod Answer
 pub mod Played
-pub mod Raised
-pub mod RaisedTrace
-pub mod Raising
 pub mod Refused
 pub mod Replay
 pub mod ReplayState
@@ -11,6 +8,5 @@ pub mod Report
 pub mod Run
 pub mod RunLog
 pub mod Softirq
-pub mod TraceText
 pub mod Transmits
 pub mod TransmitLine

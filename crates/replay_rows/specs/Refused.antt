@@ -9,6 +9,10 @@ use Rattle.text_io.specs.{declared.fault.ReplayFault.TheVariants.Pending, declar
 abbrev pub IsSerialFault : ReplaySettings → List Row → ReplayFault → Type 0
 IsSerialFault s rows fault = IsReplayOutOfMemory fault ⊎ ((version : ℕ) → serial_report s version rows ≡ Err fault)
 
+-- the errors that the rows can have: an allocation failed, or an enable row met a pending disable
+abbrev pub IsRowFault : ReplayFault → Type 0
+IsRowFault fault = IsReplayOutOfMemory fault ⊎ ((n : ℕ) × (fault ≡ Pending n))
+
 -- the error of row n, in the state after the rows before it
 abbrev pub IsRefusedAt : ℕ → Row → ReplayState → ReplayFault → Type 0
 IsRefusedAt n row w fault =

@@ -2,15 +2,12 @@
 //! bytes of the trace to the bytes of the report, or the message and the exit status of an error.
 //!
 //! [`replay_serial`] replays on one thread, and a [`Replay`] on any bench. [`SerialReplay`] processes the rows one by one, for
-//! programs that read the state after each, and the polls of each run. [`raise_trace`] adds the runs that the kernel would make.
+//! programs that read the state after each, and the polls of each run.
 #![tactic(auto)]
 
 mod line;
-mod raise;
-mod raised;
 mod replay;
 mod report;
-mod rows_text;
 mod run_log;
 mod serial;
 mod serial_replay;
@@ -19,11 +16,10 @@ mod transmit_line;
 mod whole;
 
 pub use line::PollRecord;
-pub use raise::raise_trace;
-pub use raised::{raise_rows, raised_is_trace};
-pub use replay::Replay;
+pub use replay::{Replay, room_for_lines};
 pub use report::{add_numbers, state_word};
 pub use run_log::RunPoll;
 pub use serial::replay_serial;
 pub use serial_replay::SerialReplay;
+pub use softirq::is_softirq;
 pub use transmit_line::add_transmit;

@@ -1,6 +1,6 @@
 //! Processing the rows of a trace on any bench, for all modes that process rows.
 
-ghost use Rattle.std.specs.Prelude.{◌≡◌, ◌≤◌, [], IfOk, length};
+ghost use Rattle.std.specs.Prelude.{◌≡◌, ◌≤◌, [], IfOk, length, true};
 ghost use Rattle.device_bench.specs.DeviceBench.{waiting_of};
 ghost use Rattle.poll_runs.specs.Ranges.{IsRounds};
 
@@ -23,12 +23,12 @@ pub struct Replay<S: ReceiveSide> {
     pub(crate) bench: DeviceBench<S>,
     pub(crate) list: PlainList,
     pub(crate) lines: Vec<PollRecord>,
-    // Each entry of the list is a device that waits on it, so the list has room for all of them.
-    ghost room: { length list ≤ waiting_of bench },
+    // If the bench is exact, each entry of the list is a device that waits on it, so the list has room for all of them.
+    ghost room: { S.exact ≡ true → length list ≤ waiting_of bench },
 }
 
 /// Returns an empty list of lines, with room for the line of each row that polls.
-pub(crate) fn room_for_lines(alloc: Global, rows: &[Row]) -> Result<Vec<PollRecord>, AllocError>
+pub fn room_for_lines(alloc: Global, rows: &[Row]) -> Result<Vec<PollRecord>, AllocError>
     ensures { IfOk result (λ lines. lines.items ≡ []) }
 {
     let polling = rows
@@ -50,7 +50,7 @@ impl<S: ReceiveSide> Replay<S> {
     ghost use Rattle.device_rows.specs.Trace.{AcceptedAfter};
     ghost use Rattle.device_bench.specs.Waiting.{one_when, is_left_to_list};
     ghost use Rattle.replay_rows.specs.Played.{replay_state};
-    ghost use Rattle.replay_rows.specs.Refused.{IsSerialFault, IsRefusedAt};
+    ghost use Rattle.replay_rows.specs.Refused.{IsRowFault, IsSerialFault, IsRefusedAt};
     ghost use Rattle.replay_rows.specs.Replay.{after_event, after_row, entry, is_early, start, with_busy, with_packet, with_run, with_thread, after_all_rows};
     ghost use Rattle.replay_rows.specs.Run.{replay_run};
     ghost use Rattle.replay_rows.specs.RunLog.{logged, row_list, row_polls};
@@ -72,32 +72,46 @@ impl<S: ReceiveSide> Replay<S> {
 
     // Handles the arrival of a packet. If that queues the device on the list, it pushes the number.
     fn rx(&mut self, device: u32, bytes: u32)
-        ensures state { replay_state self.new
+        ensures state { S.exact ≡ true → replay_state self.new
             ≡ with_packet device bytes (replay_state self.old) }
         ensures transmits { KeepsTransmits ShowsTransmits self.old.bench self.new.bench }
         ensures lines { self.new.lines ≡ self.old.lines }
     {
         if matches!(self.bench.arrive(device, bytes), Some(Kind::List)) {
+            self.push(device);
+        }
+    }
+
+    // Pushes the number of a device that was queued on the list. A device waits there at most once, so there is room for it; if
+    // the bench isn't exact, no clause says so.
+    fn push(&mut self, device: u32)
+        requires { S.exact ≡ true → length self.old.list + 1 ≤ waiting_of self.old.bench }
+        ensures list { S.exact ≡ true → self.new.list ≡ self.old.list ++ device ∷ [] }
+        ensures bench { self.new.bench ≡ self.old.bench }
+        ensures lines { self.new.lines ≡ self.old.lines }
+    {
+        if self.list.ids().len() < 64 {
             self.list.push(device);
         }
     }
 
     // Pushes the device's number if a poll that ended like this queued the device on the list.
     fn list_left(&mut self, device: u32, next: Next)
-        requires { length self.old.list + one_when (is_left_to_list next)
+        requires { S.exact ≡ true → length self.old.list + one_when (is_left_to_list next)
             ≤ waiting_of self.old.bench }
-        ensures list { self.new.list ≡ self.old.list ++ entry (is_left_to_list next) device }
+        ensures list { S.exact ≡ true → self.new.list
+            ≡ self.old.list ++ entry (is_left_to_list next) device }
         ensures bench { self.new.bench ≡ self.old.bench }
         ensures lines { self.new.lines ≡ self.old.lines }
     {
         if matches!(next, Next::Again(Kind::List) | Next::Repoll) {
-            self.list.push(device);
+            self.push(device);
         }
     }
 
     // Makes one run over the poll list, and adds its line.
     fn run(&mut self, settings: &ReplaySettings, row: u32) -> Result<(), AllocError>
-        ensures state { OnOk result (replay_state self.new
+        ensures state { S.exact ≡ true → OnOk result (replay_state self.new
             ≡ with_run settings.now row (replay_state self.old)) }
         ensures lines { OnOk result
             (length self.new.lines.items ≡ length self.old.lines.items + 1) }
@@ -123,13 +137,14 @@ impl<S: ReceiveSide> Replay<S> {
     ) -> Result<(), AllocError>
         requires list { log.old.list.items ≡ [] }
         requires polls { log.old.polls.items ≡ [] }
-        ensures state { OnOk result (replay_state self.new
+        ensures state { S.exact ≡ true → OnOk result (replay_state self.new
             ≡ with_run settings.now row (replay_state self.old)) }
         ensures lines { OnOk result
             (length self.new.lines.items ≡ length self.old.lines.items + 1) }
         ensures transmits { KeepsTransmits ShowsTransmits self.old.bench self.new.bench }
         ensures list { OnOk result (log.new.list.items ≡ self.old.list) }
-        ensures polls { OnOk result ((all : Transmits) → ShowsTransmits self.old.bench all
+        ensures polls { S.exact ≡ true
+            → OnOk result ((all : Transmits) → ShowsTransmits self.old.bench all
             → log.new.polls.items ≡ logged settings.now all (devices_of self.old.bench)
             (replay_run settings.now (devices_of self.old.bench) self.old.list).0.polls) }
     {
@@ -146,7 +161,7 @@ impl<S: ReceiveSide> Replay<S> {
         row: u32,
         device: u32,
     ) -> Result<(), AllocError>
-        ensures state { OnOk result (replay_state self.new
+        ensures state { S.exact ≡ true → OnOk result (replay_state self.new
             ≡ with_thread settings.now row device (replay_state self.old)) }
         ensures lines { OnOk result
             (length self.new.lines.items ≡ length self.old.lines.items + 1) }
@@ -173,7 +188,7 @@ impl<S: ReceiveSide> Replay<S> {
         rounds: u32,
     ) -> Result<(), AllocError>
         requires { IsRounds rounds }
-        ensures state { OnOk result (replay_state self.new
+        ensures state { S.exact ≡ true → OnOk result (replay_state self.new
             ≡ with_busy settings.now row device rounds (replay_state self.old)) }
         ensures lines { OnOk result
             (length self.new.lines.items ≡ length self.old.lines.items + 1) }
@@ -189,8 +204,15 @@ impl<S: ReceiveSide> Replay<S> {
         Ok(())
     }
 
-    /// Processes the row's event. After each row the caller tries each pending disable once, by `settle`.
-    pub(crate) fn play_event(
+    /// The numbers on the poll list, the next one first.
+    pub fn list(&self) -> &[u32]
+        ensures { result.now ≡ self.now.list }
+    {
+        self.list.ids()
+    }
+
+    // Processes the row's event. After each row the caller tries each pending disable once, by `settle`.
+    fn play_event(
         &mut self,
         alloc: Global,
         settings: &ReplaySettings,
@@ -199,12 +221,13 @@ impl<S: ReceiveSide> Replay<S> {
     ) -> Result<(), ReplayFault>
         requires device { device_fits row.now.event row.now.device ≡ true }
         requires value { value_fits row.now.event row.now.value ≡ true }
-        ensures on_time { OnOk result
+        ensures on_time { S.exact ≡ true → OnOk result
             (is_early row.now.event row.now.device (replay_state self.old) ≡ false) }
-        ensures state { OnOk result (replay_state self.new
+        ensures state { S.exact ≡ true → OnOk result (replay_state self.new
             ≡ after_event settings.now number row.now.event row.now
             (replay_state self.old)) }
-        ensures fault { IfErr result
+        ensures own { IfErr result IsRowFault }
+        ensures fault { S.exact ≡ true → IfErr result
             (IsRefusedAt number row.now (replay_state self.old)) }
         ensures transmits { OnOk result
             (Changes ShowsTransmits (after_transmit row.now) self.old.bench self.new.bench) }
@@ -230,7 +253,34 @@ impl<S: ReceiveSide> Replay<S> {
         Ok(())
     }
 
-    /// Processes one row, tries each pending disable once, and logs the polls of a softirq row.
+    /// Processes one row, and then tries each pending disable once.
+    pub fn play_row(
+        &mut self,
+        alloc: Global,
+        settings: &ReplaySettings,
+        number: u32,
+        row: &Row,
+    ) -> Result<(), ReplayFault>
+        requires device { device_fits row.now.event row.now.device ≡ true }
+        requires value { value_fits row.now.event row.now.value ≡ true }
+        ensures on_time { S.exact ≡ true → OnOk result
+            (is_early row.now.event row.now.device (replay_state self.old) ≡ false) }
+        ensures state { S.exact ≡ true → OnOk result (replay_state self.new
+            ≡ after_row settings.now number row.now (replay_state self.old)) }
+        ensures own { IfErr result IsRowFault }
+        ensures fault { S.exact ≡ true → IfErr result
+            (IsRefusedAt number row.now (replay_state self.old)) }
+        ensures transmits { OnOk result
+            (Changes ShowsTransmits (after_transmit row.now) self.old.bench self.new.bench) }
+        ensures lines { OnOk result
+            (length self.new.lines.items ≤ length self.old.lines.items + 1) }
+    {
+        self.play_event(alloc, settings, number, row)?;
+        self.bench.settle();
+        Ok(())
+    }
+
+    /// Like `play_row`, and logs the polls of a softirq row.
     pub(crate) fn play_logged(
         &mut self,
         alloc: Global,
@@ -241,25 +291,24 @@ impl<S: ReceiveSide> Replay<S> {
     ) -> Result<(), ReplayFault>
         requires device { device_fits row.now.event row.now.device ≡ true }
         requires value { value_fits row.now.event row.now.value ≡ true }
-        ensures on_time { OnOk result
+        ensures on_time { S.exact ≡ true → OnOk result
             (is_early row.now.event row.now.device (replay_state self.old) ≡ false) }
-        ensures state { OnOk result (replay_state self.new
+        ensures state { S.exact ≡ true → OnOk result (replay_state self.new
             ≡ after_row settings.now number row.now (replay_state self.old)) }
-        ensures fault { IfErr result
+        ensures fault { S.exact ≡ true → IfErr result
             (IsRefusedAt number row.now (replay_state self.old)) }
         ensures transmits { OnOk result
             (Changes ShowsTransmits (after_transmit row.now) self.old.bench self.new.bench) }
         ensures list { OnOk result
             (log.new.list.items ≡ row_list row.now (replay_state self.old)) }
-        ensures polls { OnOk result ((all : Transmits) → ShowsTransmits self.old.bench all
+        ensures polls { S.exact ≡ true
+            → OnOk result ((all : Transmits) → ShowsTransmits self.old.bench all
             → log.new.polls.items
             ≡ row_polls settings.now all row.now (replay_state self.old)) }
     {
         log.clear();
         if !is_softirq(row.event) {
-            self.play_event(alloc, settings, number, row)?;
-            self.bench.settle();
-            return Ok(());
+            return self.play_row(alloc, settings, number, row);
         }
         self.run_with(settings, number, log)?;
         self.bench.settle();
@@ -278,12 +327,13 @@ impl<S: ReceiveSide> Replay<S> {
         requires count { length rows.now ≤ 100000 }
         requires start { replay_state self.old ≡ start }
         requires lines { self.old.lines.items ≡ [] }
-        ensures state { OnOk result
+        ensures state { S.exact ≡ true → OnOk result
             (after_all_rows settings.now rows.now ≡ Ok (replay_state self.new)) }
         ensures transmits { OnOk result
             (Changes ShowsTransmits (after_transmits rows.now) self.old.bench self.new.bench) }
         ensures lines { OnOk result (length self.new.lines.items ≤ 100000) }
-        ensures fault { IfErr result (IsSerialFault settings.now rows.now) }
+        ensures own { IfErr result IsRowFault }
+        ensures fault { S.exact ≡ true → IfErr result (IsSerialFault settings.now rows.now) }
     {
         for (i, row) in rows.iter().enumerate() {
             self.play_event(alloc, settings, i as u32 + 1, row)?;

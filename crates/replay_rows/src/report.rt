@@ -251,14 +251,14 @@ fn add_totals(text: &mut String, totals: &RunTotals) -> Result<(), AllocError>
 }
 
 impl<S: ReceiveSide> Replay<S> {
-    ghost use Rattle.std.specs.Prelude.{◌≡◌, ◌++◌, IfOk, OnOk, string_bytes};
+    ghost use Rattle.std.specs.Prelude.{◌≡◌, ◌++◌, IfOk, OnOk, string_bytes, true};
     ghost use Rattle.device_bench.specs.{DeviceBench.ShowsTransmits, Transmits.Transmits};
     ghost use Rattle.replay_rows.specs.Played.{replay_state};
     ghost use Rattle.replay_rows.specs.Report.{lines_below, lines_of, serial_text};
 
     // Appends the lines of each device, by increasing number.
     fn add_devices(&self, version: u32, text: &mut String) -> Result<(), AllocError>
-        ensures { (all : Transmits) → ShowsTransmits self.now.bench all
+        ensures { S.exact ≡ true → (all : Transmits) → ShowsTransmits self.now.bench all
             → OnOk result (string_bytes text.new ≡ string_bytes text.old
             ++ lines_below (lines_of version (replay_state self.now) all) 17) }
     {
@@ -275,7 +275,8 @@ impl<S: ReceiveSide> Replay<S> {
     #[tactic(auto, unfolding(crate::specs::Report::text_by))]
     pub(crate) fn report(&self, alloc: Global, version: u32) -> Result<String, AllocError>
         requires { length self.now.lines.items ≤ 100000 }
-        ensures { (all : Transmits) → ShowsTransmits self.now.bench all → IfOk result
+        ensures { S.exact ≡ true → (all : Transmits) → ShowsTransmits self.now.bench all
+            → IfOk result
             (λ text. string_bytes text ≡ serial_text version (replay_state self.now)
             all) }
     {

@@ -1,6 +1,6 @@
 //! A run over the poll list that keeps its polls.
 
-ghost use Rattle.std.specs.Prelude.{◌≡◌, ◌≤◌, ◌+◌, [], IfOk, OnOk, length, vec_capacity, vec_len};
+ghost use Rattle.std.specs.Prelude.{◌≡◌, ◌≤◌, ◌+◌, [], IfOk, OnOk, length, true, vec_capacity, vec_len};
 ghost use Rattle.device_bench.specs.Bench.{counts_at};
 ghost use Rattle.device_bench.specs.DeviceBench.{IsListPoll, ShowsTransmits, devices_of};
 ghost use Rattle.device_places.specs.Places.{at};
@@ -70,7 +70,7 @@ impl RunLog {
 
 /// Returns what a report would show of a device, or `None` if there is no such device.
 pub(crate) fn counts_of<S: ReceiveSide>(bench: &DeviceBench<S>, device: u32) -> Option<DeviceCounts>
-    ensures { (all : Transmits) → ShowsTransmits bench.now all
+    ensures { S.exact ≡ true → (all : Transmits) → ShowsTransmits bench.now all
         → result ≡ counts_at (at device (devices_of bench.now)) (tx_counts_of (at device all)) }
 {
     if !bench.is_attached(device) {
@@ -93,7 +93,8 @@ pub(crate) fn run_logged<S: ReceiveSide>(
         bench.new }
     ensures run { IsPlainRun settings.now.budget settings.now.window list.old
         (polls_in polls.new.items) list.new result }
-    ensures logged { (all : Transmits) → ShowsTransmits bench.old all → polls.new.items
+    ensures logged { S.exact ≡ true → (all : Transmits) → ShowsTransmits bench.old all
+        → polls.new.items
         ≡ logged settings.now all (devices_of bench.old) (polls_in polls.new.items) }
 {
     let mut run = PollingRun::begin(list, settings.budget, settings.weight, settings.window);

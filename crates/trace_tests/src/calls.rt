@@ -7,7 +7,7 @@ use std::alloc::Global;
 use std::test::Fail;
 
 // Changes of the values, one after the other: the place, its value, and the number that is refused then, or 0.
-const CHANGES: [(usize, u32, u32); 11] = [
+const CHANGES: [(usize, u32, u32); 19] = [
     (6, 65, 7),
     (6, 64, 0),
     (10, 1, 0),
@@ -19,6 +19,14 @@ const CHANGES: [(usize, u32, u32); 11] = [
     (25, 2, 0),
     (27, 1001, 28),
     (27, 1000, 0),
+    (28, 1_000_000_001, 29),
+    (28, 1_000_000_000, 0),
+    (21, 1, 29),
+    (28, 0, 0),
+    (29, 1_000_000_001, 30),
+    (29, 1_000_000_000, 0),
+    (30, 1_000_000_001, 31),
+    (30, 1_000_000_000, 0),
 ];
 
 /// Returns the machine that these arguments, separated by spaces, ask for.
@@ -58,8 +66,18 @@ fn values_are_settings(rt: HostRuntime) -> Result<(), Fail> {
         }
         assert_eq!(rt; refused(&values), number, "value {value} at {place}");
     }
-    let names = [name_of(6), name_of(22), name_of(25), name_of(27)];
-    assert_eq!(rt; names, ["weight", "rx-gap", "latched", "take"]);
+    let names = [
+        name_of(6),
+        name_of(21),
+        name_of(22),
+        name_of(27),
+        name_of(28),
+        name_of(30),
+    ];
+    assert_eq!(rt;
+        names,
+        ["weight", "heedless", "rx-gap", "take", "early", "arm"]
+    );
     Ok(())
 }
 

@@ -1,8 +1,7 @@
-//! The public types and calls that a program of each kind needs, each used as a user writes it: a name that is lost, or a
-//! signature that changes, stops this crate.
+//! The public types and calls of the lower facades, from `napi_model` to `napi_calls`, each used as a user writes it: a name that is
+//! lost, or a signature that changes, stops this crate.
 
-ghost use Rattle.std.specs.Prelude.{◌≡◌, ◌≤◌, [], ℕ, IsSome, IsTrue, Some, false, length, slice_get, true, vec_items};
-ghost use Rattle.std.specs.List.{All};
+ghost use Rattle.std.specs.Prelude.{◌≡◌, ◌+◌, ℕ, Some, false, length, slice_get, true};
 ghost use Rattle.napi_model.specs.Serial.{serial_controller, state_of};
 ghost use Rattle.napi_model.specs.Step.{IsControl, MayHand};
 ghost use Rattle.napi_model.specs.declared.state.Kind.TheVariants as kind;
@@ -12,34 +11,19 @@ ghost use Rattle.dql_core.specs.Dql.{IsNewLimit};
 ghost use Rattle.napi_calls.specs.declared.types.Caller.{Caller};
 ghost use Rattle.napi_calls.specs.Instance.{IsSeatOf};
 ghost use Rattle.napi_calls.specs.Seats.{PutsIntoRingOf};
-ghost use Rattle.poll_engine.specs.Numbers.{have_distinct_numbers};
-ghost use Rattle.poll_engine.specs.Opens.{IsStation};
-ghost use Rattle.device_model.specs.Script.{opening_of};
+ghost use Rattle.napi_word.specs.Passes.{IsPassOf, controller_of_table};
+ghost use Rattle.napi_word.specs.declared.table.Pass.{Pass};
 
-use device_model::{
-    DeviceCounts, DeviceState, Event, Row, ScriptDevice, SerialBench, Trace, TraceFault, TxCounts,
-    read_trace,
-};
 use dql_core::{Dql, DqlFault};
 use napi_calls::{
-    Caller, CloseBack, Completed, Control, Granted, Marked, Napi, NewBack, Off, On, Polling, Sched,
-    TryDone, TryPrep, TryTake, close, meet,
+    Between, Busy, Caller, CloseBack, Completed, Control, Granted, Marked, Napi, NewBack, Off, On,
+    Polling, Sched, TryBusy, TryDone, TryPrep, TryStop, TryTake, close, meet,
 };
 use napi_model::{Done, Flags, Kind, Place, Prep, Seen, SerialNapi, decode, encode};
-use poll_engine::{
-    Act, Bench, Device, Finished, Gate, ListFault, ListIn, Next, Once, OpenGate, PlainList,
-    PollList, RunReport, SharedList, SoftList, Station, ThreadReport, WorkFault, run_softirq,
-    run_workers, shared_list,
-};
-use replay::{
-    Mode, Polled, ReplayFault, Settings, WordFault, fault_line, parse_words, replay_serial,
-    replay_shared, replay_threads, status, word_line, word_status,
-};
+use napi_word::{Ended, Pass, StateTable, TableBack, end};
 use rx_ring::{Batch, Packet, RingFault, RxCounts, RxCtx, RxIn, Totals, beside, finish, ring};
-use std::alloc::{AllocError, Global};
-use std::io::{Read, Write};
+use std::alloc::Global;
 use std::sync::Wait;
-use std::thread::Threads;
 use tx_ring::{TxEvent, TxFault, TxRing, TxState};
 
 // ---- napi_model
@@ -154,7 +138,27 @@ pub fn transmit(alloc: Global, limit: Dql) -> Result<(u64, TxState), TxFault>
     Ok((refused, ring.state()))
 }
 
-// ---- napi_calls
+// ---- napi_word, napi_calls
+
+/// A pass looks.
+pub fn pass_looks(table: &StateTable, pass: &mut Pass) -> Seen
+    requires { IsPassOf table.now pass.old }
+{
+    table.look(pass)
+}
+
+/// A table of one caller and the controller.
+pub fn table(alloc: Global, ctx: RxCtx) -> Result<(StateTable, Vec<Pass>), TableBack> {
+    StateTable::new(alloc, ctx, 2)
+}
+
+/// A table is closed.
+pub fn ended(table: StateTable, passes: Vec<Pass>) -> Ended
+    requires passes { (k : ℕ) (p : Pass) → slice_get passes.items k ≡ Some p → IsPassOf table p }
+    requires count { length passes.items ≡ controller_of_table table + 1 }
+{
+    end(table, passes)
+}
 
 /// A new instance.
 pub fn napi(alloc: Global, ctx: RxCtx) -> Result<(Napi, Vec<Caller>, Control<Off>), NewBack> {
@@ -178,6 +182,29 @@ pub fn try_schedule(napi: &Napi, caller: Caller) -> (u32, Seen, TryPrep)
     let seen = caller.look(napi);
     caller.set_threaded(napi, true);
     (caller.number(), seen, caller.try_schedule(napi))
+}
+
+/// A request, in which another caller acts between the look and the exchange.
+pub fn schedule_between<B: Between>(napi: &Napi, caller: Caller, other: &mut B) -> TryPrep
+    requires { IsSeatOf napi.now caller.pass }
+{
+    caller.try_schedule_between(napi, other)
+}
+
+/// A caller tries to take the instance for busy polling.
+pub fn try_busy(napi: &Napi, caller: Caller) -> TryBusy
+    requires { IsSeatOf napi.now caller.pass }
+{
+    caller.try_busy(napi)
+}
+
+/// A caller completes a busy poll, and tries to stop.
+pub fn try_stop(napi: &Napi, busy: Busy) -> TryStop
+    requires { IsSeatOf napi.now busy.pass }
+{
+    let mut busy = busy;
+    busy.complete_held(napi);
+    busy.try_stop(napi)
 }
 
 /// A caller takes the instance.
@@ -274,188 +301,4 @@ pub fn switch<R: Wait>(rt: &R, napi: &Napi, control: Control<On>) -> Control<On>
     requires { IsSeatOf napi.now control.pass }
 {
     control.disable(rt, napi).enable(rt, napi, false)
-}
-
-// ---- poll_engine
-
-/// The calls of a list of instances.
-pub fn soft_list() -> (Result<(), u32>, Option<u32>, usize) {
-    let mut list = SoftList::new();
-    let pushed = list.push(3);
-    let first = list.pop_front();
-    (pushed, first, list.ids().len())
-}
-
-/// The calls of a poll list.
-pub fn poll_list(own: &mut SoftList) -> usize
-    requires { own.old ≡ [] }
-{
-    let mut list = PlainList::new();
-    list.push(3);
-    let count = list.splice(own);
-    list.put_back(own, &SoftList::new());
-    count
-}
-
-/// A list for threads.
-pub fn shared<R: Wait + Copy>(
-    rt: R,
-    alloc: Global,
-) -> Result<(SharedList<R>, Vec<ListIn<R>>), ListFault> {
-    shared_list(rt, alloc, 2)
-}
-
-/// A push to a list for threads.
-pub fn push<R: Wait>(input: &mut ListIn<R>) {
-    input.push(3);
-}
-
-/// The polls of a bench.
-pub fn polls<B: Bench>(bench: &mut B) -> (u32, Next, u32) {
-    let Once { work, next } = bench.poll_once(1, 64);
-    let ThreadReport { polls, .. } = bench.poll_thread(1, 64, 1024);
-    (work, next, polls)
-}
-
-/// A run over a list.
-pub fn run<L: PollList, B: Bench>(list: &mut L, bench: &mut B) -> (u32, u32, bool) {
-    let RunReport {
-        polls,
-        work,
-        squeezed,
-    } = run_softirq(list, bench, 300, 64, 1024);
-    (polls, work, squeezed)
-}
-
-/// A gate.
-pub fn passes<G: Gate>(gate: &G) -> bool {
-    gate.pass(1, 0) && OpenGate.pass(100, 0)
-}
-
-/// A device's first act.
-pub fn first_act<D: Device>(device: &mut D) -> Act {
-    if device.acts() == 0 {
-        return Act::Nothing;
-    }
-    device.act(0)
-}
-
-/// A run by threads.
-pub fn workers<R, D>(
-    rt: &R,
-    alloc: Global,
-    stations: Vec<Station<D>>,
-) -> Result<Vec<Finished<D>>, WorkFault>
-where
-    R: Threads + Wait + Sync,
-    D: Device + Drop + Send,
-    requires stations { All IsStation (vec_items stations) }
-    requires numbers { IsTrue (have_distinct_numbers (vec_items stations)) }
-{
-    run_workers(rt, alloc, stations, 2, 300, 64, 1024, &OpenGate)
-}
-
-// ---- device_model
-
-/// The rows of a trace.
-pub fn rows<R: Read + Drop>(alloc: Global, reader: R) -> Result<usize, TraceFault> {
-    let trace: Trace = read_trace(alloc, reader)?;
-    Ok(trace.rows().len())
-}
-
-/// A row with each event.
-pub fn row(event: Event) -> Row {
-    let value = match event {
-        Event::Opened | Event::Rx | Event::Tx | Event::Finish => 1,
-        Event::Softirq | Event::Kthread | Event::Disable | Event::Enable => 0,
-        Event::Threaded | Event::Busy => 1,
-    };
-    Row {
-        moment: 0,
-        device: 1,
-        event,
-        value,
-    }
-}
-
-/// The calls of a bench for one thread.
-pub fn bench(alloc: Global) -> Result<(Option<Kind>, bool), AllocError> {
-    let mut bench = SerialBench::new(alloc)?;
-    bench.attach(alloc, 1, 4, 0)?;
-    let kind = bench.arrive(1, 100);
-    bench.send(1, 1000);
-    bench.done(1, 1, 6);
-    bench.disable(1);
-    bench.settle();
-    let enabled = bench.enable(1);
-    bench.set_threaded(1, true);
-    Ok((kind, enabled))
-}
-
-/// What a bench counts of a device.
-pub fn counts(bench: &SerialBench) -> Option<(DeviceState, u64, TxCounts)> {
-    if !bench.is_attached(1) {
-        return None;
-    }
-    let DeviceCounts {
-        state,
-        arrived,
-        tx,
-        ..
-    } = bench.counts(1);
-    Some((state, arrived, tx))
-}
-
-/// A device of a trace.
-pub fn script(alloc: Global, trace: &Trace) -> Result<TxCounts, AllocError>
-    requires { IsSome (opening_of 1 trace.now.rows) }
-{
-    let device = ScriptDevice::new(alloc, trace, 1)?;
-    Ok(device.tx_counts())
-}
-
-// ---- replay
-
-/// The settings of a replay.
-pub fn settings() -> Option<Settings> {
-    Settings::new(1, 300, 64, 1024)
-}
-
-/// A program's arguments.
-pub fn words(alloc: Global, words: &[String]) -> Result<(Mode, Settings), (&'static str, u8)> {
-    let parsed: Result<(Mode, Settings), WordFault> = parse_words(alloc, words);
-    parsed.map_err(|fault| (word_line(&fault), word_status(&fault)))
-}
-
-/// The line and the status of an error.
-pub fn line(alloc: Global, fault: &ReplayFault) -> Result<(String, u8), AllocError> {
-    Ok((fault_line(alloc, fault)?, status(fault)))
-}
-
-/// A replay on one thread, or by one thread on instances that threads could share. Both have the same result.
-pub fn replays<H: Wait + Copy + Drop, R: Read + Drop, W: Write>(
-    rt: H,
-    alloc: Global,
-    mode: Mode,
-    reader: R,
-    writer: &mut W,
-    settings: &Settings,
-) -> Result<(), ReplayFault> {
-    if matches!(mode, Mode::Shared) {
-        replay_shared(rt, alloc, reader, writer, settings)
-    } else {
-        replay_serial(alloc, reader, writer, settings)
-    }
-}
-
-/// A replay with threads: what was polled of the first device, and what was left.
-pub fn threads<P: Threads + Wait + Sync, R: Read + Drop, W: Write>(
-    rt: &P,
-    alloc: Global,
-    reader: R,
-    writer: &mut W,
-    settings: &Settings,
-) -> Result<Option<(u32, u64, u64)>, ReplayFault> {
-    let all: Vec<Polled> = replay_threads(rt, alloc, reader, writer, settings, &OpenGate)?;
-    Ok(all.first().map(|one| (one.device, one.polled, one.left)))
 }

@@ -2,20 +2,22 @@
 
     fintaqush record 5 --device vb1 --netns receiver --program server --out mine.rec
     fintaqush advise mine.rec --goal p99
-    sudo fintaqush advise mine.rec --goal p99 --verify
+    sudo fintaqush advise mine.rec --goal p99 --verify --keep
+    sudo fintaqush advise mine.rec --goal cpu --verify --set net.core.netdev_budget=600
 
 It estimates the costs from the recording (fintaqush costs), replays the recorded settings in napi_machine and compares
 the result with what was recorded, for each processor that polled. The fit is good, fair or poor; it is unknown if the
 goal is a wait and no wait could be measured. If it is poor or unknown, there is no advice. Otherwise it tries other
 settings: threaded NAPI, napi_defer_hard_irqs with gro_flush_timeout, interrupt coalescing, sizes of rings and backlogs,
 and the program on an idle processor. Of settings that are equally good it advises the one with the fewest changes. It
-prints the best settings for the goal, the band in which a recording with the first one is nine times of ten, the
-commands that set it, and what isn't modelled. If a hypervisor took over 1 % of a processor's time during the recording,
-the band isn't known, and it says so.
+prints three lines: what to set, what that brings with the band in which a recording is nine times of ten, and how far to
+trust it; then the commands. With --explain it also prints the costs, how well the recorded setting is predicted, the best
+settings, and what isn't modelled. If a hypervisor took over 1 % of a processor's time during the recording, the band
+isn't known, and it says so.
 
 Goals: the 99th or 50th percentile of the wait, the kernel's processor time, or drops. A wait lasts from a packet's arrival until the program
-has used it, or until its delivery if the program isn't recorded. Only settings with at most --max-drops drops (as many as now) and with a
-99th percentile below --p99-below are considered.
+has used it; until its delivery with --wait delivery, if no program is recorded, or if several processors poll. Only settings with at most
+--max-drops drops (as many as now) and with a 99th percentile below --p99-below are considered.
 
 At a network card arrivals are inferred from polls. --capture names a capture that was made meanwhile: if the card stamped its packets
 (tcpdump -j adapter), those to the device that came during the recording are the arrivals.
@@ -23,17 +25,18 @@ At a network card arrivals are inferred from polls. --capture names a capture th
 --verify needs root. It records today's settings and the advised ones on this machine, three times each in turn, during
 traffic, and restores the old settings. It prints predicted and measured values, and by how much the goal's value became
 lower. The exit status is 1 if it should have become lower and not all three recordings are below those of today's
-settings.
+settings. With --set it verifies your own change in the same way, whatever is advised. With --keep the change stays if
+all three recordings are better; a file in /etc/sysctl.d or /etc/udev/rules.d sets it at each boot, and the command that
+undoes it is printed.
 """
 
 from __future__ import annotations
 
 from collections import Counter
 from collections.abc import Iterator, Mapping, Sequence
-from pathlib import Path
 from typing import Any, Optional
 
-from fintaqush_tools import blame, card_costs, drivers, predicting, stolen, verifying
+from fintaqush_tools import blame, card_costs, drivers, keeping, predicting, stolen, verifying
 from fintaqush_tools.advice import (
     COALESCING,
     MOVED,
@@ -51,17 +54,17 @@ from fintaqush_tools.bands import ALIKE, DOUBT, TIMERS, Doubt, with_costs
 from fintaqush_tools.choosing import GOALS, Choice, Options, Predictions, Values, settings_of, timeout_of
 from fintaqush_tools.commands import costs
 from fintaqush_tools.errors import Refusal
-from fintaqush_tools.files import WholeFile, check_regular, check_target
+from fintaqush_tools.files import check_regular
 from fintaqush_tools.fits import Cost
 from fintaqush_tools.instances import Place
 from fintaqush_tools.machine import COSTS, identifier, option_words
-from fintaqush_tools.options import Parser, Words, add_binary, number, require_end, words_of
-from fintaqush_tools.pictures import ENDS, Curve, Picture, check_library, picture_bytes
+from fintaqush_tools.options import Parser, Words, add_binary, number, words_of
+from fintaqush_tools.parts import Waits, noises_of, parts_of, two_of
 from fintaqush_tools.predicting import TOLD, Compared, check_lines, objects_in, told_value, us
 from fintaqush_tools.processes import program
-from fintaqush_tools.progress import say
+from fintaqush_tools.progress import say, tell
 from fintaqush_tools.recorded import Recording, arrivals_in
-from fintaqush_tools.recording import BACKLOG
+from fintaqush_tools.recording import BACKLOG, uncollected
 from fintaqush_tools.results import add_json, is_printed, write_json
 from fintaqush_tools.texts import aligned, as_rows, shown
 from fintaqush_tools.thresholds import add_fail_if, status_of
@@ -77,6 +80,7 @@ NAMES = {
     "gro-flush-timeout": "gro_flush_timeout",
     **dict.fromkeys(COALESCING, "rx-usecs"),
 }
+DEFERRAL = ("defer-hard-irqs", "gro-flush-timeout")
 NO_TIMER = (
     "deferral isn't compared with none, because the recording has too few of NAPI's timers to know their cost: record "
     "again with napi_defer_hard_irqs 2 and a gro_flush_timeout of 100000"
@@ -89,7 +93,14 @@ MORE = (
     "with the advised setting the card would interrupt more often than it did; if it keeps a least time between interrupts by itself, as QEMU's e1000 "
     "does (128 us), waits are longer than predicted: --verify shows it, or a recording with this setting and --capture"
 )
+MERGED = (
+    "GRO merged {} packets that polls took into {}, so a packet counts as delivered when the stack gets it; with deferral GRO holds packets until a poll "
+    "doesn't start NAPI's timer, or until a jiffy is over, which isn't predicted, so no other deferral is tried"
+)
+OWN = "those of --set"
 UNKNOWN = "no wait was measured, because which packet was in which poll isn't known"
+UNREAD = "which read had which packet isn't known"
+ADVISED = ("good", "fair")  # grades
 
 
 # ---- what is printed
@@ -156,6 +167,7 @@ class Advice:
     """The advice that follows from a recording."""
 
     notes: list[str]
+    limits: list[str]  # of the advice, which are notes too
     choice: Optional[Choice]
     changes: list[Change]
     others: dict[int, dict[str, float]]
@@ -164,12 +176,12 @@ class Advice:
     check: list[Compared]
 
     def __init__(self, words: Words) -> None:
-        self.words, self.notes = words, []
+        self.words, self.notes, self.limits = words, [], []
         self.recording = Recording(words.recording, words)
         recording, head = self.recording, self.recording.head
         has_one = recording.polled == BACKLOG or len(head["device"].split()) == 1
         times = costs.timeline_for(head, [] if has_one else [recording.device])
-        recording.read(times, words.goal)
+        recording.read(times, words.goal, words.wait == "delivery")
         self.told = costs.object_after(times, head)
         if recording.is_captured:
             self.take_interrupt()
@@ -184,7 +196,7 @@ class Advice:
             ratios = {each["processor"]: each["ratio"] for each in self.told["ratios"]}
             own = (ratios.get(each, 1.0) for each in self.processors)
             predictions.ratios = tuple(ratio if abs(ratio - 1) > costs.UNEVEN else 1.0 for ratio in own)
-        self.compare(predictions)
+        self.judge(predictions)
         self.doubt = self.doubt_by(predictions)
         self.why_no_band = stolen.without_band({each["processor"]: each["share"] for each in self.told["stolen"]})
         self.machine = Machine(head, recording.device, recording.seen.processor, recording.seen.tasks.idle())
@@ -192,7 +204,7 @@ class Advice:
         self.note_recording()
         predictions.doubt = self.doubt
         self.predictions, self.choice = predictions.on_others(first, majors), None
-        if self.grade in ("good", "fair"):
+        if self.grade in ADVISED:
             self.choose(len(first.splitlines()) - 1)
 
     def take_interrupt(self) -> None:
@@ -209,20 +221,18 @@ class Advice:
 
     def chosen_end(self) -> str:
         """Returns where waits end, used or delivered. With several processors they end with the delivery, because the machine has a program on
-        each of them, and the recorded one reads the packets of all."""
+        each of them, and the recorded one reads the packets of all. A goal that is a wait isn't judged by another one: if the use isn't known, nor
+        is the fit."""
         self.measured = self.measured_in(self.recording)
-        if not self.costs["use"]:
+        if not self.told["reads"] or self.words.wait == "delivery":
             return "delivered"
-        why_not = (
-            f"{len(self.processors)} processors poll"
-            if len(self.processors) > 1
-            else "which read had which packet isn't known" * ("used_p99" not in self.measured)
-        )
-        if not why_not:
+        is_known = self.costs["use"] and "used_p99" in self.measured
+        if len(self.processors) == 1 and (is_known or self.is_wait(self.words.goal)):
             return "used"
-        self.notes.append(f"{why_not}, so waits are those to delivery")
-        if len(self.processors) > 1:
-            self.costs["use"] = 0
+        if self.costs["use"]:
+            why = f"{len(self.processors)} processors poll" if len(self.processors) > 1 else UNREAD
+            self.notes.append(f"{why}, so waits are those to delivery")
+        self.costs["use"] = 0
         return "delivered"
 
     def measured_in(self, recording: Recording) -> dict[str, float]:
@@ -231,47 +241,58 @@ class Advice:
             recording.seen, recording.head, packet=self.costs["packet"], layout=recording.layout
         )
 
-    def compare(self, predictions: Predictions) -> None:
-        """Compares the recorded setting with its prediction. If only the wait to the end of use is predicted badly,
-        waits end with the delivery."""
+    def judge(self, predictions: Predictions) -> None:
+        """Compares the recorded setting with its prediction, for each processor too, and grades the fit by the worst one."""
         recording = self.recording
         self.measured_on = predicting.measured_on(
             recording.seen, recording.head, self.costs["packet"], recording.layout
         )
-        self.judge(predictions)
-        if self.grade != "poor" or self.end != "used":
-            return
-        worst, self.end = self.worst(), "delivered"
-        self.judge(predictions)
-        if self.grade in ("good", "fair"):
-            self.notes.append(f"the end of use isn't predicted ({worst}), so waits are those to delivery")
-        else:
-            self.end = "used"
-            self.judge(predictions)
-
-    def judge(self, predictions: Predictions) -> None:
-        """Compares each processor too, and grades the fit by the worst one."""
         self.check = self.compared(self.measured, predictions.of(self.options))
         self.check_on: dict[int, list[Compared]] = {}
         if len(self.processors) > 1:
             for (processor, measured), values in zip(self.measured_on.items(), predictions.on(self.options)):
                 self.check_on[processor] = self.compared(measured, values)
-        self.judged, self.grade = self.judged_for(self.words.goal), self.grade_for(self.words.goal)
+        self.judged, self.grade = self.judged_for(self.words.goal, self.end), self.grade_for(self.words.goal, self.end)
 
-    def judged_for(self, goal: str) -> set[str]:
-        return predicting.judged_for(goal, self.end, self.words.p99_below is not None)
+    def judged_for(self, goal: str, end: str) -> set[str]:
+        return predicting.judged_for(goal, end, self.words.p99_below is not None)
 
-    def grade_for(self, goal: str) -> str:
-        """Returns the grade of the fit for a goal."""
+    def grade_for(self, goal: str, end: str) -> str:
+        """Returns the grade of the fit for a goal, of which the waits end there."""
+        if self.is_wait(goal) and not any(name == f"{end}_p99" for name, *_ in self.check):
+            return "unknown"
         many = (rows for processor, rows in self.check_on.items() if self.measured_on[processor]["sent"] >= FEWEST)
-        grades = [predicting.grade_of(rows, self.judged_for(goal)) for rows in (self.check, *many)]
-        return max(grades, key=("good", "fair", "poor").index) if self.is_measured(goal) else "unknown"
+        grades = [predicting.grade_of(rows, self.judged_for(goal, end)) for rows in (self.check, *many)]
+        return max(grades, key=("good", "fair", "poor").index)
+
+    def is_wait(self, goal: str) -> bool:
+        """Returns whether a goal is about a wait, or has a limit that is one."""
+        return goal in ("p50", "p99") or self.words.p99_below is not None
+
+    def goal_text(self) -> str:
+        """Describes the goal; it says where waits end if the program's reads are recorded, and they don't count."""
+        is_other = self.end == "delivered" and self.told["reads"] and self.words.goal in ("p50", "p99")
+        return GOALS[self.words.goal] + " to delivery" * bool(is_other)
+
+    def why_unknown(self) -> str:
+        """Returns why the wait wasn't measured."""
+        if "delivered_p99" not in self.measured:
+            return UNKNOWN
+        lines = (line.partition(": not known: ") for line in self.told["text"])
+        return (
+            f"no wait to the end of use was measured: {next((why for name, _, why in lines if name == 'use'), UNREAD)}"
+        )
 
     def why_none(self) -> str:
         """Returns why there is no advice, with the goals for which there is, and what the waits are."""
-        why = UNKNOWN if self.grade == "unknown" else f"the prediction of the recorded setting is poor ({self.worst()})"
-        others = [f"--goal {goal}" for goal in GOALS if self.grade_for(goal) in ("good", "fair")]
-        what = f"this goal, but there is with {' or '.join(others)}" if others else "any goal"
+        poor = f"the prediction of the recorded setting is poor ({self.worst()})"
+        known = [f"--goal {goal}" for goal in GOALS if self.grade_for(goal, self.end) in ADVISED]
+        if self.end == "used" and self.is_wait(self.words.goal):
+            known += [f"--goal {self.words.goal} --wait delivery"] * (
+                self.grade_for(self.words.goal, "delivered") in ADVISED
+            )
+        what = f"this goal, but there is with {' or '.join(known)}" if known else "any goal"
+        why = self.why_unknown() if self.grade == "unknown" else poor
         return "; ".join([f"{why}, so there is no advice for {what}", *self.blame])
 
     def doubt_by(self, predictions: Predictions) -> Doubt:
@@ -286,7 +307,11 @@ class Advice:
             ends["app-wake-apart"] = ends.pop("app-wake")
         higher = predictions.of(self.options, with_costs(self.costs, 100 + DOUBT))
         known_ends = {name: end for name, end in ends.items() if self.costs.get(name)}
-        return Doubt(self.costs, self.check, higher, known_ends, self.arrivals_doubt(), self.told["apart"])
+        own = [row for row in self.check if self.end == "used" or not row[0].startswith("used")]
+        seen = self.recording.seen
+        waits: Waits = {"delivered": seen.delivered(self.costs["packet"]), "used": seen.used()}
+        noises = noises_of(parts_of(seen, waits), two_of(seen, waits))
+        return Doubt(self.costs, own, higher, known_ends, self.arrivals_doubt(), self.told["apart"], noises)
 
     def arrivals_doubt(self) -> int:
         """Returns by how many ns an arrival may be off, if arrivals are inferred from polls."""
@@ -299,7 +324,7 @@ class Advice:
         self.others_apart = {}
         self.blame = [*blame.lines_of_socket(recording.head), *blame.lines_of_traffic(recording.seen)]
         if not timeout_of(self.options):  # with deferral packets wait for the timer, whatever runs meanwhile
-            self.blame += blame.lines_of(recording.seen, recording.layout, recording.program_pids())
+            self.blame += blame.lines_of(recording.seen, recording.layout, recording.program_pids(), recording.remedy())
         if self.told["apart"]:
             self.reads_on = max(self.told["reads_on"], key=lambda each: int(each["reads"]))["processor"]
             self.others_apart = recording.disturbing(self.reads_on) if self.reads_on not in self.others else {}
@@ -307,13 +332,15 @@ class Advice:
     def compared(self, measured: Mapping[str, float], values: Values) -> list[Compared]:
         """Returns the measured values with the predicted ones, without those of use if it is unknown."""
         rows = predicting.compared(measured, values)
-        return [row for row in rows if self.end == "used" or not row[0].startswith("used")]
+        return [row for row in rows if self.costs["use"] or not row[0].startswith("used")]
 
     def note_recording(self) -> None:
         """Notes what the recording lacks."""
         recording = self.recording
         self.notes += [f"{each}, which isn't modelled" for each in unmodelled_in(recording.head, recording.device)]
         self.notes += drivers.notes_on(recording.head, recording.device)
+        if recording.seen.gro.left:
+            self.notes.append(MERGED.format(len(recording.seen.gro.left), recording.seen.gro.passed))
         self.notes += [UNUSED] if self.words.capture and not recording.is_captured else []
         self.notes += [] if self.told["stolen"] else [stolen.UNKNOWN]
         if recording.by and not recording.is_captured:
@@ -335,11 +362,6 @@ class Advice:
             self.notes.append(
                 f"{self.measured['sent']} packets are few for a 99th percentile, which needs {FEWEST}: record for longer"
             )
-
-    def is_measured(self, goal: str) -> bool:
-        """Returns whether what a goal is about was measured: a wait isn't, if packets and polls of the recording don't match."""
-        is_wait = goal in ("p50", "p99") or self.words.p99_below is not None
-        return not is_wait or any(name == f"{self.end}_p99" for name, *_ in self.check)
 
     def settled(self, costs: Mapping[str, int]) -> dict[str, int]:
         """Returns all costs; an unknown cost counts as 0, with a note."""
@@ -367,15 +389,19 @@ class Advice:
         head, device, is_sent_here = recording.head, recording.device, recording.layout.is_sent_here()
         tried = candidates(head, device, self.options, has_program, has_timer, is_sent_here)
         tried += self.layouts(packets)
-        if not has_timer and has_deferral(head, device, self.options):
+        if recording.seen.gro.left:
+            now = {name: self.options.get(name) for name in DEFERRAL}
+            tried = [each for each in tried if not timeout_of(each) or now.items() <= each.items()]
+        elif not has_timer and has_deferral(head, device, self.options):
             self.notes.append(NO_TIMER)
         self.varied, self.packets = varied_in(tried), packets
         self.choice = Choice(self.words, self.end, self.predictions, tried)
         if self.choice.best:
             self.best, self.values = self.choice.best
             self.sides = self.predictions.sides_of(self.best)
-            self.notes += self.choice.warnings(self.best, self.sides, self.predictions.sides_of(self.options))
-            self.notes += self.unknown()
+            today = self.predictions.sides_of(self.options)
+            self.limits = [*self.choice.warnings(self.best, self.sides, today), *self.unknown()]
+            self.notes += self.limits
             self.changes = self.machine.changes(self.best, self.options)
             self.notes += self.machine.notes_on(self.changes)
         else:
@@ -423,11 +449,11 @@ class Advice:
     def add_layout(self, number: int, devices: Sequence[int], packets: int) -> None:
         """Adds the arrivals of a layout, in which each packet has one of these devices. All waits count in it but those
         of rare devices."""
-        lines = predicting.arrivals_of(self.recording.seen.sent, devices).splitlines(True)
+        arrivals = predicting.arrivals_of(self.recording.seen.sent, devices)
         counts = Counter(devices)
         rare = max(counts.values()) / RARE
         majors = {device for device, count in counts.items() if count >= rare}
-        self.predictions.layouts[number] = "".join(lines[: packets + 1]).encode(), majors
+        self.predictions.layouts[number] = predicting.first_of(arrivals, packets).encode(), majors
         self.predictions.ratios = ()  # which processor would be how fast isn't known
 
     def unknown(self) -> Iterator[str]:
@@ -447,6 +473,57 @@ class Advice:
 
     # ---- text for people
 
+    def verdict(self) -> Iterator[str]:
+        """Yields what to set, what that brings, how far to trust it, and the commands."""
+        choice, options = self.choice, self.options
+        if not choice or not choice.best:
+            what = "nothing: no setting keeps to the limits" if choice else "nothing: there is no advice"
+        elif self.best == options:
+            what = f"nothing, since no setting is notably better for {self.goal_text()}"
+        else:
+            changed = [name for name in self.varied if self.best.get(name, 0) != options.get(name, 0)]
+            what = named(self.best, changed, self.machine)
+        yield f"set:    {what}"
+        yield f"brings: {self.brings()}"
+        reasons = [self.grade + self.why_grade().get(self.grade, "")]
+        reasons += [self.why_no_band] * bool(choice and self.why_no_band) + self.limits
+        yield f"trust:  {'; '.join(reasons)}"
+        if choice and self.changes:
+            yield "to set it, as root:"
+            yield from (f"  {self.machine.line_of(change)}" for change in self.changes)
+
+    def brings(self) -> str:
+        """Describes the goal's value as recorded, or as predicted for the recorded setting, and with the advised setting."""
+        goal = self.words.goal
+        name = {"cpu": "kernel_percent", "drops": "lost"}.get(goal, f"{self.end}_{goal}")
+
+        def told(values: Mapping[str, float]) -> str:
+            return (
+                f"{values[name]:.1f}" if goal == "cpu" else str(values[name]) if goal == "drops" else us(values[name])
+            )
+
+        unit = {"cpu": " %", "drops": " packets"}.get(goal, " us")
+        recorded = {**self.measured, "lost": self.measured["dropped"]}
+        now = f"{told(recorded)}{unit} recorded" if name in recorded else "not measured"
+        if not (self.choice and self.choice.best):
+            return f"{self.goal_text()}: {now}"
+        if name not in recorded:
+            now = f"{told(self.choice.tried[0][1])}{unit} now"
+        ends = " to ".join(map(told, self.ends() or ()))
+        return (
+            f"{self.goal_text()}: {now}; predicted {told(self.values)}{unit}"
+            + f", nine times of ten {ends}{unit}" * bool(ends)
+        )
+
+    def why_grade(self) -> dict[str, str]:
+        """Returns for each grade of the fit what follows from it."""
+        return {
+            "good": ": the recorded setting is predicted well",
+            "fair": ": trust differences between settings more than values",
+            "unknown": f": {self.why_unknown()}",
+            "poor": f": {self.worst()}",
+        }
+
     def lines(self) -> Iterator[str]:
         seen, head = self.recording.seen, self.recording.head
         by = "a NAPI thread" if seen.is_by_thread else "softirqs"
@@ -460,11 +537,8 @@ class Advice:
         yield from check_lines(self.check, self.measured["sent"])
         if self.check_on:
             yield from self.processor_lines()
-        yield f"the fit for {GOALS[self.words.goal]} is {self.grade}" + {
-            "fair": ": trust differences between settings more than values",
-            "unknown": f": {UNKNOWN}",
-            "poor": f": {self.worst()}",
-        }.get(self.grade, "")
+        why = self.why_grade()[self.grade] if self.grade != "good" else ""
+        yield f"the fit for {self.goal_text()} is {self.grade}{why}"
         for processor, others in self.others.items():
             if others:
                 yield self.disturbed(others, f"processor {processor}")
@@ -526,7 +600,7 @@ class Advice:
         if not self.why_no_band:
             yield f"costs may be {self.doubt.percent} % lower or higher (--band {self.doubt.percent} of what-if)"
         count = len(choice.tried)
-        yield f"{count} setting{'s' * (count > 1)} on {self.packets} packets, the best for {GOALS[choice.goal]} first:"
+        yield f"{count} setting{'s' * (count > 1)} on {self.packets} packets, the best for {self.goal_text()} first:"
         alike: dict[tuple[str, ...], list[Options]] = {}
         for options, values in choice.order:
             alike.setdefault(tuple(columns_of(values, self.end)), []).append(options)
@@ -536,7 +610,7 @@ class Advice:
             yield "no setting keeps to the limits"
             return
         if self.best == self.options:
-            yield f"advice: change nothing, since no setting is notably better for {GOALS[choice.goal]}"
+            yield f"advice: change nothing, since no setting is notably better for {self.goal_text()}"
         else:
             yield f"advice: {named(self.best, self.varied, self.machine)}"
         rows = [["now", *columns_of(choice.tried[0][1], self.end)], ["advised", *columns_of(self.values, self.end)]]
@@ -546,9 +620,6 @@ class Advice:
         yield from table(rows, "")
         if self.why_no_band:
             yield self.why_no_band
-        if self.changes:
-            yield "to set it, as root:"
-            yield from (f"  {self.machine.line_of(change)}" for change in self.changes)
 
     # ---- for a program
 
@@ -575,6 +646,7 @@ class Advice:
             "options": as_keys(options),
             "words": " ".join(option_words(options)),
             "goal": self.words.goal,
+            "wait": "use" if self.end == "used" else "delivery",
             "check": objects_in(self.check, self.measured["sent"]),
             "fit": self.grade,
             "costs_doubt_percent": None if self.why_no_band else self.doubt.percent,
@@ -602,50 +674,16 @@ class Advice:
         return told
 
 
-# ---- the picture
-
-
-def described(advice: Advice, choice: Choice, name: str) -> Picture:
-    """Returns the description of the picture: for each setting, the kernel's share and the 99th percentile."""
-    end = advice.end
-    parts = {"tried": choice.tried, "now": choice.tried[:1], "advised": [choice.best] if choice.best else []}
-    looks = {"tried": ("grey", 0, 4), "now": ("red", 1, 9), "advised": ("blue", 2, 10)}
-    curves: list[Curve] = []
-    for part, pairs in parts.items():
-        color, shape, size = looks[part]
-        points = sorted((values["kernel_percent"], max(1, values[f"{end}_p99"]) / 10**6) for _, values in pairs)
-        if points:
-            curves.append(
-                {"kind": "dots", "color": color, "shape": shape, "size": size, "name": part, "points": points}
-            )
-    shares = [point[0] for each in curves for point in each["points"]]
-    margin = 0.05 * (max(shares) - min(shares) or 1)
-    waits = [
-        f"{part} p99 {values[f'{end}_p99'] / 1000:,.0f} µs" for part in ("now", "advised") for _, values in parts[part]
-    ]
-    return {
-        "title": f"{name}: settings, costs as recorded; {', '.join(waits)}",
-        "axis": {"label": "kernel, % of the processor", "low": min(shares) - margin, "high": max(shares) + margin},
-        "panels": [
-            {"label": "99th percentile of waits, ms", "heading": "", "top": None, "log": True, "curves": curves}
-        ],
-    }
-
-
-def draw(advice: Advice, choice: Choice, path: str) -> None:
-    picture = described(advice, choice, shown(Path(advice.words.recording).name))
-    with WholeFile(path) as new:
-        Path(new).write_bytes(picture_bytes(picture, path, (720, 400)))
-
-
 # ---- verify
 
 
-def verified(advice: Advice) -> tuple[list[Compared], float, Verdict]:
-    """Records today's settings and the advised ones. Returns what one recording of the latter measured, with what is
-    predicted for its packets, its number of packets, and the verdict."""
-    head, words = advice.recording.head, advice.words
-    today, changed = verifying.record_in_turn(head, words, advice.machine, advice.changes)
+def verified(advice: Advice) -> tuple[list[Compared], float, Verdict, list[dict[str, str]]]:
+    """Records today's settings and the advised ones, or those of --set. Returns what one recording of the latter measured, with what is
+    predicted for its packets, its number of packets, the verdict, and what is kept."""
+    head, words, machine = advice.recording.head, advice.words, advice.machine
+    what = OWN if words.set else verifying.ADVISED
+    changes = verifying.asked_changes(machine, words.set) if words.set else advice.changes
+    today, changed = verifying.record_in_turn(head, words, machine, changes, what)
     name = predicting.name_of(words.goal, advice.end)
     before, after = (
         [(measured, each) for each in some if name in (measured := advice.measured_in(each))]
@@ -654,37 +692,39 @@ def verified(advice: Advice) -> tuple[list[Compared], float, Verdict]:
     after.sort(key=lambda pair: pair[0][name])
     measured, middle = after[len(after) // 2] if after else (advice.measured_in(changed[0]), changed[0])
     predictions = advice.predictions.on_others(arrivals_in(middle, words)[0], middle.layout.major())
-    options = {**advice.best, "processors": len(middle.layout.processors), "layout": 0}
+    processors = len(middle.layout.processors)
+    own = options_of(middle.head, middle.device, advice.told["apart"]) if words.set else advice.best
+    options = {**own, "processors": processors, "layout": 0}
     values = predictions.of(options)
     shares = (stolen.shares_in(each.head, Counter(each.seen.on)) for each in (*today, *changed))
     why_no_band = advice.why_no_band or stolen.without_band(stolen.most_in(shares))
     band = None if why_no_band else predictions.band(name, options, values, predictions.sides_of(options))
     of_goal = [[each[name] for each, _ in some] for some in (before, after)]
-    return (
-        advice.compared(measured, values),
-        measured["sent"],
-        Verdict(name, of_goal[0], of_goal[1], values[name], band, why_no_band),
-    )
+    verdict = Verdict(name, of_goal[0], of_goal[1], values[name], band, why_no_band)
+    verdict.what = what
+    kept = keeping.keep(machine, changes) if words.keep and verdict.judgement() == "better" else []
+    return advice.compared(measured, values), measured["sent"], verdict, kept
 
 
 def print_verified(advice: Advice) -> str:
     """Verifies the advice, if that is asked for, and prints the result; as JSON with the advice. Returns what failed if it
     should have made the goal's value lower, and didn't, else nothing. Within limits that the recorded setting exceeds, the
     value may have to rise."""
-    choice, told = advice.choice, dict[str, Any](verified=None, verdict=None)
-    if not (advice.words.verify and choice and choice.best and advice.changes):
+    choice, told = advice.choice, dict[str, Any](verified=None, verdict=None, kept=[])
+    is_advised = bool(choice and choice.best and advice.changes)
+    if not (advice.words.verify and (is_advised or advice.words.set)):
         if advice.words.verify and choice and choice.best:
             say("--verify recorded nothing, because the advice changes nothing")
         write_json(advice.words.json, "advise", [{**advice.object(), **told}])
         return ""
-    rows, packets, verdict = verified(advice)
-    told = {"verified": objects_in(rows, packets), "verdict": verdict.object()}
+    rows, packets, verdict, kept = verified(advice)
+    told = {"verified": objects_in(rows, packets), "verdict": verdict.object(), "kept": kept}
     write_json(advice.words.json, "advise", [{**advice.object(), **told}])
     if not is_printed(advice.words.json):
-        heading = f"{'the advised setting':36} {'measured':>12} {'predicted':>12}"
-        print(heading, *check_lines(rows, packets), *verdict.lines(), sep="\n", flush=True)
-    is_promised = choice.value(choice.best[1]) < choice.value(choice.tried[0][1])
-    return verdict.failure() if is_promised else ""
+        heading = f"{verdict.what:36} {'measured':>12} {'predicted':>12}"
+        tell(heading, *check_lines(rows, packets), *verdict.lines(), *keeping.lines_of(kept))
+    is_promised = choice and choice.best and choice.value(choice.best[1]) < choice.value(choice.tried[0][1])
+    return verdict.failure() if is_promised or advice.words.set else ""
 
 
 # ---- words
@@ -702,6 +742,9 @@ def add_options(parser: Parser) -> None:
         metavar="US",
         help="only settings whose 99th percentile is at most this, in us",
     )
+    parser.add_argument(
+        "--wait", choices=("use", "delivery"), default="use", help="where a wait ends, if the program is recorded (use)"
+    )
     parser.add_argument("--device", metavar="NAME", help="one of several recorded devices")
     parser.add_argument(
         "--capture",
@@ -718,36 +761,45 @@ def add_options(parser: Parser) -> None:
     parser.add_argument(
         "--verify", action="store_true", help="set the advised setting, record again, compare and restore"
     )
+    parser.flag("--keep", "with --verify: leave what was better in all recordings, also after a reboot")
+    what = (
+        "with --verify, this change instead of the advised one, as net.core.netdev_budget=600; may be given many times"
+    )
+    parser.many("--set", "NAME=VALUE", what, type=verifying.asked)
+    parser.flag("--explain", "print the costs, the fit, all settings and notes too")
     add_json(parser)
     times = [name for name, (unit, _) in predicting.MEASURED.items() if unit == "us"]
-    add_fail_if(parser, ["p99", "p50", *predicting.MEASURED], ["p99", "p50", *times])
-    parser.add_argument("--plot", metavar="FILE", help="a picture of all settings, .png, .svg or .html")
+    add_fail_if(parser, ["p99", *predicting.PARTS, *predicting.MEASURED], ["p99", *predicting.PARTS, *times])
     add_binary(parser, "napi_machine")
 
 
 def main(given: Sequence[str]) -> int:
     words = words_of(__doc__, add_options, given)
-    require_end(words, "--plot", words.plot, ENDS)
     check_regular(words.recording, "it is read more than once, so it has to be a regular file")
     if words.capture and words.verify:
         words.error("--verify records again, which a capture of before doesn't fit")
-    if words.plot:
-        check_target(words.plot)
-        check_library(words.plot)
+    if words.set and not words.verify:
+        words.error("--set goes with --verify, which sets it, records and restores")
+    if words.keep and not words.verify:
+        words.error("--keep goes with --verify: it leaves what was better")
     try:
-        advice = Advice(words)
+        with uncollected():
+            advice = Advice(words)
     except Refusal as error:
         raise Refusal(f"{shown(words.recording)}: {error}") from None
     if not is_printed(words.json):
-        print("\n".join(advice.lines()), flush=True)
+        more = (
+            advice.lines()
+            if words.explain
+            else [*advice.blame, "--explain prints the costs, the fit, all settings and notes"]
+        )
+        tell(*advice.verdict(), *more)
     failure = print_verified(advice)
-    if words.plot and advice.choice:
-        draw(advice, advice.choice, words.plot)
-    if advice.grade not in ("good", "fair"):
+    if advice.grade not in ADVISED and not words.set:
         raise Refusal(f"{shown(words.recording)}: {advice.why_none()}")
     if failure:
         raise Refusal(failure)
-    if not (advice.choice and advice.choice.best):
+    if not (words.set or advice.choice and advice.choice.best):
         return 1
-    waits = {each: advice.measured.get(f"{advice.end}_{each}", 0) for each in ("p50", "p99")}
+    waits = {each: advice.measured.get(f"{advice.end}_{each}", 0) for each in predicting.PARTS}
     return status_of(words.fail_if, [("", {**advice.measured, **waits})])

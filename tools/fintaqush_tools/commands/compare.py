@@ -5,18 +5,20 @@
     fintaqush compare examples/linux-veth-bursts.csv --raise --budget 16 --weight 8 -- --budget 300
 
 Results are files that --json of what-if, machine, sweep, costs, advise or replay wrote, or CSV of what-if or sweep; several combinations are
-matched by the options that vary. Recordings are files of fintaqush record: their waits, drops, polls and costs are compared. With several files
-on a side, which -- separates from the other side, their means are compared.
+matched by the options that vary. Recordings are files of fintaqush record: their waits, drops, squeezed runs, polls and costs are compared.
+With several files on a side, which -- separates from the other side, their means are compared.
 
-The noise of a change is half of its 95 % interval: that between several files; of single recordings that between ten parts of each, which may
-be less than between recordings; of costs that of the fit; over the seeds of what-if half of the range. Replays and predictions for the same
-arrivals have none.
+Two single recordings are compared by ten parts of each, and sides with several files by their files: a value has changed if the ranks of these
+differ by more than chance does in one of 20 cases (Mann and Whitney), so one odd part neither makes a change nor hides one. The noise is half
+of the 95 % interval of the change. Parts of a recording may differ less than recordings do. If there are too few files for ranks (three on each
+side), and for costs and the seeds of what-if, a change has to exceed the noise: that of the means, of the fit, or half of the range. Replays
+and predictions for the same arrivals have none; that of the kernel's counters is unknown.
 
 With --fail-if 'p99>+10%' the exit status is 3 if a value changed by more than this and by more than its noise. p99 and p50 are of waits to the
 end of use, or else to delivery. A limit without a sign is for the value after.
 
 The options of a trace's replay before -- are those of the first replay, the options after it those of the second. With --raise both include
-the runs that the kernel would add after a run that leaves devices on the poll list (fintaqush raise).
+the runs that the kernel would add after a run that leaves devices on the poll list.
 """
 
 from __future__ import annotations
@@ -26,15 +28,13 @@ from typing import Any
 
 from fintaqush_tools import comparing
 from fintaqush_tools.comparing import Change, Values, found_name, numbers_of, values_of
-from fintaqush_tools.errors import Refusal
-from fintaqush_tools.files import check_target, read_bytes, write_out
+from fintaqush_tools.files import check_target, read_trace, write_out
 from fintaqush_tools.options import Parser, Words, add_binary, add_out, add_raise, add_settings
 from fintaqush_tools.options import given_settings, settings_of, words_of
 from fintaqush_tools.processes import program, run_program
-from fintaqush_tools.recording import HEAD
 from fintaqush_tools.reports import objects_of
 from fintaqush_tools.results import add_json, is_printed, write_json
-from fintaqush_tools.texts import aligned, lines_of, shown
+from fintaqush_tools.texts import aligned, lines_of
 from fintaqush_tools.thresholds import add_fail_if_changed, status_of
 from fintaqush_tools.trace import raised
 
@@ -59,11 +59,7 @@ def table(first: Replayed, second: Replayed, headings: Sequence[str]) -> list[st
 def of_replays(words: Words, second: Words) -> tuple[list[str], Values, Values]:
     """Replays a trace with two settings. Returns the table, and the values of both."""
     settings = settings_of(words), settings_of(second)
-    text = read_bytes(words.files[0])
-    if text.startswith((b"{", HEAD.encode())):
-        raise Refusal(
-            f"{shown(words.files[0])}: no trace, whose replays the options after -- are for: name files on both sides of it"
-        )
+    text = read_trace(words.files[0])
     made = program("napi_serial", words.binary)
     played = [raised(text, each) if words.raised else text for each in settings]
     before, after = (values_of(objects_of(run_program(made, each, trace))) for each, trace in zip(settings, played))

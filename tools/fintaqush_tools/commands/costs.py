@@ -21,8 +21,10 @@ The other costs are medians. interrupt: of the handlers that polls follow, inclu
 those of NAPI's timer, which take longer. wake, timer-wake: on an idle processor, from a packet or from an expired timer to the first poll,
 without the handler. use: from one read of the program to the next, if the second packet was there at the first read. app-wake: from the end
 of a poll that delivered one packet to its read by a program that slept on another processor, without the read itself; on the same processor
-to its next read, without the use. take, of a card: from one packet that a poll passes to GRO to the next. The costs of NAPI's timer grow with
-the time that the processor slept, so the recorded gro_flush_timeout is printed with them.
+to its next read, without the use. take, of a card: from one packet that a poll passes to GRO to the next. early, of virtio_net: of the card's
+handlers that interrupt a poll. poll-wake, arm: what polls that wake the program on their processor, and polls whose completion starts NAPI's
+timer, take more than others of as many packets; poll and packet are without it. The costs of NAPI's timer grow with the time that the processor slept, so the recorded gro_flush_timeout is
+printed with them.
 """
 
 from __future__ import annotations
@@ -32,28 +34,21 @@ from collections.abc import Iterator, Mapping, Sequence
 from statistics import median
 from typing import Any, Optional
 
-from fintaqush_tools import stolen
-from fintaqush_tools.card_costs import (
-    CardTimes,
-    is_by_scheduler,
-    known_costs,
-    timeouts_of,
-    timer_costs,
-    told_half,
-    wakes_by,
-)
+from fintaqush_tools import drivers, stolen
+from fintaqush_tools.card_costs import CardTimes, is_by_scheduler, known_costs, timer_costs, told_half, wakes_by
 from fintaqush_tools.errors import Refusal
 from fintaqush_tools.files import check_input
 from fintaqush_tools.fits import FEWEST, Cost, cost_line, cost_of, halves_of, shift_of
 from fintaqush_tools.machine import COSTS
 from fintaqush_tools.options import Parser, Words, words_of
-from fintaqush_tools.progress import say
+from fintaqush_tools.poll_kinds import separated
+from fintaqush_tools.progress import say, tell
 from fintaqush_tools.instances import Place, Routes
-from fintaqush_tools.recording import BACKLOG, POLLED, Event, Head, Look, check_lost, read
+from fintaqush_tools.recording import BACKLOG, PARTS, POLLED, Event, Head, Look, check_lost, read
 from fintaqush_tools.results import add_json, is_printed, write_json
 from fintaqush_tools.texts import as_rows, shown
 from fintaqush_tools.thresholds import add_fail_if, status_of
-from fintaqush_tools.timeline import TIMER, Timeline
+from fintaqush_tools.timeline import TIMER, Arrival, Timeline
 
 Told = tuple[dict[str, Cost], list[str]]  # costs by their names, and lines about them
 
@@ -63,15 +58,31 @@ MATCHED = 0.95  # least share of the packets that must be found at both ends
 WEAK = (
     "the packet's cost can't be distinguished from 0: record more varied traffic, on a processor that does nothing else"
 )
-ORDER = ("interrupt", "timer", "poll", "packet", "take", "wake", "timer-wake", "use", "app-wake")
+ORDER = (
+    "interrupt",
+    "timer",
+    "poll",
+    "packet",
+    "take",
+    "wake",
+    "timer-wake",
+    "use",
+    "app-wake",
+    "early",
+    "poll-wake",
+    "arm",
+)
 
 
 class Times(Timeline):
     """The times of a recording, with those of cards and of NAPI's timer."""
 
-    def __init__(self, routes: Routes, polled: Sequence[str], irq: Optional[str], interrupts: Sequence[str]) -> None:
+    def __init__(
+        self, routes: Routes[Arrival], polled: Sequence[str], irq: Optional[str], interrupts: Sequence[str]
+    ) -> None:
         super().__init__(routes, polled, irq, interrupts)
         self.card = CardTimes(polled)
+        self.of_kinds: dict[str, Cost] = {}  # what polls of some kinds take more than others
         self.mixed = defaultdict[Place, set[int]](set)  # for each backlog its polls that took packets of other devices
 
     def poll(self, event: Event) -> None:
@@ -79,7 +90,7 @@ class Times(Timeline):
         if not self.routes.moved:
             return super().poll(event)
         napi, device, work, _ = event.parts(POLLED)
-        own, count = len(self.waiting[self.routes.of_poll(device, napi)].packets), len(self.of[device, napi].polls)
+        own, count = self.waiting[self.routes.of_poll(device, napi)].received, len(self.of[device, napi].polls)
         super().poll(event)
         if own != int(work) and len(self.of[device, napi].polls) > count:
             self.mixed[device, napi].add(count)
@@ -93,7 +104,17 @@ class Times(Timeline):
             polls = self.of[place]
             polls.polls = [poll for number, poll in enumerate(polls.polls) if number not in mixed]
             polls.on = [cpu for number, cpu in enumerate(polls.on) if number not in mixed]
-        return super().settle()
+            polls.kinds = [kind for number, kind in enumerate(polls.kinds) if number not in mixed]
+        super().settle()
+        # The machine has no cost for waking a program on another processor: there it stays a part of the polls.
+        kinds = [(woke and not is_apart(self), arms) for woke, arms in self.kinds]
+        self.of_kinds, self.polls = separated(self.polls, kinds)
+        return self
+
+    def cut(self, time: int) -> None:
+        """Forgets what was under way, at the beginning of a window."""
+        super().cut(time)
+        self.card.cut(time)
 
     def looks_at(self, name: str) -> list[Look]:
         """Returns what handles the events of this name."""
@@ -234,9 +255,9 @@ def reads_of(times: Timeline) -> Told:
     if not reads.count:
         return {}, ["use: not known: no read of a program is recorded (fintaqush record --program)"]
     if abs(reads.count - times.given) > (1 - MATCHED) * times.given or reads.unmatched > (1 - MATCHED) * reads.count:
-        return {}, [
-            f"use: not known: {reads.count} reads for {times.given} packets that polls took, so a read isn't one packet"
-        ]
+        is_less = reads.count < times.given
+        why = "the program reads too slowly, or several packets at once" if is_less else "a read isn't one packet"
+        return {}, [f"use: not known: {reads.count} reads for {times.given} packets that polls took: {why}"]
     cost = cost_of(reads.uses, "pairs of reads")
     if cost:
         costs["use"] = cost
@@ -278,8 +299,9 @@ def estimated(times: Times, head: Head) -> Told:
         costs |= part[0]
         told += part[1]
     use = None if is_apart(times) else costs.get("use")
-    more, lines = known_costs(times.card, times, use, timeouts_of(head, times.devices))
-    costs |= more
+    more, lines = known_costs(times.card, times, use, head)
+    costs |= more | times.of_kinds
+    told += [f"{name} {cost.interval()}: {cost.count} {cost.source}" for name, cost in times.of_kinds.items()]
     return {name: costs[name] for name in ORDER if name in costs}, [
         *told,
         *lines,
@@ -309,6 +331,8 @@ def notes_on(times: Times) -> Iterator[str]:
         yield f"{count} polls of a processor's backlog, {name}, are left out, because devices poll; --device '{name}' takes only these"
     if times.by_threads and 2 * times.by_threads <= len(times.polls):
         yield f"{times.by_threads} of the polls are by threads"
+    if times.share < 1:
+        yield f"of the recording {100 * times.share:.0f} % count, in {PARTS} parts, which is enough for costs"
     if times.strays:
         yield f"polls left out because their beginning is unknown: {times.strays}"
     if times.is_coarse:
@@ -345,16 +369,6 @@ def object_of(times: Times, head: Head, costs: Mapping[str, Cost], told: list[st
     }
 
 
-def interrupts_in(head: Head, devices: Sequence[str]) -> list[str]:
-    """Returns the names of the devices' interrupts, if fintaqush record found them."""
-    return [
-        value
-        for key, value in head.items()
-        for name in devices
-        if key.startswith(f"device.{name}.irq.") and key.endswith(".name") and value
-    ]
-
-
 def pairs_of(words: Words, head: Head) -> list[list[str]]:
     """Returns the pairs A:B over which packets go, from the options or the recording."""
     pairs = [pair.split(":") for pair in words.pair or head.get("pair", "").split()]
@@ -367,8 +381,11 @@ def pairs_of(words: Words, head: Head) -> list[list[str]]:
 
 def timeline_of(words: Words, head: Head) -> Times:
     polled = words.device or head.get("polled", "").split()
-    routes = Routes(head, dict(pairs_of(words, head)))
-    return Times(routes, polled, words.irq, interrupts_in(head, polled))
+    routes = Routes[Arrival](head, dict(pairs_of(words, head)))
+    interrupts = [name for device in polled for name in drivers.interrupts_in(head, device).values()]
+    times = Times(routes, polled, words.irq, interrupts)
+    times.of_queues = {name for device in polled for name in drivers.of_queues(head, device)}
+    return times
 
 
 def times_in(words: Words) -> tuple[Times, Head]:
@@ -441,5 +458,5 @@ def main(given: Sequence[str]) -> int:
     if words.words:
         print(options_of(costs))
     elif not is_printed(words.json):
-        print(*told, *notes_on(times), options_of(costs), sep="\n")
+        tell(*told, *notes_on(times), options_of(costs))
     return status_of(words.fail_if, [("", {name.replace("-", "_"): cost.value for name, cost in costs.items()})])

@@ -14,7 +14,7 @@ Three files are written:
     NAME.notes  what the recording lacks or the trace can't represent
 
 Existing ones are replaced only with --force. If nothing polls, no trace is written, and the tool prints why. docs/TOOLS.md explains how to
-record on one's own machine, and fintaqush compare-recording compares the trace's replay with NAME.work.
+record on one's own machine, and tests/compare_recording.py compares the trace's replay with NAME.work.
 """
 
 from __future__ import annotations
@@ -31,15 +31,14 @@ from fintaqush_tools import arrivals
 from fintaqush_tools.arrivals import SECOND, Packets, arrivals_text, number_of
 from fintaqush_tools.arriving import BY_PAIR, BY_POLL, HOW, KINDS, PollBegins
 from fintaqush_tools.arriving import by_device, chosen_kind, packet_of, receivers, size_in, why_no_packet
-from fintaqush_tools.errors import Refusal
+from fintaqush_tools.errors import About, Refusal
 from fintaqush_tools.files import check_input, check_target
 from fintaqush_tools.options import Parser, Words, words_of
 from fintaqush_tools.recording import (
     BACKLOG,
-    NET_RX,
+    IS_NET_RX,
     POLLED,
     SENT,
-    SOFTIRQ,
     Event,
     Events,
     Head,
@@ -148,7 +147,7 @@ def group_polls(events: Sequence[Event]) -> tuple[list[Polling], Counter[str]]:
         latest[event.cpu] = place
         if event.name == "sched_switch":
             since.pop(event.task, None)
-        elif event.name in ("softirq_entry", "softirq_exit") and int(event.parts(SOFTIRQ)[0]) == NET_RX:
+        elif event.name in ("softirq_entry", "softirq_exit") and event.parts(IS_NET_RX):
             under_way.pop(event.cpu, None)
             began[event.cpu] = place if event.name == "softirq_entry" else None
         elif event.name == "napi_poll":
@@ -361,7 +360,7 @@ class Trace:
                     packets.popleft()
 
     def note_row(self, polling: Polling, own: int, ahead: int) -> None:
-        """Notes what is unknown about the row that was just added; compare-recording reads the numbers."""
+        """Notes what is unknown about the row that was just added; tests/compare_recording.py reads the numbers."""
         row = f"row {len(self.rows)}"
         if polling.within:
             what = "which poll had them isn't recorded, and later rows carry the difference on"
@@ -409,14 +408,14 @@ class SameProcessor:
 
     def __init__(self, words: Words, times: MutableSequence[int]) -> None:
         """`times` are when the packets of pairs arrive."""
-        self.pairs, self.peers, self.times = words.pair or words.pairs, dict[str, str](), times
+        self.words, self.peers, self.times = words, dict[str, str](), times
         self.waiting = defaultdict(list)  # by processor and receiver, the indices of packets that it hasn't polled yet
         self.entered = {}  # for each processor, when its softirq began
 
     def peer_of(self, sender: str) -> str:
         """Returns the other end of a sender's pair, or an empty text."""
         if sender not in self.peers:
-            ends = [both for pair in self.pairs for both in ends_of(pair, [sender])]
+            ends = [both for pair in self.words.pair or self.words.pairs for both in ends_of(pair, [sender])]
             others = {**dict(ends), **{second: first for first, second in ends}}
             self.peers[sender] = others.get(sender, "")
         return self.peers[sender]
@@ -431,7 +430,7 @@ class SameProcessor:
         return [looks[name]] if name in looks else []
 
     def softirq(self, event: Event) -> None:
-        if int(event.parts(SOFTIRQ)[0]) == NET_RX:
+        if event.parts(IS_NET_RX):
             self.entered.pop(event.cpu, None)
             if event.name == "softirq_entry":
                 self.entered[event.cpu] = event.time
@@ -446,7 +445,7 @@ class SameProcessor:
                     self.times[place] = max(self.times[place], entered)
 
 
-class Arriving:
+class Arriving(Reader):
     """The packets of a recording, by the kind of event."""
 
     unsent: Counter[str]
@@ -523,32 +522,49 @@ class Arriving:
         return notes + told_of(f"packets of a device that is {where}", others)
 
 
+def read_by(words: Words, reader: Reader, lost: list[str]) -> Head:
+    """Reads the recording, and returns its head. `words` gets the pairs in it."""
+
+    def readers(head: Head) -> Sequence[Reader]:
+        words.pairs = head.get("pair", "" if head else "va*:vb*").split()
+        return [reader]
+
+    return read(words.recording, lost, readers)
+
+
+def read_trace(words: Words, lost: list[str]) -> Trace:
+    """Returns the trace of the recording."""
+    events = Events()
+    head = read_by(words, events, lost)
+    if not events:
+        raise Refusal("there is no event in it")
+    return Trace(events, words, head)
+
+
+def text_of(trace: Trace) -> str:
+    return lines_of([HEADERS[1], *trace.rows])
+
+
+def trace_of(recording: str) -> bytes:
+    """Returns the trace of a recording, as it is made without options."""
+    with About(recording):
+        return text_of(read_trace(words_of(__doc__, add_options, [recording, "-"]), [])).encode()
+
+
 def convert(words: Words) -> None:
     """Reads the recording and writes the files."""
     for end in ("work", "notes", "csv"):
         check_target(f"{words.name}.{end}", words.force)
     lost: list[str] = []
-    events, arriving = Events(), list[Arriving]()
-
-    def readers(head: Head) -> Sequence[Reader]:
-        words.pairs = head.get("pair", "" if head else "va*:vb*").split()
-        if not words.arrivals:
-            return [events]
-        arriving.append(Arriving(words))
-        return arriving
-
-    head = read(words.recording, lost, readers)
     if words.arrivals:
-        rows, notes, told = arriving[0].text(head)
+        arriving = Arriving(words)
+        rows, notes, told = arriving.text(read_by(words, arriving, lost))
         check_lost(lost)
         write_files(words, told, notes, csv=rows)
         return
-    if not events:
-        raise Refusal("there is no event in it")
-    trace = Trace(events, words, head)
+    trace = read_trace(words, lost)
     told = f"{len(trace.devices)} devices, {len(trace.rows)} rows, of which {len(trace.work)} poll"
-    text = lines_of([HEADERS[1], *trace.rows])
-    write_files(words, told, lost + trace.notes, work=lines_of(trace.work), csv=text)
+    write_files(words, told, lost + trace.notes, work=lines_of(trace.work), csv=text_of(trace))
 
 
 def add_options(parser: Parser) -> None:
@@ -567,7 +583,5 @@ def main(given: Sequence[str]) -> None:
     if words.device and words.pair:
         words.error("--device names a device without a pair, so it doesn't go with --pair")
     check_input(words.recording)
-    try:
+    with About(words.recording):
         convert(words)
-    except Refusal as error:
-        raise Refusal(f"{shown(words.recording)}: {error}") from None

@@ -11,7 +11,7 @@ of `tcpdump -tt -n -e`, also as .gz. A device is an interface, by its number if 
 takes part in all unicast packets, as sender and as receiver; if two do, the tool fails, and --to has to name one; otherwise all packets count as
 arrivals. --to names devices, in order: interfaces of the capture, or the link addresses that receive, each with the broadcasts that others
 send. NAME.notes lists them, and the packets without a row. A capture doesn't record when the softirq ran: --delay is the time from the first
-waiting packet to it. fintaqush raise adds the runs that a small budget or weight would cause. Arrivals have no multicasts, because a card accepts
+waiting packet to it. Option --raise of replay adds the runs that a small budget or weight would cause. Arrivals have no multicasts, because a card accepts
 only those that it was configured for. With --flows they have a column for the queues of napi_machine: a CRC of the packet's addresses and ports,
 in place of a card's hash, and of the addresses alone for fragments; 0 for packets without addresses.
 """

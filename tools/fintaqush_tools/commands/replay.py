@@ -38,8 +38,12 @@ def add_options(parser: Parser) -> None:
 
 def main(given: Sequence[str]) -> None:
     os.environ["FINTAQUSH_NAME"] = Program.name
-    launcher = [f"{TOP}/replay"]
-    if not os.path.exists(launcher[0]):
-        launcher = [sys.executable, "-EsSB", f"{TOP}/scripts/start.py", "replay"]
+    own = f"{TOP}/scripts/start.py"
+    launchers = {f"{TOP}/replay": [f"{TOP}/replay"], own: [sys.executable, "-EsSB", own, "replay"]}
     Signals.leave()
-    os.execv(launcher[0], [*launcher, *given])
+    for path, launcher in launchers.items():
+        if os.path.exists(path):
+            os.execv(launcher[0], [*launcher, *given])
+    from fintaqush_tools import replay  # what pip installs has no launcher
+
+    replay.start(given)

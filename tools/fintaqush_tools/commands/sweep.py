@@ -4,15 +4,13 @@
 
 A row has the trace, the settings, the exit status, the trace's fault if it has one, and values of the report: polls and work of all
 rows that poll, squeezed runs, packets dropped and left, and the greatest limit of any queue at the end. --raise adds the runs that the
-kernel would make after a run that leaves devices on the poll list (fintaqush raise), so that a small budget drops no packet that Linux
-wouldn't drop.
+kernel would make after a run that leaves devices on the poll list, so that a small budget drops no packet that Linux wouldn't drop.
 
-Only a report, or a fault of the trace, becomes a row. A replay that fails otherwise is reported, is tried three times, and makes the exit
-status 1; --resume tries it again. Rows are identified by the trace's contents: a changed trace is replayed again, a renamed one isn't.
-Other calls may work on the same file; their rows stay.
+Only a report, or a fault of the trace, becomes a row. A replay that fails otherwise is reported, and makes the exit status 1; --resume tries
+it again, and replays changed traces again. Only one call may work on a file: each job of an array has its own.
 
 The replays run on all processors of this machine. With --sshloginfile GNU parallel runs them on other machines that have this checkout,
-built programs, and the traces, under the same paths.
+built programs, and the traces, under the same paths, and tries a replay that fails three times.
 """
 
 from __future__ import annotations
@@ -28,11 +26,11 @@ from typing import Any
 from fintaqush_tools.combinations import Combinations, Key, Row
 from fintaqush_tools.combinations import add_words, check_words, choices, fault_of, sum_of, told_in
 from fintaqush_tools.errors import Refusal
-from fintaqush_tools.files import read_bytes
+from fintaqush_tools.files import KINDS, ROWS, TRACE, kind_of, read_trace
 from fintaqush_tools.options import Parser, Words, add_raise, number, words_of
 from fintaqush_tools.processes import program, ran
 from fintaqush_tools.progress import say
-from fintaqush_tools.reports import objects_of
+from fintaqush_tools.reports import SHAPES, objects_of
 from fintaqush_tools.results import add_json, value_of, write_json
 from fintaqush_tools.settings import MOST, USUAL
 from fintaqush_tools.texts import shown
@@ -41,18 +39,24 @@ from fintaqush_tools.trace import raise_option, records_of
 
 KEY = ["trace", "sum", "budget", "weight", "window", "raise"]
 TOLD = ["polls", "work", "squeezed", "dropped", "left", "greatest_limit"]
-SUMS = {"softirq": TOLD[:3], "kthread": TOLD[:2], "busy": TOLD[:2], "device": TOLD[3:5]}  # by lines of the report
+# The values of each line of the report that are added.
+SUMS = {shape[0]: [name for name in TOLD[:3] if name in shape] for shape in SHAPES if shape[1] == "ROW"} | {
+    "device": TOLD[3:5]
+}
 # Faults of a trace; a failed read or allocation isn't one.
 FAULT = re.compile(r"trace fault (?!10 )\d+ \w+ row \d+$")
 
 
 def is_trace(path: Path) -> bool:
-    """Returns whether a file of a folder should be replayed: hidden files and outputs of a sweep aren't."""
+    """Returns whether a file of a folder should be replayed. Others are skipped; rows of a sweep without a line, because they may be its output."""
     if not path.is_file():
         say(f"{shown(path)}: skipped, because it isn't a regular file")
         return False
     with open(path, "rb") as file:
-        return file.readline(len(SWEEP.head)).decode("latin-1") != SWEEP.head
+        what = kind_of(file.readline(1000))
+    if what and what not in (KINDS[TRACE], KINDS[ROWS]):
+        say(f"{shown(path)}: skipped, because it is {what}")
+    return what in ("", KINDS[TRACE])
 
 
 def traces_of(names: Iterable[str]) -> list[str]:
@@ -69,8 +73,6 @@ def traces_of(names: Iterable[str]) -> list[str]:
     for trace in traces:
         if not trace.is_file():
             raise Refusal(f"{shown(trace)}: no such trace, or not a regular file")
-        if "\n" in str(trace) or "\r" in str(trace):
-            raise Refusal(f"{shown(trace)}: a name with a newline can't be in a row")
     return list(dict.fromkeys(map(str, traces)))
 
 
@@ -103,7 +105,7 @@ def row_of(made: str, key: Key) -> Row:
     """Replays one trace with one combination."""
     trace, held, budget, weight, window, restarts = key
     settings = ["--budget", budget, "--weight", weight, "--window", window]
-    text, row = read_bytes(trace), Row(zip(KEY, key))
+    text, row = read_trace(trace), Row(zip(KEY, key))
     if sum_of(io.BytesIO(text)) != held:
         raise Refusal("the trace has changed since the sweep began")
     if restarts != "no":
@@ -122,7 +124,7 @@ SWEEP = Combinations("sweep", KEY, ["status", "fault", "raised", *TOLD], row_of)
 def keys_of(words: Words) -> list[Key]:
     """Returns the keys of the requested rows, in order."""
     restarts = "no" if not words.raised else "all" if words.restarts is None else str(words.restarts)
-    traces = [(trace, sum_of(io.BytesIO(read_bytes(trace)))) for trace in traces_of(words.traces)]
+    traces = [(trace, sum_of(io.BytesIO(read_trace(trace)))) for trace in traces_of(words.traces)]
     every = itertools.product(traces, words.budget, words.weight, words.window, [restarts])
     return [(*trace, *settings) for trace, *settings in every]
 
@@ -155,6 +157,8 @@ def main(given: Sequence[str]) -> int:
     texts = ("trace", "sum")  # which are no numbers
     objects = ({name: row[name] if name in texts else value_of(str(row[name])) for name in row} for row in rows)
     write_json(words.json, "sweep", objects)
+    if rows and not words.part and not told_in(rows):
+        raise Refusal(f"every row is refused: {shown(rows[0]['trace'])}: {rows[0]['fault']}")
     names = ("trace", "budget", "weight", "window")
     results = [(", ".join(f"{name} {row[name]}" for name in names), row) for row in told_in(rows)]
     return status_of(words.fail_if, results)

@@ -8,7 +8,7 @@ arrivals for napi_machine, with times in ns and any number of packets.
 A softirq row comes --delay after the first waiting packet. --mix adds other actions between the packets, each as often per 100
 packets as its number says: tx, done, kthread, disable (with a later enable), threaded, busy (version 2). The same options with the
 same seed give the same bytes. --flows N adds a column to arrivals, for several queues: the flow of each packet, one of N at random.
-For a small budget or weight, fintaqush raise adds the runs that Linux would make.
+For a small budget or weight, option --raise of replay adds the runs that Linux would make.
 """
 
 from __future__ import annotations

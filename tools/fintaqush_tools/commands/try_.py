@@ -23,7 +23,7 @@ from fintaqush_tools.files import check_target
 from fintaqush_tools.options import Parser, add_force, words_of
 from fintaqush_tools.places import IS_CHECKOUT, TOP
 from fintaqush_tools.progress import Program
-from fintaqush_tools.texts import aligned, shown
+from fintaqush_tools.texts import aligned, argument, shown
 
 PAGE = "fintaqush-try.html"
 
@@ -52,7 +52,7 @@ def command() -> str:
     if not IS_CHECKOUT:
         return "fintaqush"
     path = os.path.relpath(f"{TOP}/fintaqush")
-    return path if "/" in path else f"./{path}"
+    return argument(path if "/" in path else f"./{path}")
 
 
 def show_command(*words: str) -> None:

@@ -1,15 +1,15 @@
 """Predicts waits, drops and processor shares for settings, costs and loads, by running napi_machine on arrivals.
 
     fintaqush from-pcap capture.pcap mine --arrivals
-    fintaqush what-if mine.csv --gro-flush-timeout 0,20000,100000 --defer-hard-irqs 2 --load 0.5,1,2 --plot mine.png
+    fintaqush what-if mine.csv --gro-flush-timeout 0,20000,100000 --defer-hard-irqs 2 --load 0.5,1,2 --json mine.json
     fintaqush what-if mine.csv --ring 64,256 --until drops
     fintaqush what-if --traffic '--kind poisson --rate 100000' --seeds 5 --threaded 0,1
 
 On a terminal it prints a table with units, which has only the columns that differ, and conclusions. Elsewhere, or with --csv, it prints a CSV row
 for each combination, with the options that have several values and the results. --json FILE also writes an object per line with all options,
 whose keys are identifiers; without FILE these are printed in place of the table. --out writes a CSV file with all options. At a load of 2 all
-arrival times are halved. An option takes numbers separated by commas. Times and costs are in ns, except in the table. Results are only as good as the given costs: fintaqush costs
-estimates them from a recording. Options are named after Linux's settings; --help says where each is set.
+arrival times are halved. An option takes numbers separated by commas. Times and costs are in ns, except in the table. Results are only as good as the costs: --costs RECORDING
+estimates them as fintaqush costs does, and costs that are given count instead. Options are named after Linux's settings; --help says where each is set.
 
 Packets are dropped if the ring is full, and refused if the socket is. Waits last from a packet's arrival to the end of its delivery by a poll,
 and to the end of its use: the 50th, 99th and 99.9th percentile, of the device or processor where it is the greatest. Shares are of all
@@ -25,8 +25,8 @@ the end of use exceeds that many us. The search assumes that a setting which hol
 --traffic makes arrivals by fintaqush traffic, with its options, for each of --seeds seeds. A row then has the median of each value, and its
 minimum and maximum as NAME_least and NAME_most.
 
---plot draws waits, drops and the application's share, one below the other: over the load, or over the option that has the most values, with
-a curve for each combination of the others. --resume, --part and the options for other machines work as in sweep.
+The page web/index.html draws waits and drops of a table (CSV, or the file of --json) that is dropped on it: over the load, or over the option
+that has the most values, with a curve for each combination of the others. --resume, --part and the options for other machines work as in sweep.
 """
 
 from __future__ import annotations
@@ -34,16 +34,15 @@ from __future__ import annotations
 import csv
 import functools
 import itertools
-import math
 import os
 import re
 import shlex
 import sys
 import tempfile
 import threading
+from array import array
 from collections.abc import Callable, Iterable, Iterator, Mapping, Sequence
 from fractions import Fraction
-from pathlib import Path
 from typing import Any
 
 from fintaqush_tools import breaking, tables
@@ -51,17 +50,16 @@ from fintaqush_tools.arrivals import check_header
 from fintaqush_tools.bands import DOUBT, with_costs
 from fintaqush_tools.combinations import Combinations, Key, Row
 from fintaqush_tools.combinations import add_words, check_words, choices, fault_of, sum_of, told_in
-from fintaqush_tools.commands import traffic
-from fintaqush_tools.errors import Refusal, unfinished, unlink
-from fintaqush_tools.files import WholeFile, check_regular, check_target
-from fintaqush_tools.machine import ARE, COSTS, OPTIONS, VALUES, WAITS
-from fintaqush_tools.machine import default_of, help_of, identifier, option_words, values_of
-from fintaqush_tools.options import Parser, Words, number, require_end, words_of, wrong
-from fintaqush_tools.pictures import COLORS, ENDS, Curve, Picture, check_library, picture_bytes
+from fintaqush_tools.commands import costs, traffic
+from fintaqush_tools.errors import About, Refusal, unfinished, unlink
+from fintaqush_tools.files import check_regular
+from fintaqush_tools.machine import ARE, COSTS, OPTIONS, PERCENTILES, VALUES, WAITS
+from fintaqush_tools.machine import default_of, help_of, identifier, misfit, option_words, values_of
+from fintaqush_tools.options import Parser, Words, number, words_of, wrong
 from fintaqush_tools.processes import program, ran
 from fintaqush_tools.progress import Progress, say
 from fintaqush_tools.results import add_json, is_printed, value_of, write_json
-from fintaqush_tools.texts import last_line, shown
+from fintaqush_tools.texts import is_number, last_line, shown
 from fintaqush_tools.thresholds import Condition, add_fail_if, status_of
 
 VARIED = ["load", *OPTIONS]
@@ -69,12 +67,13 @@ KEY = ["arrivals", "sum", *VARIED]
 # Faults of arrivals; a failed read or a failed allocation isn't one.
 FAULT = re.compile(r"arrivals fault (?!10 )\d+ \w+ row \d+$")
 HEADER = b"ns,device,bytes"
-MOST_CURVES = len(COLORS)
-SHORT = {"p50": "used_p50", "p99": "used_p99", "p999": "used_p999"}  # names for --fail-if
+BAD_USAGE = 64  # the program's exit status
+SHORT = {name: f"used_{name}" for name in PERCENTILES}  # names for --fail-if
 # A change of an order: a line, the index pairs of its keys, and what they are ordered by.
 Change = tuple[str, list[tuple[int, int]], str]
 # Options of traffic that are set here.
 TAKEN = ("--arrivals", "--out", "--seed", "--help", "-h", "--version", "--manual")
+MOST_LOADS = 12  # for which scaled arrivals are kept: searches at the same time try similar loads
 making = threading.Lock()
 
 
@@ -96,43 +95,64 @@ def has_flows(path: str) -> bool:
         return file.readline(1000).strip().endswith(b",flow")
 
 
-def rewrite(path: str, load: str, with_flows: bool) -> str:
-    """Returns the name of a temporary file with these arrivals at `load` times their rate, with or without their flows."""
-    ratio, drops_flow = Fraction(load), has_flows(path) and not with_flows
-    handle, name = tempfile.mkstemp(suffix=".csv")
-    unfinished.add(name)
-    with open(path, "rb") as old, open(handle, "wb") as new:
-        first = old.readline(1000)
-        new.write(HEADER + b"\n" if drops_flow else first)
-        for place, line in enumerate(old, 1):
-            moment, comma, others = line.partition(b",")
-            if not (comma and moment.isdigit() and len(moment) <= 20):
+@functools.lru_cache(1)
+def parsed(path: str, with_flows: bool) -> tuple[bytes, array[int], list[bytes]]:
+    """Returns the first line of arrivals, their times, and the other columns, with or without flows; equal ones are one object."""
+    drops_flow, times, others = has_flows(path) and not with_flows, array("Q"), []
+    known: dict[bytes, bytes] = {}
+    with open(path, "rb") as file:
+        first = file.readline(1000)
+        for place, line in enumerate(file, 1):
+            time, comma, rest = line.partition(b",")
+            if not (comma and time.isdigit() and (len(time) < 20 or is_number(time.decode()))):
                 told = shown(line[:40].decode("latin-1").strip())
                 raise Refusal(f"row {place}: only times that are plain numbers can be scaled, not {told!r}")
-            if drops_flow and others.count(b",") == 2:
-                others = others[: others.rindex(b",")] + b"\n"
-            new.write(b"%d,%s" % (int(moment) * ratio.denominator // ratio.numerator, others))
-    return name
+            if drops_flow and rest.count(b",") == 2:
+                rest = rest[: rest.rindex(b",")] + b"\n"
+            times.append(int(time))
+            others.append(known.setdefault(rest, rest))
+    return HEADER + b"\n" if drops_flow else first, times, others
 
 
-rewritten = functools.lru_cache(rewrite)
+class Scaled:
+    """A temporary file with arrivals at `load` times their rate, which exists for as long as this object."""
+
+    name = ""
+
+    def __init__(self, path: str, load: str, with_flows: bool) -> None:
+        first, times, others = parsed(path, with_flows)
+        over, under = Fraction(load).denominator, Fraction(load).numerator
+        handle, self.name = tempfile.mkstemp(suffix=".csv")
+        unfinished.add(self.name)
+        with open(handle, "wb") as file:
+            file.write(first)
+            file.writelines(b"%d,%s" % (time * over // under, rest) for time, rest in zip(times, others))
+
+    def __del__(self) -> None:
+        unlink(self.name)
+        unfinished.discard(self.name)
 
 
-def outcome(made: str, name: str, settings: Mapping[str, str]) -> tuple[int, str, bytes]:
-    """Runs the machine on a file of arrivals; returns its status, its report and its messages."""
-    with open(name, "rb") as file:
+scaled = functools.lru_cache(MOST_LOADS)(Scaled)
+
+
+def outcome(made: str, path: str, load: str, settings: Mapping[str, str]) -> tuple[int, str, bytes]:
+    """Runs the machine on arrivals at a load; returns its status, its report and its messages."""
+    with_flows = int(settings["queues"]) > 1
+    is_as_it_is = Fraction(load) == 1 and has_flows(path) == with_flows
+    with making:
+        own = None if is_as_it_is else scaled(path, load, with_flows)
+    with open(own.name if own else path, "rb") as file:
         status, out, said = ran([made, *option_words(settings)], stdin=file)
     return status, out.decode("ascii", "replace"), said
 
 
 def breaks_at(made: str, key: Key, load: str, until: str) -> bool:
+    """Returns whether a combination breaks at a load."""
     settings = dict(zip(OPTIONS, key[3:]))
-    name = rewrite(key[0], load, int(settings["queues"]) > 1)
-    try:
-        status, out, said = outcome(made, name, settings)
-    finally:
-        unlink(name)
-        unfinished.discard(name)
+    if reason := misfit(settings):
+        raise Refusal(reason)
+    status, out, said = outcome(made, key[0], load, settings)
     if status:
         raise Refusal(f"{shown(key[0])}: {last_line(said, f'status {status}')[:200]}")
     return breaking.is_over(values_of(out), until)
@@ -144,10 +164,9 @@ def row_of(made: str, key: Key) -> Row:
     if sum_in(path) != held:
         raise Refusal("the arrivals have changed since this began")
     settings = dict(zip(OPTIONS, chosen))
-    with_flows = int(settings["queues"]) > 1
-    with making:
-        name = path if Fraction(load) == 1 and has_flows(path) == with_flows else rewritten(path, load, with_flows)
-    status, out, said = outcome(made, name, settings)
+    if reason := misfit(settings):
+        return {**dict(zip(KEY, key)), "status": BAD_USAGE, "fault": reason}
+    status, out, said = outcome(made, path, load, settings)
     row: Row = {**dict(zip(KEY, key)), "status": status, "fault": fault_of(made, status, said, FAULT)}
     return {**row, **(values_of(out) if status == 0 else {})}
 
@@ -227,7 +246,7 @@ def status_for(rows: Sequence[Row], conditions: Sequence[Condition]) -> int:
     return status_of(conditions, named)
 
 
-# ---- the table and the picture
+# ---- the table
 
 
 def varied_in(rows: Sequence[Row]) -> dict[str, list[str]]:
@@ -286,94 +305,6 @@ def answer(rows: Sequence[Row], every: Sequence[Row], keys: Sequence[Key], words
             print(f"refused: {row['fault']}")
 
 
-def message_of(rows: Sequence[Row]) -> str:
-    """Returns the picture's main message: which combination has the lowest 99th percentile at the highest load, of those without losses there."""
-    told = told_in(rows)
-    top = max((float(row["load"]) for row in told), default=0)
-    whole = [row for row in told if float(row["load"]) == top and not tables.lost(row) and int(row["used_p99"])]
-    if not whole:
-        return "; each loses packets at the highest load" if told and len(varied_in(rows)) else ""
-    best = min(whole, key=lambda row: int(row["used_p99"]))
-    named = ", ".join(f"{name} {best[name]}" for name in varied_in(rows) if name != "load")
-    return f"; best p99 at load {top:g}: {named}, {int(best['used_p99']) / 1000:,.0f} µs" if named else ""
-
-
-def title_of(rows: Sequence[Row], name: str) -> str:
-    """Returns the title: what was varied, and which costs were given."""
-    varied = varied_in(rows)
-    told = "; ".join(f"{each} {', '.join(values)}" for each, values in varied.items())
-    given = ", ".join(f"{each} {rows[0][each]}" for each in COSTS if each not in varied)
-    return f"{name}: {told}{message_of(rows)}.\nCosts are given{f', in ns: {given}' if given else ''}."
-
-
-def check_curves(words: Words) -> None:
-    """Fails, before any work, if a picture would have no curve or too many."""
-    counts = {name: len(getattr(words, name.replace("-", "_"))) for name in VARIED}
-    varied = {name: count for name, count in counts.items() if count > 1}
-    if not varied:
-        raise Refusal("nothing to draw: no option has several values")
-    count = math.prod(varied.values()) // varied.get("load", max(varied.values()))
-    if count > MOST_CURVES:
-        most = f"of which at most {MOST_CURVES} can be distinguished"
-        raise Refusal(f"{count} curves, {most}: vary fewer options at a time")
-
-
-def curves_of(rows: Sequence[Row]) -> tuple[str, dict[str, list[Row]]]:
-    """Returns the axis, and the rows of each curve by its title."""
-    varied = varied_in(rows)
-    axis = "load" if "load" in varied else max(varied, key=lambda name: len(varied[name]))
-    curves: dict[str, list[Row]] = {}
-    for row in told_in(rows):
-        title = " ".join(f"{name} {row[name]}" for name in varied if name != axis)
-        curves.setdefault(title or "all", []).append(row)
-    if not curves:
-        raise Refusal("nothing to draw: each row is refused")
-    return axis, {title: sorted(each, key=lambda row: float(row[axis])) for title, each in curves.items()}
-
-
-def line(points: Sequence[tuple[float, float]], place: int, name: str = "", is_dashed: bool = False) -> Curve:
-    """Returns a curve of the picture; `place` is its index among the combinations."""
-    return {"kind": "line", "color": COLORS[place], "shape": place, "dashed": is_dashed, "name": name, "points": points}
-
-
-def waits_of(rows: Sequence[Row], axis: str, column: str) -> list[tuple[float, float]]:
-    """Returns the points of a curve of waits, in ms."""
-    return [(float(row[axis]), int(row[column]) / 10**6) for row in rows if int(row[column])]
-
-
-def described(rows: Sequence[Row], title: str) -> Picture:
-    """Returns the picture: waits, losses and the application's share, with a curve for each combination."""
-    axis, curves = curves_of(rows)
-    waits, lost_of, shares = [], [], []
-    for place, (name, points) in enumerate(curves.items()):
-        waits.append(line(waits_of(points, axis, "delivered_p99"), place, f"{name}, to delivery", True))
-        waits.append(line(waits_of(points, axis, "used_p99"), place, name))
-        lost_of.append(line([(float(row[axis]), tables.lost_percent(row)) for row in points], place, name))
-        shares.append(line([(float(row[axis]), float(row["use_percent"])) for row in points], place, name))
-    panels = [
-        ("99th percentile of waits, ms", "to delivery dashed, to the end of use", waits, True),
-        ("dropped and refused, %", "", lost_of, False),
-        ("the application's share, %", "of the processor", shares, False),
-    ]
-    ends = [float(row[axis]) for points in curves.values() for row in points]
-    margin = 0.03 * (max(ends) - min(ends) or 1)
-    label = f"{axis} (times the arrivals)" if axis == "load" else axis
-    described: list[dict[str, Any]] = []
-    for name, heading, every, is_log in panels:
-        told = [each for each in every if each["points"]]
-        legend = not heading and len(curves) > 1
-        shown_as = {"label": name, "heading": heading, "top": 102, "log": bool(is_log and told)}
-        described.append({**shown_as, "curves": told, "legend": legend})
-    scale = {"label": label, "low": min(ends) - margin, "high": max(ends) + margin}
-    return {"title": title, "axis": scale, "panels": described}
-
-
-def draw(rows: Sequence[Row], words: Words) -> None:
-    picture = described(rows, title_of(rows, shown(Path(words.arrivals).name if words.arrivals else words.traffic)))
-    with WholeFile(words.plot) as new:
-        Path(new).write_bytes(picture_bytes(picture, words.plot, (540, 280)))
-
-
 # ---- options
 
 
@@ -393,6 +324,8 @@ def add_options(parser: Parser) -> None:
     for name, (low, high, default) in OPTIONS.items():
         how: dict[str, Any] = {"type": choices(number(low, high)), "default": [str(default)], "metavar": "N,.."}
         parser.add_argument(f"--{name}", help=help_of(name), **how)
+    what = "take the costs that aren't given from this recording, as fintaqush costs estimates them"
+    parser.add_argument("--costs", metavar="RECORDING", help=what)
     what = f"warn if an order changes with costs N %% lower or higher ({DOUBT}; 0 with --out or --part); advise prints that of a recording"
     parser.number("--band", 0, 90, None, what)
     form = parser.add_mutually_exclusive_group()
@@ -405,7 +338,6 @@ def add_options(parser: Parser) -> None:
     parser.add_argument("--traffic", metavar="OPTIONS", help=what)
     parser.number("--seeds", 1, 1000, None, "with --traffic: repeat with the seeds 1 to N (5)")
     add_fail_if(parser, [*SHORT, *VALUES], [*SHORT, *WAITS])
-    parser.add_argument("--plot", metavar="FILE", help="a picture, .png, .svg or .html")
     add_words(parser, "napi_machine", {"metavar": "FILE", "help": "a CSV file of rows with all options and results"})
 
 
@@ -419,18 +351,38 @@ def check_together(words: Words) -> None:
     for name, value in (("--traffic", words.traffic), ("--until", words.until)):
         if value and is_spread:
             words.error(f"{name} doesn't go with --out, --part and --sshloginfile")
-    if words.until and any((words.traffic, words.plot, words.fail_if, words.load != ["1"])):
-        others = "--load, --traffic, --plot and --fail-if"
+    if words.until and any((words.traffic, words.fail_if, words.load != ["1"])):
+        others = "--load, --traffic and --fail-if"
         words.error(f"--until searches the load, of one file, so it doesn't go with {others}")
-    require_end(words, "--plot", words.plot, ENDS)
     if words.resume and not words.out:
         words.error("--resume goes with --out")
     if words.part and words.band:
         words.error("--band compares all rows, so it doesn't go with --part")
 
 
+def with_costs_of(words: Words, given: Sequence[str]) -> Words:
+    """Parses the options with the costs of a recording as defaults, and says which costs keep their own."""
+    with About(words.costs):
+        told = costs.object_in(words.costs, [])["costs"]
+    own = {name: [f"{cost['value']:.0f}"] for name, cost in told.items() if name.replace("_", "-") in COSTS}
+    usual = {name: str(OPTIONS[name][2]) for name in COSTS if identifier(name) not in own and OPTIONS[name][2]}
+    lacks = [f"--{each} {usual[each]}" for each in usual if getattr(words, identifier(each)) == [usual[each]]]
+    if lacks := [each for each in lacks if is_number(each.split()[1])]:
+        say(f"{shown(words.costs)} doesn't have all costs, so these are as by default: {' '.join(lacks)}")
+
+    def add(parser: Parser) -> None:
+        add_options(parser)
+        parser.set_defaults(**own)
+
+    return words_of(__doc__, add, given)
+
+
 def read_words(given: Sequence[str]) -> Words:
     words = words_of(__doc__, add_options, given)
+    if words.costs:
+        words = with_costs_of(words, given)
+    if set(words.defer_hard_irqs) != {"0"} and set(words.gro_flush_timeout) == {"0"}:
+        say("--defer-hard-irqs does nothing without --gro-flush-timeout, as in Linux")
     check_together(words)
     if words.band is None:
         words.band = 0 if words.out or words.part else DOUBT
@@ -483,14 +435,14 @@ def until_it_breaks(made: str, words: Words) -> None:
     """Searches the load at which each combination breaks."""
     keys, rate = keys_of(words, words.arrivals)[0], breaking.rate_of(words.arrivals)
     percents = (100, 100 - words.band, 100 + words.band) if words.band else (100,)
-    done: list[int] = []
+    shares: dict[tuple[Key, int], float] = {}
     searches = len(keys) * len(percents)
 
     def breaks(key: Key, percent: int, load: Fraction) -> bool:
         return breaks_at(made, band_of(key, percent), breaking.load_text(load), words.until)
 
-    with Progress(f"searching {searches} loads", lambda: len(done) / searches):
-        found = breaking.breakings(keys, percents, breaks, words.jobs or os.cpu_count() or 1, lambda: done.append(1))
+    with Progress(f"searching {searches} load{'s' * (searches > 1)}", lambda: sum(list(shares.values())) / searches):
+        found = breaking.breakings(keys, percents, breaks, words.jobs or os.cpu_count() or 1, shares)
     print_breakings(found, words, rate, percents)
 
 
@@ -552,16 +504,13 @@ def check_arrivals(words: Words) -> None:
 
 def main(given: Sequence[str]) -> int:
     words = read_words(given)
-    rewritten.cache_clear()
+    parsed.cache_clear()
+    scaled.cache_clear()
     if words.play:
         return TABLE.play(words.binary, words.play)
     check_words("what-if", words)
     if words.arrivals:
         check_arrivals(words)
-    if words.plot:
-        check_target(words.plot)
-        check_library(words.plot)
-        check_curves(words)
     made = program("napi_machine", words.binary)
     if words.until:
         until_it_breaks(made, words)
@@ -572,6 +521,4 @@ def main(given: Sequence[str]) -> int:
     if len(faults) == len(rows) > 0:
         raise Refusal(f"{shown(words.arrivals or words.traffic)}: {faults[0]}")
     answer(rows, every, keys, words)
-    if words.plot:
-        draw(rows, words)
     return status_for(rows, words.fail_if)

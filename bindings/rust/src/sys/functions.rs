@@ -141,6 +141,38 @@ extern "C" {
     /// Frees a ring that was never split, and sets `*totals` to its totals; the handle is unset after that. Returns
     /// `FQ_OK`; `FQ_BAD_HANDLE`, and nothing changes.
     pub fn fq_ring_finish_sized(ring: *mut fq_ring, totals: *mut fq_totals) -> u32;
+    /// A ring of places, without copies: its packets, of any type, are in an array of the program's, of `capacity`
+    /// elements, and the calls say which elements an end may use. Sets two handles: `ring` is the input end, by which
+    /// one thread publishes packets, and `out` the output end, by which one thread takes them. Each is freed
+    /// separately. Returns `FQ_OK`; `FQ_IN_USE`; `FQ_BAD_CAPACITY`, unless the capacity is 1 to 65536;
+    /// `FQ_OUT_OF_MEMORY`.
+    pub fn fq_ring_places(ring: *mut fq_ring, out: *mut fq_ring, capacity: usize) -> u32;
+    /// For the input end: publishes the packets in the first `publish` of the elements that it claimed last, and then
+    /// claims up to `want` elements, at most 64: `*count` of them, from the index `*first` on. The program may write
+    /// them until the end's next call. They are fewer than `want` at the end of the array, where the next claim
+    /// begins at index 0, and if the ring is full. Claims that aren't published are claimed again. Returns `FQ_OK`,
+    /// also if `*count` is 0. Otherwise nothing changes, and both are 0: `FQ_BAD_HANDLE`; `FQ_NOT_ALLOWED` if fewer
+    /// were claimed.
+    pub fn fq_ring_claim(
+        ring: *mut fq_ring,
+        publish: usize,
+        want: usize,
+        first: *mut usize,
+        count: *mut usize,
+    ) -> u32;
+    /// For the output end: releases the first `release` of the elements that it peeked at last, which may then be
+    /// claimed again, and peeks at up to `want` published packets, at most 64, the oldest ones: `*count` of them,
+    /// from the index `*first` on. The program may read and write them until the end's next call. They are fewer than
+    /// `want` at the end of the array, and if no more are published. Packets that aren't released are peeked at
+    /// again. Returns `FQ_OK`, also if `*count` is 0. Otherwise nothing changes, and both are 0: `FQ_BAD_HANDLE`;
+    /// `FQ_NOT_ALLOWED` if fewer were peeked at.
+    pub fn fq_ring_peek(
+        ring: *mut fq_ring,
+        release: usize,
+        want: usize,
+        first: *mut usize,
+        count: *mut usize,
+    ) -> u32;
     /// Makes a ring of capacity 1 to 65536, not stopped, over a new limit between `min` and `max` bytes, with the
     /// slack hold time `hold_ms` (`dql_init`). `fq_free` frees it, whatever it holds. Returns `FQ_OK`; `FQ_IN_USE`;
     /// `FQ_BAD_BOUNDS`; `FQ_BAD_CAPACITY`; `FQ_OUT_OF_MEMORY`.
@@ -336,38 +368,47 @@ extern "C" {
     /// it is closed, which `fq_driver_show` shows. Packets that stay in the card are polled after the next open.
     /// Returns `FQ_OK`; `FQ_NOT_DUE` if it is closed or being stopped; `FQ_BAD_DEVICE`; `FQ_BAD_HANDLE`.
     pub fn fq_driver_stop(driver: *mut fq_driver, device: u32) -> u32;
+    /// Reports the action in `*todo`, unless its number is 0; then the interrupts of the cards of the devices whose
+    /// bits are set, device d's at bit d, as `fq_driver_interrupt` does; and sets `*todo` to what has to be done now.
+    /// If all that is due is to mask one card, and no device is listed or polled, it is the fetch of that device,
+    /// with `mask`. Returns `FQ_OK`, also if the driver didn't wait for this report any more, which `todo->status`
+    /// says; otherwise `*todo` is `FQ_TODO_FAILED`: `FQ_BAD_HANDLE`; `FQ_BAD_DEVICE` for a bit without a device, and
+    /// nothing changes; `FQ_NOT_REPORTED` if the driver waits for the report of an action and this isn't it, and
+    /// `fq_driver_next` returns that action again; `FQ_BAD_WORK` if a fetch took more than `most`. After these two
+    /// the action isn't reported, but the interrupts are.
+    pub fn fq_driver_turn(driver: *mut fq_driver, interrupts: u64, todo: *mut fq_todo) -> u32;
     /// Reports an interrupt of a card (`napi_schedule`), at any time, also before an action that is due is reported.
     /// Returns `FQ_GRANTED`: a poll was requested, whose first action is to mask the card; `FQ_MISSED`: a poll is
     /// requested already, and one more follows, or the device is closed; `FQ_DISABLED`: it is being stopped;
     /// `FQ_BAD_DEVICE`; `FQ_BAD_HANDLE`. It may be called too often: an interrupt without packets costs one empty
-    /// poll. The status may be ignored if the device and the handle are right.
+    /// poll.
     pub fn fq_driver_interrupt(driver: *mut fq_driver, device: u32) -> u32;
     /// Sets `*todo` to what has to be done now. It is the same action, with the same number, until that is reported
-    /// or isn't due any more. Returns `FQ_OK`; `FQ_BAD_HANDLE`, and `*todo` is `FQ_TODO_FAILED`.
-    pub fn fq_driver_next_sized(driver: *mut fq_driver, todo: *mut fq_todo) -> u32;
-    /// Reports that the action in `*todo` was done, with `todo->packets` and `todo->rearm`; only these, its size and
-    /// its number are read. Call it before the next call of `fq_driver_next`, or not at all: an action that isn't
-    /// reported is returned again. Returns `FQ_OK`; `FQ_BAD_SIZE` if `*todo` wasn't set by `fq_driver_next` or
-    /// `fq_driver_step`; `FQ_BAD_HANDLE`; `FQ_NOT_DUE`: the driver doesn't wait for this report any more, because of
-    /// an interrupt, an open, a stop or an earlier report, or it is another driver's, and `fq_driver_next` says what
-    /// is due instead; `FQ_BAD_WORK` if a fetch took more than `most`. Nothing changes unless it returns `FQ_OK`.
+    /// or isn't due any more; a fetch that is returned again has `mask`. Returns `FQ_OK`; `FQ_BAD_HANDLE`, and
+    /// `*todo` is `FQ_TODO_FAILED`.
+    pub fn fq_driver_next(driver: *mut fq_driver, todo: *mut fq_todo) -> u32;
+    /// Reports that the action in `*todo` was done, with `todo->packets` and `todo->rearm`; only these and its number
+    /// are read. Call it before the next call of `fq_driver_next`, or not at all: an action that isn't reported is
+    /// returned again. Returns `FQ_OK`; `FQ_BAD_HANDLE`; `FQ_NOT_DUE`: the driver doesn't wait for this report any
+    /// more, because of an interrupt, an open, a stop or an earlier report, or it is another driver's, and
+    /// `fq_driver_next` says what is due instead; `FQ_BAD_WORK` if a fetch took more than `most`. Nothing changes
+    /// unless it returns `FQ_OK`.
     pub fn fq_driver_done(driver: *mut fq_driver, todo: *const fq_todo) -> u32;
     /// Reports the action in `*todo`, unless its number is 0, and sets `*todo` to what has to be done now:
     /// `fq_driver_done` and then `fq_driver_next` in one call. Report interrupts that came meanwhile before it, so
-    /// that they count before the next poll. Returns `FQ_OK`; `FQ_NOT_DUE`: the driver didn't wait for this report
-    /// any more, and `*todo` is what is due instead; `FQ_BAD_HANDLE`, and `FQ_BAD_WORK` if a fetch took more than
-    /// `most`: nothing changes, and `*todo` is `FQ_TODO_FAILED`.
-    pub fn fq_driver_step_sized(driver: *mut fq_driver, todo: *mut fq_todo) -> u32;
+    /// that they count before the next poll. Returns `FQ_OK`, also if the driver didn't wait for this report any
+    /// more, which `todo->status` says; otherwise nothing changes, and `*todo` is `FQ_TODO_FAILED`: `FQ_BAD_HANDLE`;
+    /// `FQ_NOT_REPORTED` and `FQ_BAD_WORK` as in `fq_driver_turn`.
+    pub fn fq_driver_step(driver: *mut fq_driver, todo: *mut fq_todo) -> u32;
     /// Reports that the timer of a device expired (`napi_watchdog`), at any time, also if it isn't set any more.
     /// Returns `FQ_GRANTED`: a poll was requested; `FQ_NOT_DUE`: one is requested already, or the device is closed or
-    /// being stopped, and nothing has changed; `FQ_BAD_DEVICE`; `FQ_BAD_HANDLE`. The status may be ignored if the
-    /// device and the handle are right.
+    /// being stopped, and nothing has changed; `FQ_BAD_DEVICE`; `FQ_BAD_HANDLE`.
     pub fn fq_driver_timer(driver: *mut fq_driver, device: u32) -> u32;
     /// Sets the settings of a closed device. With deferral, a completion leaves the card masked, and `FQ_TODO_TIMER`
     /// follows; with busy polling, the device is polled again until it was empty so often in a row. A fetch must not
     /// unmask the card then, because that ends both. A timer may still be set after a stop: cancel it, or report it.
-    /// Returns `FQ_OK`; `FQ_BAD_SIZE`; `FQ_BAD_HANDLE`; `FQ_BAD_DEVICE`; `FQ_BAD_WEIGHT`; `FQ_NOT_DUE` if the device
-    /// isn't closed.
+    /// Returns `FQ_OK`; `FQ_BAD_SIZE`; `FQ_BAD_HANDLE`; `FQ_BAD_DEVICE`; `FQ_BAD_WEIGHT`; `FQ_BAD_SETTING` for
+    /// `defer_hard_irqs` without `gro_flush_timeout`; `FQ_NOT_ALLOWED` if the device isn't closed.
     pub fn fq_driver_set_sized(
         driver: *mut fq_driver,
         device: u32,

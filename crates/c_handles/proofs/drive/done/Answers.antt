@@ -21,5 +21,5 @@ returns c =
     let same : IsDone todo.number todo.packets (rearm_in todo.rearm) c.args.driver.now c.done-reported.result c.done-reported.new.self =
     subst (λ (rearm : Rearm). IsDone todo.number todo.packets rearm c.args.driver.now c.done-reported.result c.done-reported.new.self)
     c.rearm_of.ensures is in
-    rw c.report_status.ensures (todo_report todo.number todo.packets todo.rearm c.args.driver.now c.done-reported.new.self
+    rw c.report_status.ensures.status (todo_report todo.number todo.packets todo.rearm c.args.driver.now c.done-reported.new.self
     c.done-reported.result same)

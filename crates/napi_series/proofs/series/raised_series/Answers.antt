@@ -1,6 +1,6 @@
-use Rattle.std.proofs.{Common.{◌≡◌, ◌⊎◌, Err, IfErr, Ok, inl, inr, List}, lemmas.Result.err_from_is_err_and}
+use Rattle.std.proofs.{Common.{◌≡◌, ◌⊎◌, Err, IfErr, Ok, inl, inr, List}}
 use Rattle.{std.specs.Prelude.Result, replay_rows.specs.Replay.after_all_rows}
-use Rattle.replay_rows.proofs.{PlayFacts.{report-early, unwritten}, RaisedFacts.raised-unwritten}
+use Rattle.replay_rows.proofs.PlayFacts.{report-early, unwritten}
 use Rattle.text_io.specs.{Outside.IsReplayOutOfMemory, declared.fault.ReplayFault.ReplayFault}
 use Rattle.text_io.specs.{declared.fault.ReplayFault.TheVariants.OutputFailed, declared.settings.ReplaySettings.ReplaySettings}
 use Rattle.device_rows.specs.declared.row.Row.{Row}
@@ -12,12 +12,6 @@ never : {A : Type 0} (s : ReplaySettings) (rows : List Row) (r : Result A Replay
 never s rows (Ok a) h = tt
 never s rows (Err fault) (inl memory) = unwritten s rows fault (inl memory)
 never s rows (Err fault) (inr early) = unwritten s rows fault (inr (report-early s rows fault early))
-
-pub returns-in_err-rows-in-Some-clause-unwritten : goal.returns-in_err-rows-in-Some-clause-unwritten
-returns-in_err-rows-in-Some-clause-unwritten c =
-    let p = err_from_is_err_and c.from_residual.result c.from_residual.ensures.1 in
-    rw (p.1, p.2)
-    (raised-unwritten c.args.settings.now.replay c.in-Some.restarts c.rows.result.now _ c.in_err-rows-in-Some.ensures.fault)
 
 pub returns-in_ok-rows-in-Some-clause-unwritten : goal.returns-in_ok-rows-in-Some-clause-unwritten
 returns-in_ok-rows-in-Some-clause-unwritten c =

@@ -18,7 +18,7 @@ loop-device-init g c =
       count = rw none (sym c.begin-run.ensures.begins.polls);
       capacity = c.requires.room;
       shows = λ all shows. shows;
-      logged = λ all shows more. rw none refl;
+      logged = λ x all shows more. rw none refl;
     }
 
 pub loop-device-preserved : goal.loop-device-preserved
@@ -49,15 +49,15 @@ loop-device-preserved g c =
           (omega (arith, length-append log (entry ∷ []), before.count, c.polled.ensures.counts.0, c.next.ensures.counts));
       capacity = omega (arith, before.capacity, c.push_reserved.ensures.capacity);
       shows = λ all shows. is.transmits all (before.shows all shows);
-      logged = λ all shows. rw items
+      logged = λ x all shows. rw items
           (logged-push c.args.settings.now all (devices_of c.args.bench.now) (devices_of c.loop-device.bench)
-          (devices_of c.poll_once-once.new.self) log entry (before.logged all shows) is.exact.1
-          (c.counts_of.ensures all (is.transmits all (before.shows all shows))));
+          (devices_of c.poll_once-once.new.self) log entry (before.logged x all shows) (is.exact x).1
+          (c.counts_of.ensures x all (is.transmits all (before.shows all shows))));
     }
 
 pub returns-clause-logged : goal.returns-clause-logged
 unfolding logged
-returns-clause-logged g c = λ all shows. sym (simp append-nil at (c.loop-device.invariant.logged all shows []))
+returns-clause-logged g c = λ x all shows. sym (simp append-nil at (c.loop-device.invariant.logged x all shows []))
 
 pub returns-clause-run : goal.returns-clause-run
 returns-clause-run g c =

@@ -1,4 +1,4 @@
-use Rattle.std.proofs.Common.{◌≡◌, ◌≤◌, ◌-◌, ◌++◌, None, List, length, vec_capacity}
+use Rattle.std.proofs.Common.{◌≡◌, true, ◌≤◌, ◌-◌, ◌++◌, None, List, length, vec_capacity}
 use Rattle.device_bench.specs.DeviceBench.{IsListPoll, ShowsTransmits, devices_of}
 use Rattle.device_bench.specs.Transmits.{Transmits}
 use Rattle.poll_runs.specs.{Driven.{IsGoing, held}, Plain.{HasListRoom, NothingBehind, OwnPushes, all_held}, Polls.{At, Chain, Poll}}
@@ -17,7 +17,7 @@ invariant-loop-device g l = record {
   count : length l.polls.items ≡ l.run.polls;
   capacity : l.settings.window ≤ vec_capacity l.polls;
   shows : (all : Transmits) → ShowsTransmits l.fn.bench all → ShowsTransmits l.bench all;
-  logged : (all : Transmits) → ShowsTransmits l.fn.bench all → (more : List Poll)
+  logged : g.S.ReceiveSide.exact ≡ true → (all : Transmits) → ShowsTransmits l.fn.bench all → (more : List Poll)
       → logged l.settings all (devices_of l.fn.bench) (polls_in l.polls.items ++ more)
       ≡ l.polls.items ++ logged l.settings all (devices_of l.bench) more;
 }

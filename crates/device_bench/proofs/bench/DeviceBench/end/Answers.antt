@@ -4,7 +4,7 @@ use Rattle.device_bench.proofs.bench.DeviceBench.end.Goals as goal
 
 pub loop-place-init : goal.loop-place-init
 loop-place-init g c =
-    ended-none g.S.ReceiveSide.ended _ _ c.args.self.kept.places c.default-ends.ensures.long
+    ended-none g.S.ReceiveSide.ended _ _ c.args.self.places c.default-ends.ensures.long
     (λ number below. c.default-ends.ensures.at number None below)
 
 pub loop-place-preserved-in-Some-place : goal.loop-place-preserved-in-Some-place

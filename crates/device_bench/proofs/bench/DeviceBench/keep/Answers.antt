@@ -4,23 +4,23 @@ use Rattle.{device_bench.proofs.{BenchFacts.kept-opened, Waiting.waiting-added},
 use Rattle.device_bench.proofs.bench.DeviceBench.keep.Goals as goal
 
 pub invariant_of-self-clause-kept : goal.invariant_of-self-clause-kept
-invariant_of-self-clause-kept g c =
-    let below : c.args.device < length c.args.self.now.devices.items = omega (arith, c.args.self.now.kept.places, c.requires.device.1) in
-    let is = c.put_back.ensures ∙ ap (λ (d : DeviceView). Some d) (c.new-opened.ensures c.args.capacity c.in_ok-open.ensures) in
-    rw is (kept-opened _ _ c.args.device c.args.capacity c.args.self.now.kept below)
+invariant_of-self-clause-kept g c = λ x.
+    let below : c.args.device < length c.args.self.now.devices.items = omega (arith, c.args.self.now.places, c.requires.device.1) in
+    let is = c.put_back.ensures ∙ ap (λ (d : DeviceView). Some d) (c.new-opened.ensures c.args.capacity (c.in_ok-open.ensures x)) in
+    rw is (kept-opened _ _ c.args.device c.args.capacity (c.args.self.now.kept x) below)
 
 pub returns-clause-devices : goal.returns-clause-devices
-returns-clause-devices g c =
-    let below : c.args.device < length c.args.self.now.devices.items = omega (arith, c.args.self.now.kept.places, c.requires.device.1) in
+returns-clause-devices g c = λ x.
+    let below : c.args.device < length c.args.self.now.devices.items = omega (arith, c.args.self.now.places, c.requires.device.1) in
     let here : at c.args.device c.args.self.now.devices.items ≡ None =
     at-index _ c.args.device _ below (sym c.index.ensures) ∙ none-of _ (sym c.is_some.ensures ∙ c.if-is_some.false) in
-    let is = c.put_back.ensures ∙ ap (λ (d : DeviceView). Some d) (c.new-opened.ensures c.args.capacity c.in_ok-open.ensures) in
+    let is = c.put_back.ensures ∙ ap (λ (d : DeviceView). Some d) (c.new-opened.ensures c.args.capacity (c.in_ok-open.ensures x)) in
     rw (is, here) refl
 
 pub returns-clause-waiting : goal.returns-clause-waiting
-returns-clause-waiting g c =
-    let below : c.args.device < length c.args.self.now.devices.items = omega (arith, c.args.self.now.kept.places, c.requires.device.1) in
+returns-clause-waiting g c = λ x.
+    let below : c.args.device < length c.args.self.now.devices.items = omega (arith, c.args.self.now.places, c.requires.device.1) in
     let here : at c.args.device c.args.self.now.devices.items ≡ None =
     at-index _ c.args.device _ below (sym c.index.ensures) ∙ none-of _ (sym c.is_some.ensures ∙ c.if-is_some.false) in
-    let is = c.put_back.ensures ∙ ap (λ (d : DeviceView). Some d) (c.new-opened.ensures c.args.capacity c.in_ok-open.ensures) in
+    let is = c.put_back.ensures ∙ ap (λ (d : DeviceView). Some d) (c.new-opened.ensures c.args.capacity (c.in_ok-open.ensures x)) in
     rw is (waiting-added c.args.self.now.devices.items c.args.device c.args.capacity below here)

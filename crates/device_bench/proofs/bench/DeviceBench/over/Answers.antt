@@ -2,4 +2,4 @@ use Rattle.{std.proofs.Common.{sym, subst, false}, device_bench.{specs.Kept.IsKe
 use Rattle.device_bench.proofs.bench.DeviceBench.over.Goals as goal
 
 pub invariant_of-result-clause-kept : goal.invariant_of-result-clause-kept
-invariant_of-result-clause-kept g c = subst (IsKept false) (sym c.in_ok-empty_table.ensures) kept-empty
+invariant_of-result-clause-kept g c = λ x. subst (IsKept false) (sym c.in_ok-empty_table.ensures) kept-empty

@@ -3,4 +3,4 @@ use Rattle.device_bench.proofs.device.BenchDevice.set_threaded.Goals as goal
 
 pub returns : goal.returns
 unfolding after_threaded
-returns g c = rw (← c.self.view_is, c.set_threaded.ensures.side) refl
+returns g c = λ x. rw (← c.self.view_is, c.set_threaded.ensures.side x) refl

@@ -8,4 +8,4 @@ invariant_of-self c =
     (c.set_threaded.ensures.controller ∙ c.self.invariant.0, subst IsOurs (sym step) c.self.invariant.1)
 
 pub returns : goal.returns
-returns c = record { side = rw (← c.self.view_is, (c.set_threaded.ensures.step CONTROLLER).legal.1) refl }
+returns c = record { side = λ x. rw (← c.self.view_is, (c.set_threaded.ensures.step CONTROLLER).legal.1) refl }

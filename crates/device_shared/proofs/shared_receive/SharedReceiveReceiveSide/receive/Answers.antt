@@ -1,60 +1,19 @@
-use Rattle.std.proofs.Common.{◌∙◌, ap}
-use Rattle.{device_bench.specs.Receive.{ReceiveView, is_polling_place}, device_shared.specs.Seats.role_of}
-use Rattle.device_shared.{specs.Seats.seats_state, proofs.{Reading.polling_of, RingFacts.{bytes_given, input_of_two, received_side}}}
-use Rattle.device_shared.proofs.{RingFacts.{received_whole, side_in, whole_in}, Roles.role_is}
+use Rattle.device_shared.proofs.CallersFacts.{poller-polled, thread-polled}
+use Rattle.device_shared.proofs.shared_receive.SharedReceiveReceiveSide.receive.Goals.{then-matches, else-matches}
 use Rattle.device_shared.proofs.shared_receive.SharedReceiveReceiveSide.receive.Goals as goal
-
-pub receive-seats-requires-clause-one : goal.receive-seats-requires-clause-one
-receive-seats-requires-clause-one g c =
-    let i = c.self.inside in
-    let s = c.take_out-seats.result in
-    let w = whole_in i.napi i.seats s i.input i.held i.capacity i.seen c.take_out-seats.ensures.was c.self.invariant.0 in
-    (input_of_two i.napi s i.input i.held i.capacity i.seen w).0
-
-pub receive-seats-requires-clause-two : goal.receive-seats-requires-clause-two
-receive-seats-requires-clause-two g c =
-    let i = c.self.inside in
-    let s = c.take_out-seats.result in
-    let w = whole_in i.napi i.seats s i.input i.held i.capacity i.seen c.take_out-seats.ensures.was c.self.invariant.0 in
-    (input_of_two i.napi s i.input i.held i.capacity i.seen w).1
-
-pub receive-seats-requires-clause-polls : goal.receive-seats-requires-clause-polls
-receive-seats-requires-clause-polls g c =
-    let i = c.self.inside in
-    let s = c.take_out-seats.result in
-    let w = whole_in i.napi i.seats s i.input i.held i.capacity i.seen c.take_out-seats.ensures.was c.self.invariant.0 in
-    let view = side_in i.seats s i.input i.capacity c.args.self.now c.take_out-seats.ensures.was c.self.view_is in
-    polling_of (role_of s.turn) (seats_state s) (role_is i.napi w.first s w.gathered)
-    (ap (λ (v : ReceiveView). is_polling_place v.napi.place) view ∙ c.requires.polled)
 
 pub invariant_of-self : goal.invariant_of-self
 invariant_of-self g c =
-    let i = c.self.inside in
-    let s = c.take_out-seats.result in
-    let r = c.receive-seats in
-    let w = whole_in i.napi i.seats s i.input i.held i.capacity i.seen c.take_out-seats.ensures.was c.self.invariant.0 in (
-      received_whole i.napi c.args.weight s r.result i.input r.new.input r.new.batch.items i.held i.capacity i.seen w r.ensures
-          c.put_back.new.place c.len-given.result c.put_back.ensures c.len-given.ensures.value,
-      c.self.invariant.1,
-    )
-
-pub returns-clause-bytes : goal.returns-clause-bytes
-returns-clause-bytes g c =
-    let i = c.self.inside in
-    let s = c.take_out-seats.result in
-    let r = c.receive-seats in
-    let w = whole_in i.napi i.seats s i.input i.held i.capacity i.seen c.take_out-seats.ensures.was c.self.invariant.0 in
-    let view = side_in i.seats s i.input i.capacity c.args.self.now c.take_out-seats.ensures.was c.self.view_is in
-    c.batch_bytes.ensures.sum
-    ∙ bytes_given i.napi c.args.weight s r.result i.input r.new.input r.new.batch.items i.held i.capacity i.seen w r.ensures
-    c.args.self.now view
-
-pub returns-clause-side : goal.returns-clause-side
-returns-clause-side g c =
-    let i = c.self.inside in
-    let s = c.take_out-seats.result in
-    let r = c.receive-seats in
-    let w = whole_in i.napi i.seats s i.input i.held i.capacity i.seen c.take_out-seats.ensures.was c.self.invariant.0 in
-    let view = side_in i.seats s i.input i.capacity c.args.self.now c.take_out-seats.ensures.was c.self.view_is in
-    received_side i.napi c.args.weight s r.result i.input r.new.input r.new.batch.items i.held i.capacity i.seen w r.ensures
-    c.put_back.new.place c.args.self.now c.put_back.ensures view
+    elim c.if-matches.branch [
+      | then-matches w ↦
+          rw w.self-inside-is (
+            poller-polled w.poll.ensures.input c.self.invariant.0 w.poll.new.place w.poll.ensures.pass w.poll.ensures.kinds.0,
+            c.self.invariant.1,
+          )
+      | else-matches w ↦
+          rw w.self-inside-is (
+            thread-polled w.poll-else-matches.ensures.input c.self.invariant.0 w.poll-else-matches.new.place
+                w.poll-else-matches.ensures.pass w.poll-else-matches.ensures.kinds.1,
+            c.self.invariant.1,
+          )
+    ]

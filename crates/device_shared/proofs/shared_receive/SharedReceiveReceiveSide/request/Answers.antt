@@ -1,19 +1,8 @@
-use Rattle.std.proofs.Common.{◌∙◌}
-use Rattle.device_shared.proofs.{Reading.asked, WholeFacts.{called, kept, legal, packets, state, viewed}}
+use Rattle.device_shared.proofs.CallersFacts.{interrupt-after}
 use Rattle.device_shared.proofs.shared_receive.SharedReceiveReceiveSide.request.Goals as goal
 
 pub invariant_of-self : goal.invariant_of-self
-invariant_of-self g c =
-    let t = c.take_out-seats in
-    (kept (called t.result t.ensures.was c.self.invariant.0 c.request-seats.ensures.2 c.keep.ensures), c.self.invariant.1)
-
-pub returns : goal.returns
-returns g c =
-    let a = c.request-seats.ensures in
-    let k = called c.take_out-seats.result c.take_out-seats.ensures.was c.self.invariant.0 a.2 c.keep.ensures in
-    let r = asked _ _ _ a.0 a.1 (legal k) in
-    record {
-      reply = rw (← c.self.view_is) r.0;
-      kind = rw (← c.self.view_is) r.1;
-      side = rw (← c.self.view_is) (viewed c.self.inside.capacity (state k ∙ r.2) (packets k));
-    }
+invariant_of-self g c = (
+  interrupt-after c.self.invariant.0 c.request-requested.new.place c.request-requested.ensures.same c.request-requested.ensures.state,
+  c.self.invariant.1,
+)

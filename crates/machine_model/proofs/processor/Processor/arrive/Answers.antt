@@ -20,9 +20,9 @@ invariant_of-self-else-eq c =
     (kept-devices i.settings i.work i.devices _ i.softirq c.self.invariant
     (omega (arith, c.open.ensures.scheduled, scheduled-same packet c.args.number c.open.new.self (same-packet c.args.moment i.settings))))
 
-pub returns-in_ok-disturb : goal.returns-in_ok-disturb
+pub returns-in_ok-notice : goal.returns-in_ok-notice
 unfolding arrives
-returns-in_ok-disturb c = (c.advance.new.self, c.in_ok-advance.ensures, search rules)
+returns-in_ok-notice c = (c.advance.new.self, c.in_ok-advance.ensures, search rules)
 
 pub returns-else-is_taken : goal.returns-else-is_taken
 unfolding arrives

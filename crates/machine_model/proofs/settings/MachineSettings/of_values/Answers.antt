@@ -38,6 +38,9 @@ invariant_of-result c =
       latched_in = (at 25 (omega arith) refl).1;
       gro_batch_in = (at 26 (omega arith) refl).1;
       take_in = below (slice_index_or values 27 0) (slice_index_or values 18 0) c.requires.fit;
+      early_in = (at 28 (omega arith) refl).1;
+      poll_wake_in = (at 29 (omega arith) refl).1;
+      arm_in = (at 30 (omega arith) refl).1;
     }
 
 pub returns : goal.returns

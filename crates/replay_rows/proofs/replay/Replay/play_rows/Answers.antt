@@ -1,4 +1,5 @@
-use Rattle.std.proofs.{Common.{◌≡◌, ◌+◌, inl, inr, ◌<◌, length, get_or, take, ap, subst, sym, arith}, lemmas.Result.err_from_is_err_and}
+use Rattle.std.proofs.{Common.{◌≡◌, true, ◌+◌, inl, inr, ◌<◌, length, get_or, take, ap, subst, sym, arith}}
+use Rattle.std.proofs.{lemmas.Result.err_from_is_err_and}
 use Rattle.device_bench.specs.DeviceBench.{ShowsTransmits, devices_of}
 use Rattle.device_rows.{specs.declared.{event.RowEvent.TheVariants.Opened, row.Row.Row}, proofs.Accepted.accepted-at}
 use Rattle.replay_rows.specs.{Played.replay_state, Replay.{after_row, all_tried}, ReplayState.ReplayState}
@@ -22,12 +23,12 @@ loop-i-preserved g c =
     let new : ReplayState = record (replay_state c.play_event.new.self) {
       devices = devices_of c.settle.new.self;
     } in
-    let is : new ≡ after_row c.args.settings.now (c.loop-i.i + 1) row (replay_state c.loop-i.self) =
-    rw c.settle.ensures.devices (ap all_tried c.in_ok-play_event.ensures.state) in
+    let is : g.S.ReceiveSide.exact ≡ true → new ≡ after_row c.args.settings.now (c.loop-i.i + 1) row (replay_state c.loop-i.self) =
+    λ x. rw (c.settle.ensures.devices x) (ap all_tried (c.in_ok-play_event.ensures.state x)) in
     record {
       played =
-          played-more c.args.settings.now c.args.rows.now c.loop-i.i none _ new below (c.loop-i.invariant.played)
-          (c.in_ok-play_event.ensures.on_time) is;
+          λ x. played-more c.args.settings.now c.args.rows.now c.loop-i.i none _ new below (c.loop-i.invariant.played x)
+          (c.in_ok-play_event.ensures.on_time x) (is x);
       transmits =
           λ all shown. subst (ShowsTransmits c.settle.new.self)
           (sym (after_transmits-more c.args.rows.now all c.loop-i.i none below))
@@ -37,15 +38,20 @@ loop-i-preserved g c =
       lines = omega (arith, c.in_ok-play_event.ensures.lines, c.loop-i.invariant.lines);
     }
 
+pub returns-in_err-play_event-clause-own : goal.returns-in_err-play_event-clause-own
+returns-in_err-play_event-clause-own g c =
+    let p = err_from_is_err_and c.from_residual.result c.from_residual.ensures.1 in
+    rw (p.1, p.2) c.in_err-play_event.ensures.own
+
 pub returns-in_err-play_event-clause-fault : goal.returns-in_err-play_event-clause-fault
-returns-in_err-play_event-clause-fault g c =
+returns-in_err-play_event-clause-fault g c = λ x.
     let p = err_from_is_err_and c.from_residual.result c.from_residual.ensures.1 in
     let below : c.loop-i.i < length c.args.rows.now = omega arith in
     rw (p.1, p.2)
-    (elim c.in_err-play_event.ensures.fault [
+    (elim (c.in_err-play_event.ensures.fault x) [
       | inl memory ↦ inl memory
       | inr early ↦
           inr (rw early.1
           (report-early c.args.settings.now c.args.rows.now _
-          (played-early c.args.settings.now c.args.rows.now c.loop-i.i none _ below (c.loop-i.invariant.played) early.2)))
+          (played-early c.args.settings.now c.args.rows.now c.loop-i.i none _ below (c.loop-i.invariant.played x) early.2)))
     ])

@@ -6,11 +6,11 @@ use Rattle.replay_rows.proofs.replay.Replay.report.Goals as goal
 
 pub returns : goal.returns
 unfolding text_by
-returns g c all shows =
+returns g c x all shows =
     rw (
       c.in_ok-add_totals.ensures,
       c.in_ok-add_list.ensures,
-      c.in_ok-add_devices.ensures all shows,
+      c.in_ok-add_devices.ensures x all shows,
       c.in_ok-add_lines.ensures,
       c.new-text.ensures.bytes,
       c.of-totals.ensures,

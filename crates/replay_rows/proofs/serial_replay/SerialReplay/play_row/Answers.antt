@@ -1,4 +1,4 @@
-use Rattle.std.proofs.{Common.{◌∙◌, inl, inr, take, subst, sym, arith}, lemmas.Result.err_from_is_err_and}
+use Rattle.std.proofs.{Common.{◌∙◌, inl, inr, refl, take, subst, sym, arith}, lemmas.Result.err_from_is_err_and}
 use Rattle.device_bench.specs.DeviceBench.{ShowsTransmits}
 use Rattle.device_places.specs.Places.{empty}
 use Rattle.device_rows.specs.{declared.event.RowEvent.TheVariants.Opened, declared.row.Row.Row}
@@ -21,7 +21,7 @@ returns-clause-after c =
     record {
       state =
           played-more c.args.settings.now c.args.rows.now c.args.index none _ _ c.requires.index c.requires.after.state
-          c.in_ok-play_logged.ensures.on_time c.in_ok-play_logged.ensures.state;
+          (c.in_ok-play_logged.ensures.on_time refl) (c.in_ok-play_logged.ensures.state refl);
       transmits =
           subst (ShowsTransmits c.play_logged.new.self.bench)
           (sym (after_transmits-more c.args.rows.now empty c.args.index none c.requires.index))
@@ -30,7 +30,7 @@ returns-clause-after c =
           c.in_ok-play_logged.ensures.list
           ∙ sym (list-next c.args.settings.now c.args.rows.now c.args.index none _ c.requires.index c.requires.after.state);
       polls =
-          c.in_ok-play_logged.ensures.polls (after_transmits (take c.args.index c.args.rows.now) empty) c.requires.after.transmits
+          c.in_ok-play_logged.ensures.polls refl (after_transmits (take c.args.index c.args.rows.now) empty) c.requires.after.transmits
           ∙ sym (polls-next c.args.settings.now c.args.rows.now c.args.index none _ c.requires.index c.requires.after.state);
     }
 
@@ -38,7 +38,7 @@ pub returns-in_err-play_logged-clause-fault : goal.returns-in_err-play_logged-cl
 returns-in_err-play_logged-clause-fault c =
     let p = err_from_is_err_and c.from_residual.result c.from_residual.ensures.1 in
     rw (p.1, p.2)
-    (elim c.in_err-play_logged.ensures.fault [
+    (elim (c.in_err-play_logged.ensures.fault refl) [
       | inl memory ↦ inl memory
       | inr early ↦
           inr (rw early.1

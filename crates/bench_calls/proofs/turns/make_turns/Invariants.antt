@@ -1,5 +1,0 @@
-use Rattle.bench_calls.specs.Ready.{IsReady}
-use Rattle.bench_calls.proofs.turns.make_turns.Given as goal
-
-abbrev pub invariant-loop : goal.invariant-loop
-invariant-loop l = IsReady l.table l.pass

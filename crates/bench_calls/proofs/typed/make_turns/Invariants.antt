@@ -1,5 +1,0 @@
-use Rattle.napi_calls.specs.Instance.{IsSeatOf}
-use Rattle.bench_calls.proofs.typed.make_turns.Given as goal
-
-abbrev pub invariant-loop : goal.invariant-loop
-invariant-loop g l = IsSeatOf l.napi l.caller.pass

@@ -1,0 +1,4 @@
+pub mod Raised
+pub mod RaisedTrace
+pub mod Raising
+pub mod TraceText

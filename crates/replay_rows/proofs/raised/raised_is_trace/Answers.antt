@@ -1,5 +1,0 @@
-use Rattle.replay_rows.proofs.RaisedFacts.{raised-is-trace}
-use Rattle.replay_rows.proofs.raised.raised_is_trace.Goals as goal
-
-pub returns : goal.returns
-returns c = raised-is-trace
