@@ -7,81 +7,50 @@ from collections.abc import Sequence
 from math import sqrt
 from statistics import median
 
-from fintaqush_tools.fits import WIDE, Cost, line_over
+from fintaqush_tools.fits import WIDE, Cost
 from fintaqush_tools.timeline import Kind
 
 Poll = tuple[int, int]  # packets and ns
-Row = tuple[float, ...]  # 1, the packets, and 1 or 0 for each kind
+Times = Sequence[int]
 
 NAMES = {"poll-wake": "polls that woke the program", "arm": "polls that started NAPI's timer"}
-MANY = 32  # polls of a kind, and others, without which what a kind takes isn't known
-SINGULAR = 1e-6  # share of its least determined coefficient below which a set of equations determines nothing
+MANY = 32  # polls of a kind, and as many others that are alike but for it, without which what it takes isn't known
 
 
-def solved(equations: Sequence[Sequence[float]]) -> list[float] | None:
-    """Returns the solution of linear equations, each with its right side last; None if they have none or several."""
-    rows = [list(row) for row in equations]
-    most = max(abs(value) for row in rows for value in row[:-1])
-    for at in range(len(rows)):
-        best = max(range(at, len(rows)), key=lambda place: abs(rows[place][at]))
-        rows[at], rows[best] = rows[best], rows[at]
-        if abs(rows[at][at]) <= SINGULAR * most:
-            return None
-        for other in range(len(rows)):
-            if other != at:
-                share = rows[other][at] / rows[at][at]
-                rows[other] = [value - share * own for value, own in zip(rows[other], rows[at])]
-    return [row[-1] / row[at] for at, row in enumerate(rows)]
-
-
-def extra_of(polls: Sequence[Poll], kinds: Sequence[Kind], places: Sequence[int]) -> list[float] | None:
-    """Returns what polls of these kinds take more than others of as many packets: by least squares over the medians of polls that are alike, each
-    with their number. None if they can't be told apart."""
-    several = len({work for work, _ in polls}) > 1
-    alike = defaultdict[Row, list[int]](list)
+def compared(polls: Sequence[Poll], kinds: Sequence[Kind], place: int) -> list[tuple[Times, Times]]:
+    """Returns the times of polls without and with a kind, apart for each number of packets and each other kind, where there are both. A poll
+    without a packet skips what one with packets does, so no line through all of them tells what the kind takes."""
+    alike = defaultdict[tuple[int, Kind], tuple[list[int], list[int]]](lambda: ([], []))
     for (work, took), kind in zip(polls, kinds):
-        alike[(1, *[work] * several, *(int(kind[place]) for place in places))].append(took)
-    cells = [([*row, median(took)], len(took)) for row, took in alike.items()]
-    width = 1 + several + len(places)
-    found = solved(
-        [
-            [sum(count * row[at] * row[other] for row, count in cells) for other in range(width + 1)]
-            for at in range(width)
-        ]
+        alike[work, (*kind[:place], False, *kind[place + 1 :])][kind[place]].append(took)
+    return [pair for pair in alike.values() if all(pair)]
+
+
+def cost_of_kind(pairs: Sequence[tuple[Times, Times]], source: str) -> Cost | None:
+    """Returns by how much the median of polls of a kind is longer: the middle one of the differences, each for as many polls as it has at
+    least of both. None if there are too few."""
+    if any(sum(len(pair[of]) for pair in pairs) < MANY for of in (False, True)):
+        return None
+    middles = [(median(others), median(own)) for others, own in pairs]
+    extra = median(
+        own - other for (other, own), pair in zip(middles, pairs) for _ in range(min(map(len, pair)))
     )
-    return found and found[1 + several :]
-
-
-def cost_of_kind(extra: float, rest: Sequence[float], source: str) -> Cost:
-    """Returns a kind's cost; `rest` is what its polls take without it and without their packets."""
-    ordered, middle = sorted(rest), median(rest)
-    error = WIDE * 1.2533 * 1.4826 * median(abs(took - middle) for took in rest) / sqrt(len(rest))
-    half = tuple(extra + ordered[at] - middle for at in (len(rest) // 4, 3 * len(rest) // 4))
-    return Cost(extra, max(0, extra - error), extra + error, len(rest), source, middle=half)
+    off = [[took - middle[of] for pair, middle in zip(pairs, middles) for took in pair[of]] for of in (False, True)]
+    pooled = sum(len(others) * len(own) / (len(others) + len(own)) for others, own in pairs)
+    error = WIDE * 1.2533 * 1.4826 * median(map(abs, [*off[False], *off[True]])) / sqrt(pooled)
+    ordered = sorted(off[True])
+    half = tuple(extra + ordered[len(ordered) * quarter // 4] for quarter in (1, 3))
+    return Cost(extra, max(0, extra - error), extra + error, len(ordered), source, middle=half)
 
 
 def separated(polls: list[Poll], kinds: Sequence[Kind]) -> tuple[dict[str, Cost], list[Poll]]:
     """Returns the costs of those kinds of polls that are known, and the polls without them."""
-    counts = [sum(kind[place] for kind in kinds) for place in range(len(NAMES))]
-    places = [place for place, count in enumerate(counts) if MANY <= count <= len(kinds) - MANY]
-    while places:
-        found = extra_of(polls, kinds, places)
-        if not found:
-            return {}, polls
-        rest = [
-            (work, took - sum(extra for place, extra in zip(places, found) if kind[place]))
-            for (work, took), kind in zip(polls, kinds)
-        ]
-        slope = line_over(rest)[1]
-        costs = {
-            place: cost_of_kind(
-                extra, [took - slope * work for (work, took), kind in zip(rest, kinds) if kind[place]], source
-            )
-            for place, extra, source in zip(places, found, [list(NAMES.values())[place] for place in places])
-        }
-        known = [place for place in places if costs[place].low >= 1]
-        if known == places:
-            named = {list(NAMES)[place]: cost for place, cost in costs.items()}
-            return named, [(work, max(0, round(took))) for work, took in rest]
-        places = known
-    return {}, polls
+    found = [cost_of_kind(compared(polls, kinds, place), source) for place, source in enumerate(NAMES.values())]
+    known = [(place, cost) for place, cost in enumerate(found) if cost and cost.low >= 1]
+    if not known:
+        return {}, polls
+    rest = [
+        (work, max(0, round(took - sum(cost.value for place, cost in known if kind[place]))))
+        for (work, took), kind in zip(polls, kinds)
+    ]
+    return {list(NAMES)[place]: cost for place, cost in known}, rest

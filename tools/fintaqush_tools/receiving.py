@@ -14,7 +14,7 @@ from fintaqush_tools.arriving import BY_PAIR, BY_POLL, BY_STACK, KINDS, PollBegi
 from fintaqush_tools.instances import ANY, EARLY, Place, Routes
 from fintaqush_tools.recording import IS_NET_RX, POLLED, SENT, Event, Look, Reader, fields_by, is_by_thread
 from fintaqush_tools.tasks import Tasks
-from fintaqush_tools.timeline import BETWEEN, HANDLER
+from fintaqush_tools.timeline import BETWEEN, HANDLER, WATCHDOG
 
 Marked = Union[int, tuple[str, int]]  # a processor, or a thread
 
@@ -176,6 +176,8 @@ class Receiving(Reader):
         self.shared = self.by_threads = 0
         # For each poll.
         self.ended, self.begun, self.work, self.on = times(), times(), array("L"), array("H")
+        # When it had delivered its packets: its end, or before it when its completion started NAPI's timer.
+        self.had_delivered, self.started = times(), dict[int, int]()
         self.is_thread, self.by_timer = bytearray(), bytearray()
         # Its instance, and the number of its softirq among the entries on its processor, or 0.
         self.places, self.run, self.packets_of = list[Place](), array("L"), Counter[Place]()
@@ -201,6 +203,7 @@ class Receiving(Reader):
             "napi_poll": self.add_poll,
             "softirq_entry": self.mark_softirq,
             "softirq_exit": self.mark_softirq,
+            "hrtimer_start": self.start_timer,
             "hrtimer_expire_entry": self.count_timer,
             "sched_switch": self.switch,
             **{f"{kind}_exit": self.end_handler for kind in BETWEEN},
@@ -218,6 +221,7 @@ class Receiving(Reader):
         self.moved.clear()
         self.taken.clear()
         self.handler.clear()
+        self.started.clear()
         self.reading.clear()
         self.held.before.clear()
         self.gro.within.clear()
@@ -242,6 +246,10 @@ class Receiving(Reader):
 
     def end_handler(self, event: Event) -> None:
         self.asked[event.cpu].append(event.time)
+
+    def start_timer(self, event: Event) -> None:
+        if WATCHDOG in event.said:
+            self.started[event.cpu] = event.time
 
     def count_timer(self, event: Event) -> None:
         found = TIMER[event.said]
@@ -301,6 +309,7 @@ class Receiving(Reader):
     def add_poll(self, event: Event) -> None:
         napi, device, count, _ = event.parts(POLLED)
         work, by_thread, is_own = int(count), is_by_thread(event), device in self.polled
+        had_delivered = self.started.pop(event.cpu, event.time)
         key: Marked = ("thread", event.pid) if by_thread else event.cpu
         if is_own and self.routes.moved:  # a backlog has packets of other devices too
             work = self.moved.pop(event.cpu, 0)
@@ -316,6 +325,7 @@ class Receiving(Reader):
                 packet.place = place
             self.packets_of[device, napi] += work
             self.ended.append(event.time)
+            self.had_delivered.append(had_delivered)
             self.begun.append(self.mark.get(key, 0))
             self.work.append(work)
             self.on.append(event.cpu)
@@ -494,8 +504,8 @@ class Receiving(Reader):
         return [many[begin:end] for begin, end in zip([0, *edges], [*edges, len(many)])]
 
     def delivered(self, cost: float = 0) -> list[tuple[int, float]]:
-        """Returns for each delivered packet its sending and delivery times, in the order of the polls. A packet's delivery precedes the end of its
-        poll by the cost of the packets after it. Returns nothing if packets and polls of an instance don't match."""
+        """Returns for each delivered packet its sending and delivery times, in the order of the polls. A packet's delivery precedes the last one
+        of its poll by the cost of the packets after it. Returns nothing if packets and polls of an instance don't match."""
         deliveries = self.deliveries()
         if not all(deliveries.values()):
             return []
@@ -506,7 +516,7 @@ class Receiving(Reader):
     def delivery(self, packet: int, poll: int, after: int, cost: float) -> float:
         """Returns when a poll delivered a packet, or when it left GRO if GRO merged packets."""
         left = self.gro.left[packet] if self.gro.left else 0
-        return max(self.sent[packet], left or self.ended[poll] - cost * after)
+        return max(self.sent[packet], left or self.had_delivered[poll] - cost * after)
 
     def used(self) -> list[tuple[int, int]]:
         """Returns for each used packet its sending time and the beginning of the next read; nothing if reads and packets don't match."""
