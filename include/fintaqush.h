@@ -607,8 +607,8 @@ FQ_CHECKED enum fq_status fq_caller_busy_stop(struct fq_caller *caller); /* FQ_O
 
 /* Sets *word to the state word, a sum of FQ_BIT_.., in any state of the caller. Returns FQ_OK;
  * FQ_BAD_HANDLE. */
-FQ_CHECKED enum fq_status fq_caller_look(struct fq_caller *FQ_RESTRICT caller, uint64_t *FQ_RESTRICT
-    word);
+FQ_CHECKED enum fq_status fq_caller_look(const struct fq_caller *FQ_RESTRICT caller, uint64_t
+    *FQ_RESTRICT word);
 
 /* How often a caller's calls returned each result. Each count saturates at its maximum. */
 struct fq_answers {

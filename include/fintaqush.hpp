@@ -285,7 +285,7 @@ namespace detail {
 class AnyCaller {
 public:
     // Returns the state word, a sum of FQ_BIT_..
-    [[nodiscard]] std::uint64_t word() {
+    [[nodiscard]] std::uint64_t word() const {
         return set_by<std::uint64_t>([&](auto *to) { return fq_caller_look(at_.raw(), to); });
     }
 

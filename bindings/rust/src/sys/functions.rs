@@ -275,7 +275,7 @@ extern "C" {
     pub fn fq_caller_busy_stop(caller: *mut fq_caller) -> u32;
     /// Sets `*word` to the state word, a sum of `FQ_BIT_..`, in any state of the caller. Returns `FQ_OK`;
     /// `FQ_BAD_HANDLE`.
-    pub fn fq_caller_look(caller: *mut fq_caller, word: *mut u64) -> u32;
+    pub fn fq_caller_look(caller: *const fq_caller, word: *mut u64) -> u32;
     /// Sets `*answers` to how often the caller's calls returned each result since it was made. Returns `FQ_OK`;
     /// `FQ_BAD_HANDLE`.
     pub fn fq_caller_count_sized(caller: *const fq_caller, answers: *mut fq_answers) -> u32;
