@@ -320,10 +320,10 @@ struct fq_napi fq_napi_new(uint32_t controller);
 FQ_CHECKED enum fq_status fq_napi_schedule(struct fq_napi *napi, uint32_t who);
 /* Queues a granted instance (____napi_schedule), or puts a polled one on the list again. Returns
  * FQ_OK; FQ_BAD_KIND; FQ_NOT_ALLOWED, also for a polled one and FQ_THREAD. */
-FQ_CHECKED enum fq_status fq_napi_hand(struct fq_napi *napi, uint32_t who, uint32_t kind);
+FQ_CHECKED enum fq_status fq_napi_hand(struct fq_napi *napi, uint32_t who, enum fq_kind kind);
 /* Takes the instance from the list or as its thread. Returns FQ_TAKEN; FQ_BAD_KIND;
  * FQ_NOT_THERE. */
-FQ_CHECKED enum fq_status fq_napi_take(struct fq_napi *napi, uint32_t who, uint32_t kind);
+FQ_CHECKED enum fq_status fq_napi_take(struct fq_napi *napi, uint32_t who, enum fq_kind kind);
 /* Ends a poll (napi_complete_done). Returns FQ_RELEASED; FQ_AGAIN; FQ_HELD; FQ_NOT_ALLOWED. */
 FQ_CHECKED enum fq_status fq_napi_complete(struct fq_napi *napi, uint32_t who);
 /* Ends the caller's poll as the kernel does (__napi_poll). `full` says that it returned its
@@ -334,7 +334,7 @@ FQ_CHECKED enum fq_status fq_napi_complete(struct fq_napi *napi, uint32_t who);
  * FQ_NEXT_AGAIN_THREAD wake the thread. Returns FQ_OK; FQ_HELD, also for a busy poller;
  * FQ_NOT_ALLOWED. *next is FQ_NEXT_GONE unless it returns FQ_OK. */
 FQ_CHECKED enum fq_status fq_napi_end(struct fq_napi *FQ_RESTRICT napi, uint32_t who, bool full,
-    uint32_t *FQ_RESTRICT next);
+    enum fq_next *FQ_RESTRICT next);
 /* Takes an idle instance to busy poll it (napi_busy_loop). Returns FQ_TAKEN; FQ_BUSY. */
 FQ_CHECKED enum fq_status fq_napi_busy_take(struct fq_napi *napi, uint32_t who);
 /* Stops busy polling (busy_poll_stop); one poll has to follow. Returns FQ_OK; FQ_NOT_ALLOWED. */
@@ -582,13 +582,13 @@ fq_caller_schedule(struct fq_caller *caller); /* FQ_GRANTED, FQ_MISSED, FQ_DISAB
 FQ_CHECKED enum fq_status
 fq_caller_schedule_prep(struct fq_caller *caller); /* FQ_GRANTED, FQ_MISSED, FQ_DISABLED */
 FQ_CHECKED enum fq_status
-fq_caller_take(struct fq_caller *caller, uint32_t kind); /* FQ_TAKEN, FQ_NOT_THERE */
+fq_caller_take(struct fq_caller *caller, enum fq_kind kind); /* FQ_TAKEN, FQ_NOT_THERE */
 FQ_CHECKED enum fq_status
 fq_caller_busy_take(struct fq_caller *caller); /* FQ_TAKEN, FQ_BUSY, FQ_CHANGED */
 FQ_CHECKED enum fq_status
 fq_caller_set_threaded(struct fq_caller *caller, bool threaded); /* FQ_OK */
 /* A caller that was granted the instance has to queue it (____napi_schedule). */
-FQ_CHECKED enum fq_status fq_caller_hand(struct fq_caller *caller, uint32_t kind); /* FQ_OK */
+FQ_CHECKED enum fq_status fq_caller_hand(struct fq_caller *caller, enum fq_kind kind); /* FQ_OK */
 /* A caller that polls may poll the ring, like fq_ring_poll, and then requeues the instance or
  * completes (napi_complete_done). */
 FQ_CHECKED_AT(1, 5) enum fq_status fq_caller_poll(struct fq_caller *FQ_RESTRICT caller, size_t
@@ -607,8 +607,8 @@ FQ_CHECKED enum fq_status fq_caller_busy_stop(struct fq_caller *caller); /* FQ_O
 
 /* Sets *word to the state word, a sum of FQ_BIT_.., in any state of the caller. Returns FQ_OK;
  * FQ_BAD_HANDLE. */
-FQ_CHECKED enum fq_status fq_caller_look(struct fq_caller *FQ_RESTRICT caller, uint64_t *FQ_RESTRICT
-    word);
+FQ_CHECKED enum fq_status fq_caller_look(const struct fq_caller *FQ_RESTRICT caller, uint64_t
+    *FQ_RESTRICT word);
 
 /* How often a caller's calls returned each result. Each count saturates at its maximum. */
 struct fq_answers {
@@ -647,7 +647,7 @@ struct fq_card {
 /* Queues a granted instance as the kernel does (____napi_schedule): for its thread if
  * FQ_BIT_THREADED is set. Sets *next to FQ_NEXT_AGAIN or FQ_NEXT_AGAIN_THREAD. Returns FQ_OK;
  * FQ_BAD_HANDLE; FQ_NOT_ALLOWED. *next is FQ_NEXT_GONE unless it returns FQ_OK. */
-FQ_CHECKED enum fq_status fq_caller_hand_again(struct fq_caller *FQ_RESTRICT caller, uint32_t
+FQ_CHECKED enum fq_status fq_caller_hand_again(struct fq_caller *FQ_RESTRICT caller, enum fq_next
     *FQ_RESTRICT next);
 
 /* Handles an interrupt: requests a poll (fq_caller_schedule_prep); if granted, masks the card
@@ -656,7 +656,7 @@ FQ_CHECKED enum fq_status fq_caller_hand_again(struct fq_caller *FQ_RESTRICT cal
  * fq_caller_request reads itself. Returns FQ_BAD_KIND; FQ_GRANTED, and the instance is queued;
  * FQ_MISSED; FQ_DISABLED; FQ_BAD_HANDLE; FQ_NOT_ALLOWED. */
 FQ_CHECKED static inline enum fq_status fq_caller_interrupt_masked(struct fq_caller *caller,
-    uint32_t kind, const struct fq_card *card) {
+    enum fq_kind kind, const struct fq_card *card) {
     if (kind > FQ_THREAD) return FQ_BAD_KIND;
     const enum fq_status said = fq_caller_schedule_prep(caller);
     if (said != FQ_GRANTED) return said;
@@ -666,8 +666,8 @@ FQ_CHECKED static inline enum fq_status fq_caller_interrupt_masked(struct fq_cal
 }
 
 /* Like fq_caller_interrupt_masked, for a card that is masked already, or is never masked. */
-FQ_CHECKED static inline enum fq_status fq_caller_interrupt(struct fq_caller *caller, uint32_t kind)
-    {
+FQ_CHECKED static inline enum fq_status fq_caller_interrupt(struct fq_caller *caller, enum fq_kind
+    kind) {
     const struct fq_card none = {NULL, NULL, NULL, NULL, NULL};
     return fq_caller_interrupt_masked(caller, kind, &none);
 }
@@ -678,7 +678,7 @@ FQ_CHECKED static inline enum fq_status fq_caller_interrupt(struct fq_caller *ca
  * thread; FQ_NEXT_GONE unless it returns FQ_GRANTED. Returns FQ_GRANTED; FQ_MISSED; FQ_DISABLED;
  * FQ_BAD_HANDLE; FQ_NOT_ALLOWED. */
 FQ_CHECKED static inline enum fq_status fq_caller_request(struct fq_caller *FQ_RESTRICT caller,
-    const struct fq_card *FQ_RESTRICT card, uint32_t *FQ_RESTRICT next) {
+    const struct fq_card *FQ_RESTRICT card, enum fq_next *FQ_RESTRICT next) {
     *next = FQ_NEXT_GONE;
     const enum fq_status said = fq_caller_schedule_prep(caller);
     if (said != FQ_GRANTED) return said;
@@ -698,8 +698,8 @@ FQ_CHECKED static inline enum fq_status fq_caller_request(struct fq_caller *FQ_R
  * FQ_HELD: the caller keeps polling, as a busy poller does; FQ_NOT_ALLOWED if it doesn't poll;
  * FQ_BAD_HANDLE. *next is FQ_NEXT_GONE unless it returns FQ_OK. A caller polls as the thread
  * while FQ_BIT_SCHED_THREADED is set, which fq_caller_requeue doesn't clear. */
-FQ_CHECKED enum fq_status fq_caller_end(struct fq_caller *FQ_RESTRICT caller, bool full, uint32_t
-    *FQ_RESTRICT next);
+FQ_CHECKED enum fq_status fq_caller_end(struct fq_caller *FQ_RESTRICT caller, bool full, enum
+    fq_next *FQ_RESTRICT next);
 
 #if defined(__GNUC__)
 /* Ends a poll of a card whose queue can be checked by `look`. Like fq_caller_end; and if the
@@ -709,7 +709,7 @@ FQ_CHECKED enum fq_status fq_caller_end(struct fq_caller *FQ_RESTRICT caller, bo
  * is queued for its thread: wake it after FQ_NEXT_AGAIN_THREAD. Returns what fq_caller_end
  * returns. */
 FQ_CHECKED static inline enum fq_status fq_caller_end_watched(struct fq_caller *FQ_RESTRICT caller,
-    bool full, const struct fq_card *FQ_RESTRICT card, uint32_t *FQ_RESTRICT next) {
+    bool full, const struct fq_card *FQ_RESTRICT card, enum fq_next *FQ_RESTRICT next) {
     enum fq_status said = fq_caller_end(caller, full, next);
     if (said != FQ_OK || *next != FQ_NEXT_GONE) return said;
     card->unmask(card->at);
@@ -728,8 +728,8 @@ FQ_CHECKED static inline enum fq_status fq_caller_end_watched(struct fq_caller *
  * the card is masked. Returns FQ_BAD_WEIGHT if the weight isn't 1 to 64, and nothing is done;
  * otherwise what fq_caller_end returns. */
 FQ_CHECKED static inline enum fq_status fq_caller_end_unmasked(struct fq_caller *FQ_RESTRICT caller,
-    const struct fq_card *FQ_RESTRICT card, size_t weight, size_t *FQ_RESTRICT work, uint32_t
-    *FQ_RESTRICT next) {
+    const struct fq_card *FQ_RESTRICT card, size_t weight, size_t *FQ_RESTRICT work, enum
+    fq_next *FQ_RESTRICT next) {
     struct fq_counts counts; /* only for its status: FQ_OK if the caller polls */
     uint64_t word;
     *next = FQ_NEXT_GONE;
@@ -781,8 +781,8 @@ FQ_CHECKED enum fq_status fq_control_has(const struct fq_control *FQ_RESTRICT co
  * done, also if the caller is another instance's. It never returns FQ_DISABLED, which a caller
  * gets while its instance is being disabled. */
 FQ_CHECKED static inline enum fq_status fq_control_open(struct fq_control *FQ_RESTRICT control, bool
-    threaded, struct fq_caller *FQ_RESTRICT caller, const struct fq_card *FQ_RESTRICT card, uint32_t
-    *FQ_RESTRICT next) {
+    threaded, struct fq_caller *FQ_RESTRICT caller, const struct fq_card *FQ_RESTRICT card, enum
+    fq_next *FQ_RESTRICT next) {
     *next = FQ_NEXT_GONE;
     enum fq_status said = fq_control_has(control, caller);
     if (said == FQ_OK) said = fq_control_step(control, true, threaded);
@@ -828,12 +828,12 @@ FQ_CHECKED enum fq_status fq_run_begin(struct fq_list *list, uint32_t budget, ui
 /* Sets *id to the number to poll next. Returns FQ_OK; FQ_DONE if the run is over; FQ_NOT_ALLOWED
  * without a run, or if the last poll wasn't reported. */
 FQ_CHECKED enum fq_status fq_run_next(struct fq_list *FQ_RESTRICT list, uint32_t *FQ_RESTRICT id);
-/* Reports the outcome of the poll: its packets, and how it ended (enum fq_next). Returns FQ_OK;
- * FQ_NOT_ALLOWED; FQ_BAD_WORK above the weight; FQ_BAD_NEXT; FQ_IN_USE if the number would be
- * listed twice, and the poll still has to be reported. It isn't checked that FQ_NEXT_REPOLL
- * follows a whole weight, because a device may have its own weight, below the run's; nor that
- * FQ_NEXT_ABSENT comes without packets. */
-FQ_CHECKED enum fq_status fq_run_polled(struct fq_list *list, uint32_t work, uint32_t next);
+/* Reports the outcome of the poll: its packets, and how it ended. Returns FQ_OK; FQ_NOT_ALLOWED;
+ * FQ_BAD_WORK above the weight; FQ_BAD_NEXT; FQ_IN_USE if the number would be listed twice, and
+ * the poll still has to be reported. It isn't checked that FQ_NEXT_REPOLL follows a whole weight,
+ * because a device may have its own weight, below the run's; nor that FQ_NEXT_ABSENT comes
+ * without packets. */
+FQ_CHECKED enum fq_status fq_run_polled(struct fq_list *list, uint32_t work, enum fq_next next);
 /* Ends the run, and sets *report. The numbers that weren't polled, and those to be polled again,
  * are on the list. Returns FQ_OK; FQ_NOT_ALLOWED. */
 FQ_CHECKED enum fq_status fq_run_end_sized(struct fq_list *FQ_RESTRICT list, struct fq_run_report
@@ -1050,6 +1050,10 @@ struct fq_device_settings {
                                  * card is unmasked; 0, the default: none */
 };
 
+/* The default settings of a device of a driver whose weight is 64, to begin with. */
+#define FQ_DEVICE_INIT \
+    FQ_PRIVATE_VALUE(fq_device_settings){sizeof(struct fq_device_settings), 64, 0, 0, 0}
+
 /* Sets the settings of a closed device. With deferral, a completion leaves the card masked, and
  * FQ_TODO_TIMER follows; with busy polling, the device is polled again until it was empty so
  * often in a row. A fetch must not unmask the card then, because that ends both. A timer may
@@ -1079,13 +1083,14 @@ enum fq_device_state FQ_NUMBER {
 
 /* The state of a device, and the counts of its polls. */
 struct fq_device_shown {
-    size_t size;      /* the size of this struct */
-    uint32_t state;   /* the device's state: a number of enum fq_device_state */
-    bool scheduled;   /* whether a poll is requested and isn't completed (NAPI_STATE_SCHED); set
-                       * for a closed device too, as in the kernel */
-    bool missed;      /* whether an interrupt came meanwhile (NAPI_STATE_MISSED) */
-    uint64_t polls;   /* how many fetches were reported; saturates */
-    uint64_t packets; /* the packets of these fetches; saturates */
+    size_t size;                /* the size of this struct */
+    enum fq_device_state state; /* the device's state */
+    bool scheduled;             /* whether a poll is requested and isn't completed
+                                 * (NAPI_STATE_SCHED); set for a closed device too, as in the
+                                 * kernel */
+    bool missed;                /* whether an interrupt came meanwhile (NAPI_STATE_MISSED) */
+    uint64_t polls;             /* how many fetches were reported; saturates */
+    uint64_t packets;           /* the packets of these fetches; saturates */
 };
 
 /* Sets *shown to the state of a device and the counts of its polls. Returns FQ_OK;
@@ -1128,8 +1133,8 @@ static inline void fq_private_used(const struct fq_handle *handle) {
     (fq_private_used(&(driver)->handle), fq_driver_step(driver, todo))
 #define fq_driver_timer(driver, device) \
     (fq_private_used(&(driver)->handle), fq_driver_timer(driver, device))
-#define fq_driver_set(driver, device, settings) \
-    (fq_private_used(&(driver)->handle), fq_driver_set(driver, device, settings))
+#define fq_driver_set(driver, device, ...) \
+    (fq_private_used(&(driver)->handle), fq_driver_set(driver, device, __VA_ARGS__))
 #define fq_driver_end_run(driver) \
     (fq_private_used(&(driver)->handle), fq_driver_end_run(driver))
 #define fq_driver_show(driver, device, shown) \

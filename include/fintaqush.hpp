@@ -218,10 +218,7 @@ public:
     // the outcome for a run: after FQ_NEXT_AGAIN_THREAD wake the thread; FQ_HELD if the caller
     // keeps polling; FQ_NOT_ALLOWED.
     [[nodiscard]] Status end(std::uint32_t who, bool full, fq_next &next) {
-        std::uint32_t number = FQ_NEXT_GONE;
-        const Status said = fq_napi_end(&raw_, who, full, &number);
-        next = fq_next(number);
-        return said;
+        return Status(fq_napi_end(&raw_, who, full, &next));
     }
     [[nodiscard]] Status busy_take(std::uint32_t who) {
         return Status(fq_napi_busy_take(&raw_, who));
@@ -285,7 +282,7 @@ namespace detail {
 class AnyCaller {
 public:
     // Returns the state word, a sum of FQ_BIT_..
-    [[nodiscard]] std::uint64_t word() {
+    [[nodiscard]] std::uint64_t word() const {
         return set_by<std::uint64_t>([&](auto *to) { return fq_caller_look(at_.raw(), to); });
     }
 
@@ -355,9 +352,9 @@ private:
     friend struct Bare;
     using AnyCaller::AnyCaller;
     Requested request_by(const fq_card &calls) {
-        std::uint32_t next = FQ_NEXT_GONE;
+        fq_next next = FQ_NEXT_GONE;
         const Status said = fq_caller_request(at_.raw(), &calls, &next);
-        return {said, fq_next(next)};
+        return {said, next};
     }
 };
 
@@ -404,7 +401,7 @@ private:
     friend class Caller;
     friend class Busy;
     using Poller::Poller;
-    End ended(std::uint32_t said, std::uint32_t next) noexcept;
+    End ended(std::uint32_t said, fq_next next) noexcept;
 };
 
 // A caller that busy polls the instance.
@@ -453,13 +450,13 @@ inline TookBusy Caller::busy() && noexcept {
     return TookBusy(Caller(std::move(at_)));
 }
 
-inline End Polling::ended(std::uint32_t said, std::uint32_t next) noexcept {
+inline End Polling::ended(std::uint32_t said, fq_next next) noexcept {
     if (said == FQ_HELD) return End(Polling(std::move(at_)));
-    return End(Ended{Caller(std::move(at_)), fq_next(next)});
+    return End(Ended{Caller(std::move(at_)), next});
 }
 
 inline End Polling::end(bool full) && noexcept {
-    std::uint32_t next;
+    fq_next next;
     const std::uint32_t said = fq_caller_end(at_.raw(), full, &next);
     return ended(said, next);
 }
@@ -468,7 +465,7 @@ template <class Card>
 End Polling::end_watched(bool full, Card &card) && noexcept {
     const fq_card calls = {
         &card, detail::mask<Card>, detail::unmask<Card>, detail::look<Card>, nullptr};
-    std::uint32_t next;
+    fq_next next;
     const std::uint32_t said = fq_caller_end_watched(at_.raw(), full, &calls, &next);
     return ended(said, next);
 }
@@ -477,7 +474,7 @@ template <class Card>
 End Polling::end_unmasked(Card &card, Weight weight, std::size_t &work) && noexcept {
     const fq_card calls = {
         &card, detail::mask<Card>, detail::unmask<Card>, nullptr, detail::poll<Card>};
-    std::uint32_t next;
+    fq_next next;
     const std::uint32_t said =
         fq_caller_end_unmasked(at_.raw(), &calls, weight.get(), &work, &next);
     return ended(said, next);

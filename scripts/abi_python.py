@@ -42,6 +42,8 @@ def ctypes_of(c_type: str) -> str:
     if c_type.endswith("*"):
         pointed = c_type[:-1].strip().removeprefix("const ")
         return "text" if pointed in ("char", "uint8_t") else f"pointer({ctypes_of(pointed)})"
+    if c_type.startswith("enum "):
+        return "u32"
     base, _, count = c_type.partition("[")
     return f"{ctypes_of(base)} * {count[:-1]}" if count else type_name(c_type.removeprefix("struct "))
 
@@ -72,11 +74,7 @@ def numbers(read: Mapping[str, Any]) -> Iterator[str]:
 def structs(read: Mapping[str, Any]) -> Iterator[str]:
     for item in items_of(read, "struct"):
         if item["name"] not in NOT_PYTHON:
-            types = [
-                (name, "u32" if c_type.startswith("enum ") else ctypes_of(c_type))
-                for name, c_type, _ in item["members"]
-            ]
-            members = [f'("{name}", {c_type})' for name, c_type in types]
+            members = [f'("{name}", {ctypes_of(c_type)})' for name, c_type, _ in item["members"]]
             yield from ("", "", f"class {type_name(item['name'])}(ctypes.Structure):")
             yield from within("    _fields_ = [", members, "]")
 

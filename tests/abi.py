@@ -32,6 +32,8 @@ ONLY_C = {"fq_card", "fq_word"}  # structs that only the header's inline functio
 # The handle that a call's prefix names, if that isn't the handle's own name; and the calls on handles of any kind.
 KINDS = {"run": "list"}
 OF_ANY = {"fq_free", "fq_abandon", "fq_move", "fq_count_sized"}
+# The calls that change only what the proofs know of their object, which has no bytes, and so leave its memory as it is.
+ONLY_READ = {"fq_caller_look"}
 # Python's enums, and what their names begin with in C.
 PREFIXES = {"Status": "FQ_", "Kind": "FQ_", "Next": "FQ_NEXT_", "What": "FQ_TODO_", "Rearm": "FQ_REARM_", "DeviceState": "FQ_DEVICE_",
             "Word": "FQ_BIT_"}
@@ -59,7 +61,7 @@ class Sources:
         self.structs = {name: FIELD.findall(body) for name, body in STRUCT.findall(every)}
         self.counts = dict(COUNT.findall(every))
         self.numbers = {int(number): name for number, name in SIZE_OF.findall(every)}
-        self.readers = {call for call in self.calls for text in texts.values() if only_reads(text, call)}
+        self.readers = {call for call in self.calls for text in texts.values() if call in ONLY_READ or only_reads(text, call)}
 
     def c_type(self, rattle: str) -> str:
         """Returns the type of C, without arrays: those are in `parts`."""
@@ -257,7 +259,8 @@ PLANTED_IN_HEADER = [
     ("fq_dql_limit(const struct fq_dql *dql);", "fq_dql_limit(struct fq_dql *dql);", "fq_dql_limit"),
     ("fq_list_len(const struct fq_list *", "fq_list_len(const struct fq_ring *", "fq_list_len"),
     ("fq_ring_show_sized(const struct", "fq_ring_show_sized(struct", "fq_ring_show_sized"),
-    ("fq_caller_look(struct", "fq_caller_look(const struct", "fq_caller_look"),
+    ("fq_caller_look(const struct", "fq_caller_look(struct", "fq_caller_look"),
+    ("fq_caller_requeue(struct", "fq_caller_requeue(const struct", "fq_caller_requeue"),
     ("fq_shared_bare(struct fq_control *", "fq_shared_bare(struct fq_handle *", "fq_shared_bare"),
     ("struct fq_tx { struct fq_handle handle; }", "struct fq_tx { struct fq_handle handle; int more; }", "fq_tx"),
     ("uint64_t private_b;\n    uint32_t private_c[2];", "uint32_t private_c[2];\n    uint64_t private_b;", "fq_dql"),

@@ -340,7 +340,7 @@ cat > "$scratch/tells.c" << 'END'
 int main(void) {
     struct fq_caller caller = FQ_NONE;
     struct fq_list list = FQ_NONE;
-    uint32_t next;
+    enum fq_next next;
     if (fq_caller_end(&caller, true, &next) == FQ_NOT_ALLOWED) return 1;
     return fq_run_polled(&list, 64, next) == FQ_BAD_HANDLE ? 0 : 2;
 }
@@ -410,13 +410,38 @@ cat > "$scratch/begins.c" << 'END'
 static struct fq_todo kept;
 int main(void) {
     struct fq_todo todo = FQ_TODO_INIT, all[2] = {FQ_TODO_INIT, FQ_TODO_INIT};
+    struct fq_device_settings settings = FQ_DEVICE_INIT;
     todo = FQ_TODO_INIT;
     kept = todo;
-    return todo.what == FQ_TODO_SLEEP && sizeof todo == 40 && all[1].number == 0 ? 0 : 1;
+    settings.weight = 8;
+    settings = FQ_DEVICE_INIT;
+    return todo.what == FQ_TODO_SLEEP && sizeof todo == 40 && all[1].number == 0 && settings.weight == 64 ? 0 : 1;
 }
 END
 cp "$scratch/begins.c" "$scratch/begins.cpp"
-# begins SOURCE: a todo begins with FQ_TODO_INIT, by each compiler, without a warning.
+cat > "$scratch/ended.c" << 'END'
+#include <fintaqush.h>
+int main(void) {
+    struct fq_napi napi = fq_napi_new(0);
+    enum fq_next next;
+    if (fq_napi_end(&napi, 1, true, &next) != FQ_NOT_ALLOWED) return 1;
+    switch (next) {
+    case FQ_NEXT_GONE: case FQ_NEXT_AGAIN: case FQ_NEXT_REPOLL: case FQ_NEXT_ABSENT: break;
+    }
+}
+END
+cat > "$scratch/shown.c" << 'END'
+#include <fintaqush.h>
+int main(void) {
+    struct fq_driver driver = FQ_NONE;
+    struct fq_device_shown shown;
+    if (fq_driver_show(&driver, 0, &shown) != FQ_OK) return 1;
+    switch (shown.state) {
+    case FQ_DEVICE_CLOSED: case FQ_DEVICE_OPEN: break;
+    }
+}
+END
+# begins SOURCE: a todo begins with FQ_TODO_INIT and settings with FQ_DEVICE_INIT, by each compiler, without a warning.
 begins() {
     local compiler
     for compiler in "${compilers[@]}"; do
@@ -424,11 +449,13 @@ begins() {
         compile "$compiler" "$1" "$scratch/begins" -Wpedantic && "$scratch/begins" || { echo "$compiler"; return 1; }
     done
 }
-check 'a todo begins with its macro' begins "$scratch/begins.c"
+check 'a todo and settings begin with their macros' begins "$scratch/begins.c"
 check 'and in C++' begins "$scratch/begins.cpp"
 check 'enums of one byte are refused' refused fq_private_enums_have_4_bytes compile gcc "$scratch/begins.c" "$scratch/refused" -fshort-enums
 check 'but not in C++, where each has four' compile g++ "$scratch/begins.cpp" "$scratch/begins" -fshort-enums
 check 'a look that a switch forgets is refused' refused FQ_TODO_LOOK compile gcc "$scratch/forgets.c" "$scratch/refused"
+check 'an end of a poll that a switch forgets is refused' refused FQ_NEXT_AGAIN_THREAD compile gcc "$scratch/ended.c" "$scratch/refused"
+check 'a state of a device that a switch forgets is refused' refused FQ_DEVICE_STOPPING compile gcc "$scratch/shown.c" "$scratch/refused"
 cat > "$scratch/interrupts.c" << 'END'
 #include <fintaqush.h>
 int main(void) { struct fq_driver driver = FQ_NONE; fq_driver_interrupt(&driver, 1); }

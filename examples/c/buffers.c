@@ -48,7 +48,7 @@ struct poller {
 };
 
 static bool end_poll(struct fq_caller *caller, size_t count) {
-    uint32_t next;
+    enum fq_next next;
     return fq_caller_end(caller, count == WEIGHT, &next) == FQ_OK;
 }
 

@@ -40,9 +40,10 @@ struct poller {
 };
 
 /* One turn after a take: polls until a poll isn't full, and returns how that one ended. */
-static uint32_t poll_once(struct poller *poller) {
+static enum fq_next poll_once(struct poller *poller) {
     struct fq_packet out[WEIGHT];
-    uint32_t said, next;
+    enum fq_status said;
+    enum fq_next next;
     do {
         size_t count;
         if (fq_caller_poll(poller->caller, WEIGHT, out, WEIGHT, &count) != FQ_OK) poller->failed = true;
@@ -57,10 +58,10 @@ static uint32_t poll_once(struct poller *poller) {
 /* The instance's thread (napi_threaded_poll). */
 static void *poll_all(void *at) {
     struct poller *poller = at;
-    uint32_t next = FQ_NEXT_GONE;
+    enum fq_next next = FQ_NEXT_GONE;
     while (poller->next < PACKETS && !poller->failed) {
         if (next != FQ_NEXT_AGAIN_THREAD) sem_wait(poller->wake);
-        next = fq_caller_take(poller->caller, FQ_THREAD) == FQ_TAKEN ? poll_once(poller) : (uint32_t)FQ_NEXT_GONE;
+        next = fq_caller_take(poller->caller, FQ_THREAD) == FQ_TAKEN ? poll_once(poller) : FQ_NEXT_GONE;
     }
     return NULL;
 }

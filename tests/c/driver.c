@@ -506,11 +506,13 @@ static void a_deferred_interrupt(void) {
 static void busy_polling(void) {
     struct fq_driver driver = FQ_NONE;
     struct fq_todo todo = FQ_TODO_INIT;
+    struct fq_device_settings settings = FQ_DEVICE_INIT;
     unsigned polls = 0;
     memset(cards, 0, sizeof cards);
     cards[0] = (struct card){true, false, 1, 0, false};
+    settings.empty_polls = 3;
     want(fq_driver_new(&driver, 1, 300, 64, 1024) == FQ_OK, "a driver");
-    want(fq_driver_set(&driver, 0, (struct fq_device_settings){0, 64, 0, 0, 3}) == FQ_OK && fq_driver_open(&driver, 0) == FQ_OK, "busy polling");
+    want(fq_driver_set(&driver, 0, settings) == FQ_OK && fq_driver_open(&driver, 0) == FQ_OK, "busy polling");
     while (acts(&driver, &todo) != FQ_TODO_MASK) {}
     while (acts(&driver, &todo) != FQ_TODO_UNMASK) {
         want(todo.what == FQ_TODO_FETCH || todo.what == FQ_TODO_ENDED, "polls only");

@@ -31,7 +31,9 @@ int main(int count, char **words) {
     pthread_t thread;
     struct fq_todo todo = FQ_TODO_INIT;
     locked = count > 1 && strcmp(words[1], "locked") == 0;
-    must(fq_driver_new(&driver, 1, 300, 64, 1024) == FQ_OK && fq_driver_open(&driver, 0) == FQ_OK);
+    must(fq_driver_new(&driver, 1, 300, 64, 1024) == FQ_OK);
+    must(fq_driver_set(&driver, 0, (struct fq_device_settings){.weight = 32, .empty_polls = 0}) == FQ_OK);
+    must(fq_driver_set(&driver, 0, FQ_DEVICE_INIT) == FQ_OK && fq_driver_open(&driver, 0) == FQ_OK);
     must(pthread_create(&thread, NULL, interrupts, NULL) == 0);
     while (!locked && !atomic_load_explicit(&over, memory_order_relaxed)) sched_yield();
     for (int i = 0; i < CALLS; i++) {

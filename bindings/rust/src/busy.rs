@@ -22,7 +22,7 @@ impl Busy {
     }
 
     /// Reads the state word: a sum of the `FQ_BIT_..` of [`sys`].
-    pub fn look(&mut self) -> u64 {
+    pub fn look(&self) -> u64 {
         self.at.look()
     }
 

@@ -137,7 +137,7 @@ impl Caller {
     }
 
     /// Reads the state word: a sum of the `FQ_BIT_..` of [`sys`].
-    pub fn look(&mut self) -> u64 {
+    pub fn look(&self) -> u64 {
         self.at.look()
     }
 
@@ -197,7 +197,7 @@ pub struct Granted {
 
 impl Granted {
     /// Reads the state word: a sum of the `FQ_BIT_..` of [`sys`].
-    pub fn look(&mut self) -> u64 {
+    pub fn look(&self) -> u64 {
         self.at.look()
     }
 

@@ -337,7 +337,7 @@ pub(crate) fn caller_busy_stop(caller: &mut fq_caller) -> u32 {
     unsafe { fq_caller_busy_stop(caller) }
 }
 
-pub(crate) fn caller_look(caller: &mut fq_caller, word: &mut u64) -> u32 {
+pub(crate) fn caller_look(caller: &fq_caller, word: &mut u64) -> u32 {
     // SAFETY: the references and slices are valid for their whole types, and a mutable one overlaps no other.
     unsafe { fq_caller_look(caller, word) }
 }

@@ -44,9 +44,9 @@ unsafe impl<O: Object> Send for Handle<O> {}
 
 impl Handle<sys::fq_caller> {
     // Reads the state word, for a caller.
-    pub(crate) fn look(&mut self) -> u64 {
+    pub(crate) fn look(&self) -> u64 {
         set_by("caller_look", 0, |word| {
-            calls::caller_look(self.raw(), word)
+            calls::caller_look(&self.0, word)
         })
     }
 

@@ -36,7 +36,7 @@ impl Polling {
     }
 
     /// Reads the state word: a sum of the `FQ_BIT_..` of [`sys`].
-    pub fn look(&mut self) -> u64 {
+    pub fn look(&self) -> u64 {
         self.at.look()
     }
 

@@ -534,7 +534,7 @@ impl fq_device_settings {
 pub struct fq_device_shown {
     /// The size of this struct.
     pub size: usize,
-    /// The device's state: a number of enum `fq_device_state`.
+    /// The device's state.
     pub state: u32,
     /// Whether a poll is requested and isn't completed (`NAPI_STATE_SCHED`); set for a closed device too, as in the
     /// kernel.

@@ -777,7 +777,7 @@ fn a_card_that_is_not_looked_at_is_polled_behind_the_unmask() {
 fn a_full_poll_stays_with_its_thread() {
     let (on, mut interrupts, poller) = bare(true);
     assert_eq!(interrupts.interrupt(Kind::Thread), Prep::Granted);
-    let mut polling = match poller.take(Kind::Thread).unwrap().end(true) {
+    let polling = match poller.take(Kind::Thread).unwrap().end(true) {
         End::Held(polling) => polling,
         End::Over(..) => panic!("it is on a list"),
     };

@@ -275,7 +275,7 @@ extern "C" {
     pub fn fq_caller_busy_stop(caller: *mut fq_caller) -> u32;
     /// Sets `*word` to the state word, a sum of `FQ_BIT_..`, in any state of the caller. Returns `FQ_OK`;
     /// `FQ_BAD_HANDLE`.
-    pub fn fq_caller_look(caller: *mut fq_caller, word: *mut u64) -> u32;
+    pub fn fq_caller_look(caller: *const fq_caller, word: *mut u64) -> u32;
     /// Sets `*answers` to how often the caller's calls returned each result since it was made. Returns `FQ_OK`;
     /// `FQ_BAD_HANDLE`.
     pub fn fq_caller_count_sized(caller: *const fq_caller, answers: *mut fq_answers) -> u32;
@@ -343,10 +343,10 @@ extern "C" {
     /// Sets `*id` to the number to poll next. Returns `FQ_OK`; `FQ_DONE` if the run is over; `FQ_NOT_ALLOWED` without
     /// a run, or if the last poll wasn't reported.
     pub fn fq_run_next(list: *mut fq_list, id: *mut u32) -> u32;
-    /// Reports the outcome of the poll: its packets, and how it ended (enum `fq_next`). Returns `FQ_OK`;
-    /// `FQ_NOT_ALLOWED`; `FQ_BAD_WORK` above the weight; `FQ_BAD_NEXT`; `FQ_IN_USE` if the number would be listed
-    /// twice, and the poll still has to be reported. It isn't checked that `FQ_NEXT_REPOLL` follows a whole weight,
-    /// because a device may have its own weight, below the run's; nor that `FQ_NEXT_ABSENT` comes without packets.
+    /// Reports the outcome of the poll: its packets, and how it ended. Returns `FQ_OK`; `FQ_NOT_ALLOWED`;
+    /// `FQ_BAD_WORK` above the weight; `FQ_BAD_NEXT`; `FQ_IN_USE` if the number would be listed twice, and the poll
+    /// still has to be reported. It isn't checked that `FQ_NEXT_REPOLL` follows a whole weight, because a device may
+    /// have its own weight, below the run's; nor that `FQ_NEXT_ABSENT` comes without packets.
     pub fn fq_run_polled(list: *mut fq_list, work: u32, next: u32) -> u32;
     /// Ends the run, and sets `*report`. The numbers that weren't polled, and those to be polled again, are on the
     /// list. Returns `FQ_OK`; `FQ_NOT_ALLOWED`.
