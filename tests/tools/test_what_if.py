@@ -289,7 +289,7 @@ class WhatIf(InFolder):
         self.assertEqual(words[::2], ["--interrupt", "--poll", "--packet", "--wake", "--use", "--app-wake"])
         self.assertEqual(self.rows(*of), self.rows(*words))
         self.assertEqual(self.rows(*of, "--use", "7"), self.rows(*words, "--use", "7"))
-        lacking = ["--costs", HERE / "recorded-rps.rec.gz"]
+        lacking = ["--costs", HERE / "recorded-rps.rec.gz", "--backlog", "1"]
         self.assertIn("recorded-rps.rec.gz doesn't have all costs, so these are as by default: --use 2000\n", self.said(*lacking))
         self.assertEqual(self.said(*lacking, "--use", "7"), "")
         self.assertIn("arrivals.csv: line 1: no line of ftrace", self.ends_with(1, "what-if", self.arrivals, "--costs", self.arrivals).stderr)

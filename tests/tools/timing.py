@@ -2,8 +2,10 @@
 
 from __future__ import annotations
 
+import gzip
 import re
 from collections.abc import Iterable, Iterator, Sequence
+from pathlib import Path
 from statistics import median
 
 from finding import group_in
@@ -240,6 +242,29 @@ def wakes_of(events: list[Event], device: str) -> Iterator[tuple[int, bool]]:
             elif work and last <= came[taken] <= begin[0] and had_other(events, cpu, came[taken], at):
                 yield begin[0] - came[taken] - took, False
         taken, last = taken + work, time
+
+
+def flights_of(events: list[Event], sender: str) -> Iterator[int]:
+    """Yields the time from a packet of that device, which another processor sends, to the handler of the interrupt that requests the poll of the backlog
+    that takes it first, if a task had that processor all the time."""
+    for place, work in polls_of(events, "(no_device)"):
+        before = on(events, events[place][1], place)
+        run = next((number for number, each in enumerate(before) if each[4].startswith(("softirq_entry", "napi_poll"))), 0)
+        since = first_like(before[run + 1:], "napi_poll")[0]
+        taken = [group_in(r"skbaddr=(\w+)", said) for *_, said in before[:run] if said.startswith("netif_receive_skb")]
+        if not work or before[run][4].startswith("napi_poll") or len(taken) != work:
+            continue
+        at = next(number for number in range(place, -1, -1) if re.match(rf"net_dev_xmit: dev={sender} skbaddr={taken[-1]} .*rc=0", events[number][4]))
+        came, sent_on = events[at][:2]
+        entry = first_like(before[run:], "call_function_single_entry")[0]
+        task, is_within = first_like(before, "sched_switch"), first_like(on(events, sent_on, at), "softirq_")[4].startswith("softirq_entry")
+        is_busy = task[0] and task[0] <= came and "next_comm=swapper" not in task[4]
+        if is_busy and not is_within and sent_on != events[place][1] and since <= came <= entry:
+            yield entry - came
+
+
+def unpacked(path: Path) -> str:
+    return gzip.decompress(path.read_bytes()).decode()
 
 
 def had_other(events: list[Event], cpu: int, time: int, until: int) -> bool:

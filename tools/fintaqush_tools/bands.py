@@ -25,7 +25,7 @@ Costs = Mapping[str, int]  # in ns, by the names of the machine's options, TIMER
 Interval = tuple[float, float]
 
 TIMERS = ("timer", "timer-wake")  # costs that the recording may lack, and the machine too
-VARIED = {*COSTS, *TIMERS, "app-wake-apart"}
+VARIED = {*COSTS, *TIMERS, "app-wake-apart", "flight"}
 DOUBT = 20  # % of the costs, if no recording says more
 LEAST, MOST = 15, 50  # % of the costs; those of three like recordings differed by 15 %
 MOVED = 100  # % by which costs were higher with the program on another processor
@@ -41,9 +41,10 @@ LIKE = {"lost": "dropped", "kernel_percent": "poll_percent"}  # predicted values
 
 
 def with_costs(settings: Mapping[str, Any], percent: int) -> dict[str, Any]:
-    """Returns the settings with each cost scaled to `percent`."""
+    """Returns the settings with each cost scaled to `percent`. Of a backlog `rx-nsecs` is one: the flight of interrupts."""
+    varied = VARIED | ({"rx-nsecs"} if int(settings.get("backlog", 0)) else set())
     return {
-        name: min(OPTIONS["poll"][1], (int(value) * percent + 50) // 100) if name in VARIED else value
+        name: min(OPTIONS["poll"][1], (int(value) * percent + 50) // 100) if name in varied else value
         for name, value in settings.items()
     }
 

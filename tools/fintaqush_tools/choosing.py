@@ -7,6 +7,7 @@ from typing import Any, Optional
 
 from fintaqush_tools import predicting
 from fintaqush_tools.bands import ALIKE, Costs, Doubt, Interval
+from fintaqush_tools.flights import as_timer
 from fintaqush_tools.machine import COSTS, of_processors, values_of, values_on
 from fintaqush_tools.options import Words
 from fintaqush_tools.progress import Progress
@@ -39,9 +40,10 @@ def timeout_of(options: Mapping[str, int]) -> int:
 def settings_of(costs: Mapping[str, int], options: Options) -> Options:
     """Returns the machine's options. `costs` may have `app-wake-apart`, the wake-up of a program with a processor of its own. If
     the costs of NAPI's timer are unknown, they are those of interrupts; if the machine has none, those of interrupts are they
-    if there is deferral, because nearly all are timers then.
+    if there is deferral, because nearly all are timers then. The flight of an interrupt between processors is only a backlog's.
     """
-    values = {name: costs[name] for name in COSTS if name in costs}
+    costs = as_timer(costs) if options.get("backlog") else costs
+    values = {name: costs[name] for name in (*COSTS, "rx-nsecs") if name in costs}
     if options.get("apart") and "app-wake-apart" in costs:
         values["app-wake"] = costs["app-wake-apart"]
     for name, of_timer in (("interrupt", "timer"), ("wake", "timer-wake")):

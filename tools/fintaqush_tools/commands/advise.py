@@ -379,8 +379,8 @@ class Advice:
         if self.recording.layout.is_sent_here():
             known["wake"] = 0  # these packets arrive when the softirq begins
         known = {name: cost for name, cost in known.items() if name not in TIMERS}
-        timers = {name: costs[name] for name in TIMERS if name in costs}
-        return {**known, **timers, "app-wake": own, "app-wake-apart": woken}
+        others = {name: costs[name] for name in (*TIMERS, "flight") if name in costs}
+        return {**known, **others, "app-wake": own, "app-wake-apart": woken}
 
     def choose(self, packets: int) -> None:
         """Tries all settings."""

@@ -23,8 +23,9 @@ without the handler. use: from one read of the program to the next, if the secon
 of a poll that delivered one packet to its read by a program that slept on another processor, without the read itself; on the same processor
 to its next read, without the use. take, of a card: from one packet that a poll passes to GRO to the next. early, of virtio_net: of the card's
 handlers that interrupt a poll. poll-wake, arm: what polls that wake the program on their processor, and polls whose completion starts NAPI's
-timer, take more than others of as many packets; poll and packet are without it. The costs of NAPI's timer grow with the time that the processor slept, so the recorded gro_flush_timeout is
-printed with them.
+timer, take more than others of as many packets; poll and packet are without it. flight, of a backlog (RPS): from a packet that another
+processor sends to the handler of its interrupt, on a processor that runs a task. It is printed as the option --rx-nsecs, and --wake without
+it. The costs of NAPI's timer grow with the time that the processor slept, so the recorded gro_flush_timeout is printed with them.
 """
 
 from __future__ import annotations
@@ -39,6 +40,7 @@ from fintaqush_tools.card_costs import CardTimes, is_by_scheduler, known_costs, 
 from fintaqush_tools.errors import Refusal
 from fintaqush_tools.files import check_input
 from fintaqush_tools.fits import FEWEST, Cost, cost_line, cost_of, halves_of, shift_of
+from fintaqush_tools.flights import Flights, as_timer, flight_cost
 from fintaqush_tools.machine import COSTS
 from fintaqush_tools.options import Parser, Words, words_of
 from fintaqush_tools.poll_kinds import separated
@@ -48,7 +50,7 @@ from fintaqush_tools.recording import BACKLOG, PARTS, POLLED, Event, Head, Look,
 from fintaqush_tools.results import add_json, is_printed, write_json
 from fintaqush_tools.texts import as_rows, shown
 from fintaqush_tools.thresholds import add_fail_if, status_of
-from fintaqush_tools.timeline import TIMER, Arrival, Timeline
+from fintaqush_tools.timeline import TIMER, Arrival, Polls, Processor, Timeline, Waiting
 
 Told = tuple[dict[str, Cost], list[str]]  # costs by their names, and lines about them
 
@@ -71,6 +73,7 @@ ORDER = (
     "early",
     "poll-wake",
     "arm",
+    "flight",
 )
 
 
@@ -81,7 +84,7 @@ class Times(Timeline):
         self, routes: Routes[Arrival], polled: Sequence[str], irq: Optional[str], interrupts: Sequence[str]
     ) -> None:
         super().__init__(routes, polled, irq, interrupts)
-        self.card = CardTimes(polled)
+        self.card, self.flights = CardTimes(polled), Flights()
         self.of_kinds: dict[str, Cost] = {}  # what polls of some kinds take more than others
         self.mixed = defaultdict[Place, set[int]](set)  # for each backlog its polls that took packets of other devices
 
@@ -94,6 +97,17 @@ class Times(Timeline):
         super().poll(event)
         if own != int(work) and len(self.of[device, napi].polls) > count:
             self.mixed[device, napi].add(count)
+
+    def packet(self, event: Event) -> None:
+        """Handles a sent packet, which arrives at a device."""
+        self.flights.send((event.time, event.cpu), self.on[event.cpu])
+        super().packet(event)
+
+    def run_begins(self, processor: Processor, began: int, work: int, polls: Polls, waiting: Waiting, cpu: int) -> None:
+        """Handles the first poll of a softirq or a thread."""
+        own = waiting.received if self.routes.moved else work
+        self.flights.begin_run(processor, cpu, waiting, work, own)
+        super().run_begins(processor, began, work, polls, waiting, cpu)
 
     def settle(self) -> Timeline:
         """Ends the reading. Polls with packets of other devices don't count if there are enough others."""
@@ -115,6 +129,7 @@ class Times(Timeline):
         """Forgets what was under way, at the beginning of a window."""
         super().cut(time)
         self.card.cut(time)
+        self.flights.cut()
 
     def looks_at(self, name: str) -> list[Look]:
         """Returns what handles the events of this name."""
@@ -249,6 +264,16 @@ def wakes_of(times: Timeline) -> Told:
     ]
 
 
+def flights_of(times: Times) -> Told:
+    """Returns the flight of an interrupt between processors, on a busy one."""
+    cost = None if is_sent_here(times) else flight_cost(times.flights, times.devices)
+    if not cost:
+        return {}, []
+    return {"flight": cost}, [
+        f"flight {cost.interval()}: {cost.count} {cost.source}, {told_half(cost)}; it is --rx-nsecs, and --wake is without it"
+    ]
+
+
 def reads_of(times: Timeline) -> Told:
     """Returns the cost of a packet's use, and of waking the program on another processor."""
     reads, costs, told = times.reads, {}, []
@@ -295,7 +320,7 @@ def estimated(times: Times, head: Head) -> Told:
     """Returns all costs by their names, and a line about each."""
     costs: dict[str, Cost] = {}
     told: list[str] = []
-    for part in (interrupts_of(times), polls_of(times, head), wakes_of(times), reads_of(times)):
+    for part in (interrupts_of(times), polls_of(times, head), wakes_of(times), flights_of(times), reads_of(times)):
         costs |= part[0]
         told += part[1]
     use = None if is_apart(times) else costs.get("use")
@@ -316,7 +341,8 @@ def stolen_of(times: Times, head: Head) -> dict[int, float]:
 
 def options_of(costs: Mapping[str, Cost]) -> str:
     """Returns the options of napi_machine for those costs that it has."""
-    return " ".join(f"--{name} {cost.value:.0f}" for name, cost in costs.items() if name in COSTS)
+    own = as_timer({name: round(cost.value) for name, cost in costs.items() if name in (*COSTS, "flight")})
+    return " ".join(f"--{name} {value:.0f}" for name, value in own.items())
 
 
 def notes_on(times: Times) -> Iterator[str]:

@@ -53,6 +53,7 @@ from fintaqush_tools.combinations import add_words, check_words, choices, fault_
 from fintaqush_tools.commands import costs, traffic
 from fintaqush_tools.errors import About, Refusal, unfinished, unlink
 from fintaqush_tools.files import check_regular
+from fintaqush_tools.flights import as_timer
 from fintaqush_tools.machine import ARE, COSTS, OPTIONS, PERCENTILES, VALUES, WAITS
 from fintaqush_tools.machine import default_of, help_of, identifier, misfit, option_words, values_of
 from fintaqush_tools.options import Parser, Words, number, words_of, wrong
@@ -364,7 +365,12 @@ def with_costs_of(words: Words, given: Sequence[str]) -> Words:
     """Parses the options with the costs of a recording as defaults, and says which costs keep their own."""
     with About(words.costs):
         told = costs.object_in(words.costs, [])["costs"]
-    own = {name: [f"{cost['value']:.0f}"] for name, cost in told.items() if name.replace("_", "-") in COSTS}
+    known = {name.replace("_", "-"): cost["value"] for name, cost in told.items()}
+    if set(words.backlog) == {"1"} and not any(each.partition("=")[0] == "--rx-nsecs" for each in given):
+        known = as_timer(known)
+    elif "flight" in known:
+        say(f"the flight of {known['flight']} ns counts only with --backlog 1, and without --rx-nsecs")
+    own = {identifier(name): [str(value)] for name, value in known.items() if name in (*COSTS, "rx-nsecs")}
     usual = {name: str(OPTIONS[name][2]) for name in COSTS if identifier(name) not in own and OPTIONS[name][2]}
     lacks = [f"--{each} {usual[each]}" for each in usual if getattr(words, identifier(each)) == [usual[each]]]
     if lacks := [each for each in lacks if is_number(each.split()[1])]:
