@@ -167,6 +167,10 @@ async function machines(tab) {
       expect(`${name}: ${words}`, [seen[place].total.dropped, seen[place].waits[2]], [Number(dropped), Math.max(...waits)]);
     });
   }
+  const [interrupts, polling, said] = await tab.run(`(async () => { page.machine.showOne(SHOWN['Polling or interrupts']); await page.machine.run();
+    return [...page.machine.shown.map(each => each.total.used), by('predicted').textContent]; })()`);
+  expect('polling lets the program use more packets', interrupts < polling, true);
+  expect('the settings that differ', said.match(/\w+ \(.*?\)(?=: median)/g), ['Today (budget 0)', 'Moved (budget 300)']);
 }
 
 // Captures of 100 packets: pcap with times in us, pcap with times in ns in the other byte order, and pcapng, the last packed by gzip too.

@@ -6,7 +6,7 @@ const HIGHEST = { budget: 1000, 'rx-nsecs': 1000, 'rx-gap': 1000, 'gro-flush-tim
 const PACKETS = 20000;
 // What docs/NAPI.md explains, each by the one thing to move: arrivals, today's settings, the moved ones.
 const SHOWN = {
-  'Polling or interrupts': [{ shape: 'constant', rate: 150000 }, { budget: 0 }, { budget: 300 }],
+  'Polling or interrupts': [{ shape: 'constant', rate: 200000 }, { budget: 0 }, { budget: 300 }],
   'Interrupt coalescing': [{ shape: 'Poisson', rate: 50000 }, {}, { 'rx-nsecs': 50000 }],
   'Deferral of interrupts': [{ shape: 'Poisson', rate: 100000 }, {}, { 'defer-hard-irqs': 2, 'gro-flush-timeout': 50000 }],
   'A second queue': [{ shape: 'Poisson', rate: 200000 }, {}, { queues: 2, processors: 2 }],
@@ -141,9 +141,10 @@ class MachineView {
       const input = this.file ? this.file.bytes : new TextEncoder().encode(lines.map(line => hasFlows ? line : line.slice(0, line.lastIndexOf(','))).join('\n') + '\n');
       results.push({ input, runs: [{ program: 'napi_machine', words: this.wordsOf(settings) }] });
     }
-    const number = ++this.count || (this.count = 1);
+    const number = ++this.count || (this.count = 1), moves = this.valuesMoved();
     const [today, moved] = await Promise.all(results.map(({ input, runs }) => this.page.ask(input, runs)));
     if (number !== this.count) return; // a later one is on its way
+    this.moves = moves;
     this.shown = [today, moved].map(([{ status, out, said }]) => status ? { fault: textOf(said).trim() } : reportOf(textOf(out)));
     this.draw();
     this.page.link();
@@ -166,7 +167,14 @@ class MachineView {
   }
   told() {
     const [today, moved] = this.shown, part = ({ waits, total, shares }) => `median wait ${timeOf(waits[0])}, 99 % below ${timeOf(waits[2])}, ${grouped(total.dropped + total.refused)} of ${grouped(total.arrived)} packets dropped, processors ${(100 - shares.idle).toFixed(0)} % busy`;
-    return `Today: ${part(today)}. Moved: ${part(moved)}.`;
+    return `Today${this.moves[0]}: ${part(today)}. Moved${this.moves[1]}: ${part(moved)}.`;
+  }
+  // The values of the settings that were moved, in parentheses: today's, and the moved ones.
+  valuesMoved() {
+    const valueOf = (settings, name) => settings[name] ?? this.defaultOf(name);
+    const names = SETTINGS.filter(name => valueOf(this.today, name) !== valueOf(this.moved, name));
+    const listed = settings => names.map(name => `${IN_US[name] || name} ${grouped(valueOf(settings, name) / this.scaleOf(name))}`).join(', ');
+    return [this.today, this.moved].map(settings => names.length ? ` (${listed(settings)})` : '');
   }
   rows() {
     const of = pick => this.shown.map(pick);

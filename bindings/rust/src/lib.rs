@@ -13,7 +13,7 @@
 //! - [`TxRing`]: a transmit ring under a byte queue limit.
 //! - [`List`]: a poll list, and runs over it.
 //! - [`Driver`]: the driver of up to 64 devices on one thread, which returns what has to be done at a card.
-//! - [`replay`]: the whole replay of a trace, on one thread; [`raise_runs`] adds the runs that the kernel would make with a smaller
+//! - [`replay()`]: the whole replay of a trace, on one thread; [`raise_runs`] adds the runs that the kernel would make with a smaller
 //!   budget.
 //! - [`machine`](fn@machine): a machine that receives packets over simulated time, from arrivals to latencies.
 //!
