@@ -48,6 +48,7 @@ BEGIN, END = "<!-- emulated cards: begin -->", "<!-- emulated cards: end -->"
 # The values that are compared: by how much each may differ, in %, from the range in which the measured one is known.
 LIMITS = {"interrupts": 2, "polls": 2, "runs": 2, "squeezed": 2, "dropped": 2, "delivered_p50": 6, "used_p50": 6}
 OF_SEVERAL = "interrupts", "polls", "runs", "squeezed"  # what is compared if there are several cards
+OF_TIMERS = "timer", "timer-wake", "arm"  # the costs that only a recording with NAPI's timer has
 # The columns of the table.
 COLUMNS = {
     "interrupts": "Interrupts",
@@ -67,7 +68,7 @@ def costs_of(card: Card, seen: Mapping[str, Seen]) -> Options:
         return dict(read_kept(KEPT / card.costs_of)["costs"])
     costs = seen[card.base.name].costs()
     timers = seen[card.timers].costs() if card.timers else {}
-    return costs | {name: cost for name, cost in timers.items() if name.startswith("timer")}
+    return costs | {name: cost for name, cost in timers.items() if name in OF_TIMERS}
 
 
 def kept_of(card: Card, folder: Path) -> Kept:

@@ -49,7 +49,7 @@ class Setting:
     weight: int = 64  # net.core.dev_weight
     burst: int = 40  # packets of a burst in the mean
     every: int = 10_000  # us between bursts
-    share: int = 300  # of 1000 frames, that are packets to the card
+    share: int = 150  # of 1000 frames, that are packets to the card
 
     @property
     def file(self) -> str:
@@ -71,7 +71,7 @@ class Guest:
     driver: str
     model: str  # QEMU's name of the card
     cards: int = 1  # if several, each gets the bursts, and no card the packets one by one
-    period: int = 20_000  # ns: eth1 sends a frame of its ring each so often
+    period: int = 26_000  # ns: eth1 sends a frame of its ring each so often
     later: int = 5_000_000  # ns after the first frame of its ring, at which eth2 sends all of it
     linux: str = ""  # a version of SUITES; without it the kernel is of the same release as QEMU
 

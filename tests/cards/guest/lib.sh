@@ -40,7 +40,7 @@ send() {
     mac=ff:ff:ff:ff:ff:ff
     if [ "$count" = 1 ]; then
         mac=$(cat /sys/class/net/eth0/address)
-        /rig/onto 2 /rig/sender "$mac" eth1 p "$STEADY" 10000 230 125 "$SHARE" 1
+        /rig/onto 2 /rig/sender "$mac" eth1 p "$STEADY" 10000 230 97 "$SHARE" 1
     fi
     /rig/onto 2 /rig/sender "$mac" "eth$((count + 1))" b "$BURSTS" "$EACH" "$BURST" 0 0 2
 }
@@ -48,7 +48,7 @@ send() {
 setting() {
     local name=$1
     shift
-    RING='' USECS='' DEFER=0 FLUSH=0 THREADED=0 BUDGET=300 WEIGHT=64 SECONDS=2 STEADY=60 SHARE=300 BURSTS=30 EACH=10000 BURST=40
+    RING='' USECS='' DEFER=0 FLUSH=0 THREADED=0 BUDGET=300 WEIGHT=64 SECONDS=3 STEADY=160 SHARE=150 BURSTS=30 EACH=10000 BURST=40
     for each in "$@"; do eval "${each%%=*}='${each#*=}'"; done
     echo "== $name $*"
     apply
