@@ -7,7 +7,7 @@ use Rattle.machine_model.proofs.QueueFacts.{armed-by, holding-by, interrupted-by
 use Rattle.machine_model.{proofs.TableFacts.{at-either, at-kept, map_at}, specs.Device.{QueueView, after_packet, has_room, notified}}
 use Rattle.machine_model.specs.{Device.queue_delivered, Devices.QueueViews, Processor.{ProcessorView, arrives, is_polling, step, upcoming}}
 use Rattle.machine_model.specs.{Waits.{WaitsView, counted, saturated, no_waits}, declared.settings.MachineSettings.MachineSettings}
-use Rattle.machine.proofs.FateFacts.{Keeps, at-arrived, fates, keeps-arrived, keeps-hand, keeps-move, made-part, made_at, room-made}
+use Rattle.machine.proofs.FateFacts.{Keeps, at-arrived, fates, keeps-arrived, keeps-delivered, keeps-move, made-part, made_at, room-made}
 use Rattle.machine.proofs.MoveFacts.{Change, Event, Move, arrival-of, changes, event-of, holds, interrupts, leaves-all, passes}
 use Rattle.machine.proofs.MoveFacts.{polled, takes}
 use Rattle.machine.{proofs.WorkFacts.{arrived, goes-on}, specs.Fates.{CountsOfQueue, CountsPackets, came, counting}}
@@ -114,7 +114,7 @@ counts-event n now a d all done gone waited p gives q e keeps c =
     (leaves-all now (λ g r. Keeps n all done g r
     × Counts a d (gone ++ packet_for n g) (waited ++ map (λ came. now - came) (packet_for n g)) (tally (at n r.devices)))
     (λ m came r t h k. (
-      keeps-hand n all done now m came r t h k.0,
+      keeps-delivered n all done now m came r t h k.0,
       rw h.devices (counts-delivered now came m n a d gone waited r.devices
           (λ none. sym (h.hand n) ∙ k.0.there none) (rw (append-nil gone, append-nil waited) at k.1)),
     ))

@@ -9,7 +9,7 @@ use Rattle.machine_model.specs.Devices.{QueueViews, has_room_at, next_held_at, n
 use Rattle.machine_model.specs.Processor.{ProcessorView, happens, is_batching, is_polling, step, upcoming}
 use Rattle.machine_model.specs.declared.settings.MachineSettings.{MachineSettings}
 use Rattle.device_places.specs.Places.{added_at, at, changed}
-use Rattle.machine.proofs.MoveFacts.{Change, Hands, Move, arrival-of, changes, event-of, hands, holds, interrupts, leaves-all, out_for}
+use Rattle.machine.proofs.MoveFacts.{Change, Delivered, Move, arrival-of, changes, event-of, hands, holds, interrupts, leaves-all, out_for}
 use Rattle.machine.proofs.MoveFacts.{passes, polled, takes, takes_oldest}
 use Rattle.machine.{proofs.WorkFacts.{arrived, goes-on}, specs.Fates.{DeliversInOrder, came, delivered_packets, delivery_by, finds_room}}
 use Rattle.machine.specs.{Fates.{hand_of, next_delivery, packet_for, queue_ring, taken_in}, Lives.{MachineEvent, behind, next, packet}}
@@ -26,7 +26,7 @@ takes_out s = (s.backlog || is_batching s) && is_polling s
 abbrev pub IsPlain : MachineSettings → Option QueueView → Type 0
 IsPlain s o = takes_out s ≡ false → taken_in o ≡ []
 
--- these packets leave a queue, which is another one then
+-- a change of a queue, by which these packets leave it
 record Leaves (s : MachineSettings) (out : List ℕ) (before after : Option QueueView) : Type 0 where
   pub plain : IsPlain s after
   -- a queue that doesn't exist gives no packet
@@ -103,7 +103,7 @@ out-other (Some came) = refl
 abbrev pub packets_of : ℕ → ProcessorView → List ℕ
 packets_of n p = hand_of n p.work ++ queued (at n p.devices)
 
--- all packets of the queue are those that were delivered, before and by this event, and those that it has
+-- All packets of the queue are those that were delivered before this event and by it, and those that are still there.
 pub record Keeps (n : ℕ) (all done : List ℕ) (gives : Option (ℕ × ℕ)) (p : ProcessorView) : Type 0 where
   pub plain : IsPlain p.settings (at n p.devices)
   -- a queue that doesn't exist has no packet in the hands of a poll
@@ -131,10 +131,10 @@ module _ (n : ℕ) (all done : List ℕ) where
           (at-same (λ o. Change p.settings p.clock o last f out) m n p.devices here change) k.plain)
           (λ other. record { plain = k.plain; there = λ none. out-other out; order = rw (out-other out) refl })
 
-  pub keeps-hand : (now m came : ℕ) (p q : ProcessorView) → Hands now m came p q → Keeps n all done None p
+  pub keeps-delivered : (now m came : ℕ) (p q : ProcessorView) → Delivered now m came p q → Keeps n all done None p
       → Keeps n all done (Some (m, came)) q
   unfolding queued
-  keeps-hand now m came p q h k = record {
+  keeps-delivered now m came p q h k = record {
     plain = rw (h.settings, h.devices, at-kept taken_in (queue_delivered now came) m n p.devices (λ d. refl)) k.plain;
     there = λ none. h.free n;
     order = rw (h.devices, h.free n, at-kept queued (queue_delivered now came) m n p.devices (λ d. refl)) (rw (h.hand n) at k.order);
@@ -225,15 +225,15 @@ fates n s [] = record { plain = λ no. refl; there = λ none. refl; order = refl
 fates n s (packet moment m ∷ earlier) =
     let p = behind s earlier in
     let done = delivered_packets n s earlier in
-    leaves-all moment (Keeps n (came true n s (packet moment m ∷ earlier)) done) (keeps-hand n _ done moment) (keeps-move n _ done) _ None _
-    (arrival-of s moment m p (goes-on s earlier)) (keeps-arrived moment m n _ done p (fates n s earlier))
+    leaves-all moment (Keeps n (came true n s (packet moment m ∷ earlier)) done) (keeps-delivered n _ done moment) (keeps-move n _ done)
+    _ None _ (arrival-of s moment m p (goes-on s earlier)) (keeps-arrived moment m n _ done p (fates n s earlier))
 fates n s (next ∷ earlier) =
     let p = behind s earlier in
     let done = delivered_packets n s earlier in
     let gives = delivery_by (upcoming p) p in
     let q = happens (upcoming p) p in
     let all = came true n s earlier in
-    let k = leaves-all p.ends (Keeps n all done) (keeps-hand n all done p.ends) (keeps-move n all done) p gives q
+    let k = leaves-all p.ends (Keeps n all done) (keeps-delivered n all done p.ends) (keeps-move n all done) p gives q
     (event-of s (upcoming p) p (goes-on s earlier)) (fates n s earlier) in
     record { plain = k.plain; there = k.there; order = append_assoc done (packet_for n gives) (packets_of n q) ∙ k.order }
 

@@ -12,8 +12,8 @@ use Rattle.machine_model.specs.{Processor.{ProcessorView, is_polling, step, upco
 use Rattle.machine_model.specs.declared.device.{Line.{Line, TheVariants.{Coalescing, Masked, Raised}}, Phase.Phase}
 use Rattle.machine_model.specs.declared.settings.MachineSettings.{MachineSettings}
 use Rattle.machine.proofs.{FateFacts.{at-arrived, made_at}, WorkFacts.{goes-on, same-polling}}
-use Rattle.machine.proofs.MoveFacts.{Change, Event, Hands, Move, arrival-of, changes, event-of, expires, hands, holds, interrupts, leaves}
-use Rattle.machine.proofs.MoveFacts.{misses, passes, polled, raises, takes, takes_oldest}
+use Rattle.machine.proofs.MoveFacts.{Change, Delivered, Event, Move, arrival-of, changes, event-of, expires, hands, holds, interrupts}
+use Rattle.machine.proofs.MoveFacts.{leaves, misses, passes, polled, raises, takes, takes_oldest}
 use Rattle.machine.specs.{Gaps.{AreApart, InterruptsAreApart, interrupt_times, interrupts_at, new_interrupt}, Lives.{MachineEvent, behind}}
 use Rattle.machine.specs.Lives.{next, packet}
 
@@ -129,8 +129,8 @@ module _ (s : MachineSettings) (n : ℕ) (last : Option ℕ) (count : ℕ) (some
     calm-move gives p q (changes m f out r change settings devices hand) c =
         (settings ∙ c.0, rw devices (calm-map f (calm-change p.clock (at m p.devices) f out (rw c.0 at change)) m p c.1))
 
-    calm-hand : (now m came : ℕ) (p q : ProcessorView) → Hands now m came p q → IsCalm s n last count p → IsCalm s n last count q
-    calm-hand now m came p q h c =
+    calm-delivered : (now m came : ℕ) (p q : ProcessorView) → Delivered now m came p q → IsCalm s n last count p → IsCalm s n last count q
+    calm-delivered now m came p q h c =
         (h.settings ∙ c.0, rw h.devices (calm-map (queue_delivered now came) (λ d k. k) m p c.1))
 
 -- ---- an interrupt
@@ -195,7 +195,7 @@ module _ (s : MachineSettings) (n : ℕ) (polling : is_polling s ≡ true) (plai
       let last = slice_get times 0 in
       let count = interrupts_at before in
       last-follows s n times before e.late q polling e.last (leaves now (λ g r. IsCalm s n last count r)
-      (calm-hand s n last count some polling plain now) (calm-move s n last count some polling plain) p gives e.late e.moves
+      (calm-delivered s n last count some polling plain now) (calm-move s n last count some polling plain) p gives e.late e.moves
       (settings, calm)) apart
 
   follow-on : (events : List MachineEvent) → Follow s.rx_gap (interrupt_times n s events) (at n (behind s events).devices)
@@ -223,7 +223,4 @@ module _ (s : MachineSettings) (n : ℕ) (polling : is_polling s ≡ true) (plai
       f.apart
 
 pub interrupts-are-apart : InterruptsAreApart
-interrupts-are-apart s n events polling plain gap = (follow-on s n polling plain (some s.rx_gap gap) events).apart
-  where
-    some : (gap : ℕ) → 0 < gap → (gap == 0) ≡ false
-    some gap h1 = grind (arith, common_steps)
+interrupts-are-apart s n events polling plain gap = (follow-on s n polling plain (grind (arith, common_steps)) events).apart

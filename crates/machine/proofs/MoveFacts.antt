@@ -17,7 +17,7 @@ use Rattle.machine_model.specs.declared.processor.Upcoming.TheVariants as upcomi
 use Rattle.machine.proofs.WorkFacts.{Goes, arrived, goes-arrived, goes-moved, goes-stirred, goes-unasked, same-polling, work-ended}
 use Rattle.machine.specs.Fates.{delivery_by, delivery_of, finds_room, hand_of, packet_for}
 
--- a change of a queue, and the packet that leaves it for a poll or an interrupt; only the last change of an event is its interrupt
+-- A change of a queue, and the packet that leaves it for a poll or an interrupt. With `true` it is the last change of an event.
 pub data Change (s : MachineSettings) (now : ℕ) (o : Option QueueView) : Bool → (QueueView → QueueView) → Option ℕ → Type 0 where
   expires : Change s now o false expired None
   raises : is_polling s ≡ false → Change s now o false raised_again None
@@ -44,7 +44,7 @@ pub data Move (p : ProcessorView) (last : Bool) : ProcessorView → Type 0 where
       → ((n : ℕ) → hand_of n q.work ≡ hand_of n p.work ++ out_for out (m == n)) → Move p last q
 
 -- the packet that was processed is delivered
-pub record Hands (now m came : ℕ) (p q : ProcessorView) : Type 0 where
+pub record Delivered (now m came : ℕ) (p q : ProcessorView) : Type 0 where
   pub settings : q.settings ≡ p.settings
   pub devices : q.devices ≡ changed (queue_delivered now came) m p.devices
   pub hand : (n : ℕ) → hand_of n p.work ≡ packet_for n (Some (m, came))
@@ -54,7 +54,7 @@ pub record Hands (now m came : ℕ) (p q : ProcessorView) : Type 0 where
 pub data Moves (now : ℕ) (p : ProcessorView) : Option (ℕ × ℕ) → ProcessorView → Type 0 where
   stays : Moves now p None p
   more : (gives : Option (ℕ × ℕ)) (q r : ProcessorView) → Moves now p gives q → Move q false r → Moves now p gives r
-  delivery : (m came : ℕ) (q r : ProcessorView) → Moves now p None q → Hands now m came q r → Moves now p (Some (m, came)) r
+  delivery : (m came : ℕ) (q r : ProcessorView) → Moves now p None q → Delivered now m came q r → Moves now p (Some (m, came)) r
 
 pub record Event (now : ℕ) (p : ProcessorView) (gives : Option (ℕ × ℕ)) (q : ProcessorView) : Type 0 where
   pub late : ProcessorView
@@ -62,7 +62,7 @@ pub record Event (now : ℕ) (p : ProcessorView) (gives : Option (ℕ × ℕ)) (
   pub last : Move late true q
 
 module _ (now : ℕ) (K : Option (ℕ × ℕ) → ProcessorView → Type 0)
-    (hand : (m came : ℕ) (p q : ProcessorView) → Hands now m came p q → K None p → K (Some (m, came)) q)
+    (hand : (m came : ℕ) (p q : ProcessorView) → Delivered now m came p q → K None p → K (Some (m, came)) q)
   where
     -- a property that each move leaves
     pub leaves : ((gives : Option (ℕ × ℕ)) (p q : ProcessorView) → Move p false q → K gives p → K gives q)
@@ -190,29 +190,23 @@ module _ (p : ProcessorView) (counts : ProcessorCounts) where
   ended-by (Arm look) is polling = moves-polled p.ends p None look.device look.given ended refl (ends-free (λ i. rw is refl))
   ended-by (Use came) is polling = more None p _ stays (passes _ refl refl (λ i. rw is refl))
 
-polls-on : (s : MachineSettings) (p : ProcessorView) (n : ℕ) → Goes s p → polled_by p.work ≡ Some n → is_polling p.settings ≡ true
-polls-on s p n goes polls = grind (arith, common_steps, same-polling)
-
 -- ---- each event consists of moves
 
-kept-hand : (n : ℕ) (p : ProcessorView) → hand_of n p.work ≡ hand_of n p.work ++ []
-kept-hand n p = sym (append-nil (hand_of n p.work))
+kept-hand : (p : ProcessorView) (n : ℕ) → hand_of n p.work ≡ hand_of n p.work ++ []
+kept-hand p n = sym (append-nil (hand_of n p.work))
 
 pub event-of : (s : MachineSettings) (u : Upcoming) (p : ProcessorView) → Goes s p → Event p.ends p (delivery_by u p) (happens u p)
 unfolding ends_current
 event-of s Never p goes = record { late = p; moves = stays; last = passes p refl refl (λ i. refl) }
 event-of s upcomings.Ends p goes = record {
   late = ends_current p;
-  moves = ended-by p (spent p.work (p.ends - p.clock) p.counts) p.work refl (λ n polls. polls-on s p n goes polls);
+  moves = ended-by p (spent p.work (p.ends - p.clock) p.counts) p.work refl (λ n polls. grind (arith, common_steps, same-polling));
   last = takes-move s (ends_current p) (work-ended s p goes);
 }
 event-of s (Expires timer) p goes =
     let q : ProcessorView = record p { devices = changed expired timer.device p.devices } in
     disturbs s timer.at p.ends p q (goes-moved s p.clock p.ends p.counts q.devices p goes)
-    (more None p q stays (changes timer.device expired None q expires refl refl (λ i. kept-hand i p)))
-
-early-some : (n : ℕ) (p : ProcessorView) → comes_early n p ≡ true → (p.settings.early == 0) ≡ false
-early-some n p is = grind (arith, common_steps)
+    (more None p q stays (changes timer.device expired None q expires refl refl (kept-hand p)))
 
 pub arrival-of : (s : MachineSettings) (moment n : ℕ) (p : ProcessorView) → Goes s p
     → Event moment (arrived moment n p) None (arrives moment n p)
@@ -220,7 +214,7 @@ unfolding arrives interrupts_early
 arrival-of s moment n p goes =
     either (Event moment q None) (finds_room n p) (notices moment n q) q (λ room.
     either (Event moment q None) (comes_early n q) (interrupts_early n q) (disturbed moment q)
-    (λ early. ends (more None q _ stays (changes n missed_early None _ (misses (early-some n q early)) refl refl (λ i. kept-hand i q))))
+    (λ early. ends (more None q _ stays (changes n missed_early None _ (misses (grind (arith, common_steps))) refl refl (kept-hand q))))
     (λ other. disturbs s moment moment q q (goes-arrived s moment n p goes) stays)) (λ full. ends stays)
   where
     q : ProcessorView
