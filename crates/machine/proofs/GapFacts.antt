@@ -5,17 +5,15 @@ use Rattle.std.specs.Prelude.{◌==◌, ◌&&◌, if◌then◌else◌, nat_le, n
 use Rattle.device_places.specs.Places.{at, changed}
 use Rattle.machine_model.proofs.QueueFacts.{armed-by, holding-by, interrupted-by, next-by, packet-by, poll-by}
 use Rattle.machine_model.proofs.TableFacts.{at-either, at-keeps, at-same, map_at}
-use Rattle.machine_model.specs.Device.{QueueView, after_packet, armed, asks, coalesced, expired, gap_end, holding, interrupted, is_fired}
-use Rattle.machine_model.specs.Device.{is_masked, is_masked_line, is_raised, napi_completed, notified, queue_polled}
-use Rattle.machine_model.specs.{Device.{unmasked_line, unmasked_queue, without_held, without_next}, Devices.asks_at}
-use Rattle.machine_model.specs.{Processor.{ProcessorView, arrives, delivers, happens, is_polling, step, upcoming}, Waits.saturated}
+use Rattle.machine_model.specs.Device.{QueueView, after_packet, armed, asks, coalesced, expired, gap_end, interrupted, is_fired}
+use Rattle.machine_model.specs.Device.{is_masked, is_masked_line, is_raised, napi_completed, notified, queue_delivered, queue_polled}
+use Rattle.machine_model.specs.{Device.{unmasked_line, unmasked_queue}, Devices.asks_at}
+use Rattle.machine_model.specs.{Processor.{ProcessorView, is_polling, step, upcoming}, Waits.saturated}
 use Rattle.machine_model.specs.declared.device.{Line.{Line, TheVariants.{Coalescing, Masked, Raised}}, Phase.Phase}
 use Rattle.machine_model.specs.declared.settings.MachineSettings.{MachineSettings}
-use Rattle.machine_model.specs.Device as device
-use Rattle.machine.proofs.{FateFacts.{at-arrived, made_at}, WorkFacts.{devices_arrived, goes-on, same-polling}}
-use Rattle.machine.proofs.MoveFacts.{Change, Ending, Last, Move, arrival-of, arrived, changes, event-of, expires, finds_none}
-use Rattle.machine.proofs.MoveFacts.{hands, holds, interrupt, interrupt_end, leaves, misses, no_interrupt, packet_end, polled}
-use Rattle.machine.proofs.MoveFacts.{passes, raises, takes}
+use Rattle.machine.proofs.{FateFacts.{at-arrived, made_at}, WorkFacts.{goes-on, same-polling}}
+use Rattle.machine.proofs.MoveFacts.{Change, Delivered, Event, Move, arrival-of, changes, event-of, expires, hands, holds, interrupts}
+use Rattle.machine.proofs.MoveFacts.{leaves, misses, passes, polled, raises, takes, takes_oldest}
 use Rattle.machine.specs.{Gaps.{AreApart, InterruptsAreApart, interrupt_times, interrupts_at, new_interrupt}, Lives.{MachineEvent, behind}}
 use Rattle.machine.specs.Lives.{next, packet}
 
@@ -99,9 +97,8 @@ polled-calm now given count last s d some c =
 
 -- ---- the moves of an event, up to an interrupt
 
-pub record IsCalm (s : MachineSettings) (n : ℕ) (last : Option ℕ) (count : ℕ) (p : ProcessorView) : Type 0 where
-  pub settings : p.settings ≡ s
-  pub calm : CalmAt s.rx_gap last count (at n p.devices)
+abbrev pub IsCalm : MachineSettings → ℕ → Option ℕ → ℕ → ProcessorView → Type 0
+IsCalm s n last count p = (p.settings ≡ s) × CalmAt s.rx_gap last count (at n p.devices)
 
 module _ (s : MachineSettings) (n : ℕ) (last : Option ℕ) (count : ℕ) (some : (s.rx_gap == 0) ≡ false) (polling : is_polling s ≡ true)
     (plain : s.early ≡ 0)
@@ -116,38 +113,25 @@ module _ (s : MachineSettings) (n : ℕ) (last : Option ℕ) (count : ℕ) (some
         by None c = c
         by (Some d) c = keeps d c
 
-    calm-next : (backlog : Bool) (d : QueueView) → Calm s.rx_gap last count d → Calm s.rx_gap last count (without_next backlog d)
-    calm-next backlog d c = next-by (Calm s.rx_gap last count) backlog d (λ ring taken. c)
+    calm-change : (now : ℕ) (o : Option QueueView) (f : QueueView → QueueView) (out : Option ℕ) → Change s now o false f out
+        → (d : QueueView) → Calm s.rx_gap last count d → Calm s.rx_gap last count (f d)
+    calm-change now o f out expires d c = expired-calm s.rx_gap count last d c
+    calm-change now o f out (raises lone) d c = absurd (cc (polling, lone))
+    calm-change now o f out (takes first polls single is) d c = next-by (Calm s.rx_gap last count) s.backlog d (λ ring taken. c)
+    calm-change now o f out (takes_oldest first lone is) d c = absurd (cc (polling, lone))
+    calm-change now o f out (holds polls batch) d c = holding-by (Calm s.rx_gap last count) d (λ ring taken. c)
+    calm-change now o f out (hands first is) d c = c
+    calm-change now o f out (polled given) d c = polled-calm now given count last s d some c
+    calm-change now o f out (misses early) d c = absurd (cc (rw plain at early))
 
-    calm-change : (m : ℕ) (p : ProcessorView) (f : QueueView → QueueView) → Change p m f → p.settings ≡ s
-        → CalmAt s.rx_gap last count (at n p.devices) → CalmAt s.rx_gap last count (at n (changed f m p.devices))
-    calm-change m p f expires is = calm-map expired (expired-calm s.rx_gap count last) m p
-    calm-change m p f (raises lone) is = absurd (cc (same-polling s p is, polling, lone))
-    calm-change m p f (finds_none polls single none) is = calm-map (without_next p.settings.backlog) (calm-next p.settings.backlog) m p
-    calm-change m p f (holds polls batch) is =
-        calm-map holding (λ d c. holding-by (Calm s.rx_gap last count) d (λ ring taken. c)) m p
-    calm-change m p f (polled given) is =
-        rw is (calm-map (queue_polled p.clock given s) (λ d. polled-calm p.clock given count last s d some) m p)
-    calm-change m p f (misses early) is = absurd (cc (rw (is, plain) at early))
+    calm-move : (gives : Option (ℕ × ℕ)) (p q : ProcessorView) → Move p false q → IsCalm s n last count p → IsCalm s n last count q
+    calm-move gives p q (passes r settings devices hand) c = (settings ∙ c.0, rw devices c.1)
+    calm-move gives p q (changes m f out r change settings devices hand) c =
+        (settings ∙ c.0, rw devices (calm-map f (calm-change p.clock (at m p.devices) f out (rw c.0 at change)) m p c.1))
 
-    calm-move : (p q : ProcessorView) → Move p q → IsCalm s n last count p → IsCalm s n last count q
-    calm-move p q (changes m f change) c = record { settings = c.settings; calm = calm-change m p f change c.settings c.calm }
-    calm-move p q (takes m came given nothing polls single is) c = record {
-      settings = c.settings;
-      calm = calm-map (without_next p.settings.backlog) (calm-next p.settings.backlog) m p c.calm;
-    }
-    calm-move p q (hands m came given nothing is) c =
-        record { settings = c.settings; calm = calm-map without_held (λ d h. h) m p c.calm }
-    calm-move p q (passes r settings devices hand) c = record { settings = settings ∙ c.settings; calm = rw devices c.calm }
-
-    calm-end : (gives : Option (ℕ × ℕ)) (p q : ProcessorView) → Ending p gives q → IsCalm s n last count p
-        → IsCalm s n last count q
-    unfolding delivers
-    calm-end gives p q (packet_end hand counts is) c =
-        record { settings = c.settings; calm = calm-map (device.queue_delivered p.ends hand.came) (λ d h. h) hand.device p c.calm }
-    calm-end gives p q (interrupt_end m came counts is lone first) c =
-        absurd (cc (same-polling s p c.settings, polling, lone))
-    calm-end gives p q end c = record { settings = c.settings; calm = c.calm }
+    calm-delivered : (now m came : ℕ) (p q : ProcessorView) → Delivered now m came p q → IsCalm s n last count p → IsCalm s n last count q
+    calm-delivered now m came p q h c =
+        (h.settings ∙ c.0, rw h.devices (calm-map (queue_delivered now came) (λ d k. k) m p c.1))
 
 -- ---- an interrupt
 
@@ -183,61 +167,60 @@ interrupted-follows gap until times before d asked c apart =
     record { now = (refl, rw calm new.0); apart = new.1 })
 
 last-follows : (s : MachineSettings) (n : ℕ) (times : List ℕ) (before : Option QueueView) (p q : ProcessorView) → is_polling s ≡ true
-    → Last p q → IsCalm s n (slice_get times 0) (interrupts_at before) p → AreApart s.rx_gap times
+    → Move p true q → IsCalm s n (slice_get times 0) (interrupts_at before) p → AreApart s.rx_gap times
     → Follow s.rx_gap (new_interrupt before (at n q.devices) ++ times) (at n q.devices)
 unfolding map_at
-last-follows s n times before p q polling no_interrupt c apart = quiet-follows s.rx_gap times before (at n p.devices) c.calm apart
-last-follows s n times before p q polling (interrupt m time softirq tasks counts nothing asks) c apart =
-    rw (same-polling s p c.settings, polling) (at-either (λ b o. Follow s.rx_gap (new_interrupt before o ++ times) o)
-    (interrupted (saturated (p.clock + time)) true) m n p.devices
-    (λ here. by (at n p.devices) (at-same (λ o. asks_at o ≡ true) m n p.devices here asks) c.calm)
-    (λ other. quiet-follows s.rx_gap times before (at n p.devices) c.calm apart))
+last-follows s n times before p q polling (passes r settings devices hand) c apart =
+    rw devices (quiet-follows s.rx_gap times before (at n p.devices) c.1 apart)
+last-follows s n times before p q polling (changes m f out r (interrupts until asks) settings devices hand) c apart =
+    rw (devices, same-polling s p c.0, polling) (at-either (λ b o. Follow s.rx_gap (new_interrupt before o ++ times) o)
+    (interrupted until true) m n p.devices
+    (λ here. by (at n p.devices) (at-same (λ o. asks_at o ≡ true) m n p.devices here asks) c.1)
+    (λ other. quiet-follows s.rx_gap times before (at n p.devices) c.1 apart))
   where
     by : (o : Option QueueView) → asks_at o ≡ true → CalmAt s.rx_gap (slice_get times 0) (interrupts_at before) o
-        → let e = map_at (interrupted (saturated (p.clock + time)) true) o in
+        → let e = map_at (interrupted until true) o in
         Follow s.rx_gap (new_interrupt before e ++ times) e
     by None asked calm = cc asked
-    by (Some d) asked calm = interrupted-follows s.rx_gap (saturated (p.clock + time)) times before d asked calm apart
+    by (Some d) asked calm = interrupted-follows s.rx_gap until times before d asked calm apart
 
 -- ---- over a processor's life
 
-follow-on : (s : MachineSettings) (n : ℕ) (events : List MachineEvent) → is_polling s ≡ true → s.early ≡ 0 → (s.rx_gap == 0) ≡ false
-    → Follow s.rx_gap (interrupt_times n s events) (at n (behind s events).devices)
-unfolding behind step interrupt_times made_at
-follow-on s n [] polling plain some = record { now = (refl, refl); apart = tt }
-follow-on s n (packet moment m ∷ earlier) polling plain some =
-    let p = behind s earlier in
-    let goes = goes-on s earlier in
-    let f = follow-on s n earlier polling plain some in
-    let o = at n p.devices in
-    let last = slice_get (interrupt_times n s earlier) 0 in
-    let count = interrupts_at o in
-    let after = arrival-of s moment m p goes in
-    let here : CalmAt s.rx_gap last count (at n (devices_arrived moment m p)) =
-    at-arrived (λ b o. CalmAt s.rx_gap last count o) moment m n p
-    (λ here. rw goes.rests.settings (packet-calm moment count last s (made_at s.ring o) some (made o f.now))) (λ other. f.now) in
-    last-follows s n (interrupt_times n s earlier) o after.late (arrives moment m p) polling after.last
-    (leaves (IsCalm s n last count) (calm-move s n last count some polling plain) (arrived moment m p) after.late after.moves
-    (record { settings = goes.rests.settings; calm = here })) f.apart
-  where
-    made : (o : Option QueueView) → CalmAt s.rx_gap (slice_get (interrupt_times n s earlier) 0) (interrupts_at o) o
-        → Calm s.rx_gap (slice_get (interrupt_times n s earlier) 0) (interrupts_at o) (made_at s.ring o)
-    made None c = (refl, (c.1, refl))
-    made (Some d) c = c
-follow-on s n (next ∷ earlier) polling plain some =
-    let p = behind s earlier in
-    let goes = goes-on s earlier in
-    let f = follow-on s n earlier polling plain some in
-    let o = at n p.devices in
-    let last = slice_get (interrupt_times n s earlier) 0 in
-    let count = interrupts_at o in
-    let e = event-of s (upcoming p) p goes in
-    last-follows s n (interrupt_times n s earlier) o e.follows.late (happens (upcoming p) p) polling e.follows.last
-    (leaves (IsCalm s n last count) (calm-move s n last count some polling plain) e.middle e.follows.late e.follows.moves
-    (calm-end s n last count some polling plain _ p e.middle e.ends (record { settings = goes.rests.settings; calm = f.now }))) f.apart
+module _ (s : MachineSettings) (n : ℕ) (polling : is_polling s ≡ true) (plain : s.early ≡ 0) (some : (s.rx_gap == 0) ≡ false) where
+  event-follows : (now : ℕ) (times : List ℕ) (before : Option QueueView) (p : ProcessorView) (gives : Option (ℕ × ℕ)) (q : ProcessorView)
+      → Event now p gives q → p.settings ≡ s → CalmAt s.rx_gap (slice_get times 0) (interrupts_at before) (at n p.devices)
+      → AreApart s.rx_gap times
+      → Follow s.rx_gap (new_interrupt before (at n q.devices) ++ times) (at n q.devices)
+  event-follows now times before p gives q e settings calm apart =
+      let last = slice_get times 0 in
+      let count = interrupts_at before in
+      last-follows s n times before e.late q polling e.last (leaves now (λ g r. IsCalm s n last count r)
+      (calm-delivered s n last count some polling plain now) (calm-move s n last count some polling plain) p gives e.late e.moves
+      (settings, calm)) apart
+
+  follow-on : (events : List MachineEvent) → Follow s.rx_gap (interrupt_times n s events) (at n (behind s events).devices)
+  unfolding behind step interrupt_times made_at
+  follow-on [] = record { now = (refl, refl); apart = tt }
+  follow-on (packet moment m ∷ earlier) =
+      let p = behind s earlier in
+      let goes = goes-on s earlier in
+      let f = follow-on earlier in
+      let o = at n p.devices in
+      let times = interrupt_times n s earlier in
+      event-follows moment times o _ None _ (arrival-of s moment m p goes) goes.rests.settings
+      (at-arrived (λ b e. CalmAt s.rx_gap (slice_get times 0) (interrupts_at o) e) moment m n p (λ here. rw goes.rests.settings
+      (packet-calm moment (interrupts_at o) (slice_get times 0) s (made_at s.ring o) some (made times o f.now))) (λ other. f.now)) f.apart
+    where
+      made : (times : List ℕ) (o : Option QueueView) → CalmAt s.rx_gap (slice_get times 0) (interrupts_at o) o
+          → Calm s.rx_gap (slice_get times 0) (interrupts_at o) (made_at s.ring o)
+      made times None c = (refl, (c.1, refl))
+      made times (Some d) c = c
+  follow-on (next ∷ earlier) =
+      let p = behind s earlier in
+      let goes = goes-on s earlier in
+      let f = follow-on earlier in
+      event-follows p.ends (interrupt_times n s earlier) (at n p.devices) p _ _ (event-of s (upcoming p) p goes) goes.rests.settings f.now
+      f.apart
 
 pub interrupts-are-apart : InterruptsAreApart
-interrupts-are-apart s n events polling plain gap = (follow-on s n events polling plain (some s.rx_gap gap)).apart
-  where
-    some : (gap : ℕ) → 0 < gap → (gap == 0) ≡ false
-    some gap h1 = grind (arith, common_steps)
+interrupts-are-apart s n events polling plain gap = (follow-on s n polling plain (grind (arith, common_steps)) events).apart

@@ -1,13 +1,15 @@
--- Each processor of a machine has a life (a list of events), and its events are determined.
+-- Laws: each processor of a machine has a life (a list of events), its events are determined, and they end.
 use Rattle.std.proofs.{Common.{◌≡◌, ◌∙◌, ℕ, zero, suc, ◌-◌, ◌/◌, ◌%◌, ◌<◌, ◌≤◌, ◌^◌, Bool, true, false, Some, List, [], ◌∷◌, length}}
 use Rattle.std.proofs.{Common.{length-set, replicate, refl, sym, ap, arith}, lemmas.Bool.{eq-eqb, eqb-false, eqb-true}}
 use Rattle.std.{proofs.lemmas.{Grind.common_steps, Option.slice_get_within}, specs.{Prelude.{◌==◌, slice_get}}}
 use Rattle.circular_buffer.proofs.Places.{slice_get-set_other, slice_get-set_same, slice_get-some}
 use Rattle.machine_model.specs.{Machine.{PacketArrives, Finishes, Machine, opened_machine}, Processor.{Advances, ProcessorView}}
 use Rattle.machine_model.specs.Processor.{processor_after, arrives, is_by, is_due, opened_processor, step, upcoming}
+use Rattle.machine_model.proofs.{LeftFacts.{left, load, step-asked}, StepFacts.each-more}
 use Rattle.machine_model.specs.declared.{processor.Upcoming.Upcoming, settings.MachineSettings.MachineSettings}
-use Rattle.machine.{proofs.RisingFacts.{Rises, rises-of, same-ok}, specs.{Answer.TakesArrivals, Lives.{ArrivesAsOne, EachLives, Ended}}}
-use Rattle.machine.specs.Lives.{MachineEvent, InTurn, Lived, RunsAsOne, Took, behind, next, own_packets, packet, packets_in}
+use Rattle.machine.proofs.{RisingFacts.{Rises, rises-of, same-ok}, WorkFacts.{Goes, goes-happens, goes-on}}
+use Rattle.machine.specs.{Answer.TakesArrivals, Lives.{ArrivesAsOne, EachLives, Ended, EveryRunEnds, InTurn, Lived, MachineEvent}}
+use Rattle.machine.specs.Lives.{RunsAsOne, Took, behind, next, own_packets, packet, packets_in}
 use Rattle.machine.specs.{Arrivals.arrivals_of, Report.machine_text, Reports.{HasOneReport, ReportsLives, arrived_packets}}
 use Rattle.machine.specs.declared.arrival.Arrival.{Arrival}
 use Rattle.device_rows.specs.Trace.{records_of}
@@ -27,16 +29,13 @@ arrives-as-one = grind (arith, common_steps)
 by-later : (moment until : ℕ) (u : Upcoming) (p : ProcessorView) → moment ≤ until → is_by moment u p ≡ true → is_by until u p ≡ true
 by-later moment until u p h1 h2 = grind (arith, common_steps)
 
-due-later : (moment until : ℕ) (p : ProcessorView) → moment ≤ until → is_due moment p ≡ true → is_due until p ≡ true
-due-later moment until p most due = by-later moment until (upcoming p) p most due
-
 turns-later : (s : MachineSettings) (moment until : ℕ) (events : List MachineEvent) → moment ≤ until → InTurn s moment events
     → InTurn s until events
 unfolding InTurn
 turns-later s moment until [] most turns = tt
 turns-later s moment until (packet at n ∷ earlier) most turns = (omega (arith, most, turns.0), turns.1, turns.2)
 turns-later s moment until (next ∷ earlier) most turns =
-    (due-later moment until (behind s earlier) most turns.0, turns-later s moment until earlier most turns.1)
+    (by-later moment until (upcoming (behind s earlier)) _ most turns.0, turns-later s moment until earlier most turns.1)
 
 pub lived-later : (s : MachineSettings) (moment until : ℕ) (packets : List (ℕ × ℕ)) (p : ProcessorView) → moment ≤ until
     → Lived s moment packets p
@@ -93,10 +92,11 @@ lived-opened : (s : MachineSettings) (until : ℕ) → AllLived s until [] (open
 unfolding own_packets InTurn behind packets_in
 lived-opened s until = grind (arith, common_steps, opened-each)
 
-own-here : (count number moment device : ℕ) (packets : List (ℕ × ℕ)) → (device - 1) % count ≡ number
-    → own_packets count number ((moment, device) ∷ packets) ≡ (moment, (device - 1) / count) ∷ own_packets count number packets
+own-here : (count size number moment device : ℕ) (packets : List (ℕ × ℕ)) → size ≡ count → (device - 1) % size ≡ number
+    → own_packets count number ((moment, device) ∷ packets)
+    ≡ (moment, (device - 1) / size) ∷ own_packets count ((device - 1) % size) packets
 unfolding own_packets
-own-here count number moment device packets is = rw (is, eq-eqb number number refl) refl
+own-here count size number moment device packets same is = rw (same, rw same at is, eq-eqb number number refl) refl
 
 own-other : (count number moment device : ℕ) (packets : List (ℕ × ℕ)) → ((device - 1) % count == number) ≡ false
     → own_packets count number ((moment, device) ∷ packets) ≡ own_packets count number packets
@@ -120,18 +120,10 @@ machine-arrives s until moment device packets before m most l a = record {
         let here : place ≡ number = eqb-true place number same in
         let inside : place < length before = slice_get_within before place a.old a.own in
         let new : p ≡ a.new = same-some p a.new (sym is ∙ (rw (a.others, ← here) (slice_get-set_same before place a.new inside))) in
-        let old : Lived s moment (own_packets s.processors place packets) a.old = l.each place a.old a.own in
-        let ready : Lived s moment (own_packets s.processors place packets) a.arrives.0 =
-        lived-advances s moment _ a.old a.arrives.0 old a.arrives.1 in
-        let came : Lived s moment ((moment, (device - 1) / length before) ∷ own_packets s.processors place packets)
-        (arrives moment ((device - 1) / length before) a.arrives.0)
-        = lived-arrives s moment _ _ a.arrives.0 ready a.arrives.1.none in
-        let listed : own_packets s.processors number ((moment, device) ∷ packets)
-        ≡ (moment, (device - 1) / length before) ∷ own_packets s.processors place packets
-        = own-here s.processors number moment device packets (rw (← l.count) here)
-        ∙ (ap (λ (k : ℕ). (moment, (device - 1) / k) ∷ own_packets s.processors number packets) (sym l.count)
-        ∙ ap (λ (k : ℕ). (moment, (device - 1) / length before) ∷ own_packets s.processors k packets) (sym here)) in
-        rw (new, a.arrives.2, listed) (lived-later s moment until _ _ most came)
+        let ready = lived-advances s moment _ a.old a.arrives.0 (l.each place a.old a.own) a.arrives.1 in
+        let came = lived-arrives s moment ((device - 1) / length before) _ a.arrives.0 ready a.arrives.1.none in
+        rw (new, a.arrives.2, own-here s.processors (length before) number moment device packets l.count here)
+        (lived-later s moment until _ _ most came)
     by number p is false other =
         let apart : slice_get before number ≡ Some p =
         sym (slice_get-set_other before place number a.new (λ e. eqb-false place number other (sym e))) ∙ (rw (← a.others) is) in
@@ -234,3 +226,33 @@ has-one-report s bytes text other r q =
     takes-one q.arrivals (opened_machine s) r.behind q.behind (rw same at r.taken) q.taken in
     let last : r.finished ≡ q.finished = finishes-one q.behind r.finished q.finished (rw behind at r.finishes) q.finishes in
     r.told ∙ (ap (machine_text s) last ∙ sym q.told)
+
+-- ---- the events on a processor end
+
+step-left : (s : MachineSettings) (until : ℕ) (p : ProcessorView) → Goes s p → is_due until p ≡ true → left load (step p) < left load p
+step-left s until p h1 h2 = grind (arith, common_steps, step-asked)
+
+-- after so many steps, the processor has this much left
+run-ends : (s : MachineSettings) (until fuel count : ℕ) (p : ProcessorView) → Goes s (processor_after count p)
+    → ((n : ℕ) → n < count → is_due until (processor_after n p) ≡ true) → left load (processor_after count p) < fuel
+    → (q : ProcessorView) × Advances until p q
+unfolding processor_after step
+run-ends s until zero count p goes each few = absurd (omega (arith, few))
+run-ends s until (suc fuel) count p goes each few =
+    by (is_due until q) refl (λ due.
+    run-ends s until fuel (suc count) p (goes-happens s (upcoming q) q goes) (each-more until p count each due)
+    (omega (arith, few, step-left s until q goes due)))
+  where
+    q : ProcessorView
+    q = processor_after count p
+
+    by : (b : Bool) → is_due until q ≡ b → (is_due until q ≡ true → (r : ProcessorView) × Advances until p r)
+        → (r : ProcessorView) × Advances until p r
+    by false none later = (q, record { count = count; each = each; last = refl; none = none })
+    by true due later = later due
+
+pub every-run-ends : EveryRunEnds
+unfolding processor_after
+every-run-ends s until events =
+    let p = behind s events in
+    run-ends s until (suc (left load p)) zero p (goes-on s events) (λ n below. absurd (omega (arith, below))) (omega arith)

@@ -1,235 +1,224 @@
--- The moves of a processor: what one event does, piece by piece. The work in progress may end; then moves follow, and at most one
--- interrupt. A law goes through a processor's life by the cases of these data types.
-use Rattle.std.proofs.{Common.{◌≡◌, ℕ, ◌+◌, ◌-◌, arith, Bool, true, false, Option, Some, None, List, [], refl}}
-use Rattle.std.{proofs.lemmas.Grind.common_steps, specs.{Prelude.{◌==◌, if◌then◌else◌, option_map}}}
+-- The moves of a processor: what one event does, piece by piece. In each move at most one queue changes. A law goes through a
+-- processor's life by the cases of these data types.
+use Rattle.std.proofs.{Common.{◌≡◌, ℕ, ◌+◌, ◌-◌, arith, Bool, true, false, Option, Some, None, List, [], ◌∷◌, ◌++◌, refl, sym}}
+use Rattle.std.{proofs.lemmas.{Grind.common_steps, List.append-nil}, specs.{Prelude.{◌==◌, if◌then◌else◌, option_map}}}
 use Rattle.device_places.specs.Places.{at, changed}
-use Rattle.machine_model.proofs.WalkFacts.{closes-by, devices_interrupted, enqueued, is_scheduling, looks-by, polled-by}
-use Rattle.machine_model.specs.{Application.{ApplicationView, use_ended}, Device.{QueueView, expired, holding, missed_early}}
-use Rattle.machine_model.specs.{Device.{queue_polled, raised_again, without_held, without_next}, Devices.{asks_at, next_held_at}}
-use Rattle.machine_model.specs.Devices.{next_packet_at}
-use Rattle.machine_model.specs.Processor.{ProcessorView, arrives, begins, delivers, delivers_oldest, ends_by, ends_current, ends_interrupt}
-use Rattle.machine_model.specs.Processor.{closes_poll, hand_length, packet_length}
-use Rattle.machine_model.specs.Processor.{ends_poll, happens, is_batching, is_busy, is_polling, poll_looks, spent}
-use Rattle.machine_model.specs.{Kept.polled_by, Softirq.SoftirqView}
-use Rattle.machine_model.specs.declared.processor.{InHand.InHand, ProcessorCounts.ProcessorCounts}
+use Rattle.machine_model.proofs.WalkFacts.{Walk, closes-by, either, idle-is, looks-by, polled-by, stirred, stirred-by, walk-any}
+use Rattle.machine_model.specs.Device.{QueueView, expired, holding, interrupted, missed_early, queue_delivered, queue_polled, raised_again}
+use Rattle.machine_model.specs.{Device.{without_held, without_next}, Devices.{asks_at, next_held_at, next_packet_at}, Kept.polled_by}
+use Rattle.machine_model.specs.Processor.{ProcessorView, arrives, closes_poll, comes_early, delivers, delivers_oldest, disturbed, ends_by}
+use Rattle.machine_model.specs.Processor.{ends_current, ends_interrupt, ends_poll, happens, interrupts_early, is_batching, is_polling}
+use Rattle.machine_model.specs.{Processor.{notices, poll_looks, spent, takes_up}, Waits.saturated}
+use Rattle.machine_model.specs.declared.processor.ProcessorCounts.{ProcessorCounts}
 use Rattle.machine_model.specs.declared.processor.{Upcoming.{Upcoming, TheVariants.{Never, Expires}}, Work.{Work, TheVariants.Nothing}}
 use Rattle.machine_model.specs.declared.processor.Work.TheVariants.{Interrupt, Poll, Packet, Arm, Use}
-use Rattle.machine_model.specs.declared.{settings.MachineSettings.MachineSettings, tasks.RunnableTask.RunnableTask}
+use Rattle.machine_model.specs.declared.settings.MachineSettings.{MachineSettings}
 use Rattle.machine_model.specs.declared.processor.Upcoming.TheVariants as upcomings
-use Rattle.machine.proofs.WorkFacts.{Goes, Life, devices_arrived, expired_at, life-arrives, life-happens, life-takes, same-polling}
-use Rattle.machine.{proofs.WorkFacts.work-ended, specs.Fates.{delivery_by, delivery_of, hand_of}}
+use Rattle.machine.proofs.WorkFacts.{Goes, arrived, goes-arrived, goes-moved, goes-stirred, goes-unasked, same-polling, work-ended}
+use Rattle.machine.specs.Fates.{delivery_by, delivery_of, finds_room, hand_of, packet_for}
 
--- a change of a queue that hands over none of its packets
-pub data Change (p : ProcessorView) (n : ℕ) : (QueueView → QueueView) → Type 0 where
-  expires : Change p n expired
-  raises : is_polling p.settings ≡ false → Change p n raised_again
-  finds_none : is_polling p.settings ≡ true → is_batching p.settings ≡ false → next_packet_at p.settings.backlog (at n p.devices) ≡ None
-      → Change p n (without_next p.settings.backlog)
-  holds : is_polling p.settings ≡ true → is_batching p.settings ≡ true → Change p n holding
-  polled : (given : ℕ) → Change p n (queue_polled p.clock given p.settings)
-  misses : (p.settings.early == 0) ≡ false → Change p n missed_early
+-- A change of a queue, and the packet that leaves it for a poll or an interrupt. With `true` it is the last change of an event.
+pub data Change (s : MachineSettings) (now : ℕ) (o : Option QueueView) : Bool → (QueueView → QueueView) → Option ℕ → Type 0 where
+  expires : Change s now o false expired None
+  raises : is_polling s ≡ false → Change s now o false raised_again None
+  takes : (out : Option ℕ) → is_polling s ≡ true → is_batching s ≡ false → next_packet_at s.backlog o ≡ out
+      → Change s now o false (without_next s.backlog) out
+  -- an interrupt without polling takes the oldest packet
+  takes_oldest : (out : Option ℕ) → is_polling s ≡ false → next_packet_at false o ≡ out → Change s now o false (without_next false) out
+  holds : is_polling s ≡ true → is_batching s ≡ true → Change s now o false holding None
+  hands : (out : Option ℕ) → next_held_at o ≡ out → Change s now o false without_held out
+  polled : (given : ℕ) → Change s now o false (queue_polled now given s) None
+  misses : (s.early == 0) ≡ false → Change s now o false missed_early None
+  interrupts : (until : ℕ) → asks_at o ≡ true → Change s now o true (interrupted until (is_polling s)) None
 
-pub data Move (p : ProcessorView) : ProcessorView → Type 0 where
+abbrev pub out_for : Option ℕ → Bool → List ℕ
+out_for None here = []
+out_for (Some came) here = if here then came ∷ [] else []
+
+pub data Move (p : ProcessorView) (last : Bool) : ProcessorView → Type 0 where
   -- no queue changes, nor the packet that a poll processes
   passes : (q : ProcessorView) → q.settings ≡ p.settings → q.devices ≡ p.devices → ((n : ℕ) → hand_of n q.work ≡ hand_of n p.work)
-      → Move p q
-  changes : (n : ℕ) (f : QueueView → QueueView) → Change p n f → Move p (record p { devices = changed f n p.devices })
-  -- a poll takes its next packet, or one that GRO held
-  takes : (n came given : ℕ) → p.work ≡ Nothing → is_polling p.settings ≡ true → is_batching p.settings ≡ false
-      → next_packet_at p.settings.backlog (at n p.devices) ≡ Some came
-      → Move p (begins (Packet (record { device = n; came = came; given = given })) (packet_length p)
-      (record p { devices = changed (without_next p.settings.backlog) n p.devices }))
-  hands : (n came given : ℕ) → p.work ≡ Nothing → next_held_at (at n p.devices) ≡ Some came
-      → Move p (begins (Packet (record { device = n; came = came; given = given })) (hand_length p)
-      (record p { devices = changed without_held n p.devices }))
+      → Move p last q
+  changes : (m : ℕ) (f : QueueView → QueueView) (out : Option ℕ) (q : ProcessorView)
+      → Change p.settings p.clock (at m p.devices) last f out → q.settings ≡ p.settings → q.devices ≡ changed f m p.devices
+      → ((n : ℕ) → hand_of n q.work ≡ hand_of n p.work ++ out_for out (m == n)) → Move p last q
 
-pub data Moves (p : ProcessorView) : ProcessorView → Type 0 where
-  stays : Moves p p
-  more : (q r : ProcessorView) → Moves p q → Move q r → Moves p r
+-- the packet that was processed is delivered
+pub record Delivered (now m came : ℕ) (p q : ProcessorView) : Type 0 where
+  pub settings : q.settings ≡ p.settings
+  pub devices : q.devices ≡ changed (queue_delivered now came) m p.devices
+  pub hand : (n : ℕ) → hand_of n p.work ≡ packet_for n (Some (m, came))
+  pub free : (n : ℕ) → hand_of n q.work ≡ []
 
-pub data Last (p : ProcessorView) : ProcessorView → Type 0 where
-  no_interrupt : Last p p
-  interrupt : (n time : ℕ) (softirq : SoftirqView) (tasks : List RunnableTask) (counts : ProcessorCounts) → p.work ≡ Nothing
-      → asks_at (at n p.devices) ≡ true
-      → Last p (begins (Interrupt n) time
-      (record p { devices = devices_interrupted n time p; softirq = softirq; tasks = tasks; counts = counts }))
+-- moves in which this packet is delivered, or none
+pub data Moves (now : ℕ) (p : ProcessorView) : Option (ℕ × ℕ) → ProcessorView → Type 0 where
+  stays : Moves now p None p
+  more : (gives : Option (ℕ × ℕ)) (q r : ProcessorView) → Moves now p gives q → Move q false r → Moves now p gives r
+  delivery : (m came : ℕ) (q r : ProcessorView) → Moves now p None q → Delivered now m came q r → Moves now p (Some (m, came)) r
 
--- the work in progress ends, and the packet that it delivers
-pub data Ending (p : ProcessorView) : Option (ℕ × ℕ) → ProcessorView → Type 0 where
-  no_end : Ending p None p
-  empty_end : (counts : ProcessorCounts) (application : ApplicationView) → ((n : ℕ) → hand_of n p.work ≡ [])
-      → Ending p None (record p { clock = p.ends; work = Nothing; counts = counts; application = application })
-  packet_end : (hand : InHand) (counts : ProcessorCounts) → p.work ≡ Packet hand
-      → Ending p (Some (hand.device, hand.came))
-      (delivers hand.device hand.came (record p { clock = p.ends; work = Nothing; counts = counts }))
-  -- without polling, an interrupt delivers the oldest packet
-  interrupt_end : (n came : ℕ) (counts : ProcessorCounts) → p.work ≡ Interrupt n → is_polling p.settings ≡ false
-      → next_packet_at false (at n p.devices) ≡ Some came
-      → Ending p (Some (n, came)) (delivers n came
-      (record p { clock = p.ends; work = Nothing; counts = counts; devices = changed (without_next false) n p.devices }))
-
--- what follows the end of work, or an arrival
-pub record Follows (p q : ProcessorView) : Type 0 where
+pub record Event (now : ℕ) (p : ProcessorView) (gives : Option (ℕ × ℕ)) (q : ProcessorView) : Type 0 where
   pub late : ProcessorView
-  pub moves : Moves p late
-  pub last : Last late q
+  pub moves : Moves now p gives late
+  pub last : Move late true q
 
-pub record Event (p : ProcessorView) (gives : Option (ℕ × ℕ)) (q : ProcessorView) : Type 0 where
-  pub middle : ProcessorView
-  pub ends : Ending p gives middle
-  pub follows : Follows middle q
+module _ (now : ℕ) (K : Option (ℕ × ℕ) → ProcessorView → Type 0)
+    (hand : (m came : ℕ) (p q : ProcessorView) → Delivered now m came p q → K None p → K (Some (m, came)) q)
+  where
+    -- a property that each move leaves
+    pub leaves : ((gives : Option (ℕ × ℕ)) (p q : ProcessorView) → Move p false q → K gives p → K gives q)
+        → (p : ProcessorView) (gives : Option (ℕ × ℕ)) (q : ProcessorView) → Moves now p gives q → K None p → K gives q
+    leaves each p gives q stays held = held
+    leaves each p gives q (more g r last moves move) held = each gives r q move (leaves each p gives r moves held)
+    leaves each p gives q (delivery m came r last moves h) held = hand m came r q h (leaves each p None r moves held)
 
--- a property that each move leaves
-pub leaves : (K : ProcessorView → Type 0) → ((p q : ProcessorView) → Move p q → K p → K q) → (p q : ProcessorView) → Moves p q → K p → K q
-leaves K each p q stays held = held
-leaves K each p q (more r last moves move) held = each r last move (leaves K each p r moves held)
+    -- a property that each move and an interrupt leave
+    pub leaves-all : ((last : Bool) (gives : Option (ℕ × ℕ)) (p q : ProcessorView) → Move p last q → K gives p → K gives q)
+        → (p : ProcessorView) (gives : Option (ℕ × ℕ)) (q : ProcessorView) → Event now p gives q → K None p → K gives q
+    leaves-all each p gives q e held = each true gives e.late q e.last (leaves (each false) p gives e.late e.moves held)
 
--- a property that each move and an interrupt leave
-pub leaves-all : (K : ProcessorView → Type 0) → ((p q : ProcessorView) → Move p q → K p → K q)
-    → ((p q : ProcessorView) → Last p q → K p → K q) → (p q : ProcessorView) → Follows p q → K p → K q
-leaves-all K each end p q f held = end f.late q f.last (leaves K each p f.late f.moves held)
+-- ---- other work begins
+
+passes-walk : (p : ProcessorView)
+    → Walk (λ q. (q.settings ≡ p.settings) × (q.devices ≡ p.devices) × (p.work ≡ Nothing) × (q.work ≡ Nothing)) (Move p true)
+passes-walk p = record {
+  interrupt = λ n time counts q free k asks.
+      let until = saturated (q.clock + time) in
+      changes n (interrupted until (is_polling p.settings)) None _ (interrupts until (rw k.1 at asks)) k.0 (rw (k.0, k.1) refl)
+      (λ i. rw k.2 refl);
+  next = λ q free k. k;
+  asks = λ n q k asked. passes _ k.0 k.1 (λ i. rw k.2 refl);
+  over = λ counts q free k. k;
+  start = λ q k none polling some. k;
+  resume = λ rest q free k is quiet. passes _ k.0 k.1 (λ i. rw k.2 refl);
+  settle = λ tasks q k is. k;
+  thread = λ n tasks q free k threaded is. passes _ k.0 k.1 (λ i. rw k.2 refl);
+  uses = λ came items q free k none is quiet first. passes _ k.0 k.1 (λ i. rw k.2 refl);
+  stays = λ q free k still settled. passes _ k.0 k.1 (λ i. rw (k.2, k.3) refl);
+}
+
+takes-move : (s : MachineSettings) (p : ProcessorView) → Goes s p → Move p true (takes_up p)
+takes-move s p goes =
+    walk-any (passes-walk p) p (goes-unasked s p goes) (λ busy. passes p refl refl (λ i. refl))
+    (λ idle. (refl, refl, idle-is p.work idle, idle-is p.work idle))
+
+stirred-move : (moment : ℕ) (p : ProcessorView) → Move p false (stirred moment p)
+stirred-move moment p =
+    stirred-by (Move p false) moment p (λ busy. passes p refl refl (λ i. refl))
+    (λ came counts is. passes _ refl refl (λ i. rw is refl)) (λ n counts idle asks. passes _ refl refl (λ i. refl))
+    (λ idle. passes _ refl refl (λ i. refl))
+
+-- time passes after these moves
+disturbs : (s : MachineSettings) (moment now : ℕ) (p q : ProcessorView) → Goes s q → Moves now p None q
+    → Event now p None (disturbed moment q)
+unfolding disturbed
+disturbs s moment now p q goes m = record {
+  late = stirred moment q;
+  moves = more None q _ m (stirred-move moment q);
+  last = takes-move s (stirred moment q) (goes-stirred s moment q goes);
+}
+
+-- ---- work ends
+
+module _ (now : ℕ) (p : ProcessorView) (gives : Option (ℕ × ℕ)) where
+  moves-polled : (n given : ℕ) (q : ProcessorView) → q.work ≡ Nothing → Moves now p gives q → Moves now p gives (ends_poll n given q)
+  moves-polled n given q nothing m =
+      let f = queue_polled q.clock given q.settings in
+      polled-by (Moves now p gives) n given q
+      (λ counts t. more gives q _ m (changes n f None _ (polled given) refl refl (λ i. rw nothing refl)))
+      (λ counts t. more gives q _ m (changes n f None _ (polled given) refl refl (λ i. rw nothing refl)))
+
+  moves-closes : (n given : ℕ) (q : ProcessorView) → q.work ≡ Nothing → Moves now p gives q → Moves now p gives (closes_poll n given q)
+  moves-closes n given q nothing m =
+      closes-by (Moves now p gives) n given q (λ less. more gives q _ m (passes _ refl refl (λ i. rw nothing refl)))
+      (moves-polled n given q nothing m)
+
+  moves-looks : (n given : ℕ) (q : ProcessorView) → q.work ≡ Nothing → is_polling q.settings ≡ true → Moves now p gives q
+      → Moves now p gives (poll_looks n given q)
+  moves-looks n given q nothing polling m =
+      let next = without_next q.settings.backlog in
+      looks-by (Moves now p gives) n given q (record {
+        some = λ plain came is less.
+            more gives q _ m (changes n next (Some came) _ (takes (Some came) polling plain is) refl refl (λ i. rw nothing refl));
+        none = λ plain none.
+            moves-closes n given _ nothing
+            (more gives q _ m (changes n next None _ (takes None polling plain none) refl refl (λ i. rw nothing refl)));
+        full = λ plain full. moves-closes n given q nothing m;
+        takes = λ batch less pulls.
+            more gives q _ m (changes n holding None _ (holds polling batch) refl refl (λ i. rw nothing refl));
+        hands = λ batch stops came is.
+            more gives q _ m (changes n without_held (Some came) _ (hands (Some came) is) refl refl (λ i. rw nothing refl));
+        over = λ batch stops none. moves-closes n given q nothing m;
+      })
+
+module _ (p : ProcessorView) (counts : ProcessorCounts) where
+  abbrev ended : ProcessorView
+  ended = record p { clock = p.ends; work = Nothing; counts = counts }
+
+  ends-free : ((n : ℕ) → hand_of n p.work ≡ []) → Moves p.ends p None ended
+  ends-free none = more None p ended stays (passes ended refl refl (λ i. sym (none i)))
+
+  alone : (m : ℕ) → p.work ≡ Interrupt m → (b : Bool) (o : Option ℕ) → is_polling p.settings ≡ b
+      → next_packet_at false (at m p.devices) ≡ o
+      → let r = delivers_oldest m o ended in
+      Moves p.ends p (if b then None else option_map (λ (came : ℕ). (m, came)) o)
+      (if b then ended else record r { devices = changed raised_again m r.devices })
+  unfolding delivers
+  alone m is true o polls found = ends-free (λ i. rw is refl)
+  alone m is false None lone found =
+      more None ended _ (ends-free (λ i. rw is refl)) (changes m raised_again None _ (raises lone) refl refl (λ i. refl))
+  alone m is false (Some came) lone found =
+      let hand = Packet (record { device = m; came = came; given = 0 }) in
+      let r : ProcessorView = record p { work = hand; devices = changed (without_next false) m p.devices } in
+      let took : Moves p.ends p None r =
+      more None p r stays
+      (changes m (without_next false) (Some came) r (takes_oldest (Some came) lone found) refl refl (λ i. rw is refl)) in
+      more (Some (m, came)) (delivers_oldest m (Some came) ended) _ (delivery m came r (delivers_oldest m (Some came) ended) took
+      (record { settings = refl; devices = refl; hand = λ i. refl; free = λ i. refl }))
+      (changes m raised_again None _ (raises lone) refl refl (λ i. refl))
+
+  ended-by : (w : Work) → p.work ≡ w → ((n : ℕ) → polled_by w ≡ Some n → is_polling p.settings ≡ true)
+      → Moves p.ends p (delivery_of w p) (ends_by w ended)
+  unfolding ends_interrupt delivers
+  ended-by Nothing is polling = ends-free (λ i. rw is refl)
+  ended-by (Interrupt m) is polling = alone m is (is_polling p.settings) (next_packet_at false (at m p.devices)) refl refl
+  ended-by (Poll look) is polling =
+      moves-looks p.ends p None look.device look.given ended refl (polling look.device refl) (ends-free (λ i. rw is refl))
+  ended-by (Packet hand) is polling =
+      moves-looks p.ends p (Some (hand.device, hand.came)) hand.device (hand.given + 1) (delivers hand.device hand.came ended) refl
+      (polling hand.device refl) (delivery hand.device hand.came p _ stays
+      (record { settings = refl; devices = refl; hand = λ i. rw is refl; free = λ i. refl }))
+  ended-by (Arm look) is polling = moves-polled p.ends p None look.device look.given ended refl (ends-free (λ i. rw is refl))
+  ended-by (Use came) is polling = more None p _ stays (passes _ refl refl (λ i. rw is refl))
 
 -- ---- each event consists of moves
 
-and-then : {p q r : ProcessorView} → Moves p q → Move q r → Moves p r
-and-then {q = q} {r = r} moves move = more q r moves move
+kept-hand : (p : ProcessorView) (n : ℕ) → hand_of n p.work ≡ hand_of n p.work ++ []
+kept-hand p n = sym (append-nil (hand_of n p.work))
 
-moves-life : (s : MachineSettings) (p : ProcessorView) → Life s (λ q. Moves p q × (q.work ≡ Nothing)) (Moves p) (Follows p)
-moves-life s p = record {
-  walk = record {
-    interrupt = λ n time counts q free m asks.
-        let r = enqueued (is_scheduling n q) n q in
-        record { late = q; moves = m.0; last = interrupt n time r.softirq r.tasks counts m.1 asks };
-    next = λ q free m. (and-then m.0 (passes _ refl refl (λ k. refl)), m.1);
-    asks = λ n q m asked. done (and-then m.0 (passes _ refl refl (λ k. rw m.1 refl)));
-    over = λ counts q free m. (and-then m.0 (passes _ refl refl (λ k. refl)), m.1);
-    start = λ q m none polling some. (and-then m.0 (passes _ refl refl (λ k. refl)), m.1);
-    resume = λ rest q free m is quiet. done (and-then m.0 (passes _ refl refl (λ k. rw m.1 refl)));
-    settle = λ tasks q m is. (and-then m.0 (passes _ refl refl (λ k. refl)), m.1);
-    thread = λ n tasks q free m threaded is. done (and-then m.0 (passes _ refl refl (λ k. rw m.1 refl)));
-    uses = λ came items q free m none is quiet first. done (and-then m.0 (passes _ refl refl (λ k. rw m.1 refl)));
-    stays = λ q free m still settled. done m.0;
-  };
-  idle = λ q goes nothing m. (m, nothing);
-  busy = λ q busy m. done m;
-  aside = λ moment came counts q is m. and-then m (passes _ refl refl (λ k. rw is refl));
-  moved = λ e clock counts q m. expire e clock counts q m;
-  early = λ n clock ends counts q busy some m.
-      done (and-then (and-then m (changes n missed_early (misses some))) (passes _ refl refl (λ k. refl)));
-}
-  where
-    done : {q : ProcessorView} → Moves p q → Follows p q
-    done {q} m = record { late = q; moves = m; last = no_interrupt }
-
-    expire : (e : Option ℕ) (clock : ℕ) (counts : ProcessorCounts) (q : ProcessorView) → Moves p q
-        → Moves p (record q { clock = clock; counts = counts; devices = expired_at e q.devices })
-    expire None clock counts q m = and-then m (passes _ refl refl (λ k. refl))
-    expire (Some n) clock counts q m = and-then (and-then m (changes n expired expires)) (passes _ refl refl (λ k. refl))
-
-moves-polled : (p : ProcessorView) (n given : ℕ) (q : ProcessorView) → Moves p q → Moves p (ends_poll n given q)
-moves-polled p n given q m =
-    let ended = and-then m (changes n (queue_polled q.clock given q.settings) (polled given)) in
-    polled-by (Moves p) n given q (λ counts t. and-then ended (passes _ refl refl (λ k. refl)))
-    (λ counts t. and-then ended (passes _ refl refl (λ k. refl)))
-
-moves-closes : (p : ProcessorView) (n given : ℕ) (q : ProcessorView) → q.work ≡ Nothing → Moves p q → Moves p (closes_poll n given q)
-moves-closes p n given q nothing m =
-    closes-by (Moves p) n given q (λ less. and-then m (passes _ refl refl (λ k. rw nothing refl))) (moves-polled p n given q m)
-
-moves-looks : (p : ProcessorView) (n given : ℕ) (q : ProcessorView) → q.work ≡ Nothing → is_polling q.settings ≡ true → Moves p q
-    → Moves p (poll_looks n given q)
-moves-looks p n given q nothing polling m = looks-by (Moves p) n given q (record {
-  some = λ plain came is less. and-then m (takes n came given nothing polling plain is);
-  none = λ plain none. moves-closes p n given _ nothing
-      (and-then m (changes n (without_next q.settings.backlog) (finds_none polling plain none)));
-  full = λ plain full. moves-closes p n given q nothing m;
-  takes = λ batch less pulls.
-      and-then (and-then m (changes n holding (holds polling batch))) (passes _ refl refl (λ k. rw nothing refl));
-  hands = λ batch stops came is. and-then m (hands n came (given - 1) nothing is);
-  over = λ batch stops none. moves-closes p n given q nothing m;
-})
-
--- the work in progress has ended
-pub record Ended (p : ProcessorView) (gives : Option (ℕ × ℕ)) (q : ProcessorView) : Type 0 where
-  pub middle : ProcessorView
-  pub ends : Ending p gives middle
-  pub moves : Moves middle q
-
-ended-by : (w : Work) (p : ProcessorView) (counts : ProcessorCounts) → p.work ≡ w
-    → ((n : ℕ) → polled_by w ≡ Some n → is_polling p.settings ≡ true)
-    → Ended p (delivery_of w p) (ends_by w (record p { clock = p.ends; work = Nothing; counts = counts }))
-unfolding ends_interrupt delivers
-ended-by Nothing p counts is polling =
-    record { middle = _; ends = empty_end counts p.application (λ n. rw is refl); moves = stays }
-ended-by (Interrupt m) p counts is polling = by (is_polling p.settings) (next_packet_at false (at m p.devices)) refl refl
-  where
-    q : ProcessorView
-    q = record p { clock = p.ends; work = Nothing; counts = counts }
-
-    empty : Ending p None q
-    empty = empty_end counts p.application (λ n. rw is refl)
-
-    by : (b : Bool) (o : Option ℕ) → is_polling p.settings ≡ b → next_packet_at false (at m p.devices) ≡ o
-        → let r = delivers_oldest m o q in
-        Ended p (if b then None else option_map (λ (came : ℕ). (m, came)) o)
-        (if b then q else record r { devices = changed raised_again m r.devices })
-    by true o polls found = record { middle = q; ends = empty; moves = stays }
-    by false None lone found = record { middle = q; ends = empty; moves = and-then stays (changes m raised_again (raises lone)) }
-    by false (Some came) lone found = record {
-      middle = _;
-      ends = interrupt_end m came counts is lone found;
-      moves = and-then stays (changes m raised_again (raises lone));
-    }
-ended-by (Poll look) p counts is polling = record {
-  middle = _;
-  ends = empty_end counts p.application (λ n. rw is refl);
-  moves = moves-looks _ look.device look.given _ refl (polling look.device refl) stays;
-}
-ended-by (Packet hand) p counts is polling = record {
-  middle = _;
-  ends = packet_end hand counts is;
-  moves = moves-looks _ hand.device (hand.given + 1) _ refl (polling hand.device refl) stays;
-}
-ended-by (Arm look) p counts is polling = record {
-  middle = _;
-  ends = empty_end counts p.application (λ n. rw is refl);
-  moves = moves-polled _ look.device look.given _ stays;
-}
-ended-by (Use came) p counts is polling =
-    record { middle = _; ends = empty_end counts (use_ended p.ends came p.application) (λ n. rw is refl); moves = stays }
-
-polls-on : (s : MachineSettings) (p : ProcessorView) (n : ℕ) → Goes s p → polled_by p.work ≡ Some n → is_polling p.settings ≡ true
-polls-on s p n goes polls = grind (arith, common_steps, same-polling)
-
-ended : (s : MachineSettings) (p : ProcessorView) → Goes s p → Ended p (delivery_of p.work p) (ends_current p)
+pub event-of : (s : MachineSettings) (u : Upcoming) (p : ProcessorView) → Goes s p → Event p.ends p (delivery_by u p) (happens u p)
 unfolding ends_current
-ended s p goes = ended-by p.work p (spent p.work (p.ends - p.clock) p.counts) refl (λ n polls. polls-on s p n goes polls)
-
-pub event-of : (s : MachineSettings) (u : Upcoming) (p : ProcessorView) → Goes s p
-    → Event p (delivery_by u p) (happens u p)
-event-of s Never p goes =
-    record { middle = p; ends = no_end; follows = record { late = p; moves = stays; last = no_interrupt } }
-event-of s upcomings.Ends p goes =
-    let e = ended s p goes in
-    record {
-      middle = e.middle;
-      ends = e.ends;
-      follows = life-takes (moves-life s e.middle) (ends_current p) (work-ended s p goes) e.moves;
-    }
+event-of s Never p goes = record { late = p; moves = stays; last = passes p refl refl (λ i. refl) }
+event-of s upcomings.Ends p goes = record {
+  late = ends_current p;
+  moves = ended-by p (spent p.work (p.ends - p.clock) p.counts) p.work refl (λ n polls. grind (arith, common_steps, same-polling));
+  last = takes-move s (ends_current p) (work-ended s p goes);
+}
 event-of s (Expires timer) p goes =
-    let here : Follows p p = record { late = p; moves = stays; last = no_interrupt } in
-    record {
-      middle = p;
-      ends = no_end;
-      follows = life-happens (moves-life s p) (Expires timer) p goes here stays (λ is. cc is);
-    }
-
--- the processor with the packet that arrived, before it takes notice
-abbrev pub arrived : ℕ → ℕ → ProcessorView → ProcessorView
-arrived moment n p = record p { clock = if is_busy p.work then p.clock else moment; devices = devices_arrived moment n p }
+    let q : ProcessorView = record p { devices = changed expired timer.device p.devices } in
+    disturbs s timer.at p.ends p q (goes-moved s p.clock p.ends p.counts q.devices p goes)
+    (more None p q stays (changes timer.device expired None q expires refl refl (kept-hand p)))
 
 pub arrival-of : (s : MachineSettings) (moment n : ℕ) (p : ProcessorView) → Goes s p
-    → Follows (arrived moment n p) (arrives moment n p)
+    → Event moment (arrived moment n p) None (arrives moment n p)
+unfolding arrives interrupts_early
 arrival-of s moment n p goes =
-    let q = arrived moment n p in
-    life-arrives (moves-life s q) moment n p goes stays (λ full. record { late = q; moves = stays; last = no_interrupt })
+    either (Event moment q None) (finds_room n p) (notices moment n q) q (λ room.
+    either (Event moment q None) (comes_early n q) (interrupts_early n q) (disturbed moment q)
+    (λ early. ends (more None q _ stays (changes n missed_early None _ (misses (grind (arith, common_steps))) refl refl (kept-hand q))))
+    (λ other. disturbs s moment moment q q (goes-arrived s moment n p goes) stays)) (λ full. ends stays)
+  where
+    q : ProcessorView
+    q = arrived moment n p
+
+    ends : {r : ProcessorView} → Moves moment q None r → Event moment q None r
+    ends {r} m = record { late = r; moves = m; last = passes r refl refl (λ i. refl) }

@@ -1,26 +1,23 @@
--- A run's work is always less than budget plus weight; which queues a run or a thread polls; and how a property that each case
--- preserves goes through the events of a processor.
-use Rattle.std.proofs.{Common.{◌≡◌, ◌∙◌, ℕ, ◌+◌, ◌-◌, ◌<◌, ◌≤◌, Bool, true, false, Option, Some, None, List, [], ◌∷◌, ◌++◌, refl}}
-use Rattle.std.proofs.{Common.{sym, ap, arith, zero, suc}, lemmas.{Bool.{ltb-true}, Grind.common_steps}}
-use Rattle.std.specs.{List.AllByRecursion, Prelude.{◌==◌, ◌&&◌, if◌then◌else◌, is_some, not, option_map}}
+-- Law: a run's work is less than budget plus weight. For its proof, which queues a run or a thread polls.
+use Rattle.std.proofs.Common.{◌≡◌, ℕ, ◌+◌, ◌-◌, ◌<◌, ◌≤◌, Bool, true, false, Option, Some, None, List, [], ◌∷◌, ◌++◌, refl, ap, arith}
+use Rattle.std.{proofs.lemmas.{Bool.{ltb-true}, Grind.common_steps}, specs.{List.AllByRecursion, Prelude.{◌&&◌, if◌then◌else◌}}}
+use Rattle.std.specs.Prelude.{is_some, not, option_map}
 use Rattle.poll_runs.specs.declared.bench.{Once.Once}
-use Rattle.machine_model.proofs.{LeftFacts.{left, load, step-asked}, ListedFacts.pushed-run, WalkFacts.{Walk, either, idle-is}}
-use Rattle.machine_model.proofs.WalkFacts.{closes-by, looks-by, polled-by, stirred, stirred-by, walk-any, waking}
-use Rattle.machine_model.specs.{Device.{after_packet, expired, holding, missed_early, raised_again}}
-use Rattle.machine_model.specs.{Device.{without_held, without_next}, Devices.{QueueViews, has_room_at, next_packet_at}}
-use Rattle.machine_model.specs.{Devices.{with_device}, Kept.{work_given, polled_by}, Processor.{ProcessorView, arrives}}
-use Rattle.machine_model.specs.Processor.{begins, comes_early, delivers, delivers_oldest, disturbed, ends_by, ends_current, ends_interrupt}
-use Rattle.machine_model.specs.Processor.{closes_poll, hand_length, packet_length}
-use Rattle.machine_model.specs.Processor.{ends_poll, happens, interrupts_early, is_busy, is_completing, is_polling, notices, poll_looks}
-use Rattle.machine_model.specs.Processor.{spent, step, takes_up, upcoming, Advances}
-use Rattle.machine_model.specs.{Processor.{processor_after, is_due}, Softirq.{RunView, SoftirqView, asked_in, polled_run, pushed}}
-use Rattle.machine_model.specs.{Softirq.{run_ended, run_next, softirq_polled}, Tasks.{is_application, runnable, with_application}}
+use Rattle.machine_model.proofs.{KeptFacts.run-ended, ListedFacts.pushed-run, WalkFacts.{Walk, closes-by, either, idle-is, looks-by}}
+use Rattle.machine_model.proofs.WalkFacts.{polled-by, stirred, stirred-by, walk-any, waking}
+use Rattle.machine_model.specs.Device.{after_packet, expired, holding, raised_again, without_held, without_next}
+use Rattle.machine_model.specs.{Devices.{QueueViews, next_packet_at, with_device}, Kept.{work_given, polled_by}}
+use Rattle.machine_model.specs.Processor.{ProcessorView, arrives, begins, closes_poll, comes_early, delivers, delivers_oldest, disturbed}
+use Rattle.machine_model.specs.Processor.{ends_by, ends_current, ends_interrupt, ends_poll, hand_length, happens, interrupts_early, is_busy}
+use Rattle.machine_model.specs.Processor.{is_polling, notices, packet_length, poll_looks, spent, step, takes_up, upcoming}
+use Rattle.machine_model.specs.Softirq.{RunView, SoftirqView, asked_in, polled_run, pushed, run_ended, run_next, softirq_polled}
+use Rattle.machine_model.specs.Tasks.{is_application, runnable, with_application}
 use Rattle.machine_model.specs.{Waits.saturated, declared.processor.{ProcessorCounts.ProcessorCounts, Upcoming.Upcoming}}
 use Rattle.machine_model.specs.declared.processor.{Upcoming.TheVariants.{Never, Ends, Expires}, Work.{Work, TheVariants.Nothing}}
 use Rattle.machine_model.specs.declared.processor.Work.TheVariants.{Interrupt, Poll, Packet, Arm, Use}
 use Rattle.machine_model.specs.declared.{settings.MachineSettings.MachineSettings, tasks.RunnableTask.{RunnableTask}}
 use Rattle.device_places.specs.Places.{at, changed}
-use Rattle.machine.specs.Lives.{EveryRunEnds, MachineEvent, WorksWithin, behind, next, packet}
+use Rattle.machine.specs.{Fates.finds_room, Lives.{MachineEvent, WorksWithin, behind, next, packet}}
 
 -- the invariant of a run with these settings
 pub record Runs (s : MachineSettings) (r : RunView) : Type 0 where
@@ -71,10 +68,6 @@ ended-none : (list : List ℕ) (run : Option RunView) (began : ℕ) → (list �
     → (run_ended (record { list = list; run = run; began = began })).list ≡ []
 unfolding run_ended
 ended-none list run began h1 = grind (arith, common_steps)
-
-ended-run : (q : SoftirqView) → (run_ended q).run ≡ None
-unfolding run_ended
-ended-run q = refl
 
 runs-told : (s : MachineSettings) (run : Option RunView) (once : Once) (n : ℕ) → asked_in run ≡ Some n → once.work ≤ s.weight → RunsIn s run
     → RunsIn s (option_map (polled_run once) run)
@@ -131,7 +124,7 @@ work-walk s = grind (
   next-runs,
   next-none,
   ended-none,
-  ended-run,
+  run-ended,
   pushed-none,
   thread-none,
   all-runnable,
@@ -241,167 +234,63 @@ work-ended s p g =
     let q : ProcessorView = record p { clock = p.ends; work = Nothing; counts = spent p.work (p.ends - p.clock) p.counts } in
     work-ends s p.work q (record { settings = h.settings; run = h.run; soft = h.soft; threads = h.threads }) refl g.asks g.polled g.given
 
+-- ---- after each event
+
 pub goes-unasked : (s : MachineSettings) (p : ProcessorView) → Goes s p → is_busy p.work ≡ false → asked_in p.softirq.run ≡ None
 goes-unasked s p g idle = asks-none s p.softirq (rw (idle-is p.work idle) at g.asks)
 
--- ---- a property of a processor goes through its events
-
--- the queues after a timer expired, if one did
-abbrev pub expired_at : Option ℕ → QueueViews → QueueViews
-expired_at None ds = ds
-expired_at (Some n) ds = changed expired n ds
-
--- the queues after a packet arrived
-abbrev pub devices_arrived : ℕ → ℕ → ProcessorView → QueueViews
-devices_arrived moment n p = changed (after_packet moment p.settings) n (with_device p.settings.ring n p.devices)
-
--- What has to be shown: P holds before work begins and R after that, if Q holds.
-pub record Life (s : MachineSettings) (P Q R : ProcessorView → Type 0) : Type 0 where
-  pub walk : Walk P R
-  pub idle : (p : ProcessorView) → Goes s p → p.work ≡ Nothing → Q p → P p
-  pub busy : (p : ProcessorView) → is_busy p.work ≡ true → Q p → R p
-  pub aside : (moment came : ℕ) (counts : ProcessorCounts) (p : ProcessorView) → p.work ≡ Use came → Q p
-      → Q (record p { work = Nothing; clock = moment; rest = Some (record { came = came; left = p.ends - moment }); counts = counts })
-  pub moved : (e : Option ℕ) (clock : ℕ) (counts : ProcessorCounts) (p : ProcessorView) → Q p
-      → Q (record p { clock = clock; counts = counts; devices = expired_at e p.devices })
-  pub early : (n clock ends : ℕ) (counts : ProcessorCounts) (p : ProcessorView) → is_busy p.work ≡ true → (p.settings.early == 0) ≡ false
-      → Q p
-      → R (record p { clock = clock; ends = ends; counts = counts; devices = changed missed_early n p.devices })
-
-pub life-takes : {s : MachineSettings} {P Q R : ProcessorView → Type 0} → Life s P Q R → (p : ProcessorView) → Goes s p → Q p
-    → R (takes_up p)
-life-takes h1 p h2 h3 = grind (arith, common_steps, walk-any, idle-is)
-
-pub life-stirred : {s : MachineSettings} {P Q R : ProcessorView → Type 0} → Life s P Q R → (moment : ℕ) (p : ProcessorView) → Q p
-    → Q (stirred moment p)
-life-stirred {Q = Q} l moment p h =
-    stirred-by Q moment p (λ busy. h) (λ came counts is. l.aside moment came counts p is h)
-    (λ n counts idle asks. l.moved None (saturated (moment + waking n p)) counts p h)
-    (λ idle. l.moved None moment p.counts p h)
+pub goes-takes : (s : MachineSettings) (p : ProcessorView) → Goes s p → Goes s (takes_up p)
+goes-takes s p g = walk-any (work-walk s) p (goes-unasked s p g) (λ busy. g) (λ idle. g.rests)
 
 -- time passes, or queues change
-goes-moved : (s : MachineSettings) (clock : ℕ) (counts : ProcessorCounts) (devices : QueueViews) (p : ProcessorView) → Goes s p
-    → Goes s (record p { clock = clock; counts = counts; devices = devices })
-goes-moved s clock counts devices p h1 = grind (arith, common_steps)
+pub goes-moved : (s : MachineSettings) (clock ends : ℕ) (counts : ProcessorCounts) (devices : QueueViews) (p : ProcessorView) → Goes s p
+    → Goes s (record p { clock = clock; ends = ends; counts = counts; devices = devices })
+goes-moved s clock ends counts devices p h1 = grind (arith, common_steps)
 
-pub work-moved : (s : MachineSettings) (clock : ℕ) (devices : QueueViews) (p : ProcessorView) → Goes s p
-    → Goes s (record p { clock = clock; devices = devices })
-work-moved s clock devices p g = goes-moved s clock p.counts devices p g
+pub goes-stirred : (s : MachineSettings) (moment : ℕ) (p : ProcessorView) → Goes s p → Goes s (stirred moment p)
+goes-stirred s moment p g =
+    stirred-by (Goes s) moment p (λ busy. g) (λ came counts is. grind (arith, common_steps))
+    (λ n counts idle asks. goes-moved s (saturated (moment + waking n p)) p.ends counts p.devices p g)
+    (λ idle. goes-moved s moment p.ends p.counts p.devices p g)
 
-work-life : (s : MachineSettings) → Life s (Rests s) (Goes s) (Goes s)
-work-life s = grind (arith, common_steps, work-walk)
-
-pub work-stirred : (s : MachineSettings) (moment : ℕ) (p : ProcessorView) → Goes s p → Goes s (stirred moment p)
-work-stirred s moment p g = life-stirred (work-life s) moment p g
-
-pub life-disturbed : {s : MachineSettings} {P Q R : ProcessorView → Type 0} → Life s P Q R → (moment : ℕ) (p : ProcessorView) → Goes s p
-    → Q p
-    → R (disturbed moment p)
+pub goes-disturbed : (s : MachineSettings) (moment : ℕ) (p : ProcessorView) → Goes s p → Goes s (disturbed moment p)
 unfolding disturbed
-life-disturbed {s = s} l moment p goes h =
-    life-takes l (stirred moment p) (work-stirred s moment p goes) (life-stirred l moment p h)
+goes-disturbed s moment p g = goes-takes s (stirred moment p) (goes-stirred s moment p g)
 
--- the event happens, if R holds where nothing happens, and Q after the end of work
-pub life-happens : {s : MachineSettings} {P Q R : ProcessorView → Type 0} → Life s P Q R → (u : Upcoming) (p : ProcessorView) → Goes s p
-    → R p → Q p → (u ≡ Ends → Q (ends_current p)) → R (happens u p)
-life-happens l Never p goes same h ended = same
-life-happens {s = s} l Ends p goes same h ended = life-takes l (ends_current p) (work-ended s p goes) (ended refl)
-life-happens {s = s} l (Expires timer) p goes same h ended =
+pub goes-happens : (s : MachineSettings) (u : Upcoming) (p : ProcessorView) → Goes s p → Goes s (happens u p)
+goes-happens s Never p g = g
+goes-happens s Ends p g = goes-takes s (ends_current p) (work-ended s p g)
+goes-happens s (Expires timer) p g =
     let q : ProcessorView = record p { devices = changed expired timer.device p.devices } in
-    life-disturbed l timer.at q (work-moved s p.clock q.devices p goes) (l.moved (Some timer.device) p.clock p.counts p h)
+    goes-disturbed s timer.at q (goes-moved s p.clock p.ends p.counts q.devices p g)
 
--- an interrupt comes before a completion only while a poll is in progress
-completing-busy : (n : ℕ) (s : MachineSettings) (work : Work) → is_completing n s work ≡ true → is_busy work ≡ true
-completing-busy n s Nothing is = cc is
-completing-busy n s (Interrupt m) is = refl
-completing-busy n s (Poll look) is = refl
-completing-busy n s (Packet hand) is = refl
-completing-busy n s (Arm look) is = refl
-completing-busy n s (Use came) is = refl
-
-early-busy : (n : ℕ) (p : ProcessorView) → comes_early n p ≡ true → (is_busy p.work ≡ true) × ((p.settings.early == 0) ≡ false)
-early-busy n p h1 = grind (arith, common_steps, completing-busy)
-
-life-noticed : {s : MachineSettings} {P Q R : ProcessorView → Type 0} → Life s P Q R → (moment n : ℕ) (p : ProcessorView) → Goes s p
-    → Q p
-    → R (notices moment n p)
+goes-noticed : (s : MachineSettings) (moment n : ℕ) (p : ProcessorView) → Goes s p → Goes s (notices moment n p)
 unfolding interrupts_early
-life-noticed {R = R} l moment n p goes h =
-    either R (comes_early n p) (interrupts_early n p) (disturbed moment p)
-    (λ early. let e = early-busy n p early in l.early n _ _ _ p e.0 e.1 h) (λ other. life-disturbed l moment p goes h)
+goes-noticed s moment n p g =
+    either (Goes s) (comes_early n p) (interrupts_early n p) (disturbed moment p) (λ early. goes-moved s _ _ _ _ p g)
+    (λ other. goes-disturbed s moment p g)
 
--- a packet arrives, with room for it or without
-pub life-arrives : {s : MachineSettings} {P Q R : ProcessorView → Type 0} → Life s P Q R → (moment n : ℕ) (p : ProcessorView) → Goes s p
-    → (let q : ProcessorView = record p { clock = if is_busy p.work then p.clock else moment; devices = devices_arrived moment n p } in
-    Q q → (has_room_at (at n (with_device p.settings.ring n p.devices)) ≡ false → R q) → R (arrives moment n p))
-unfolding arrives
-life-arrives {s = s} {R = R} l moment n p goes h full =
-    let clock = if is_busy p.work then p.clock else moment in
-    let q : ProcessorView = record p { clock = clock; devices = devices_arrived moment n p } in
-    either R (has_room_at (at n (with_device p.settings.ring n p.devices))) (notices moment n q) q
-    (λ room. life-noticed l moment n q (work-moved s clock q.devices p goes) h) full
+-- the processor with the packet that arrived, before it takes notice
+abbrev pub arrived : ℕ → ℕ → ProcessorView → ProcessorView
+arrived moment n p = record p {
+  clock = if is_busy p.work then p.clock else moment;
+  devices = changed (after_packet moment p.settings) n (with_device p.settings.ring n p.devices);
+}
+
+pub goes-arrived : (s : MachineSettings) (moment n : ℕ) (p : ProcessorView) → Goes s p → Goes s (arrived moment n p)
+goes-arrived s moment n p g = goes-moved s _ p.ends p.counts _ p g
 
 -- ---- over a processor's life
 
-pub work-happens : (s : MachineSettings) (u : Upcoming) (p : ProcessorView) → Goes s p → Goes s (happens u p)
-work-happens s u p g = life-happens (work-life s) u p g g g (λ is. work-ended s p g)
-
 pub goes-on : (s : MachineSettings) (events : List MachineEvent) → Goes s (behind s events)
-unfolding behind step
+unfolding behind step arrives
 goes-on s [] = goes-free s _ refl (record { settings = refl; run = tt; soft = λ no. (refl, refl); threads = λ no. tt }) refl
 goes-on s (packet moment n ∷ earlier) =
     let p = behind s earlier in
-    let g = goes-on s earlier in
-    let now = work-moved s (if is_busy p.work then p.clock else moment) (devices_arrived moment n p) p g in
-    life-arrives (work-life s) moment n p g now (λ full. now)
-goes-on s (next ∷ earlier) = work-happens s (upcoming (behind s earlier)) (behind s earlier) (goes-on s earlier)
+    let g = goes-arrived s moment n p (goes-on s earlier) in
+    either (Goes s) (finds_room n p) (notices moment n (arrived moment n p)) (arrived moment n p) (λ room. goes-noticed s moment n _ g)
+    (λ full. g)
+goes-on s (next ∷ earlier) = goes-happens s (upcoming (behind s earlier)) (behind s earlier) (goes-on s earlier)
 
 pub works-within : WorksWithin
 works-within = grind (arith, common_steps, goes-on)
-
--- ---- the events on a processor end
-
--- n + 1 steps are a step followed by n steps, or n steps followed by one
-after-step : (count : ℕ) (p : ProcessorView) → processor_after count (step p) ≡ processor_after (suc count) p
-unfolding processor_after
-after-step zero p = refl
-after-step (suc count) p = ap step (after-step count p)
-
-step-goes : (s : MachineSettings) (p : ProcessorView) → Goes s p → Goes s (step p)
-unfolding step
-step-goes s p goes = work-happens s (upcoming p) p goes
-
-step-left : (s : MachineSettings) (until : ℕ) (p : ProcessorView) → Goes s p → is_due until p ≡ true → left load (step p) < left load p
-step-left s until p h1 h2 = grind (arith, common_steps, step-asked)
-
-one-more : (until : ℕ) (p q : ProcessorView) → is_due until p ≡ true → Advances until (step p) q → Advances until p q
-unfolding processor_after
-one-more until p q due a = record {
-  count = suc a.count;
-  each = λ n below. by n below;
-  last = a.last ∙ after-step a.count p;
-  none = a.none;
-}
-  where
-    by : (n : ℕ) → n < suc a.count → is_due until (processor_after n p) ≡ true
-    by zero below = due
-    by (suc n) below = ap (is_due until) (sym (after-step n p)) ∙ a.each n (omega (arith, below))
-
-run-ends : (s : MachineSettings) (until fuel : ℕ) (p : ProcessorView) → Goes s p → left load p < fuel
-    → (q : ProcessorView) × Advances until p q
-unfolding processor_after
-run-ends s until zero p goes few = absurd (omega (arith, few))
-run-ends s until (suc fuel) p goes few =
-    by (is_due until p) refl (λ less. run-ends s until fuel (step p) (step-goes s p goes) less)
-  where
-    by : (b : Bool) → is_due until p ≡ b → (left load (step p) < fuel → (q : ProcessorView) × Advances until (step p) q)
-        → (q : ProcessorView) × Advances until p q
-    by false none later = (p, record { count = zero; each = λ n below. absurd (omega (arith, below)); last = refl; none = none })
-    by true due later =
-        let less : left load (step p) < left load p = step-left s until p goes due in
-        let r = later (omega (arith, few, less)) in
-        (r.0, one-more until p r.0 due r.1)
-
-pub every-run-ends : EveryRunEnds
-every-run-ends s until events =
-    let p = behind s events in run-ends s until (suc (left load p)) p (goes-on s events) (omega arith)

@@ -1,10 +1,9 @@
 -- The life of a processor: a list of the packets that arrived and of the events between them.
 use Rattle.std.specs.Prelude.{◌≡◌, ◌≤◌, ◌<◌, ℕ, ◌+◌, ◌-◌, ◌/◌, ◌%◌, ◌^◌, ◌==◌, true, false, List, [], ◌∷◌, IfSome, Some, slice_get}
 use Rattle.std.specs.Prelude.{if◌then◌else◌}
-use Rattle.{machine_model.specs.declared.settings.MachineSettings.MachineSettings}
-use Rattle.{machine_model.specs.Processor.{ProcessorView, Advances, arrives}}
 use Rattle.machine_model.specs.{Application.went_on, Machine.{PacketArrives, Finishes, Machine, opened_machine}}
-use Rattle.machine_model.specs.Processor.{is_due, opened_processor, step}
+use Rattle.machine_model.specs.Processor.{Advances, ProcessorView, arrives, is_due, opened_processor, step}
+use Rattle.machine_model.specs.declared.settings.MachineSettings.{MachineSettings}
 
 -- Law: the events on a processor up to a time are determined.
 abbrev pub RunsAsOne : Type 0
