@@ -177,6 +177,8 @@ impl FqTodo {
     ghost use Rattle.c_handles.specs.Drivers.{failed_in, step_status, todo_settled};
 
     /// Writes that a call failed with this status, which it returns: there is nothing to do.
+    #[cold]
+    #[inline(never)]
     pub fn fail(&mut self, status: u32) -> u32
         requires { status < 65536 }
         ensures written { self.new ≡ failed_in status }

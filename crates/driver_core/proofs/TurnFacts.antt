@@ -158,3 +158,14 @@ all_turns bits left before after r = record {
       omega (arith, r.each id within, off);
   reports = r.reports;
 }
+
+-- without a bit nothing is reported
+pub none_reported : (bits : ℕ) (driver : Driver) → bits ≡ 0 → ReportsInterrupts bits driver driver
+none_reported bits driver none = record {
+  ids = [];
+  each = λ id within.
+      let off : bit_at bits id ≡ 0 = rw none (bit_at-zero id) in
+      let here : occurs id [] ≡ 0 = refl in
+      omega (arith, off, here);
+  reports = refl;
+}

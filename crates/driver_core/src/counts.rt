@@ -1,7 +1,9 @@
 //! The counts of a device's polls.
 
-ghost use Rattle.std.specs.Prelude.{◌≡◌};
-ghost use Rattle.driver_core.specs.Counts.{count_one_poll};
+ghost use Rattle.std.specs.Prelude.{◌≡◌, IfOk, replicate};
+ghost use Rattle.driver_core.specs.Counts.{count_one_poll, no_counts};
+
+use std::alloc::{AllocError, Global};
 
 /// The counts of a device's polls, since the driver was created. Each count saturates.
 #[derive(Clone, Copy, Debug, PartialEq, Eq)]
@@ -29,4 +31,11 @@ impl PollCounts {
             packets: self.packets.saturating_add(u64::from(packets)),
         }
     }
+}
+
+// Returns zero counts for this many devices.
+pub(crate) fn new_counts(alloc: Global, devices: usize) -> Result<Vec<PollCounts>, AllocError>
+    ensures { IfOk result (λ counts. counts.items ≡ replicate devices no_counts) }
+{
+    Ok(vec![in alloc; PollCounts::NONE; devices]?)
 }

@@ -1,22 +1,20 @@
 //! The driver of up to 64 devices.
 
-ghost use Rattle.std.specs.Prelude.{◌≡◌, ◌≤◌, ◌<◌, ◌+◌, ◌*◌, false, true, length, IfOk, replicate};
+ghost use Rattle.std.specs.Prelude.{◌≡◌, ◌≤◌, ◌<◌, ◌+◌, ◌*◌, false, true, length, IfOk};
 ghost use Rattle.poll_runs.specs.Steps.{HoldsNothing};
-ghost use Rattle.driver_core.specs.Counts.{no_counts};
-ghost use Rattle.driver_core.specs.Pacing.{new_pacing};
 ghost use Rattle.driver_core.specs.Queue.{HasLimits, HasWeights, IsStillDue, IsQueue};
 
-use crate::counts::PollCounts;
+use crate::counts::{PollCounts, new_counts};
 use crate::device::{Chore, DriverDevice, Rearm, Stage};
-use crate::devices::{Devices, clear_bit, lowest_bit};
+use crate::devices::Devices;
 use crate::limits::Limits;
 use crate::list::DriverList;
-use crate::pacing::{DeviceSettings, Pacing};
+use crate::pacing::{DeviceSettings, Pacing, new_pacings};
 use crate::place::{Nowhere, TodoPlace};
 use crate::said::{following, still_due};
 use crate::todo::{NotDue, Refused, Todo, What, what_of};
 use napi_model::Prep;
-use poll_runs::{Once, PollList, PollingRun, RunReport};
+use poll_runs::{PollList, PollingRun, RunReport};
 use std::alloc::{AllocError, Global};
 
 /// The driver of up to 64 devices, for one thread: the instances, the poll list and the runs over it. It does no input or
@@ -24,17 +22,17 @@ use std::alloc::{AllocError, Global};
 /// other calls report what else happened.
 #[derive(Drop)]
 pub struct Driver {
-    devices: Devices,
+    pub(crate) devices: Devices,
     counts: Vec<PollCounts>,
     pacings: Vec<Pacing>,
-    list: DriverList,
-    run: PollingRun,
-    runs: bool,
+    pub(crate) list: DriverList,
+    pub(crate) run: PollingRun,
+    pub(crate) runs: bool,
     // The caller has ended the run in progress: it makes no further poll.
     ending: bool,
     limits: Limits,
     // The action at a card, or with a timer, that `next` returned last, if it isn't reported yet. A fetch is stored in the run.
-    said: Option<(u32, Chore)>,
+    pub(crate) said: Option<(u32, Chore)>,
     // The number of the action that `next` returned last.
     number: u64,
     ghost counted: { length counts.items ≡ length devices.all.items },
@@ -57,24 +55,6 @@ const NO_RUN: RunReport = RunReport {
 
 // The first numbers of two drivers' actions are at least this far apart.
 const APART: u64 = 281474976710656;
-
-// Returns zero counts for this many devices.
-fn new_counts(alloc: Global, devices: usize) -> Result<Vec<PollCounts>, AllocError>
-    ensures { IfOk result (λ counts. counts.items ≡ replicate devices no_counts) }
-{
-    Ok(vec![in alloc; PollCounts::NONE; devices]?)
-}
-
-// Returns the counts of this many devices with these settings.
-fn new_pacings(
-    alloc: Global,
-    devices: usize,
-    settings: DeviceSettings,
-) -> Result<Vec<Pacing>, AllocError>
-    ensures { IfOk result (λ pacings. pacings.items ≡ replicate devices (new_pacing settings)) }
-{
-    Ok(vec![in alloc; Pacing::new(settings); devices]?)
-}
 
 impl Driver {
     ghost use Rattle.std.specs.List.{All};
@@ -133,6 +113,9 @@ impl Driver {
     pub fn has_devices(&self, bits: u64) -> bool
         ensures { result ≡ nat_lt bits (2 ^ length (driver_devices self.now)) }
     {
+        if bits == 0 {
+            return true;
+        }
         let count = self.len() as u32;
         count == 64 || bits >> count == 0
     }
@@ -311,7 +294,7 @@ impl Driver {
     // poll was granted (`____napi_schedule`), and is closed if it was stopped.
     #[tactic(auto, using(crate::proofs::QueueFacts::put_same, crate::proofs::QueueFacts::put_new, crate::proofs::QueueFacts::room))]
     #[inline(always)]
-    fn did(&mut self, device: u32, chore: Chore, has_more: bool)
+    pub(crate) fn did(&mut self, device: u32, chore: Chore, has_more: bool)
         requires range { device < length (driver_devices self.old) }
         requires chore { chore_at (stage_of self.old device) ≡ Some chore }
         requires free { AwaitsNothing self.old }
@@ -340,17 +323,11 @@ impl Driver {
         let so_far = self.counts(device);
         let before = self.devices.get(device);
         let pacing = self.pacing(device);
-        let stays = pacing.keeps_polling(packets);
-        let (after, next) = before.polled(stays, pacing.defers(packets), rearm);
+        let (after, next) = pacing.end_poll(before, packets, rearm);
         self.devices.put(device, after);
         self.counts[device as usize] = so_far.and(packets);
-        let completes = before.completes(stays, rearm);
-        self.pacings[device as usize].count(completes, packets);
-        let once = Once {
-            work: packets,
-            next,
-        };
-        self.run.polled(&mut self.list, once);
+        self.pacings[device as usize].count(before, packets, rearm);
+        self.list.polled(&mut self.run, packets, next);
     }
 
     /// Reports that the action with this number was done. After a look, `packets` is the number of packets that the card has,
@@ -587,10 +564,36 @@ impl Driver {
         Some(self.todo(what_of(device, self.timeout(device), chore)))
     }
 
+    // Like `ask_into`, if a run is in progress and no card needs an action.
+    #[inline(always)]
+    fn go_on_into<P: TodoPlace>(&mut self, place: &mut P) -> Todo
+        requires free { AwaitsNothing self.old }
+        requires runs { is_running self.old ≡ true }
+        requires chores { All (λ device. chore_at device.stage ≡ None)
+            (driver_devices self.old) }
+        ensures asks { AsksNext self.old result self.new }
+        ensures takes { P.takes place.old result place.new }
+    {
+        self.advance_into(place)
+    }
+
+    // Like `ask_into`, if no run is in progress and no card needs an action: a run begins.
+    #[inline(always)]
+    fn begin_into<P: TodoPlace>(&mut self, place: &mut P) -> Todo
+        requires free { AwaitsNothing self.old }
+        requires chores { All (λ device. chore_at device.stage ≡ None)
+            (driver_devices self.old) }
+        ensures asks { AsksNext self.old result self.new }
+        ensures takes { P.takes place.old result place.new }
+    {
+        self.begin();
+        self.advance_into(place)
+    }
+
     // Writes what the caller has to do next to the place, and returns it, if no report is awaited.
     #[tactic(auto, using(crate::proofs::QueueFacts::all_rest))]
     #[inline(always)]
-    fn ask_into<P: TodoPlace>(&mut self, place: &mut P) -> Todo
+    pub(crate) fn ask_into<P: TodoPlace>(&mut self, place: &mut P) -> Todo
         requires free { AwaitsNothing self.old }
         ensures asks { AsksNext self.old result self.new }
         ensures takes { P.takes place.old result place.new }
@@ -602,7 +605,10 @@ impl Driver {
             place.put(act);
             return act;
         }
-        if !self.runs && self.list.is_empty() {
+        if self.runs {
+            return self.go_on_into(place);
+        }
+        if self.list.is_empty() {
             let sleep = Todo {
                 number: 0,
                 what: What::Sleep(NO_RUN),
@@ -610,8 +616,17 @@ impl Driver {
             place.put(sleep);
             return sleep;
         }
-        self.begin();
-        self.advance_into(place)
+        self.begin_into(place)
+    }
+
+    // Like `next_into`, where the action that was returned last is mostly not reported yet.
+    #[cold]
+    #[inline(never)]
+    pub(crate) fn again_into<P: TodoPlace>(&mut self, place: &mut P) -> Todo
+        ensures asks { AsksNext self.old result self.new }
+        ensures takes { P.takes place.old result place.new }
+    {
+        self.next_into(place)
     }
 
     /// Like [`next`](Driver::next); what it returns is also written to the place.
@@ -635,134 +650,6 @@ impl Driver {
         self.next_into(&mut Nowhere)
     }
 
-    // Reports the interrupt of a device, if there is one with this number.
-    #[inline(always)]
-    fn report_interrupt(&mut self, device: u32)
-        ensures known { device < length (driver_devices self.old) → PutsDevice device
-            (after_interrupt (device_of self.old device)) self.old self.new }
-        ensures unknown { length (driver_devices self.old) ≤ device → self.new ≡ self.old }
-    {
-        if (device as usize) < self.len() {
-            let _reply = self.interrupt(device);
-        }
-    }
-
-    // Reports the interrupts of the devices whose bits are set; bits past the last device are left out.
-    fn report_interrupts(&mut self, interrupts: u64)
-        ensures reports { ReportsInterrupts interrupts self.old self.new }
-        ensures free { AwaitsNothing self.old → AwaitsNothing self.new }
-        ensures len { length (driver_devices self.new) ≡ length (driver_devices self.old) }
-    {
-        let mut left = interrupts;
-        for _ in 0..64u32 {
-            if left == 0 {
-                return;
-            }
-            let device = lowest_bit(left);
-            left = clear_bit(left, device);
-            self.report_interrupt(device);
-        }
-    }
-
-    // If all that has to be done is to mask one card for a poll, no run is in progress, and nothing is on the list, counts it as masked, and
-    // returns its device.
-    #[tactic(auto, using(crate::proofs::ChoreFacts::mask_chore))]
-    #[inline(always)]
-    fn join(&mut self) -> Option<u32>
-        requires free { AwaitsNothing self.old }
-        ensures joins { JoinsMask result self.old self.new }
-        ensures len { length (driver_devices self.new) ≡ length (driver_devices self.old) }
-    {
-        if self.runs || !self.list.is_empty() {
-            return None;
-        }
-        let device = self.devices.only_mask()?;
-        self.did(device, Chore::Mask, false);
-        Some(device)
-    }
-
-    // Like `ask_into`; a mask is joined to the fetch that follows it. Returns the device whose card the action masks first.
-    #[inline(always)]
-    fn ask_joined_into<P: TodoPlace>(&mut self, place: &mut P) -> (Option<u32>, Todo)
-        requires free { AwaitsNothing self.old }
-        ensures asks { AsksJoined self.old result.0 result.1 self.new }
-        ensures len { length (driver_devices self.new) ≡ length (driver_devices self.old) }
-        ensures takes { P.takes place.old result.1 place.new }
-    {
-        let mask = self.join();
-        let todo = self.ask_into(place);
-        (mask, todo)
-    }
-
-    // Like `next_into`, with joined masks. A fetch that is returned again masks its card again.
-    #[inline(always)]
-    fn next_joined_into<P: TodoPlace>(&mut self, place: &mut P) -> (Option<u32>, Todo)
-        ensures asks { NextJoined self.old result.0 result.1 self.new }
-        ensures len { length (driver_devices self.new) ≡ length (driver_devices self.old) }
-        ensures takes { P.takes place.old result.1 place.new }
-    {
-        if let Some(device) = self.run.asked() {
-            return (Some(device), self.next_into(place));
-        }
-        if self.said.is_some() {
-            return (None, self.next_into(place));
-        }
-        self.ask_joined_into(place)
-    }
-
-    /// Like [`turn`](Driver::turn); what it returns is also written to the place, unless a fetch took too many packets.
-    #[inline(always)]
-    pub fn turn_into<P: TodoPlace>(
-        &mut self,
-        interrupts: u64,
-        number: u64,
-        taken: u32,
-        rearm: Rearm,
-        place: &mut P,
-    ) -> (Result<(), Refused>, Option<u32>, Todo)
-        ensures turns { IsTurn interrupts number taken rearm self.old result.0 result.1 result.2
-            self.new }
-        ensures len { length (driver_devices self.new) ≡ length (driver_devices self.old) }
-        ensures takes { result.0 ≢ Err TooMany → P.takes place.old result.2 place.new }
-        ensures kept { result.0 ≡ Err TooMany → place.new ≡ place.old }
-    {
-        match self.done(number, taken, rearm) {
-            Ok(()) => {
-                self.report_interrupts(interrupts);
-                let (mask, todo) = self.ask_joined_into(place);
-                (Ok(()), mask, todo)
-            }
-            Err(Refused::NotDue) => {
-                self.report_interrupts(interrupts);
-                let (mask, todo) = self.next_joined_into(place);
-                (Err(Refused::NotDue), mask, todo)
-            }
-            Err(Refused::TooMany) => {
-                self.report_interrupts(interrupts);
-                (Err(Refused::TooMany), None, self.next())
-            }
-        }
-    }
-
-    /// Reports that the action with this number was done, then the interrupts of the devices whose bits are set, and returns what the
-    /// caller has to do next: [`done`](Driver::done), [`interrupt`](Driver::interrupt) for each, and [`next`](Driver::next). If all that
-    /// has to be done is to mask one card for a poll, no run is in progress and nothing is on the list, that is joined to the fetch which
-    /// follows it: the device is returned, whose card the caller has to mask first. A fetch that is returned again, since it wasn't
-    /// reported, masks its card again.
-    pub fn turn(
-        &mut self,
-        interrupts: u64,
-        number: u64,
-        packets: u32,
-        rearm: Rearm,
-    ) -> (Result<(), Refused>, Option<u32>, Todo)
-        ensures turns { IsTurn interrupts number packets rearm self.old result.0 result.1 result.2
-            self.new }
-        ensures len { length (driver_devices self.new) ≡ length (driver_devices self.old) }
-    {
-        self.turn_into(interrupts, number, packets, rearm, &mut Nowhere)
-    }
-
     /// Like [`step`](Driver::step); what it returns is also written to the place, unless a fetch took too many packets.
     #[inline(always)]
     pub fn step_into<P: TodoPlace>(
@@ -779,7 +666,7 @@ impl Driver {
         match self.done(number, packets, rearm) {
             Ok(()) => (Ok(()), self.ask_into(place)),
             Err(Refused::NotDue) => (Err(Refused::NotDue), self.next_into(place)),
-            Err(Refused::TooMany) => (Err(Refused::TooMany), self.next()),
+            Err(Refused::TooMany) => (Err(Refused::TooMany), self.again_into(&mut Nowhere)),
         }
     }
 

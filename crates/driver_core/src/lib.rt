@@ -16,6 +16,7 @@ mod pacing;
 mod place;
 mod said;
 mod todo;
+mod turns;
 
 pub use counts::PollCounts;
 pub use device::{Chore, DriverDevice, Rearm, Stage};

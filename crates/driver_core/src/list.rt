@@ -4,7 +4,7 @@ ghost use Rattle.std.specs.Prelude.{◌≡◌, ◌==◌, ◌+◌, ◌<◌, ◌�
 ghost use Rattle.std.proofs.Common.{rules};
 ghost use Rattle.poll_runs.specs.{Plain.{CanPush, HasListRoom, NothingBehind, OwnPushes, all_held}, Turn.{asked_for}};
 
-use poll_runs::{PollList, SoftList};
+use poll_runs::{Next, Once, PollList, PollingRun, SoftList};
 use std::marker::Model;
 
 /// The poll list of a driver. It holds at most 64 numbers. The first one has a place of its own: most lists hold one device, which
@@ -43,6 +43,7 @@ impl DriverList {
     }
 
     // Puts these numbers before those of the list; there is room for them.
+    #[cold]
     #[inline(never)]
     fn put_before(&mut self, rest: &SoftList)
         requires { length rest.now + length self.old ≤ 64 }
@@ -59,6 +60,7 @@ impl DriverList {
     }
 
     // Puts these numbers after those of the list; there is room for them.
+    #[cold]
     #[inline(never)]
     fn put_after(&mut self, repoll: &SoftList)
         requires { length self.old + length repoll.now ≤ 64 }
@@ -68,12 +70,74 @@ impl DriverList {
             self.more.append_all(repoll);
             return;
         }
+        if let [id] = repoll.ids() {
+            self.first = Some(*id);
+            return;
+        }
         self.more.append_all(repoll);
         self.first = self.more.pop_front();
     }
 }
 
+impl DriverList {
+    ghost use Rattle.std.specs.Prelude.{◌≡◌, ◌+◌, ◌≤◌, ◌∷◌, ◌++◌, [], true, is_some, if◌then◌else◌, None, Some, length};
+    ghost use Rattle.poll_runs.specs.{Driven.{IsGoing, SameSettings, and_poll, held}, Plain.{HasListRoom, NothingBehind, OwnPushes, all_held}};
+    ghost use Rattle.poll_runs.specs.{Polls.{Poll, is_arrival, is_repoll}, Turn.HandsOn};
+
+    // Reports the outcome of a poll to the run over this list (`PollingRun::polled`).
+    #[cold]
+    #[inline(never)]
+    fn queues(&mut self, run: &mut PollingRun, work: u32, next: Next)
+        requires asked { is_some run.old.asked ≡ true }
+        requires work { work ≤ run.old.weight }
+        requires room { HasListRoom self.old (held run.old) }
+        ensures going { (start : _) (polls : List Poll) (id : _) → run.old.asked ≡ Some id
+            → IsGoing all_held OwnPushes NothingBehind start polls self.old run.old
+            → IsGoing all_held OwnPushes NothingBehind start
+            (and_poll polls id (record { work = work; next = next })) self.new run.new }
+        ensures list { (id : _) → run.old.asked ≡ Some id
+            → HandsOn all_held OwnPushes HasListRoom self.old (is_arrival next) id self.new }
+        ensures repoll { (id : _) → run.old.asked ≡ Some id
+            → run.new.repoll ≡ run.old.repoll ++ (if is_repoll next then id ∷ [] else []) }
+        ensures kept { run.new.own ≡ run.old.own }
+        ensures rests { run.new.asked ≡ None }
+        ensures settings { SameSettings run.old run.new }
+    {
+        run.polled(self, Once { work, next });
+    }
+
+    // The same; most polls leave nothing to be queued.
+    #[inline(always)]
+    pub(crate) fn polled(&mut self, run: &mut PollingRun, work: u32, next: Next)
+        requires asked { is_some run.old.asked ≡ true }
+        requires work { work ≤ run.old.weight }
+        requires room { HasListRoom self.old (held run.old) }
+        ensures going { (start : _) (polls : List Poll) (id : _) → run.old.asked ≡ Some id
+            → IsGoing all_held OwnPushes NothingBehind start polls self.old run.old
+            → IsGoing all_held OwnPushes NothingBehind start
+            (and_poll polls id (record { work = work; next = next })) self.new run.new }
+        ensures list { (id : _) → run.old.asked ≡ Some id
+            → HandsOn all_held OwnPushes HasListRoom self.old (is_arrival next) id self.new }
+        ensures repoll { (id : _) → run.old.asked ≡ Some id
+            → run.new.repoll ≡ run.old.repoll ++ (if is_repoll next then id ∷ [] else []) }
+        ensures kept { run.new.own ≡ run.old.own }
+        ensures rests { run.new.asked ≡ None }
+        ensures settings { SameSettings run.old run.new }
+    {
+        if next != Next::Gone {
+            self.queues(run, work, next);
+            return;
+        }
+        let gone = Once {
+            work,
+            next: Next::Gone,
+        };
+        run.polled(self, gone);
+    }
+}
+
 // Moves all numbers of a list to the end of another one, where there is room for them. Returns how many that one then has.
+#[cold]
 #[inline(never)]
 fn move_all(from: &mut SoftList, to: &mut SoftList) -> usize
     requires { length to.old + length from.old ≤ 64 }

@@ -1,7 +1,12 @@
 //! The settings of a device, and what the driver counts for them.
 
-ghost use Rattle.std.specs.Prelude.{◌≡◌};
-ghost use Rattle.driver_core.specs.Pacing.{paced_after, deferrals_at, defers, empty_at, is_paced, new_pacing, plain_settings, keeps_polling};
+ghost use Rattle.std.specs.Prelude.{◌≡◌, true, IfOk, replicate};
+ghost use Rattle.driver_core.specs.Pacing.{paced_after, paced_count, deferrals_at, defers, empty_at, is_paced, new_pacing, plain_settings, keeps_polling};
+ghost use Rattle.driver_core.specs.Device.{after_driver_poll, completes, stage_is_listed};
+
+use crate::device::{DriverDevice, Rearm};
+use poll_runs::Next;
+use std::alloc::{AllocError, Global};
 
 /// The settings of a device.
 #[derive(Clone, Copy, Debug, PartialEq, Eq)]
@@ -101,19 +106,62 @@ impl Pacing {
         packets == self.settings.weight || self.empty_at(packets) < self.settings.empty_polls
     }
 
-    // Counts a poll of this many packets, if the settings need the counts.
+    // Returns the device after a poll of this many packets, and how the poll ends. The settings decide only if the fetch left the card
+    // masked.
     #[inline(always)]
-    pub(crate) fn count(&mut self, completes: bool, packets: u32)
-        ensures { self.new ≡ paced_after completes packets self.old }
+    pub(crate) fn end_poll(
+        &self,
+        device: DriverDevice,
+        packets: u32,
+        rearm: Rearm,
+    ) -> (DriverDevice, Next)
+        requires { stage_is_listed device.stage ≡ true }
+        ensures { result ≡ after_driver_poll (keeps_polling packets self.now)
+            (defers packets self.now) rearm device }
     {
-        if !self.settings.is_paced() {
-            return;
+        match rearm {
+            Rearm::No => {
+                device.polled(self.keeps_polling(packets), self.defers(packets), Rearm::No)
+            }
+            Rearm::Empty => device.polled(false, false, Rearm::Empty),
+            Rearm::More => device.polled(false, false, Rearm::More),
         }
-        if completes {
+    }
+
+    // Counts a poll of this many packets from this device, if the settings need the counts.
+    #[inline(always)]
+    pub(crate) fn count(&mut self, device: DriverDevice, packets: u32, rearm: Rearm)
+        ensures { self.new ≡ paced_after (completes (keeps_polling packets self.old) rearm device)
+            packets self.old }
+    {
+        if self.settings.is_paced() {
+            self.count_paced(device, packets, rearm);
+        }
+    }
+
+    // Counts a poll of this many packets from this device.
+    #[cold]
+    #[inline(never)]
+    fn count_paced(&mut self, device: DriverDevice, packets: u32, rearm: Rearm)
+        ensures { self.new ≡ paced_count (completes (keeps_polling packets self.old) rearm device)
+            packets self.old }
+    {
+        if device.completes(self.keeps_polling(packets), rearm) {
             self.deferrals = self.deferrals_at(packets).saturating_sub(1);
             self.empty = 0;
             return;
         }
         self.empty = self.empty_at(packets);
     }
+}
+
+// Returns the counts of this many devices with these settings.
+pub(crate) fn new_pacings(
+    alloc: Global,
+    devices: usize,
+    settings: DeviceSettings,
+) -> Result<Vec<Pacing>, AllocError>
+    ensures { IfOk result (λ pacings. pacings.items ≡ replicate devices (new_pacing settings)) }
+{
+    Ok(vec![in alloc; Pacing::new(settings); devices]?)
 }

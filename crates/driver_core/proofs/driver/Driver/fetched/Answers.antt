@@ -5,6 +5,7 @@ use Rattle.poll_runs.specs.Driven.{held}
 use Rattle.driver_core.specs.{Device.stage_is_listed, Queue.IsQueue, declared.device.DriverDevice.DriverDevice}
 use Rattle.poll_runs.specs.Polls.{is_arrival}
 use Rattle.driver_core.specs.{Counts.count_one_poll, Driver.{no_pacing, pacing_of, poll_counts_of}, declared.counts.PollCounts.PollCounts}
+use Rattle.driver_core.specs.{Device.completes, Pacing.{defers, keeps_polling}}
 use Rattle.driver_core.proofs.LineFacts.{polled_line}
 use Rattle.driver_core.proofs.QueueFacts.{comes_back, polled_keeps, polled_listed, polled_weights}
 use Rattle.driver_core.proofs.driver.Driver.fetched.Goals as goal
@@ -13,13 +14,15 @@ pub invariant_of-self-clause-queue : goal.invariant_of-self-clause-queue
 invariant_of-self-clause-queue c =
     let self = c.args.self.now in
     let asked = c.requires.polled in
-    let back : stage_is_listed c.polled-next.result.0.stage ≡ comes_back c.polled-next.result.1 =
-    rw c.polled-next.ensures (polled_listed c.keeps_polling-stays.result c.defers.result c.args.rearm c.get-before.result) in
+    let back : stage_is_listed c.end_poll-next.result.0.stage ≡ comes_back c.end_poll-next.result.1 =
+    rw c.end_poll-next.ensures
+    (polled_listed (keeps_polling c.args.packets c.pacing-pacing.result) (defers c.args.packets c.pacing-pacing.result) c.args.rearm
+    c.get-before.result) in
     let kept =
-    polled_keeps self.devices.all.items self.list c.polled.new.list self.run c.polled.new.self c.args.device c.polled-next.result.0
-    c.polled-next.result.1 c.requires.range asked c.polled.ensures.rests c.polled.ensures.kept (c.polled.ensures.repoll c.args.device asked)
+    polled_keeps self.devices.all.items self.list c.polled.new.self self.run c.polled.new.run c.args.device c.end_poll-next.result.0
+    c.end_poll-next.result.1 c.requires.range asked c.polled.ensures.rests c.polled.ensures.kept (c.polled.ensures.repoll c.args.device asked)
     (c.polled.ensures.list c.args.device asked) back self.queue in
-    subst (λ (devices : List DriverDevice). IsQueue devices c.polled.new.list c.polled.new.self) (sym c.put.ensures) kept
+    subst (λ (devices : List DriverDevice). IsQueue devices c.polled.new.self c.polled.new.run) (sym c.put.ensures) kept
 
 pub polled-requires-clause-room : goal.polled-requires-clause-room
 polled-requires-clause-room c =
@@ -32,7 +35,7 @@ pub invariant_of-self-clause-paced : goal.invariant_of-self-clause-paced
 invariant_of-self-clause-paced c =
     let self = c.args.self.now in
     let set : length c.put.new.self.all.items ≡ length self.devices.all.items =
-    rw c.put.ensures (length-set self.devices.all.items c.args.device c.polled-next.result.0) in
+    rw c.put.ensures (length-set self.devices.all.items c.args.device c.end_poll-next.result.0) in
     omega (arith, self.paced, set, length-set self.pacings.items c.args.device c.count.new.self)
 
 pub invariant_of-self-clause-weights : goal.invariant_of-self-clause-weights
@@ -42,7 +45,8 @@ invariant_of-self-clause-weights c =
     c.index_mut-2.ensures.value
     ∙ get_or_default self.pacings.items c.args.device c.index_mut-2.result.now no_pacing (omega (arith, self.paced, c.requires.range)) in
     rw (c.count.ensures, at-hand)
-    (polled_weights self.limits self.pacings.items c.args.device c.completes-completes.result c.args.packets
+    (polled_weights self.limits self.pacings.items c.args.device
+    (completes (keeps_polling c.args.packets (pacing_of self c.args.device)) c.args.rearm c.get-before.result) c.args.packets
     (omega (arith, self.paced, c.requires.range)) self.weights)
 
 pub invariant_of-self-clause-idle : goal.invariant_of-self-clause-idle
@@ -72,6 +76,6 @@ returns-clause-ends c =
       number = refl;
       ending = refl;
       free = search rules;
-      line = polled_line self.list c.polled.new.list self.run c.polled.new.self c.args.device (is_arrival c.polled-next.result.1) asked
+      line = polled_line self.list c.polled.new.self self.run c.polled.new.run c.args.device (is_arrival c.end_poll-next.result.1) asked
           c.polled.ensures.rests c.polled.ensures.kept (c.polled.ensures.list c.args.device asked);
     }

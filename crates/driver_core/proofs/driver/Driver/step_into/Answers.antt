@@ -48,5 +48,5 @@ returns-in-Err-TooMany-clause-steps g c =
         err = done.err;
         many = rw c.in-Err-TooMany.field-0-is at done.many;
       };
-      asks = c.next.ensures;
+      asks = c.again_into.ensures.asks;
     }

@@ -61,5 +61,5 @@ returns-in-Err-TooMany-clause-turns g c =
         many = rw c.in-Err-TooMany.field-0-is at done.many;
       };
       asks = λ good. absurd (good refl);
-      refused = λ _. (c.next.ensures, refl);
+      refused = λ _. (c.again_into.ensures.asks, refl);
     }

@@ -1,5 +1,5 @@
 use Rattle.driver_core.proofs.TurnFacts.{one_reported}
-use Rattle.driver_core.proofs.driver.Driver.report_interrupts.Goals as goal
+use Rattle.driver_core.proofs.driver.Driver.report_each.Goals as goal
 
 pub loop-preserved : goal.loop-preserved
 loop-preserved c =
