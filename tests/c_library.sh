@@ -102,7 +102,7 @@ try_each
 try_random 1000000 1
 try_random 1000000 "${1:-4711}"
 
-# The fold of bench/limits.cc was written from the rules, apart from the library.
+# bench/limits.cc computes the limit by the rules of docs/RULES.md, without the library.
 as_the_fold() {
     compile gcc "$top/bench/c_library.c" "$scratch/counts" -O2 && g++ -O2 "$top/bench/limits.cc" -o "$scratch/fold" &&
         "$scratch/fold" 1000000 > "$scratch/folded" && compared "$scratch/folded" "$scratch/counts" limits 1000000

@@ -16,19 +16,19 @@
 . "$(dirname "$(readlink -f "$0")")/../scripts/checks.sh"
 kernel=$top/tests/kernel
 
-# pass_over NEED
-pass_over() {
+# skip_all NEED: skips the whole test because this is missing, and ends it.
+skip_all() {
     [ -z "${fetch:-}" ] || exit 1
     skip "the comparison with Linux's own functions" "$1"
     sum_up
     exit
 }
 [ "${1:-}" != --fetch ] || fetch=1
-[ -n "${fetch:-}" ] || command -v cc > /dev/null || pass_over cc
+[ -n "${fetch:-}" ] || command -v cc > /dev/null || skip_all cc
 limit=(lib/dynamic_queue_limits.c include/linux/dynamic_queue_limits.h)
 "$top/scripts/linux_source.sh" 6.12 "$scratch/6.12" Makefile net/core/dev.c include/linux/{netdevice,list}.h "${limit[@]}" || {
     [ $? = 69 ] || { echo "0 passed, 1 failed"; exit 1; }
-    pass_over linux-source
+    skip_all linux-source
 }
 # Kernels after 6.6 detect stalls of a queue; this stays off here, so a later kernel's limit is used if 6.1's can't be had.
 "$top/scripts/linux_source.sh" 6.1 "$scratch/6.1" Makefile "${limit[@]}" > /dev/null || {

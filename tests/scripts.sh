@@ -159,7 +159,7 @@ printf '#!/bin/sh\necho "%s/kit/rattle"\n' "$scratch" > "$scratch/kit/bin/rt"
 printf '#!/bin/sh\nexec sleep 600\n' > "$scratch/kit/bin/rattle"
 : > "$scratch/kit/KIT-ID"
 chmod +x "$scratch/kit/bin"/*
-# comes COMMAND ..: waits for it, at most some minutes.
+# comes COMMAND ..: repeats the command until it succeeds; fails after some minutes.
 comes() { for _ in $(seq 30000); do "$@" > /dev/null 2>&1 && return; sleep 0.05; done; return 1; }
 says_that_it_builds() {
     "$top/scripts/fresh_clone.sh" "$scratch/clone" && rm -f "$scratch"/clone/fintaqush/{crates/*/out/*,web/napi_*}

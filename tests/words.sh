@@ -34,7 +34,7 @@ want() {
     echo "$1" > "$folder/wanted.status"
 }
 
-# answer NAME INPUT OUTPUT OPTION ..: each program, as it is called and with this input and output.
+# answer NAME INPUT OUTPUT OPTION ..: runs each program with these options, with this input and output, and judges what it printed.
 answer() {
     local name=$1 input=$2 output=$3 program
     shift 3

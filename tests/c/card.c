@@ -17,7 +17,7 @@ static bool threaded, by_steps;
 static struct fq_control control;
 static struct fq_caller callers[3]; /* the interrupt's caller, and two pollers' */
 
-/* The points at which things happen: points are counted. */
+/* The number of the current point; the points at which packets arrive and the stop begins; the same for turns. */
 static unsigned point_now, turn_now, packet_at[PACKETS], stop_at, turn_at;
 
 /* The card, and what is running. */

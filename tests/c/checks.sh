@@ -1,6 +1,6 @@
 #!/usr/bin/env bash
-# Sourced by tests, after scripts/checks.sh: the C tests and examples. The test sets `library`, the archive that they are linked with, and for
-# another processor `cross`, with which the names of its compilers begin, and `run`, the words by which its programs run here.
+# Sourced by tests, after scripts/checks.sh: the C tests and examples. The test sets `library`, the archive that they are linked with. For
+# another processor it also sets `cross`, the prefix of the compilers' names, and `run`, the emulator's command and its arguments.
 cross=
 run=()
 heap=-Wl,--wrap=malloc,--wrap=realloc,--wrap=free

@@ -1,8 +1,9 @@
-/* driver: a driver as C uses it. Random calls, also under wrong numbers and sizes, beside cards that lose each interrupt while they are
- * masked, and packets that arrive at any time: whenever the driver says to sleep, each open card is unmasked and has no packets, or an
- * interrupt that wasn't reported, or is masked and its timer is set; each closed one is masked, and what returns FQ_NOT_DUE or an error has changed nothing. The same by
- * fq_driver_step, and by fq_driver_turn, compared with a driver that gets fq_driver_done, fq_driver_interrupt and fq_driver_next in their place. And driver
- * programs, by turns, by steps and by reports, which poll all packets in order. It exits with 9 if something is wrong. */
+/* driver: tests the driver's calls from C. It makes random calls, also with wrong numbers and sizes, while packets arrive at any time at
+ * cards that lose each interrupt while they are masked. Whenever the driver says to sleep, each open card is unmasked and has no packets,
+ * or has an interrupt that wasn't reported, or is masked and its timer is set; each closed card is masked. A call that returns FQ_NOT_DUE
+ * or an error has changed nothing. fq_driver_step and fq_driver_turn are compared with another driver, on which fq_driver_done,
+ * fq_driver_interrupt and fq_driver_next are called instead. Whole programs, by turns, by steps and by reports, poll all packets in order.
+ * The test exits with 9 if something is wrong. */
 #include "any.h"
 #include <stdio.h>
 #include <stdlib.h>

@@ -23,7 +23,7 @@ own=(-q -o Dir::Etc::sourcelist="$work/sources" -o Dir::Etc::sourceparts=/dev/nu
      -o Dir::State::lists="$work/lists" -o Dir::State::status="$work/status" -o Dir::Cache="$work/cache" -o Acquire::Languages=none
      -o Debug::NoLocking=1 -o Acquire::http::Timeout=20 -o APT::Sandbox::User=root)
 [ "$what" != --arm64 ] || own+=(-o APT::Architecture=arm64 -o APT::Architectures::=arm64)
-# needed PACKAGE PATTERN: prints the packages with such a name that it depends on.
+# needed PACKAGE PATTERN: prints those dependencies of the package whose names match the pattern.
 needed() { apt-cache "${own[@]}" depends "$1" | sed -n "s/.*Depends: \($2\)\$/\1/p"; }
 apt-get "${own[@]}" update
 if [ "$what" = --arm64 ]; then

@@ -70,7 +70,7 @@ struct napi_struct {
     struct net_device *dev;
     void *skb, *napi_hash_node;
     struct gro_node gro;
-    struct napi_config *config; // of a device whose driver keeps one; none here does
+    struct napi_config *config; // NULL here: only drivers that keep the settings of each instance have one
     unsigned int napi_id;
     struct hrtimer timer;
     struct task_struct *thread;

@@ -443,9 +443,9 @@ class Advise(InFolder):
             self.assertEqual([told["costs"][name]["value"] for name in ("poll", "packet")], [2600, 410])
 
     def test_packets_that_are_received_before_their_senders_event(self) -> None:
-        """The first packet of every eighth burst has its sender's event 5710 ns after its sending, 700 ns after its reception: its wait is as much shorter,
-        and all others are as they were. In the second recording this event comes after the poll, so that this wait counts as 0. In the third the first
-        five packets were sent before it."""
+        """In every eighth burst the sender's event of the first packet comes 5710 ns late, 700 ns after the packet was received. Then the wait of
+        this packet is 5710 ns shorter, and no other wait changes. In the second recording the event comes after the poll, so the wait is 0. In the
+        third the first five packets were sent before the recording."""
         text = self.backlog_with_replies(2, 1)
         head, _, trace = text.partition("trace\n")
         before = re.sub(r".* net_dev_xmit: dev=va1 skbaddr=vb1000. .*\n", "", trace)

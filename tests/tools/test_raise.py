@@ -132,8 +132,8 @@ class Raise(InFolder):
                          ["0,1,open,8", "1,1,rx,60", "18446744073709551615,1,rx,60", "2,0,softirq,0", *["2,0,softirq,0"] * 2])
 
     def test_a_run_that_is_followed_by_one_at_the_same_time(self) -> None:
-        """It has its added run already, in whatever form the time is written. Of three runs the last is repeated until the list is empty, which
-        takes four runs; of five runs none is repeated."""
+        """The trace already has the run that would be added, also if its time is written in another form. Of three runs the last is repeated
+        until the list is empty, which takes four runs; of five runs none is repeated."""
         words = ["--budget", "1", "--weight", "1"]
         for own, wanted in ((3, 4), (5, 5)):
             text = HEADER + "0,1,open,8\n" + "1,1,rx,60\n" * 3 + "2,0,softirq,0\n02,0,softirq,00\n" + "2,0,softirq,0\n" * (own - 2)

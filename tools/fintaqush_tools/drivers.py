@@ -56,8 +56,8 @@ DRIVERS = {
     "igb": Driver(GAP, (10, 10000), modes=(1, 3), latched_msix=1, spare=1),
     "igc": Driver(GAP, (10, 10000), modes=(1, 3), latched_msix=1, spare=1),
     "ixgbe": Driver(GAP, (2, 1022), modes=(1,), latched_msix=1, spare=1),
-    # That a cause outlives its packet isn't in the driver: QEMU's card does so. The entry of the packet that a poll takes is filled again
-    # only after its delivery, so a ring holds two packets less.
+    # `latched` is what QEMU's card does: a cause stays set after a poll took its packet. The driver's source doesn't show it. A ring holds two
+    # packets less, because the entry of a packet is refilled only after its delivery.
     "vmxnet3": Driver(
         UNKNOWN, (10, 10000), latched=1, latched_msix=1, gro_unless="large-receive-offload", heedless=True, spare=2
     ),

@@ -77,7 +77,7 @@ def two_of(seen: Receiving, waits: Waits) -> list[dict[str, float]]:
 
 
 def noise_of(values: Sequence[float]) -> float:
-    """Returns by which share of the mean one more part differs from it at most, nine times of ten."""
+    """Returns the greatest difference of one more part from the mean, nine times out of ten, as a share of the mean."""
     middle = mean(values)
     return T90 * math.sqrt(1 + 1 / len(values)) * stdev(values) / middle if middle else 0
 

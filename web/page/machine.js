@@ -15,7 +15,7 @@ const SHOWN = {
 };
 
 // A generator of numbers from 0 to 1, the same each time (mulberry32).
-function diceOf(seed) {
+function randomOf(seed) {
   return () => {
     seed = (seed + 0x6d2b79f5) | 0;
     let value = Math.imul(seed ^ seed >>> 15, 1 | seed);
@@ -26,13 +26,13 @@ function diceOf(seed) {
 
 // Packets that come at a rate: their times in ns, and their flows.
 function generated({ shape, rate, burst }) {
-  const dice = diceOf(7), lines = ['ns,device,bytes,flow'], apart = 1e9 / rate;
+  const random = randomOf(7), lines = ['ns,device,bytes,flow'], apart = 1e9 / rate;
   let moment = 0;
   for (let packet = 0; packet < PACKETS; packet++) {
-    if (shape === 'Poisson') moment += -Math.log(1 - dice()) * apart;
+    if (shape === 'Poisson') moment += -Math.log(1 - random()) * apart;
     else if (shape === 'bursts') moment += packet % burst ? 100 : Math.max(apart * burst - 100 * (burst - 1), 0);
     else moment += apart;
-    lines.push(`${Math.floor(moment)},1,60,${Math.floor(dice() * 1024)}`);
+    lines.push(`${Math.floor(moment)},1,60,${Math.floor(random() * 1024)}`);
   }
   return lines;
 }

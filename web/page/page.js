@@ -24,9 +24,9 @@ async function unpacked(bytes) {
 }
 
 // A slider of 0 to 100 goes from 1 to 65535, by equal factors.
-const MOST_BUDGET = 65535;
-const budgetOf = place => Math.max(1, Math.round(MOST_BUDGET ** (Number(place) / 100)));
-const placeOf = budget => Math.log(budget) / Math.log(MOST_BUDGET) * 100;
+const MAX_BUDGET = 65535;
+const budgetOf = place => Math.max(1, Math.round(MAX_BUDGET ** (Number(place) / 100)));
+const placeOf = budget => Math.log(budget) / Math.log(MAX_BUDGET) * 100;
 
 // Whether a file is of fintaqush record, or the text of ftrace, of trace-cmd or of perf.
 const isRecording = begin => /^(fintaqush-recording |# |cpus=\d|version = )/.test(begin) || /^\s*\S[^\n]*\s\[\d+\]\s[^\n]*\d\.\d{6,9}: /.test(begin);

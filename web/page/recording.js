@@ -333,7 +333,7 @@ function traceOf(events, head) {
 // ---- arrivals
 
 // Returns what handles the events that arrivals depend on, by name, and adds the packets to `packets`: [time, kind, device, size].
-function arriving(packets, ends) {
+function handlersOfArrivals(packets, ends) {
   const handlers = new Map(), began = new Map(), ended = new Map(), entered = new Map();
   let waiting = []; // what was sent and not polled yet: [processor, receiver, packet]
   // A packet that a poll takes came before the poll, or before the interrupt that requested it.
@@ -372,7 +372,7 @@ function arriving(packets, ends) {
 }
 
 function arrivalsOf(events, head) {
-  const packets = [], looks = arriving(packets, pairsIn(head)), isLooked = name => Object.hasOwn(looks, name);
+  const packets = [], looks = handlersOfArrivals(packets, pairsIn(head)), isLooked = name => Object.hasOwn(looks, name);
   for (const event of events(isLooked)) if (isLooked(event.name)) looks[event.name](event);
   const [kind, devices, arrivesAt] = sourceOf(countedIn(packets.map(packet => packet.slice(1, 3))), [], head, 4096);
   const own = packets.filter(packet => packet[1] === kind && arrivesAt.has(packet[2])).sort((one, other) => one[0] - other[0]);

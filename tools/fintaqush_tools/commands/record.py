@@ -457,11 +457,8 @@ def notes_on(words: Words, head: Mapping[str, Any], body: Body) -> Iterator[str]
         why = "because no device that sends to it is known, as of a veth pair"
         waits = "waits in a card's ring before the interrupt aren't in it"
         yield f"its arrivals are when polls took the packets, {why}: {waits}"
-    elif not words.sender and polled == [BACKLOG]:
-        why = f"only a processor's backlog was polled, and no device that sends to {', '.join(words.device)} is known"
-        yield f"it has no arrivals: {why}: name it with --sender"
     elif not words.sender:
-        yield f"it has no arrivals: no poll of {', '.join(words.device)} took a packet: record while packets arrive, or name the device that sends to it with --sender"
+        yield f"it has no arrivals: {', '.join(words.device)} received nothing: record while packets arrive"
     elif not any(body.sent[name] for name in words.sender):
         yield f"nothing was sent by {', '.join(words.sender)}: record while packets arrive"
     if words.probe and polled == [BACKLOG]:
