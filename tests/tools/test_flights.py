@@ -151,8 +151,8 @@ class Costs(InFolder):
     def test_only_of_a_backlog(self) -> None:
         self.assertNotIn("flight", self.told(self.recording(name="vb1")))
         both = self.recording() + text_of([line for place in range(40) for line in polled(4_000_000 + 9_000 * place, 1 + place % 2, name="eth0")])
-        for device in ([], ["--device", "eth0"], ["--device", "eth0", "--device", "(no_device)"]):
-            self.assertNotIn("flight", self.told(both, *device), device)
+        for words in ("", "--device eth0", "--device eth0 --device (no_device)"):
+            self.assertNotIn("flight", self.told(both, *words.split()), words)
         self.assertEqual(self.told(both, "--device", "(no_device)")["flight"]["value"], 2_700)
 
     def test_polls_with_packets_of_other_devices(self) -> None:
@@ -160,9 +160,9 @@ class Costs(InFolder):
         lines = [switch(100, IDLE, OTHER)]
         for number in range(16):
             begin, is_mixed = 100_000 * (number + 1), number % 2
-            flight = 900 if is_mixed else 2_700
-            lines += [sent(begin, packet=f"a{number:x}"), *polled(begin + flight, 1 + is_mixed)]
-            lines += [(begin + flight + 500 + place, POLLER, OTHER, f"netif_receive_skb: dev={name} skbaddr={packet}{number:x} len=86")
+            handler = begin + (900 if is_mixed else 2_700)
+            lines += [sent(begin, packet=f"a{number:x}"), *polled(handler, 1 + is_mixed)]
+            lines += [(handler + 500 + place, POLLER, OTHER, f"netif_receive_skb: dev={name} skbaddr={packet}{number:x} len=86")
                       for place, (name, packet) in enumerate([("vb1", "a"), ("eth0", "b")][:1 + is_mixed])]
         head = (f"fintaqush-recording 1\nlost 0\nlines {len(lines)}\nevents net/netif_receive_skb\ndevice vb1\npair va1:vb1\npolled (no_device)\n"
                 "instance.1 device (no_device) napi 0 kind receive polls 16 packets 24 on 3:16:24\ntrace\n")
@@ -209,8 +209,8 @@ class Passed(unittest.TestCase):
     def test_only_to_a_backlog(self) -> None:
         own = choosing.settings_of(self.COSTS, {"backlog": 1})
         self.assertEqual((own["rx-nsecs"], own["wake"], own["timer-wake"]), (2_700, 1_200, 1_200))
-        for options in ({}, {"backlog": 0}, {"threaded": 1}):
-            own = choosing.settings_of(self.COSTS, options)
+        for option in ("backlog", "threaded"):
+            own = choosing.settings_of(self.COSTS, {option: int(option == "threaded")})
             self.assertEqual((own.get("rx-nsecs"), own["wake"]), (None, 3_900))
         self.assertEqual(choosing.settings_of({**self.COSTS, "flight": 0}, {"rx-nsecs": 50_000})["rx-nsecs"], 50_000)
 
