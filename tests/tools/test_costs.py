@@ -336,7 +336,7 @@ class Modelled(InFolder):
 
     def test_polls_that_wake_the_program(self) -> None:
         """On the processor that polls they are a kind of their own; if the program reads on another one, that is a part of the polls. Half of
-        the 120 polls that wake take one packet, as no other poll does, so the other 60 tell it."""
+        the 120 polls that wake take one packet, as no other poll does, so only the other 60 count."""
         told, costs = self.costs(self.rounds(timing.POLLER, 120, waking=2700, most=5))
         self.assertEqual(
             costs, {**self.wanted("interrupt", "poll", "packet", "wake", "use", "app-wake"), "poll-wake": 2700}

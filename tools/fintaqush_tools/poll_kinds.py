@@ -19,7 +19,7 @@ MANY = 32  # polls of a kind, and as many others that are alike but for it, with
 
 def compared(polls: Sequence[Poll], kinds: Sequence[Kind], place: int) -> list[tuple[Times, Times]]:
     """Returns the times of polls without and with a kind, apart for each number of packets and each other kind, where there are both. A poll
-    without a packet skips what one with packets does, so no line through all of them tells what the kind takes."""
+    without a packet skips what one with packets does, so a line through all polls doesn't show it."""
     alike = defaultdict[tuple[int, Kind], tuple[list[int], list[int]]](lambda: ([], []))
     for (work, took), kind in zip(polls, kinds):
         alike[work, (*kind[:place], False, *kind[place + 1 :])][kind[place]].append(took)
