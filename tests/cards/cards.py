@@ -56,7 +56,7 @@ COLUMNS = {
     "delivered_p50": "Median wait to delivery",
     "used_p50": "Median wait to the end of use",
 }
-RULES = ("rx-gap", "latched", "gro-batch", "heedless", "app-wake", "early")  # each with a value that is off without it
+RULES = ("rx-gap", "latched", "gro-batch", "heedless", "app-wake", "early", "poll-wake", "arm")  # each with a value that is off without it
 
 
 # ---- what is kept

@@ -50,10 +50,10 @@ def cases_of(base: Setting, *changes: Mapping[str, Any]) -> tuple[Setting, ...]:
     return tuple(replace(base, name=name_of(each), **each) for each in changes)
 
 
-CLOSE = "a packet comes each 130 µs in the mean, so a few µs decide whether it or the second timer of 100 µs is first"
+CLOSE = "a few µs decide whether a packet or the second timer of 100 µs is first"
 LATER = "a delivery is measured when its poll starts the timer, up to 1 µs later"
-BUSY = f"{LATER}; and each 50 µs a poll by the timer may be in the way"
-SLOW = "the window in which virtio_net's interrupts are early is known to 1 µs, and some 300 interrupts depend on it"
+DELAYED = "the timer's polls delay nearly half of the packets, so the median is where the waits jump"
+SLOW = "the time in which virtio_net's interrupts are early is known to 1 µs, and hundreds of interrupts depend on it"
 THREAD = "waking NAPI's thread takes 4.1 µs, which is no cost of the machine"
 LAZY, LAZIER, LASTING = {"deferral": (2, 100_000)}, {"deferral": (2, 500_000)}, {"deferral": (10, 50_000)}
 THREADED = {"threaded": 1}
@@ -68,22 +68,22 @@ CARDS = (
          least_gap=LEAST, held=HELD,
          exceptions=because(CLOSE, {name: {"interrupts": 8, "polls": 4} for name in ("deferral 2 x 100 us", "gap 250 us, deferral 2 x 100 us")})),
     Card("vmxnet3", VMXNET3, RING, cases_of(RING, {"ring": 32}, LAZY, LAZIER, {"ring": 64}, LASTING, THREADED), TIMERS,
-         exceptions=because(THREAD, {"threaded": {"delivered_p50": 30, "used_p50": 20}}) | because(LATER, {
-             "deferral 2 x 100 us": {"delivered_p50": 8},
-             "deferral 2 x 500 us": {"delivered_p50": 8}})
-         | because(BUSY, {"deferral 10 x 50 us": {"polls": 3, "delivered_p50": 22}})),
+         exceptions=because(THREAD, {"threaded": {"delivered_p50": 30, "used_p50": 34}}) | because(LATER, {
+             "deferral 2 x 100 us": {"delivered_p50": 8}, "deferral 2 x 500 us": {"delivered_p50": 8}}) | because(DELAYED, {
+                 "deferral 2 x 100 us": {"used_p50": 16}, "deferral 2 x 500 us": {"used_p50": 8},
+                 "deferral 10 x 50 us": {"polls": 3, "delivered_p50": 22, "used_p50": 10}})),
 )
 
-EDGE = "half of the packets come one by one, so the median is where the waits jump"
+EDGE = "half of the packets that the ring holds come one by one, so the median is where the waits jump"
 AGAIN = "a packet that was held back comes during the poll, so the card interrupts once more"
 OLD = "up to Linux 6.4 ksoftirqd runs a softirq that is raised while the program waits for the processor"
-UNEXPLAINED = "not explained: on Linux 6.1 fewer polls and longer waits than any rule here gives"
+UNEXPLAINED = "not explained: up to 2.3 % more interrupts than any rule here gives"
 # Several cards on one processor, which polls them under a budget; bursts of more packets than a ring holds; other versions of Linux.
 SPARSE = Setting("base", every=20_000)
 OF_SIX = cases_of(SPARSE, *({"budget": budget} for budget in (200, 100, 64, 20)), {"weight": 16})
 FULL = Setting("base", burst=118, ring=512, share=50)
 BURSTS = Card("vmxnet3-bursts", VMXNET3, FULL, cases_of(FULL, *({"ring": ring} for ring in (32, 64, 128, 256)), {"budget": 20}),
-              costs_of="vmxnet3", exceptions=because(EDGE, {"ring of 64": {"delivered_p50": 25}}))
+              costs_of="vmxnet3", exceptions=because(EDGE, {"ring of 32": {"used_p50": 25}}))
 LESS = replace(FULL, ring=256)
 OF_E1000 = "gap 250 us", "deferral 2 x 100 us", "deferral 2 x 500 us", "threaded"
 OF_VMXNET3 = "ring of 32", "deferral 2 x 100 us", "deferral 2 x 500 us", "threaded"
@@ -96,14 +96,13 @@ def on_linux(linux: str, card: Card, names: Sequence[str], exceptions: Exception
                    costs_of=card.costs_of and f"{card.costs_of}-{version}", exceptions={**card.exceptions, **exceptions})
 
 
-OF_OLD = because(OLD, {"base": {"used_p50": 90}, "budget 20": {"used_p50": 90}}) | because(UNEXPLAINED, {
-    "deferral 2 x 100 us": {"polls": 8, "delivered_p50": 60},
-    "deferral 2 x 500 us": {"polls": 4, "delivered_p50": 60}})
+OF_OLD = because(OLD, {"base": {"used_p50": 90}, "budget 20": {"used_p50": 90}})
+MORE = because(UNEXPLAINED, {name: {"interrupts": 4, "polls": 4} for name in ("base", "threaded")})
 WATCH = "every 2 s e1000_watchdog raises an interrupt of each card, which finds no packet"
-OF_WATCH = because(WATCH, {setting.name: {"interrupts": 4, "polls": 3, "runs": 12} for setting in (SPARSE, *OF_SIX)})
+OF_WATCH = because(WATCH, {setting.name: {"interrupts": 8, "polls": 7, "runs": 24} for setting in (SPARSE, *OF_SIX)})
 VIRTIO = Card("virtio", Guest("virtio_net", "virtio-net-pci"), BASE, cases_of(BASE, LAZY, LAZIER, LASTING, THREADED), TIMERS,
-              held=NO_LIMIT, exceptions=because(THREAD, {"threaded": {"interrupts": 4, "delivered_p50": 26}}) | because(SLOW, {
-                  "deferral 2 x 100 us": {"interrupts": 6},
+              held=NO_LIMIT, exceptions=because(THREAD, {"threaded": {"interrupts": 4, "delivered_p50": 26, "used_p50": 20}}) | because(SLOW, {
+                  "deferral 2 x 100 us": {"interrupts": 12, "polls": 4},
                   "deferral 2 x 500 us": {"interrupts": 15},
                   "deferral 10 x 50 us": {"interrupts": 12, "polls": 4}}))
 OTHERS = (
@@ -112,11 +111,11 @@ OTHERS = (
     BURSTS,
     Card("e1000-bursts", E1000, LESS, cases_of(LESS, *({"ring": ring} for ring in (80, 128, 96, 160))), costs_of="e1000", least_gap=LEAST,
          held=HELD, exceptions=because(AGAIN, {f"ring of {ring}": {"interrupts": 3, "polls": 3} for ring in (80, 128, 96, 160)})),
-    on_linux("6.1", CARDS[0], OF_E1000, {}),
-    on_linux("6.1", CARDS[1], OF_VMXNET3, {at: limit for at, limit in OF_OLD.items() if at[0] in OF_VMXNET3}),
+    on_linux("6.1", CARDS[0], OF_E1000, MORE),
+    on_linux("6.1", CARDS[1], OF_VMXNET3, {}),
     on_linux("6.1", BURSTS, ["budget 20"], OF_OLD),
     on_linux("7.3", CARDS[1], OF_VMXNET3, {}),
-    on_linux("7.3", CARDS[0], OF_E1000, {}),
+    on_linux("7.3", CARDS[0], OF_E1000, MORE),
     on_linux("7.3", BURSTS, ["budget 20"], {}),
     VIRTIO,
 )
