@@ -29,7 +29,7 @@ trace() {
     }'
 }
 
-# count DEVICES ROWS: the instructions of a run.
+# count DEVICES ROWS: prints how many instructions a run takes.
 count() {
     trace "$1" "$2" > "$scratch/trace"
     if ! valgrind --tool=callgrind --callgrind-out-file=/dev/null "$program" < "$scratch/trace" > "$scratch/out" 2> "$scratch/err"; then

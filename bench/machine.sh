@@ -26,7 +26,7 @@ arrivals() {
 }
 
 differs=0
-# both NAME PACKETS OPTION ..: a line for these arrivals.
+# both NAME PACKETS OPTION ..: prints a line for these arrivals.
 both() {
     local name=$1 packets=$2
     shift 2

@@ -88,7 +88,7 @@ refuse_each() {
     is_whole || fail "$mode $1: nothing was refused, and another report was written"
 }
 
-# some_refused WHAT: at least one failed call ended the program.
+# some_refused WHAT: checks that at least one failed call ended the program.
 some_refused() { [ "$count" -gt "$idle" ] || fail "$mode: no $1 was refused"; }
 
 # Devices 1, 3 and 16 have one poller, or three, of which one has no device: then two more threads are started.

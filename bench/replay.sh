@@ -20,7 +20,7 @@ done
 
 differs=0
 
-# play NAME TRACE: one line for this trace.
+# play NAME TRACE: prints a line for this trace.
 play() {
     : > "$scratch/ours"
     : > "$scratch/theirs"

@@ -35,7 +35,7 @@ spread() {
 
 differs=0
 
-# play DEVICES POLLERS: one line.
+# play DEVICES POLLERS: prints a line of the table.
 play() {
     local words=(--mode threads --pollers "$2")
     : > "$scratch/ours"
@@ -63,7 +63,7 @@ for devices in 1 4 16; do
     done
 done
 
-# agree SEED: the same bytes, message and status in all runs of this random trace.
+# agree SEED: checks that both programs print the same, with the same status, for this random trace.
 agree() {
     python3 "$bench/random_trace.py" "$1" > "$scratch/random.csv"
     for pollers in 1 2 8; do

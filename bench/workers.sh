@@ -23,7 +23,7 @@ trap 'rm -rf "$work"' EXIT
 "$top/scripts/build.sh" benches
 program=$top/crates/benches/out/benches
 
-# run DEVICES POLLERS PACKETS MILLISECONDS: one run, in which each packet has to be counted once.
+# run DEVICES POLLERS PACKETS MILLISECONDS: makes one run, and checks that it counts each packet once.
 run() {
     "$program" threads "$@" > "$work/counts" 2>> "$work/times"
     if [ "$(cat "$work/counts")" != "packets $3 lost 0 doubled 0" ]; then

@@ -19,12 +19,12 @@ stop() {
 
 refuse() { stop 64 "$@"; }
 
-# at_most COUNT "$@": the script has at most this many arguments.
+# at_most COUNT "$@": checks that the script has at most this many arguments.
 at_most() {
     [ $(($# - 1)) -le "$1" ] || refuse "more than $1 argument(s): --help says how it is called"
 }
 
-# operands LEAST MOST "$@": it has so many arguments, none of them is empty, and none is an option.
+# operands LEAST MOST "$@": checks the number of the arguments, and that none is empty or an option.
 operands() {
     least=$1
     most=$2
@@ -38,7 +38,7 @@ operands() {
     [ $# -ge "$least" ] && [ $# -le "$most" ] || refuse "it has $# arguments: --help says how it is called"
 }
 
-# is_count NAME VALUE: a number of one to nine digits that isn't 0.
+# is_count NAME VALUE: checks that the value is a whole number from 1 to 999999999.
 is_count() {
     case $2 in
         '' | *[!0-9]* | ??????????*) refuse "$1 is '$2', and has to be a whole number from 1 to 999999999" ;;
@@ -47,12 +47,12 @@ is_count() {
     esac
 }
 
-# is_program NAME VALUE: a file that can be run.
+# is_program NAME VALUE: checks that the value is an executable file.
 is_program() {
     if [ ! -f "$2" ] || [ ! -x "$2" ]; then refuse "$1 is '$2', which is no program"; fi
 }
 
-# is_tool NAME: a command that the script needs.
+# is_tool NAME: checks that this command is on PATH.
 is_tool() {
     command -v "$1" > /dev/null || refuse "it needs $1, which isn't on PATH"
 }

@@ -12,7 +12,7 @@ operands 1 1 "$@"
 for_target "${FINTAQUSH_TARGET:-}"
 mkdir -p -- "$1"
 to=$(readlink -f "$1")
-command -v rt > /dev/null || { echo 'c_library: there is no rt on PATH, which proves and builds it' >&2; exit 69; }
+command -v rt > /dev/null || { echo "c_library: there is no rt on PATH (the kit), which proves and builds it: see 'What it needs' in README.md" >&2; exit 69; }
 "$crates/../scripts/build.sh" napi_c files_c
 scratch=$(mktemp -d)
 trap 'rm -rf "$scratch"' EXIT

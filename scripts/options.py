@@ -19,7 +19,7 @@ from header import WIDEST
 from parts import NoPart, TOP, filled, marked, put, with_part
 
 sys.path.insert(0, str(TOP / "tools"))
-from fintaqush_tools.drivers import DRIVERS, GAP, HEEDLESS, NONE, TIMER, UNKNOWN  # noqa: E402
+from fintaqush_tools.drivers import DRIVERS, GAP, HEEDLESS, HEEDLESS_EARLY, NONE, TIMER, UNKNOWN  # noqa: E402
 
 Option = dict[str, Any]  # a row of the table
 
@@ -102,7 +102,7 @@ def of_drivers(_options: Sequence[Option]) -> Iterable[str]:
     yield from ("| What is known | Drivers |", "|---|---|")
     for kind, what in COALESCING.items():
         yield f"| {what} | {', '.join(sorted(name for name, it in DRIVERS.items() if it.coalescing == kind))} |"
-    early = sorted(name for name, it in DRIVERS.items() if it.early)
+    early = sorted((*HEEDLESS_EARLY, *(name for name, it in DRIVERS.items() if it.early)))
     yield f"| the driver asks for interrupts before `napi_complete_done` | {', '.join(early)} |"
     heedless = sorted((*HEEDLESS, *(name for name, it in DRIVERS.items() if it.heedless)))
     yield f"| the driver unmasks whatever `napi_complete_done` returns | {', '.join(heedless)} |"

@@ -11,7 +11,7 @@ copy_of_sources() {
     (cd "$top" && cp -r --parents include scripts docs/C.md bindings/rust/src bindings/python/fintaqush crates/napi_c/src crates/napi_c/specs crates/c_handles/{src,specs} "$scratch/copy")
 }
 
-# reports FILE COMMAND ..: the command ends with status 1, and names the file.
+# reports FILE COMMAND ..: checks that the command fails with status 1, and names the file.
 reports() {
     local file=$1 status=0
     shift

@@ -25,7 +25,7 @@ as_the_kit() { glued "$top"/glue/*.c > "$scratch/own" && diff "$scratch/own" "$s
 check "the kit's functions" the_kits
 check "those of glue/ answer as the kit's" as_the_kit
 
-# tells_what_it_lacks SCRIPT: without the cross compiler.
+# tells_what_it_lacks SCRIPT: checks its message without the cross compiler.
 tells_what_it_lacks() {
     local status=0
     PATH=$scratch/few "$top/scripts/$1" --target arm64 "$scratch/none" > "$scratch/refusal" 2>&1 || status=$?
@@ -97,7 +97,7 @@ try_random 20000 1
 
 # ---- the programs, beside those of x86-64
 
-# as_here PROGRAM INPUT WORD ..: the same output, message and status.
+# as_here PROGRAM INPUT OPTION ..: checks that the program for arm64 has the output, message and status of the one for x86-64.
 as_here() {
     local program=$1 input=$2 status=0 wanted=0
     shift 2
@@ -105,7 +105,7 @@ as_here() {
     timeout 1h "${run[@]}" "$prefix/lib/fintaqush/programs/$program" "$@" < "$input" > "$scratch/printed" 2> "$scratch/line" || status=$?
     [ "$status" = "$wanted" ] && cmp "$scratch/printed" "$scratch/wanted" && diff "$scratch/line" "$scratch/wanted.line" || { echo "$program $* < $input"; return 1; }
 }
-# each_run PROGRAM: on the inputs of runs.txt, with their words.
+# each_run PROGRAM: runs the program on each input of runs.txt with its options.
 each_run() {
     local at words
     for at in "$scratch"/runs/*.csv; do
@@ -113,15 +113,15 @@ each_run() {
         as_here "$1" "$at" "${words[@]}" || return
     done
 }
-# each_trace PROGRAM WORD ..: on the examples.
+# each_trace PROGRAM OPTION ..: runs the program on each example trace, here and for arm64.
 each_trace() { local trace; for trace in "$top"/examples/*.csv; do as_here "$1" "$trace" "${@:2}" || return; done; }
-# own_example PROGRAM: what its crate says.
+# own_example PROGRAM: compares its output with the example in its crate.
 own_example() {
     local words=()
     [ ! -e "$top/crates/$1/args" ] || mapfile -t words < "$top/crates/$1/args"
     "${run[@]}" "$prefix/lib/fintaqush/programs/$1" "${words[@]}" < "$top/crates/$1/stdin" | diff - "$top/crates/$1/stdout"
 }
-# replays_as_serial TRACE: the library's replay, and napi_serial's.
+# replays_as_serial TRACE: compares the library's replay with napi_serial's.
 replays_as_serial() {
     "${run[@]}" "$scratch/replay" 300 64 1024 < "$1" > "$scratch/printed" && "$top/crates/napi_serial/out/napi_serial" < "$1" | cmp - "$scratch/printed"
 }
@@ -156,7 +156,7 @@ check 'the same sources give the same program' same_again
 
 # ---- the words that threads share
 
-# are_strong FILE: its atomics are sequentially consistent, and there are some.
+# are_strong FILE: checks that it has atomics, and that all are sequentially consistent.
 are_strong() {
     "${cross}objdump" -d --no-show-raw-insn "$1" | grep -oP '\t(ld|st|cas|swp)\w+(?=\t)' | sort | uniq -c > "$scratch/kinds"
     cat "$scratch/kinds" && grep -qw ldar "$scratch/kinds" && ! grep -wE '(ldapr|ldx[rp]|stx[rp]|(cas|swp|ldadd|ldset|ldclr|ldeor|stadd|stset|stclr|steor)[al]?)[bh]?' "$scratch/kinds"
@@ -180,7 +180,7 @@ else
     skip 'the package for Python on arm64' linux-arm64
 fi
 
-# of_rust COMMAND WORD ..: cargo for arm64, in the crate.
+# of_rust COMMAND OPTION ..: runs cargo for arm64 in the crate.
 of_rust() (
     export CARGO_HOME=$scratch/home CARGO_TARGET_DIR=$scratch/target FINTAQUSH_LIB=$prefix/lib RUSTC=$rustc CARGO_TERM_COLOR=never
     export CARGO_TARGET_AARCH64_UNKNOWN_LINUX_GNU_{LINKER="${cross}gcc",RUNNER="${run[*]}",RUSTFLAGS="$std"}
@@ -205,10 +205,10 @@ fi
 
 # ---- the packages
 
-# has_fields PACKAGE: its architecture, and that it needs libc of a version.
+# has_fields PACKAGE: checks its architecture, and that it depends on a version of libc.
 has_fields() { [ "$(dpkg-deb -f "$scratch/debs/${1}_${version}_arm64.deb" Architecture)" = arm64 ] && dpkg-deb -f "$scratch/debs/${1}_${version}_arm64.deb" Depends | grep "$2"; }
 same_packages() { "$top/scripts/package.sh" --target arm64 "$scratch/again" && diff -r "$scratch/debs" "$scratch/again"; }
-# unpacked_runs: what the packages have where Debian has it.
+# unpacked_runs: runs the unpacked packages, in the folders in which Debian installs them.
 unpacked_runs() {
     local deb lib=$scratch/root/usr/lib/aarch64-linux-gnu
     for deb in "$scratch"/debs/*_arm64.deb; do dpkg-deb -x "$deb" "$scratch/root" || return; done

@@ -114,8 +114,8 @@ check 'a million pairs on a queue limit, as a plain fold counts them' as_the_fol
 serial=$top/crates/napi_serial/out/napi_serial
 series=$top/crates/napi_series/out/napi_series
 
-# as_the_tool PROGRAM TRACE BUDGET WEIGHT WINDOW [RESTARTS]: the same report, message and status as napi_serial's; with RESTARTS the same
-# trace with added runs as napi_series'.
+# as_the_tool PROGRAM TRACE BUDGET WEIGHT WINDOW [RESTARTS]: checks that report, message and status are those of napi_serial; with
+# RESTARTS, that the trace with added runs is that of napi_series.
 as_the_tool() {
     local program=$1 trace=$2 wanted=0 status=0 tool=("$serial")
     shift 2
@@ -200,7 +200,7 @@ fi
 
 # ---- the machine, compared with the tool
 
-# as_napi_machine ARRIVALS NAME=VALUE ..: the same report, message and status as napi_machine's.
+# as_napi_machine ARRIVALS NAME=VALUE ..: checks that report, message and status are those of napi_machine.
 as_napi_machine() {
     local arrivals=$1 wanted=0 status=0
     shift
@@ -257,12 +257,12 @@ else
     check 'napi_machine, which the machine is compared with' eval 'cat "$scratch/build.log"; false'
 fi
 
-# code_of FLAG ..: the bytes of code of examples/c/limit.c, which uses only limits.
+# code_of FLAG ..: prints the bytes of code of examples/c/limit.c, which uses only limits.
 code_of() { compile gcc "$examples/limit.c" "$scratch/limit" -O2 "$@" && size "$scratch/limit" | awk 'NR == 2 { print $1 }'; }
 is_cut() { [ "$(code_of -Wl,--gc-sections)" -lt 4000 ] && [ "$(code_of)" -gt 150000 ]; }
 check 'calls that a program does not use can be left out' is_cut
 
-# sanitized_examples NAME FLAG SOURCE ..: these examples under a sanitizer.
+# sanitized_examples NAME FLAG SOURCE ..: runs these examples under a sanitizer.
 sanitized_examples() {
     local name=$1 flag=$2 source program compiler
     for source in "${@:3}"; do
@@ -284,7 +284,7 @@ export ASAN_OPTIONS=detect_leaks=1
 mapfile -t threaded < <(grep -lE 'pthread_create|std::thread' "$examples"/*.c "$examples"/*.cpp)
 sanitized_examples 'addresses, leaks and undefined behaviour' -fsanitize=address,undefined "$examples"/*.c "$examples"/*.cpp
 sanitized_examples threads -fsanitize=thread "${threaded[@]}" # the others have one thread, and no race
-# two_threads PROGRAM: two threads in one driver are reported, at its handle, and with a lock they aren't.
+# two_threads PROGRAM: checks that two threads in one driver are reported, and that with a lock they aren't.
 two_threads() {
     "$1" locked && ! "$1" > "$scratch/raced" 2>&1 && grep -q 'WARNING: ThreadSanitizer: data race' "$scratch/raced" && grep -q fq_private_used "$scratch/raced"
 }
@@ -441,7 +441,7 @@ int main(void) {
     }
 }
 END
-# begins SOURCE: a todo begins with FQ_TODO_INIT and settings with FQ_DEVICE_INIT, by each compiler, without a warning.
+# begins SOURCE: checks that each compiler takes FQ_TODO_INIT and FQ_DEVICE_INIT without a warning.
 begins() {
     local compiler
     for compiler in "${compilers[@]}"; do

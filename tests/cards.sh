@@ -13,7 +13,7 @@ cards() { timeout 2h python3 -EsSB "$top/tests/cards/cards.py" "$@"; }
 
 [ "${1:-}" != --fetch ] || exec python3 -EsSB "$top/tests/cards/cards.py" fetch
 
-# compared ARGUMENT ..: adds the sums of a comparison, whose lines are printed.
+# compared ARGUMENT ..: makes a comparison, prints its lines, and adds its counts to those of this test.
 compared() {
     cards "$@" > "$scratch/compared" 2>&1
     sed '$d' "$scratch/compared"

@@ -198,7 +198,7 @@ tries() {
         [ "$(ls)" = "$(printf '%s\n' few fintaqush-try.html tour)" ]
 }
 
-# python_replays FOLDER: like napi_serial, by the package there and the installed library.
+# python_replays FOLDER: checks that the Python package there, with the installed library, replays like napi_serial.
 python_replays() {
     local program='import fintaqush, sys; print(end=fintaqush.replay(sys.stdin.buffer.read()).text)'
     PYTHONDONTWRITEBYTECODE='' PYTHONPATH=$1/lib/python3/dist-packages python3 -c "$program" < "$top/crates/napi_serial/stdin" |

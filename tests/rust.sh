@@ -48,7 +48,7 @@ of() {
     (cd "$crate" && timeout 1h cargo "$command" --offline --locked --quiet "$@")
 }
 
-# compared COMMAND ..: it succeeds, and prints what the example of the same name in C prints.
+# compared COMMAND ..: checks that the command succeeds, and prints what the example of the same name in C prints.
 compared() { timeout 1h "$@" > "$scratch/printed" && diff "$scratch/printed" "$top/examples/c/$(basename "$1").stdout"; }
 
 nothing_is_left() { files | diff "$scratch/before" -; }

@@ -113,7 +113,7 @@ done
 want 4 'output fault 15 OutputFailed'
 answer 'a full output' "$folder/in" /dev/full
 
-# broken NAME COMMAND ..: an input that comes like this, in each mode, to each program that has it.
+# broken NAME COMMAND ..: runs each program, in each of its modes, on an input that this command makes.
 broken() {
     local name=$1 program mode
     shift

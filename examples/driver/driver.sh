@@ -63,7 +63,7 @@ check() {
 }
 
 load() { inside timeout "$patience" "$built/load" "$@"; }
-# answered COUNT LINE: at least this many packets came back, none of them changed
+# answered COUNT LINE: returns whether at least this many packets came back, none of them changed
 answered() { [[ $2 =~ \ back\ ([0-9]+)\ bad\ 0\  ]] && [ "${BASH_REMATCH[1]}" -ge "$1" ]; }
 pings() {
     local said
@@ -113,7 +113,7 @@ drive() {
     cat "$scratch/out"
 }
 
-# is NAME: the number after this name in the driver's lines
+# is NAME: prints the number after this name in the driver's lines
 is() { awk -v name="$1" '{ for (i = 1; i < NF; i++) if ($i == name) print $(i + 1) }' "$scratch/out"; }
 
 end() {

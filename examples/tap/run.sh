@@ -59,7 +59,7 @@ cat "$scratch/out"
 tx=$(counter tx_packets) rx=$(counter rx_packets)
 echo "the kernel: TX $tx RX $rx"
 
-# is NAME: the number after this name in the driver's lines
+# is NAME: prints the number after this name in the driver's lines
 is() { awk -v name="$1" '{ for (i = 1; i < NF; i++) if ($i == name) print $(i + 1) }' "$scratch/out"; }
 check "the kernel's TX is what was read" [ "$tx" = "$(is read)" ]
 check "the kernel's RX is what was sent" [ "$rx" = "$(is sent)" ]

@@ -59,7 +59,7 @@ received=$(card 0) sent=$(card 1) tx=$(counter tx_packets) rx=$(counter rx_packe
 interrupts=$(guest 'grep vfio-msix /proc/interrupts' | awk '{ for (i = 2; $i ~ /^[0-9]+$/; i++) sum += $i } END { print sum + 0 }')
 echo "the card: received $received and sent $sent, modulo 65536; the guest's kernel: interrupts $interrupts; the other end: TX $tx RX $rx"
 
-# of LINE NAME: the number after this name in that line of the driver's output; -1 if it printed none
+# of LINE NAME: prints the number after this name in that line of the driver's output; -1 if it printed none
 of() {
     awk -v line="$1" -v name="$2" '$1 == line { for (i = 1; i < NF; i++) if ($i == name) found = $(i + 1) }
         END { print found == "" ? -1 : found }' "$scratch/counts"

@@ -85,7 +85,7 @@ open_machine() {
     exit 1
 }
 
-# wrote PATTERN COUNT: whether at least this many lines of the console match it
+# wrote PATTERN COUNT: returns whether at least this many lines of the console match it
 wrote() { [ "$(tr -d '\r' < "$scratch/console" | grep -c -x -e "$1")" -ge "$2" ]; }
 
 # guest COMMAND: runs the command in the machine, prints what it wrote, and returns its status

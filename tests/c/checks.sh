@@ -7,7 +7,7 @@ heap=-Wl,--wrap=malloc,--wrap=realloc,--wrap=free
 steps=-Wl$(printf ',--wrap=fq_caller_%s' schedule schedule_prep hand hand_again take requeue complete complete_done end)
 kinds=(limit instance ring transmit shared list any) # of random calls
 
-# compile COMPILER SOURCE PROGRAM FLAG ..: with all warnings as errors.
+# compile COMPILER SOURCE PROGRAM FLAG ..: compiles with all warnings as errors.
 compile() {
     local compiler=$1 source=$2 program=$3 standard=-std=c11
     shift 3
@@ -15,7 +15,7 @@ compile() {
     "$cross$compiler" "$standard" -Wall -Wextra -Wshadow -Werror -pthread -I "$top/include" "$@" "$source" "${library:?}" -o "$program"
 }
 
-# compared STDOUT COMMAND ..: it succeeds, and prints exactly this.
+# compared STDOUT COMMAND ..: checks that the command succeeds, and prints exactly this.
 compared() {
     local wanted=$1
     shift
@@ -25,7 +25,7 @@ compared() {
 # compiler_of SOURCE
 compiler_of() { case $1 in *.c) echo gcc ;; *) echo g++ ;; esac; }
 
-# answered CALLS SEED KIND PROGRAM ..: so many random calls of a kind.
+# answered CALLS SEED KIND PROGRAM ..: makes this many random calls of a kind, and checks their results.
 answered() {
     local calls=$1 seed=$2 kind=$3
     shift 3
@@ -35,7 +35,7 @@ answered() {
 
 ends_each_box() { timeout 1h "${run[@]}" "$@" > "$scratch/printed" && grep -qx '[0-9]* cases, and nothing is left' "$scratch/printed"; }
 
-# try_examples COMPILER: those in its language.
+# try_examples COMPILER: compiles and runs the examples in its language.
 try_examples() {
     local name source end=c
     [[ $1 != *++ ]] || end=cpp

@@ -303,6 +303,7 @@ class Counts(unittest.TestCase):
         again = instances.instances_in({f"instance.{place}": each.text() for place, each in enumerate(body.napi)})
         self.assertEqual(again, body.napi)
         self.assertEqual(instances.described("eth0", again), "eth0: 1 receive instance on 2 processors: queue 2 on 3 and 2 (100 %)")
+        self.assertEqual(instances.described("(no_device)", again), "the processors' backlogs: 1 receive instance on processor 1")
         for text in ("", "device eth0", "device eth0 napi", "device eth0 napi a on 1:2", "device eth0 napi a on 1:2:3 more 4"):
             with self.assertRaisesRegex(Refusal, "an unknown format"):
                 instances.instances_in({"instance.1": text})

@@ -56,8 +56,8 @@ DRIVERS = {
     "igb": Driver(GAP, (10, 10000), modes=(1, 3), latched_msix=1, spare=1),
     "igc": Driver(GAP, (10, 10000), modes=(1, 3), latched_msix=1, spare=1),
     "ixgbe": Driver(GAP, (2, 1022), modes=(1,), latched_msix=1, spare=1),
-    # `latched` is what QEMU's card does: a cause stays set after a poll took its packet. The driver's source doesn't show it. A ring holds two
-    # packets less, because the entry of a packet is refilled only after its delivery.
+    # `latched` is what QEMU's card does: a cause stays set after a poll took its packet. The driver's source doesn't show it. A ring
+    # holds two packets less, because the entry of a packet is refilled only after its delivery.
     "vmxnet3": Driver(
         UNKNOWN, (10, 10000), latched=1, latched_msix=1, gro_unless="large-receive-offload", heedless=True, spare=2
     ),
@@ -68,6 +68,8 @@ DRIVERS = {
     "be2net": Driver(UNKNOWN, (1, 128), heedless=True),
     "mana": Driver(heedless=True),
 }
+# These heedless drivers also ask for interrupts before napi_complete_done (mana_cq_handler), which napi_machine can't predict.
+HEEDLESS_EARLY = ("mana",)
 # Of these drivers only that is known: they unmask whatever napi_complete_done returns.
 HEEDLESS = ("atlantic", "bcmgenet", "bnx2", "cxgb4", "fec", "forcedeth", "fsl_enetc", "mvneta", "qede")
 

@@ -236,4 +236,5 @@ def described(device: str, instances: Iterable[NapiInstance]) -> str:
     what = "instances" if len(own) != 1 else "instance"
     processors = f"processor {on[0]}" if len(on) == 1 else f"{len(on)} processors"
     more = f": {', '.join(parts)}" if len(own) > 1 or len(on) > 1 else ""
-    return f"{shown(device)}: {len(own)} receive {what} on {processors}{more}"
+    named = "the processors' backlogs" if device == BACKLOG else shown(device)
+    return f"{named}: {len(own)} receive {what} on {processors}{more}"
