@@ -1054,12 +1054,12 @@ struct fq_device_settings {
 #define FQ_DEVICE_INIT \
     FQ_PRIVATE_VALUE(fq_device_settings){sizeof(struct fq_device_settings), 64, 0, 0, 0}
 
-/* Sets the settings of a closed device. With deferral, a completion leaves the card masked, and
- * FQ_TODO_TIMER follows; with busy polling, the device is polled again until it was empty so
- * often in a row. A fetch must not unmask the card then, because that ends both. A timer may
- * still be set after a stop: cancel it, or report it. Returns FQ_OK; FQ_BAD_SIZE; FQ_BAD_HANDLE;
- * FQ_BAD_DEVICE; FQ_BAD_WEIGHT; FQ_BAD_SETTING for defer_hard_irqs without gro_flush_timeout;
- * FQ_NOT_ALLOWED if the device isn't closed. */
+/* Sets the settings of a closed device; begin with FQ_DEVICE_INIT. With deferral, a completion
+ * leaves the card masked, and FQ_TODO_TIMER follows; with busy polling, the device is polled
+ * again until it was empty so often in a row. A fetch must not unmask the card then, because that
+ * ends both. A timer may still be set after a stop: cancel it, or report it. Returns FQ_OK;
+ * FQ_BAD_SIZE; FQ_BAD_HANDLE; FQ_BAD_DEVICE; FQ_BAD_WEIGHT; FQ_BAD_SETTING for defer_hard_irqs
+ * without gro_flush_timeout; FQ_NOT_ALLOWED if the device isn't closed. */
 FQ_CHECKED enum fq_status fq_driver_set_sized(struct fq_driver *FQ_RESTRICT driver, uint32_t device,
     const struct fq_device_settings *FQ_RESTRICT settings);
 FQ_CHECKED static inline enum fq_status fq_driver_set(struct fq_driver *FQ_RESTRICT driver, uint32_t

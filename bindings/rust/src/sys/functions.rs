@@ -404,11 +404,12 @@ extern "C" {
     /// Returns `FQ_GRANTED`: a poll was requested; `FQ_NOT_DUE`: one is requested already, or the device is closed or
     /// being stopped, and nothing has changed; `FQ_BAD_DEVICE`; `FQ_BAD_HANDLE`.
     pub fn fq_driver_timer(driver: *mut fq_driver, device: u32) -> u32;
-    /// Sets the settings of a closed device. With deferral, a completion leaves the card masked, and `FQ_TODO_TIMER`
-    /// follows; with busy polling, the device is polled again until it was empty so often in a row. A fetch must not
-    /// unmask the card then, because that ends both. A timer may still be set after a stop: cancel it, or report it.
-    /// Returns `FQ_OK`; `FQ_BAD_SIZE`; `FQ_BAD_HANDLE`; `FQ_BAD_DEVICE`; `FQ_BAD_WEIGHT`; `FQ_BAD_SETTING` for
-    /// `defer_hard_irqs` without `gro_flush_timeout`; `FQ_NOT_ALLOWED` if the device isn't closed.
+    /// Sets the settings of a closed device; begin with `FQ_DEVICE_INIT`. With deferral, a completion leaves the card
+    /// masked, and `FQ_TODO_TIMER` follows; with busy polling, the device is polled again until it was empty so often
+    /// in a row. A fetch must not unmask the card then, because that ends both. A timer may still be set after a
+    /// stop: cancel it, or report it. Returns `FQ_OK`; `FQ_BAD_SIZE`; `FQ_BAD_HANDLE`; `FQ_BAD_DEVICE`;
+    /// `FQ_BAD_WEIGHT`; `FQ_BAD_SETTING` for `defer_hard_irqs` without `gro_flush_timeout`; `FQ_NOT_ALLOWED` if the
+    /// device isn't closed.
     pub fn fq_driver_set_sized(
         driver: *mut fq_driver,
         device: u32,
