@@ -10,7 +10,7 @@ from collections.abc import Mapping, Sequence
 
 from fintaqush_tools.errors import Refusal
 from fintaqush_tools.instances import Place
-from fintaqush_tools.receiving import Receiving
+from fintaqush_tools.receiving import Receiving, times
 
 MAJOR = 1000  # packets: the waits of a device with fewer don't count if another one has so many
 MOST_PROCESSORS, MOST_INSTANCES = 64, 64  # of napi_machine, and of each processor
@@ -25,7 +25,7 @@ class Layout:
 
     def __init__(self, seen: Receiving) -> None:
         self.seen, self.own_packets = seen, 0
-        self.known: dict[float, dict[int, list[float]]] = {}  # by the cost of a packet, what `waits` returns
+        self.known: dict[float, dict[int, array[int]]] = {}  # by the cost of a packet, what `waits` returns
         self.processors = sorted(set(seen.on))
         self.deliveries = seen.known = seen.deliveries()
         cpus = self.cpus_of_packets()
@@ -73,7 +73,7 @@ class Layout:
         """Returns the processor of each packet: of the poll that took it, or of the next poll of its instance."""
         seen = self.seen
         polls = seen.polls_by_place()
-        ended = {place: [seen.ended[number] for number in own] for place, own in polls.items()}
+        ended = {place: array("Q", map(seen.ended.__getitem__, own)) for place, own in polls.items()}
         cpus = [-1] * len(seen.sent)
         for matched in self.deliveries.values():
             for packet, poll, _ in matched:
@@ -83,7 +83,8 @@ class Layout:
             if cpu < 0 and place in polls:
                 at = bisect.bisect_left(ended[place], seen.sent[packet])
                 cpus[packet] = seen.on[polls[place][min(at, len(polls[place]) - 1)]]
-        return [seen.processor if cpu < 0 else cpu for cpu in cpus]
+        most = seen.processor
+        return [most if cpu < 0 else cpu for cpu in cpus]
 
     def processor_of(self, device: int) -> int:
         return self.processors[(device - 1) % len(self.processors)]
@@ -137,14 +138,15 @@ class Layout:
     def places_of(self, device: int) -> list[Place]:
         return [place for (place, _), number in self.numbers.items() if number == device]
 
-    def waits(self, cost: float) -> dict[int, list[float]]:
+    def waits(self, cost: float) -> dict[int, array[int]]:
         """Returns the sorted waits to delivery of each device; none if packets and polls don't match. `cost` is that of a packet in ns."""
         if cost not in self.known:
-            seen, waits = self.seen, defaultdict[int, list[float]](list)
+            seen = self.seen
+            waits: defaultdict[int, array[int]] = defaultdict(times)
             for matched in self.deliveries.values() if all(self.deliveries.values()) else ():
                 for packet, poll, after in matched:
                     waits[self.devices[packet]].append(seen.delivery(packet, poll, after, cost) - seen.sent[packet])
-            self.known[cost] = {device: sorted(each) for device, each in waits.items()}
+            self.known[cost] = {device: array("Q", sorted(each)) for device, each in waits.items()}
         return self.known[cost]
 
     def shares(self) -> dict[int, float]:

@@ -3,12 +3,13 @@
 from __future__ import annotations
 
 import math
+from array import array
 from bisect import bisect_right
 from collections.abc import Mapping, Sequence
 from statistics import mean, stdev
 
 from fintaqush_tools.predicting import percentiles_of
-from fintaqush_tools.receiving import Receiving
+from fintaqush_tools.receiving import Pairs, Receiving
 
 PARTS = 10  # of a recording, between which values vary
 FEWEST = 1000  # packets, below which the parts say nothing about a 99th percentile
@@ -21,8 +22,7 @@ VARIES_AS = {
     "dropped": "dropped_percent",
 }
 
-# To delivery and to the end of use: for each packet when it was sent, and when the wait ended.
-Waits = dict[str, Sequence[tuple[int, float]]]
+Waits = Mapping[str, Pairs]  # to delivery and to the end of use
 
 
 def values_between(seen: Receiving, waits: Waits, edges: Sequence[float]) -> list[dict[str, float]]:
@@ -49,9 +49,9 @@ def values_between(seen: Receiving, waits: Waits, edges: Sequence[float]) -> lis
             }
         )
     for name, pairs in waits.items():
-        parts: list[list[tuple[int, float]]] = [[] for _ in edges]
-        for pair in pairs:
-            parts[bisect_right(edges, pair[0]) - 1].append(pair)
+        parts = [array("Q") for _ in edges]
+        for time, ended in pairs:
+            parts[bisect_right(edges, time) - 1].append(ended - time)
         for each, own in zip(values, parts):
             each |= percentiles_of(name, own)
     return values

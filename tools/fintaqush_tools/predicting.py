@@ -3,9 +3,11 @@
 from __future__ import annotations
 
 import bisect
+from array import array
 from collections import Counter
 from collections.abc import Collection, Iterable, Iterator, Mapping, Sequence
-from itertools import chain
+from itertools import chain, islice
+from operator import le
 from typing import Any
 
 from fintaqush_tools import drivers
@@ -53,6 +55,7 @@ PARTS = {"p50": 500, "p90": 900, "p99": 990}  # per mille of the waits
 COUNTS = {"dropped", "interrupts", "polls", "runs", "squeezed"}
 GRADES = ((15, "good"), (40, "fair"))  # the largest error in % for each grade
 LATE = 30_000  # ns by which one in a hundred packets may always be late, because of interrupts and hypervisors
+TOGETHER = 1000  # lines that are joined at once, because each one takes 60 bytes
 SIZE = 60  # bytes of an arrival, which the machine doesn't use
 FEW = 100  # drops, interrupts and timers below one in FEW packets aren't compared by ratio
 
@@ -72,9 +75,11 @@ def arrivals_at(seen: Receiving, numbers: Mapping[str, int] | None = None, visib
 
 def arrivals_of(times: Iterable[int], devices: Iterable[int]) -> str:
     """Returns the arrivals at these times; those of one time stay in order."""
-    at, of = list(times), list(devices)
-    order = sorted(range(len(at)), key=at.__getitem__)
-    return "".join(arrivals_text((at[place], of[place], SIZE) for place in order))
+    at, of = array("Q", times), array("L", devices)
+    is_sorted = all(map(le, at, islice(at, 1, None)))
+    order = range(len(at)) if is_sorted else sorted(range(len(at)), key=at.__getitem__)
+    lines = arrivals_text((at[place], of[place], SIZE) for place in order)
+    return "".join(iter(lambda: "".join(islice(lines, TOGETHER)), ""))
 
 
 def first_of(arrivals: str, packets: int) -> str:
@@ -87,10 +92,11 @@ def first_of(arrivals: str, packets: int) -> str:
 
 def visible_times(seen: Receiving) -> Iterator[int]:
     """Yields the time at which the processor that polls can see each packet."""
-    entries = seen.entries[seen.processor]
+    most = seen.processor
+    entries = seen.entries[most]
     for time, processor in zip(seen.sent, seen.sent_on):
         place = bisect.bisect_left(entries, time)
-        yield entries[place] if processor == seen.processor and place < len(entries) else time
+        yield entries[place] if processor == most and place < len(entries) else time
 
 
 def measured_of(
@@ -117,8 +123,8 @@ def measured_of(
     if layout:
         values |= waits_at(layout, layout.major(), packet)
     else:
-        values |= percentiles_of("delivered", seen.delivered(packet))
-    return values | percentiles_of("used", used or seen.used())
+        values |= percentiles_of("delivered", (end - time for time, end in seen.delivered(packet)))
+    return values | percentiles_of("used", (end - time for time, end in used or seen.used()))
 
 
 def interrupts_of(seen: Receiving, head: Head) -> int:
@@ -133,8 +139,8 @@ def squeezed_on(head: Head, *processors: int) -> int:
     return sum(rise_of(head, f"softnet.{processor}.squeezed") or 0 for processor in processors)
 
 
-def percentiles_of(name: str, pairs: Iterable[tuple[int, float]]) -> dict[str, float]:
-    waits = sorted(end - time for time, end in pairs)
+def percentiles_of(name: str, waits: Iterable[float]) -> dict[str, float]:
+    waits = sorted(waits)
     return {f"{name}_{each}": percentile(waits, part) for each, part in PARTS.items()} if waits else {}
 
 

@@ -5,9 +5,11 @@ and the other tasks on their processors.
 from __future__ import annotations
 
 import bisect
+import heapq
 from array import array
 from collections import Counter, defaultdict
 from collections.abc import Collection, Iterable, Iterator, Mapping, Sequence
+from operator import itemgetter
 from typing import Any, Optional, Union
 
 from fintaqush_tools.arriving import BY_PAIR, BY_POLL, BY_STACK, KINDS, PollBegins, packet_of
@@ -69,15 +71,53 @@ class Matched:
 Deliveries = dict[Place, Matched]  # of each instance
 
 
+class Pairs(Sequence[tuple[int, int]]):
+    """For each of many packets when it was sent, and when its wait ended, in ns."""
+
+    def __init__(self) -> None:
+        self.sent, self.ended = times(), times()
+
+    def __getitem__(self, place: Any) -> Any:
+        is_one = isinstance(place, int)
+        return (self.sent[place], self.ended[place]) if is_one else [*zip(self.sent[place], self.ended[place])]
+
+    def __iter__(self) -> Iterator[tuple[int, int]]:
+        return zip(self.sent, self.ended)
+
+    def __len__(self) -> int:
+        return len(self.sent)
+
+
 class Received:
     """A packet that a poll took: when it arrived by that poll, its device, its processor, the hash of its flow, whether a card's interrupt
-    asked for the poll, when the poll took it, and the instance once it is known."""
+    asked for the poll, and when the poll took it."""
 
-    __slots__ = ("time", "device", "cpu", "flow", "by_card", "taken", "place")
+    __slots__ = ("time", "device", "cpu", "flow", "by_card", "taken")
 
     def __init__(self, time: int, device: str, cpu: int, flow: int, by_card: bool = False, taken: int = 0) -> None:
-        self.time, self.device, self.cpu, self.flow, self.by_card, self.place = time, device, cpu, flow, by_card, ANY
+        self.time, self.device, self.cpu, self.flow, self.by_card = time, device, cpu, flow, by_card
         self.taken = taken or time
+
+
+class Columns:
+    """The received packets, in arrays, because there may be millions; and the instance of each once its poll has ended."""
+
+    def __init__(self) -> None:
+        self.time, self.taken, self.flow, self.cpu = times(), times(), array("L"), array("H")
+        self.device, self.place = list[str](), list[Place]()
+
+    def __len__(self) -> int:
+        return len(self.time)
+
+    def add(self, packet: Received) -> int:
+        """Adds a packet, and returns its number."""
+        self.time.append(packet.time)
+        self.taken.append(packet.taken)
+        self.flow.append(packet.flow)
+        self.cpu.append(packet.cpu)
+        self.device.append(packet.device)
+        self.place.append(ANY)
+        return len(self.time) - 1
 
 
 class Held:
@@ -132,7 +172,7 @@ class Gro:
         if (number := self.within.pop(address, None)) is not None:
             self.left[number] = event.time
 
-    def settle(self, packets: Sequence[tuple[int, int]], dropped: int) -> None:
+    def settle(self, packets: Iterable[tuple[int, int]], dropped: int) -> None:
         """Ends the reading. `packets` has the time and the flow of each. If few were merged, nothing is kept."""
         if not 0 < self.passed < MERGED * (len(self.left) - dropped):
             self.left = times()
@@ -163,7 +203,7 @@ class Receiving(Reader):
         self.polled, self.senders, self.span, self.held = polled, senders, (0, 0), Held(options or {})
         self.routes = routes or Routes({}, {sender: "" for sender in senders})
         self.receivers, self.begins, self.gro = set(receivers), PollBegins(), Gro()
-        self.received: dict[str, list[Received]] = {BY_POLL: [], BY_STACK: []}
+        self.received = {BY_POLL: Columns(), BY_STACK: Columns()}
         # When each packet was sent, and 1 unless a full ring dropped it.
         self.sent, self.has_come = times(), bytearray()
         # The processor, the device and the tasks that sent it; the instance that gets it, if that is known.
@@ -171,7 +211,7 @@ class Receiving(Reader):
         self.sent_to = list[Optional[Place]]()
         self.flows = array("L")  # of a card's packets: the hash of the flow, or 0
         # By processor: how many packets a backlog received since its last poll, and those that a card's poll took.
-        self.moved, self.taken = Counter[int](), defaultdict[int, list[Received]](list)
+        self.moved, self.taken = Counter[int](), defaultdict[int, list[tuple[Received, Columns, int]]](list)
         # Polls in which a backlog took packets of other devices too; packets that softirqs sent while a NAPI thread had the processor.
         self.shared = self.by_threads = 0
         # For each poll.
@@ -297,14 +337,14 @@ class Receiving(Reader):
             self.gro.leave(event, self.polled)
         if not self.receivers:
             return
-        name, _, flow = packet_of(event)
-        if name in self.receivers:
-            by_card, own = self.begins.by_card.get(event.cpu, False), self.received[KINDS[event.name]]
-            own.append(Received(self.begins.of(event), name, event.cpu, flow, by_card, event.time))
-            if own is self.received[BY_POLL]:
+        (name, _, flow), kind = packet_of(event), KINDS[event.name]
+        if name in self.receivers and (kind == BY_POLL or not self.received[BY_POLL]):  # a driver without GRO
+            by_card = self.begins.by_card.get(event.cpu, False)
+            packet = Received(self.begins.of(event), name, event.cpu, flow, by_card, event.time)
+            own = self.received[kind]
+            self.taken[event.cpu].append((packet, own, own.add(packet)))
+            if kind == BY_POLL:
                 self.gro.enter(event)
-            if own is self.received[BY_POLL] or not self.received[BY_POLL]:  # a driver without GRO
-                self.taken[event.cpu].append(own[-1])
 
     def add_poll(self, event: Event) -> None:
         napi, device, count, _ = event.parts(POLLED)
@@ -318,11 +358,11 @@ class Receiving(Reader):
         if is_own:
             place = (device, napi) if self.receivers else self.routes.of_poll(device, napi)
             taken = self.taken.pop(event.cpu, [])
-            self.by_timer.append(self.held.spread(place, taken, work, event.time))
+            self.by_timer.append(self.held.spread(place, [packet for packet, *_ in taken], work, event.time))
             if asked := self.begins.interrupt.pop(event.cpu, 0):
                 self.interrupts.append(asked)
-            for packet in taken:
-                packet.place = place
+            for packet, own, number in taken:
+                own.time[number], own.place[number] = packet.time, place
             self.packets_of[device, napi] += work
             self.ended.append(event.time)
             self.had_delivered.append(had_delivered)
@@ -343,17 +383,18 @@ class Receiving(Reader):
         self.tasks.end(*self.span)
         self.leave_out({place for place in set(self.places) if place != ANY and not self.packets_of[place]})
         kind = next((kind for kind, packets in self.received.items() if packets), "")
-        packets = self.received[kind] if kind and not self.senders else []
-        flows = [(packet.taken, packet.flow) for packet in packets] or [(time, 0) for time in self.sent]
-        self.gro.settle(flows, self.dropped)
-        if not packets:
+        if not kind or self.senders:
+            self.gro.settle(((time, 0) for time in self.sent), self.dropped)
             self.place_dropped()
             return ""
-        order = sorted(range(len(packets)), key=lambda number: packets[number].time)
+        own = self.received[kind]
+        self.gro.settle(zip(own.taken, own.flow), self.dropped)
+        order = sorted(range(len(own)), key=own.time.__getitem__)
         self.gro.sort(order)
-        for packet in (packets[number] for number in order):
-            self.append_packet(packet.time, True, packet.cpu, packet.device, packet.place)
-            self.flows.append(packet.flow)
+        for number in order:
+            self.append_packet(own.time[number], True, own.cpu[number], own.device[number], own.place[number])
+            self.flows.append(own.flow[number])
+        self.received.clear()
         return kind
 
     def share_in_polls(self, times: Sequence[int]) -> float:
@@ -487,59 +528,64 @@ class Receiving(Reader):
         if not self.cuts:
             return self.matched(came, polls)
         found = Matched()
-        windows = zip(
-            self.in_windows(came, [self.sent[each] for each in came]),
-            self.in_windows(polls, [self.ended[each] for each in polls]),
-        )
-        for packets, own in windows:
-            some = self.matched(packets, own)
+        of_came = self.windows([self.sent[each] for each in came])
+        for packets, each in zip(of_came, self.windows([self.ended[each] for each in polls])):
+            own = polls[each]
+            some = self.matched(came[packets], own)
             if not some and any(self.work[number] for number in own):
                 return Matched()
             found.extend(some)
         return found
 
-    def in_windows(self, many: Sequence[Any], at: Sequence[float]) -> list[Any]:
-        """Splits what was at these times into that of each window."""
+    def windows(self, at: Sequence[float]) -> list[slice]:
+        """Returns which of these sorted times are in each window."""
         edges = [bisect.bisect_left(at, cut) for cut in self.cuts]
-        return [many[begin:end] for begin, end in zip([0, *edges], [*edges, len(many)])]
+        return [slice(begin, end) for begin, end in zip([0, *edges], [*edges, len(at)])]
 
-    def delivered(self, cost: float = 0) -> list[tuple[int, float]]:
-        """Returns for each delivered packet its sending and delivery times, in the order of the polls. A packet's delivery precedes the last one
-        of its poll by the cost of the packets after it. Returns nothing if packets and polls of an instance don't match."""
+    def in_order(self) -> Iterable[tuple[int, int, int]]:
+        """Returns what each `Matched` has in the order of the polls; nothing if packets and polls of an instance don't match."""
         deliveries = self.deliveries()
-        if not all(deliveries.values()):
-            return []
-        # Whether they match doesn't depend on the cost, which may be too high for some polls.
-        pairs = sorted((each for every in deliveries.values() for each in every), key=lambda each: each[1])
-        return [(self.sent[packet], self.delivery(packet, poll, after, cost)) for packet, poll, after in pairs]
+        return heapq.merge(*deliveries.values(), key=itemgetter(1)) if all(deliveries.values()) else ()
 
-    def delivery(self, packet: int, poll: int, after: int, cost: float) -> float:
+    def delivered(self, cost: float = 0) -> Pairs:
+        """Returns when each delivered packet was sent and delivered, in the order of the polls. A packet's delivery precedes the last one of its poll
+        by the cost of the packets after it."""
+        found = Pairs()
+        # Whether they match doesn't depend on the cost, which may be too high for some polls.
+        for packet, poll, after in self.in_order():
+            found.sent.append(self.sent[packet])
+            found.ended.append(self.delivery(packet, poll, after, cost))
+        return found
+
+    def delivery(self, packet: int, poll: int, after: int, cost: float) -> int:
         """Returns when a poll delivered a packet, or when it left GRO if GRO merged packets."""
         left = self.gro.left[packet] if self.gro.left else 0
-        return max(self.sent[packet], left or self.had_delivered[poll] - cost * after)
+        return max(self.sent[packet], left or int(self.had_delivered[poll] - cost * after))
 
-    def used(self) -> list[tuple[int, int]]:
-        """Returns for each used packet its sending time and the beginning of the next read; nothing if reads and packets don't match."""
-        pairs, found = self.delivered(), list[tuple[int, int]]()
-        of_pairs = self.in_windows(pairs, [time for time, _ in pairs])
-        for packets, reads in zip(of_pairs, self.in_windows([*zip(self.read_ended, self.next_begun)], self.read_ended)):
-            own = self.used_of(packets, reads)
-            if own is None:
-                return []
-            found += own
+    def used(self) -> Pairs:
+        """Returns when each used packet was sent, and when the next read began; nothing if reads and packets don't match."""
+        sent, found = array("Q", (self.sent[packet] for packet, _, _ in self.in_order())), Pairs()
+        for packets, reads in zip(self.windows(sent), self.windows(self.read_ended)):
+            own = sent[packets]
+            first = self.first_read(own, self.read_ended[reads])
+            if first is None:
+                return Pairs()
+            found.sent.extend(own)
+            found.ended.extend(map(max, own, self.next_begun[reads][first:]))
+            del found.sent[len(found.ended) :]  # the last ones aren't read
         return found
 
     @staticmethod
-    def used_of(pairs: Sequence[tuple[int, float]], reads: Sequence[tuple[int, int]]) -> list[tuple[int, int]] | None:
-        """Returns the used packets of a window; None if its reads and packets don't match."""
-        place = next((place for place, read in enumerate(reads) if pairs and read[0] >= pairs[0][0]), len(reads))
+    def first_read(sent: Sequence[int], reads: Sequence[int]) -> int | None:
+        """Returns which read in a window is that of the first packet; None if reads and packets don't match."""
+        place = next((place for place, read in enumerate(reads) if sent and read >= sent[0]), len(reads))
         # The first reads may be of packets that were delivered before the recording began.
-        for skipped in range(MOST_UNREAD):
-            known = reads[place + skipped :]
-            if abs(len(known) - len(pairs)) > max(4, len(pairs) // 50):
+        for first in range(place, place + MOST_UNREAD):
+            known = reads[first:]
+            if abs(len(known) - len(sent)) > max(4, len(sent) // 50):
                 break
-            if agree([(time, read[0]) for read, (time, _) in zip(known, pairs)]):
-                return [(time, max(time, read[1])) for read, (time, _) in zip(known, pairs)]
+            if agree(zip(sent, known)):
+                return first
         return None
 
     def other_tasks(self, known: Collection[int], processor: int | None = None) -> dict[str, float]:
