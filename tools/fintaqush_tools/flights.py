@@ -28,12 +28,11 @@ class Flights:
         """Forgets what was sent, at the beginning of a window."""
         self.later.clear()
 
-    def send(self, sent: Arrival, sender: Processor) -> None:
-        """Handles a packet that a processor sends."""
-        if sender.entered or sender.thread:
-            if len(self.later) >= MOST:
-                self.later.clear()
-            self.later.add(sent)
+    def send_later(self, sent: Arrival) -> None:
+        """Handles a packet that a softirq or a NAPI thread sends."""
+        if len(self.later) >= MOST:
+            self.later.clear()
+        self.later.add(sent)
 
     def begin_run(self, processor: Processor, cpu: int, waiting: Waiting, work: int, own: int) -> None:
         """Handles the first poll of a run on a processor, which took `work` packets, of which `own` are those of the examined devices."""

@@ -100,7 +100,9 @@ class Times(Timeline):
 
     def packet(self, event: Event) -> None:
         """Handles a sent packet, which arrives at a device."""
-        self.flights.send((event.time, event.cpu), self.on[event.cpu])
+        sender = self.on[event.cpu]
+        if sender.entered or sender.thread:
+            self.flights.send_later((event.time, event.cpu))
         super().packet(event)
 
     def run_begins(self, processor: Processor, began: int, work: int, polls: Polls, waiting: Waiting, cpu: int) -> None:
