@@ -55,6 +55,12 @@ def recorded(
     return "\n".join(lines) + "\n"
 
 
+def merged(*texts: str) -> str:
+    """Returns the lines of recordings in the order of their times."""
+    lines = "".join(texts).splitlines(True)
+    return "".join(sorted(lines, key=lambda line: line.split("..s1.")[1].split()[0].rjust(20)))
+
+
 class Costs(InFolder):
     def told(self, text: str, *words: object) -> str:
         printed = self.succeeds("costs", "-", *words, text=text)
@@ -176,9 +182,7 @@ class Costs(InFolder):
             .replace("[001]", "[002]")
             .replace("eth0-rx-0", "eth0-tx-0")
         )
-        both = "".join(
-            sorted((text + other).splitlines(True), key=lambda line: line.split("..s1.")[1].split()[0].rjust(20))
-        )
+        both = merged(text, other)
         self.assertEqual(self.words(both), {"interrupt": 2100, "poll": 1500, "packet": 330})
         self.assertIn("600 polls of transmit instances of eth0, which took no packet, are left out\n", self.told(both))
 
@@ -216,9 +220,7 @@ class Costs(InFolder):
             .replace("device eth0", "device (no_device)")
             .replace("eth0-rx-0", "other")
         )
-        both = "".join(
-            sorted((text + backlog).splitlines(True), key=lambda line: line.split("..s1.")[1].split()[0].rjust(20))
-        )
+        both = merged(text, backlog)
         told = self.told(both)
         self.assertTrue(told.endswith("--interrupt 2100 --poll 1500 --packet 330\n"), told)
         self.assertIn(

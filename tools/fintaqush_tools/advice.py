@@ -348,16 +348,21 @@ class Machine:
             with contextlib.suppress(OSError):
                 os.sched_setaffinity(task, processors)
 
+    def make(self, change: Change, undo: contextlib.ExitStack) -> dict[int, set[int]]:
+        """Makes a change that `undo` takes back. Returns the processors that each task which it moved was allowed on."""
+        before: dict[int, set[int]] = {}
+        if change.kind in ("threads", "program"):
+            undo.callback(self.move_back, before)
+            self.move(change, before)
+        else:
+            undo.callback(self.apply, change, change.before)
+            self.apply(change, change.value)
+        return before
+
     @contextlib.contextmanager
     def with_changes(self, changes: Sequence[Change]) -> Iterator[None]:
-        """Applies all changes, and restores the old values at the end, also after a failure or a signal."""
+        """Makes all changes, and restores the old values at the end, also after a failure or a signal."""
         with contextlib.ExitStack() as undo:
             for change in changes:
-                if change.kind in ("threads", "program"):
-                    before: dict[int, set[int]] = {}
-                    undo.callback(self.move_back, before)
-                    self.move(change, before)
-                else:
-                    undo.callback(self.apply, change, change.before)
-                    self.apply(change, change.value)
+                self.make(change, undo)
             yield

@@ -57,14 +57,7 @@ def keep(machine: Machine, changes: Sequence[Change]) -> list[dict[str, str]]:
     kept: list[dict[str, str]] = []
     with contextlib.ExitStack() as undo:
         for change in changes:
-            before: dict[int, set[int]] = {}
-            if change.kind in ("threads", "program"):
-                undo.callback(machine.move_back, before)
-                machine.move(change, before)
-            else:
-                undo.callback(machine.apply, change, change.before)
-                machine.apply(change, change.value)
-            allowed = ",".join(map(str, sorted(set().union(*before.values()))))
+            allowed = ",".join(map(str, sorted(set().union(*machine.make(change, undo).values()))))
             command, (path, text) = undoing(machine, change, allowed), file_of(machine, change)
             if path:
                 command = f"rm {argument(path)} && {command}"

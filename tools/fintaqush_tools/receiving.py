@@ -548,8 +548,8 @@ class Receiving(Reader):
         return heapq.merge(*deliveries.values(), key=itemgetter(1)) if all(deliveries.values()) else ()
 
     def delivered(self, cost: float = 0) -> Pairs:
-        """Returns when each delivered packet was sent and delivered, in the order of the polls. A packet's delivery precedes the last one of its poll
-        by the cost of the packets after it."""
+        """Returns when each delivered packet was sent and delivered, in the order of the polls. A packet's delivery precedes the last one of its
+        poll by the cost of the packets after it."""
         found = Pairs()
         # Whether they match doesn't depend on the cost, which may be too high for some polls.
         for packet, poll, after in self.in_order():

@@ -733,34 +733,17 @@ def print_verified(advice: Advice) -> str:
 def add_options(parser: Parser) -> None:
     parser.add_argument("recording", help="a file of fintaqush record")
     parser.add_argument("--goal", choices=list(GOALS), default="p99", help="what should be low (p99)")
-    parser.add_argument(
-        "--max-drops", type=number(0, 10**9), metavar="N", help="only settings with at most N drops (as many as now)"
-    )
-    parser.add_argument(
-        "--p99-below",
-        type=number(1, 10**9),
-        metavar="US",
-        help="only settings whose 99th percentile is at most this, in us",
-    )
+    parser.number("--max-drops", 0, 10**9, None, "only settings with at most N drops (as many as now)")
+    what = "only settings whose 99th percentile is at most this, in us"
+    parser.add_argument("--p99-below", type=number(1, 10**9), metavar="US", help=what)
     parser.add_argument(
         "--wait", choices=("use", "delivery"), default="use", help="where a wait ends, if the program is recorded (use)"
     )
     parser.add_argument("--device", metavar="NAME", help="one of several recorded devices")
-    parser.add_argument(
-        "--capture",
-        metavar="FILE",
-        help="a capture that was made at the card during the recording, whose packets are the arrivals",
-    )
-    parser.add_argument(
-        "--packets",
-        type=number(100, 10**8),
-        default=30000,
-        metavar="N",
-        help="try settings on at most this many packets (30000)",
-    )
-    parser.add_argument(
-        "--verify", action="store_true", help="set the advised setting, record again, compare and restore"
-    )
+    what = "a capture that was made at the card during the recording, whose packets are the arrivals"
+    parser.add_argument("--capture", metavar="FILE", help=what)
+    parser.number("--packets", 100, 10**8, 30000, "try settings on at most this many packets (30000)")
+    parser.flag("--verify", "set the advised setting, record again, compare and restore")
     parser.flag("--keep", "with --verify: leave what was better in all recordings, also after a reboot")
     what = (
         "with --verify, this change instead of the advised one, as net.core.netdev_budget=600; may be given many times"

@@ -451,19 +451,11 @@ def object_in(recording: str, devices: Sequence[str]) -> dict[str, Any]:
 def add_options(parser: Parser) -> None:
     parser.add_argument("recording", help="the file or the text, also as .gz; - for standard input")
     parser.add_argument("--irq", metavar="NAME", help="the interrupt whose handlers count")
-    parser.add_argument(
-        "--device",
-        action="append",
-        metavar="NAME",
-        help="a device whose polls count, by its name in napi_poll (those that fintaqush record found, or all but a processor's backlog)",
-    )
-    parser.add_argument(
-        "--pair",
-        action="append",
-        metavar="A:B",
-        help="the two ends of a veth pair: A's packets arrive at B (the pair that fintaqush record found)",
-    )
-    parser.add_argument("--words", action="store_true", help="print only the options for what-if and napi_machine")
+    what = "a device whose polls count, by its name in napi_poll (those that fintaqush record found, or all but a processor's backlog)"
+    parser.many("--device", "NAME", what)
+    what = "the two ends of a veth pair: A's packets arrive at B (the pair that fintaqush record found)"
+    parser.many("--pair", "A:B", what)
+    parser.flag("--words", "print only the options for what-if and napi_machine")
     add_json(parser)
     names = [name.replace("-", "_") for name in ORDER]
     add_fail_if(parser, names, names)
