@@ -621,7 +621,7 @@ impl Driver {
         self.begin_into(place)
     }
 
-    // Like `next_into`, where the action that was returned last is mostly not reported yet.
+    // Like `next_into`, out of line: most callers have reported the action that was returned last.
     #[cold]
     #[inline(never)]
     pub(crate) fn again_into<P: TodoPlace>(&mut self, place: &mut P) -> Todo
