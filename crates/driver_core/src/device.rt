@@ -74,6 +74,12 @@ impl DriverDevice {
         missed: false,
     };
 
+    // At rest, with its card unmasked.
+    pub(crate) const ARMED: DriverDevice = DriverDevice {
+        stage: Stage::Armed,
+        missed: false,
+    };
+
     // Returns the same device, at another stage.
     #[inline(always)]
     fn to(self, stage: Stage) -> DriverDevice

@@ -98,11 +98,12 @@ impl Devices {
         self.chores = with_bit(self.chores, device, to.chore().is_some());
     }
 
-    // Returns the device whose card has to be masked for a poll, if that is all that has to be done.
+    // Returns the number of the device whose card has to be masked for a poll, and the device, if that is all that has to be done.
     #[tactic(auto, using(crate::proofs::ChoreFacts::first_only, crate::proofs::ChoreFacts::no_only, crate::proofs::ChoreFacts::only_chore))]
     #[inline(always)]
-    pub(crate) fn only_mask(&self) -> Option<u32>
-        ensures found { IfSome result (λ id. OnlyMask id self.now.all.items) }
+    pub(crate) fn only_mask(&self) -> Option<(u32, DriverDevice)>
+        ensures found { IfSome result (λ found. OnlyMask found.0 self.now.all.items) }
+        ensures at { IfSome result (λ found. found.1 ≡ device_at self.now.all.items found.0) }
         ensures none { IfNone result ((id : ℕ) → ¬ OnlyMask id self.now.all.items) }
     {
         let Some((device, _chore)) = self.first_chore() else {
@@ -112,10 +113,11 @@ impl Devices {
         if others != 0 {
             return None;
         }
-        if !self.get(device).masks_for_poll() {
+        let found = self.get(device);
+        if !found.masks_for_poll() {
             return None;
         }
-        Some(device)
+        Some((device, found))
     }
 
     // Returns the first device whose card needs an action, and the action.

@@ -294,13 +294,14 @@ impl Driver {
     // poll was granted (`____napi_schedule`), and is closed if it was stopped.
     #[tactic(auto, using(crate::proofs::QueueFacts::put_same, crate::proofs::QueueFacts::put_new, crate::proofs::QueueFacts::room))]
     #[inline(always)]
-    pub(crate) fn did(&mut self, device: u32, chore: Chore, has_more: bool)
+    pub(crate) fn did(&mut self, device: u32, before: DriverDevice, chore: Chore, has_more: bool)
         requires range { device < length (driver_devices self.old) }
+        requires before { before ≡ device_of self.old device }
         requires chore { chore_at (stage_of self.old device) ≡ Some chore }
         requires free { AwaitsNothing self.old }
         ensures { DoesChore device chore has_more self.old self.new }
     {
-        let after = self.devices.get(device).did(chore, has_more);
+        let after = before.did(chore, has_more);
         self.devices.put(device, after);
         if after.is_listed() {
             self.list.push(device);
@@ -364,7 +365,8 @@ impl Driver {
             return Err(Refused::NotDue);
         };
         self.said = None;
-        self.did(device, chore, packets > 0);
+        let before = self.devices.get(device);
+        self.did(device, before, chore, packets > 0);
         Ok(())
     }
 
@@ -619,7 +621,7 @@ impl Driver {
         self.begin_into(place)
     }
 
-    // Like `next_into`, where the action that was returned last is mostly not reported yet.
+    // Like `next_into`, out of line: most callers have reported the action that was returned last.
     #[cold]
     #[inline(never)]
     pub(crate) fn again_into<P: TodoPlace>(&mut self, place: &mut P) -> Todo

@@ -84,7 +84,7 @@ impl DriverList {
     ghost use Rattle.poll_runs.specs.{Driven.{IsGoing, SameSettings, and_poll, held}, Plain.{HasListRoom, NothingBehind, OwnPushes, all_held}};
     ghost use Rattle.poll_runs.specs.{Polls.{Poll, is_arrival, is_repoll}, Turn.HandsOn};
 
-    // Reports the outcome of a poll to the run over this list (`PollingRun::polled`).
+    // Reports the outcome of a poll to the run over this list (`PollingRun::polled`), out of line.
     #[cold]
     #[inline(never)]
     fn queues(&mut self, run: &mut PollingRun, work: u32, next: Next)
@@ -106,7 +106,7 @@ impl DriverList {
         run.polled(self, Once { work, next });
     }
 
-    // The same; most polls leave nothing to be queued.
+    // The same, in line for most polls: they leave nothing to be queued.
     #[inline(always)]
     pub(crate) fn polled(&mut self, run: &mut PollingRun, work: u32, next: Next)
         requires asked { is_some run.old.asked ≡ true }

@@ -4,7 +4,7 @@ ghost use Rattle.std.specs.Prelude.{◌≡◌, true, IfOk, replicate};
 ghost use Rattle.driver_core.specs.Pacing.{paced_after, paced_count, deferrals_at, defers, empty_at, is_paced, new_pacing, plain_settings, keeps_polling};
 ghost use Rattle.driver_core.specs.Device.{after_driver_poll, completes, stage_is_listed};
 
-use crate::device::{DriverDevice, Rearm};
+use crate::device::{DriverDevice, Rearm, Stage};
 use poll_runs::Next;
 use std::alloc::{AllocError, Global};
 
@@ -123,7 +123,12 @@ impl Pacing {
             Rearm::No => {
                 device.polled(self.keeps_polling(packets), self.defers(packets), Rearm::No)
             }
-            Rearm::Empty => device.polled(false, false, Rearm::Empty),
+            Rearm::Empty => {
+                if device.stage == Stage::Listed(false) && !device.missed {
+                    return (DriverDevice::ARMED, Next::Gone);
+                }
+                device.polled(false, false, Rearm::Empty)
+            }
             Rearm::More => device.polled(false, false, Rearm::More),
         }
     }

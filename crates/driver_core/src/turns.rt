@@ -68,8 +68,8 @@ impl Driver {
         if self.runs || !self.list.is_empty() {
             return None;
         }
-        let device = self.devices.only_mask()?;
-        self.did(device, Chore::Mask, false);
+        let (device, before) = self.devices.only_mask()?;
+        self.did(device, before, Chore::Mask, false);
         Some(device)
     }
 

@@ -19,8 +19,8 @@ invariant_of-self-clause-queue c =
     (polled_listed (keeps_polling c.args.packets c.pacing-pacing.result) (defers c.args.packets c.pacing-pacing.result) c.args.rearm
     c.get-before.result) in
     let kept =
-    polled_keeps self.devices.all.items self.list c.polled.new.self self.run c.polled.new.run c.args.device
-    c.end_poll-next.result.0 c.end_poll-next.result.1 c.requires.range asked c.polled.ensures.rests c.polled.ensures.kept
+    polled_keeps self.devices.all.items self.list c.polled.new.self self.run c.polled.new.run c.args.device c.end_poll-next.result.0
+    c.end_poll-next.result.1 c.requires.range asked c.polled.ensures.rests c.polled.ensures.kept
     (c.polled.ensures.repoll c.args.device asked) (c.polled.ensures.list c.args.device asked) back self.queue in
     subst (λ (devices : List DriverDevice). IsQueue devices c.polled.new.self c.polled.new.run) (sym c.put.ensures) kept
 
