@@ -20,7 +20,7 @@ MANY = 32  # polls of a kind, and as many others that are alike but for it, with
 def compared(polls: Sequence[Poll], kinds: Sequence[Kind], place: int) -> list[tuple[Times, Times]]:
     """Returns the times of polls without and with a kind, apart for each number of packets and each other kind, where there are both. A poll
     without a packet skips what one with packets does, so a line through all polls doesn't show it."""
-    alike = defaultdict[tuple[int, Kind], tuple[list[int], list[int]]](lambda: ([], []))
+    alike = defaultdict[tuple[int, tuple[bool, ...]], tuple[list[int], list[int]]](lambda: ([], []))
     for (work, took), kind in zip(polls, kinds):
         alike[work, (*kind[:place], False, *kind[place + 1 :])][kind[place]].append(took)
     return [pair for pair in alike.values() if all(pair)]
@@ -32,12 +32,10 @@ def cost_of_kind(pairs: Sequence[tuple[Times, Times]], source: str) -> Cost | No
     if any(sum(len(pair[of]) for pair in pairs) < MANY for of in (False, True)):
         return None
     middles = [(median(others), median(own)) for others, own in pairs]
-    extra = median(
-        own - other for (other, own), pair in zip(middles, pairs) for _ in range(min(map(len, pair)))
-    )
+    extra = median(own - other for (other, own), pair in zip(middles, pairs) for _ in range(min(map(len, pair))))
     off = [[took - middle[of] for pair, middle in zip(pairs, middles) for took in pair[of]] for of in (False, True)]
     pooled = sum(len(others) * len(own) / (len(others) + len(own)) for others, own in pairs)
-    error = WIDE * 1.2533 * 1.4826 * median(map(abs, [*off[False], *off[True]])) / sqrt(pooled)
+    error = WIDE * 1.2533 * 1.4826 * median([abs(each) for of in off for each in of]) / sqrt(pooled)
     ordered = sorted(off[True])
     half = tuple(extra + ordered[len(ordered) * quarter // 4] for quarter in (1, 3))
     return Cost(extra, max(0, extra - error), extra + error, len(ordered), source, middle=half)
