@@ -484,8 +484,8 @@ class Advise(InFolder):
 
     def test_packets_that_wait_for_a_timer_where_they_are_sent(self) -> None:
         """A processor sends a packet, which it polls at once, and then nine, 1 us apart, for which it polls when NAPI's timer ends: 50,000 + 3300 + 1700 ns
-        after the first poll. Packet j of these waits 57,600 - 590 j ns, and the first one 2600 + 410 ns; of these ten the fifth is j = 6. The first run
-        follows no interrupt."""
+        after the first poll. Packet j of these waits 57,600 - 590 j ns, and the first one 2600 + 410 ns; of these ten the fifth is j = 6. Their poll starts
+        the timer 1 ns before its end, when it has delivered them. The first run follows no interrupt."""
         made, flush = Made(**COSTS), 50_000
         for _ in range(80):
             made.event(made.time, timing.POLLER, "sender-7", "net_dev_xmit: dev=va1 skbaddr=0 len=100 rc=0")
@@ -500,7 +500,7 @@ class Advise(InFolder):
         text = file_of(made, program="", **{"program.pids": "", "device.vb1.napi_defer_hard_irqs": 2, "device.vb1.gro_flush_timeout": flush})
         told = self.told(text, "--goal", "p50")
         values = {row["name"]: (row["measured"], row["predicted"], abs(row["error"]) < 5) for row in told["check"]}
-        self.assertEqual((values["polls"], values["delivered_p50"][::2], values["delivered_p99"][::2]), ((320, 320, True), (54_060, True), (57_010, True)))
+        self.assertEqual((values["polls"], values["delivered_p50"][::2], values["delivered_p99"][::2]), ((320, 320, True), (54_059, True), (57_009, True)))
         self.assertEqual((told["fit"], [told["costs"][name]["value"] for name in ("interrupt", "timer")]), ("good", [0, 1700]))
         self.assertEqual([told["advised"]["options"][name] for name in ("defer_hard_irqs", "gro_flush_timeout")], [0, 0])
 

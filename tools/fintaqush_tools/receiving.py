@@ -349,8 +349,8 @@ class Receiving(Reader):
     def add_poll(self, event: Event) -> None:
         napi, device, count, _ = event.parts(POLLED)
         work, by_thread, is_own = int(count), is_by_thread(event), device in self.polled
-        had_delivered = self.started.pop(event.cpu, event.time)
         key: Marked = ("thread", event.pid) if by_thread else event.cpu
+        started, begun = self.started.pop(event.cpu, 0), self.mark.get(key, 0)
         if is_own and self.routes.moved:  # a backlog has packets of other devices too
             work = self.moved.pop(event.cpu, 0)
             is_own = work > 0
@@ -365,8 +365,8 @@ class Receiving(Reader):
                 own.time[number], own.place[number] = packet.time, place
             self.packets_of[device, napi] += work
             self.ended.append(event.time)
-            self.had_delivered.append(had_delivered)
-            self.begun.append(self.mark.get(key, 0))
+            self.had_delivered.append(started if 0 < begun <= started else event.time)
+            self.begun.append(begun)
             self.work.append(work)
             self.on.append(event.cpu)
             self.is_thread.append(by_thread)
@@ -416,7 +416,7 @@ class Receiving(Reader):
         kept = [number for number, place in enumerate(self.places) if place not in places]
         if not kept or len(kept) == len(self.places):
             return
-        for name in ("ended", "begun", "work", "on", "run"):
+        for name in ("ended", "had_delivered", "begun", "work", "on", "run"):
             column = getattr(self, name)
             setattr(self, name, array(column.typecode, (column[number] for number in kept)))
         self.is_thread, self.by_timer = (
@@ -560,7 +560,7 @@ class Receiving(Reader):
     def delivery(self, packet: int, poll: int, after: int, cost: float) -> int:
         """Returns when a poll delivered a packet, or when it left GRO if GRO merged packets."""
         left = self.gro.left[packet] if self.gro.left else 0
-        return max(self.sent[packet], left or int(self.had_delivered[poll] - cost * after))
+        return max(self.sent[packet], left or round(self.had_delivered[poll] - cost * after))
 
     def used(self) -> Pairs:
         """Returns when each used packet was sent, and when the next read began; nothing if reads and packets don't match."""
