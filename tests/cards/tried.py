@@ -69,8 +69,8 @@ CARDS = (
          exceptions=because(CLOSE, {name: {"interrupts": 8, "polls": 4} for name in ("deferral 2 x 100 us", "gap 250 us, deferral 2 x 100 us")})),
     Card("vmxnet3", VMXNET3, RING, cases_of(RING, {"ring": 32}, LAZY, LAZIER, {"ring": 64}, LASTING, THREADED), TIMERS,
          exceptions=because(THREAD, {"threaded": {"delivered_p50": 30, "used_p50": 34}}) | because(LATER, {
-             "deferral 2 x 100 us": {"delivered_p50": 8}, "deferral 2 x 500 us": {"delivered_p50": 8}}) | because(DELAYED, {
-                 "deferral 2 x 100 us": {"used_p50": 16}, "deferral 2 x 500 us": {"used_p50": 8},
+             "deferral 2 x 100 us": {"delivered_p50": 10}, "deferral 2 x 500 us": {"delivered_p50": 10}}) | because(DELAYED, {
+                 "deferral 2 x 100 us": {"used_p50": 16}, "deferral 2 x 500 us": {"used_p50": 10},
                  "deferral 10 x 50 us": {"polls": 3, "delivered_p50": 22, "used_p50": 10}})),
 )
 
